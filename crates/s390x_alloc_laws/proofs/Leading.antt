@@ -17,7 +17,7 @@ use Rattle.s390x_inst.specs.declared.state.FrameLayout.{FrameLayout}
 use Rattle.s390x_inst.specs.declared.vec_inst.VecInst.{VecInst}
 use Rattle.s390x_inst.specs.declared.vec_inst.VecInst.TheVariants.{VecInt128SCmpHi, VecInt128UCmpHi}
 use Rattle.s390x_assign.specs.Assignments.{assigned, assigned_operator, assigned_vector, portion_at, register_at}
-use Rattle.s390x_assign_laws.specs.Allocatable.{IsAssigned}
+use Rattle.s390x_alloc_laws.specs.Allocatable.{IsAssigned}
 use Rattle.s390x_lanes.specs.declared.operation.Signedness.{Signedness}
 use Rattle.s390x_lanes.specs.declared.operation.Signedness.TheVariants.{Signed, Unsigned}
 use Rattle.s390x_operations.specs.State.{Core, Registers}
@@ -33,7 +33,7 @@ use Rattle.s390x_machine.specs.VectorSteps.{ConditionalOperation, conditional_op
 use Rattle.s390x_typed_steps.specs.Calls.{map_site, patchable_site, return_site, site_labels}
 use Rattle.s390x_typed_steps.specs.Resolved.{resolved_instruction, resolved_vector}
 use Rattle.s390x_typed_steps.specs.Steps.{Step, Plain, Shortened, LoadedStep}
-use Rattle.s390x_output_laws.proofs.Portions.{kind_as_portion, loaded_as_portion, portion_kind, portion_loaded_kind}
+use Rattle.s390x_alloc_laws.proofs.Portions.{kind_as_portion, loaded_as_portion, portion_kind, portion_loaded_kind}
 use Rattle.s390x_alloc.specs.Shape.{Ending, leads_to, leaves, falls, block_ending, ending, ending_of, ends_before, is_label_in, is_leading}
 use Rattle.s390x_alloc_laws.specs.Successors.{CallsHaveNoHandlers, EndsBlock, IsStepOf, JumpsLead, StepAt, StepsLeadToSuccessors, StepsStay}
 

@@ -15,9 +15,9 @@ use Rattle.s390x_alloc.specs.declared.plan.Place.TheVariants.{Reg as InReg, Slot
 use Rattle.s390x_alloc.specs.Moves.{copy_of, is_unlike, is_unmovable, load_of, slot_operand, store_of}
 use Rattle.s390x_alloc.specs.Same.{is_reserved, same_class, same_real}
 use Rattle.s390x_alloc.proofs.Sameness.{class-same}
-use Rattle.s390x_assign_laws.specs.Allocatable as Emitted
-use Rattle.s390x_assign_laws.specs.Allocatable.{IsNotBlamed, refusal}
-use Rattle.s390x_assign_laws.proofs.Given.{clear, facility_clear, first_clear, unless_clear}
+use Rattle.s390x_alloc_laws.specs.Allocatable as Emitted
+use Rattle.s390x_alloc_laws.specs.Allocatable.{IsNotBlamed, refusal}
+use Rattle.s390x_alloc_laws.proofs.Given.{clear, facility_clear, first_clear, unless_clear}
 use Rattle.s390x_typed_steps.specs.Causes.{addend_fits, facility_cause, first_emit_cause, loses_scratch, unless}
 use Rattle.s390x_typed_steps.specs.General.{is_general}
 use Rattle.s390x_typed_steps.specs.Memory.{MemoryInstruction, RxForm, type_of}

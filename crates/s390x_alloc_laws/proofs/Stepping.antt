@@ -11,8 +11,8 @@ use Rattle.s390x_operands.specs.declared.constraint.Reported.TheVariants.{Operan
 use Rattle.s390x_alloc.specs.Same.{is_reserved, same_class}
 use Rattle.s390x_alloc.specs.Steps.{suits_operand}
 use Rattle.s390x_alloc.proofs.Meeting.{SuitsEach, registers_meet, registers_suit}
-use Rattle.s390x_assign_laws.specs.Allocatable.{IsOrdinary, Spares}
-use Rattle.s390x_assign_laws.proofs.Laws.{assignments_suffice}
+use Rattle.s390x_alloc_laws.specs.Allocatable.{IsOrdinary, Spares}
+use Rattle.s390x_alloc_laws.proofs.Laws.{assignments_suffice}
 use Rattle.s390x_alloc_laws.specs.Unblamed.{AllExist, Exists, StepsAreNotBlamed}
 
 ordinary : (n : ℕ) (c : RegClass) (q : Reg) → suits_operand (Virtual n c) q ≡ true → Exists q → IsOrdinary q

@@ -1,4 +1,10 @@
 pub mod Accesses
+pub mod Allocatable
 pub mod Classes
+pub mod Emitted
+pub mod Examples
+pub mod Machine
+pub mod OutputExamples
+pub mod Outputs
 pub mod Successors
 pub mod Unblamed

@@ -13,7 +13,7 @@ use Rattle.s390x_operations.specs.State.{Core}
 use Rattle.s390x_machine.specs.Layout.{Layout}
 use Rattle.s390x_machine.specs.Typed.{At, TypedStep}
 use Rattle.s390x_alloc.specs.Shape.{ending, is_leading, is_unsupported, precedes}
-use Rattle.s390x_assign_laws.specs.Allocatable.{IsAssigned}
+use Rattle.s390x_alloc_laws.specs.Allocatable.{IsAssigned}
 
 -- the step of an instruction, outside of loops: whole, with what is left of its branches, or with its operand's address loaded first. Calls have others
 abbrev pub IsStepOf : Inst → Step → Type 0

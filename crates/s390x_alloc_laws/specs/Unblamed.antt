@@ -10,8 +10,8 @@ use Rattle.s390x_alloc.specs.declared.plan.Place.{Place}
 use Rattle.s390x_alloc.specs.declared.plan.Place.TheVariants.{Reg as InReg, Slot}
 use Rattle.s390x_alloc.specs.Moves.{is_no_move, move_inst}
 use Rattle.s390x_alloc.specs.Steps.{step_cause}
-use Rattle.s390x_assign_laws.specs.Allocatable as Emitted
-use Rattle.s390x_assign_laws.specs.Allocatable.{IsAllocatable, IsAssigned, IsNotBlamed, refusal}
+use Rattle.s390x_alloc_laws.specs.Allocatable as Emitted
+use Rattle.s390x_alloc_laws.specs.Allocatable.{IsAllocatable, IsAssigned, IsNotBlamed, refusal}
 
 -- a register that there is, where it is real; each `Reg` of code is one
 abbrev pub Exists : Reg → Type 0

@@ -10,8 +10,8 @@ use Rattle.s390x_inst.specs.declared.state.IsaFlags.{IsaFlags}
 use Rattle.s390x_typed_steps.specs.Causes.{first_emit_cause, unless}
 use Rattle.s390x_typed_steps.specs.Sizes.{tree_size}
 use Rattle.s390x_typed_steps.proofs.Causes.{first_left}
-use Rattle.s390x_assign_laws.specs.Allocatable.{emission_refusal}
-use Rattle.s390x_output_laws.proofs.Passed.{emitted_changes_outputs}
+use Rattle.s390x_alloc_laws.specs.Allocatable.{emission_refusal}
+use Rattle.s390x_alloc_laws.proofs.Passed.{emitted_changes_outputs}
 use Rattle.s390x_emit_int.specs.Members.{member_of}
 use Rattle.s390x_assigned_emission.specs.AssignedEmission.{IsEmitted, IsEmittedForOutputs, MayBeGiven, cause_of, place_in}
 

@@ -11,9 +11,9 @@ use Rattle.s390x_typed_steps.specs.Causes.{unless}
 use Rattle.s390x_typed_steps.specs.Sizes.{tree_size}
 use Rattle.s390x_operands.specs.Meets.{Meets}
 use Rattle.s390x_operands.specs.Operands.{operands}
-use Rattle.s390x_assign_laws.specs.Allocatable.{IsAllocatable, IsAssigned, IsNotBlamed, Spares, emission_refusal}
-use Rattle.s390x_assign_laws.proofs.Given.{unless_clear, first_clear}
-use Rattle.s390x_assign_laws.proofs.Laws.{emissions_suffice}
+use Rattle.s390x_alloc_laws.specs.Allocatable.{IsAllocatable, IsAssigned, IsNotBlamed, Spares, emission_refusal}
+use Rattle.s390x_alloc_laws.proofs.Given.{unless_clear, first_clear}
+use Rattle.s390x_alloc_laws.proofs.Laws.{emissions_suffice}
 use Rattle.s390x_emit_int.specs.Members.{member_of}
 use Rattle.s390x_assigned_emission.specs.AssignedEmission.{cause_of, place_in}
 use Rattle.s390x_assigned_emission.specs.declared.emitting.AssignedError.TheVariants.{Emit}

@@ -12,8 +12,8 @@ use Rattle.s390x_typed_steps.specs.Stack.{state_after}
 use Rattle.s390x_operands.specs.Meets.{Meets}
 use Rattle.s390x_operands.specs.Operands.{operands}
 use Rattle.s390x_assign.specs.Assignments.{IsAssignAnswer, replaced}
-use Rattle.s390x_assign_laws.specs.Allocatable.{IsAllocatable, IsAssigned, Place, Spares}
-use Rattle.s390x_output_laws.specs.Emitted.{ChangesOnlyOutputs}
+use Rattle.s390x_alloc_laws.specs.Allocatable.{IsAllocatable, IsAssigned, Place, Spares}
+use Rattle.s390x_alloc_laws.specs.Emitted.{ChangesOnlyOutputs}
 use Rattle.s390x_emit_int.specs.Emission.{own_fragments}
 use Rattle.s390x_emit_int.specs.Fragments.{apply_all}
 use Rattle.s390x_emit_int.specs.Instruction.{emit_cause}

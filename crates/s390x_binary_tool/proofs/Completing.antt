@@ -11,10 +11,10 @@ use Rattle.s390x_image.specs.declared.error.LinkError.{LinkError}
 use Rattle.s390x_job.specs.Jobs.{IsJob}
 use Rattle.s390x_job.specs.Same.{SameJob}
 use Rattle.s390x_job.specs.declared.job.Job.{Job}
-use Rattle.s390x_binary_commands.specs.Words.{IsForm}
-use Rattle.s390x_binary_commands.specs.declared.words.Command.{Command}
-use Rattle.s390x_binary_commands.specs.declared.words.Command.TheVariants.{Refusal, Verify, Disassemble, Assemble, Object, Objects}
-use Rattle.s390x_binary_commands.proofs.Told.{same_command}
+use Rattle.s390x_binary_tool.specs.Words.{IsForm}
+use Rattle.s390x_binary_tool.specs.declared.words.Command.{Command}
+use Rattle.s390x_binary_tool.specs.declared.words.Command.TheVariants.{Refusal, Verify, Disassemble, Assemble, Object, Objects}
+use Rattle.s390x_binary_tool.proofs.Told.{same_command}
 use Rattle.s390x_tool.specs.Answers.{IsCodeOfJob, IsImageAt, symbols_of, with_symbols}
 use Rattle.s390x_tool.specs.Bundled.{member_of}
 use Rattle.s390x_tool.specs.Causes.{FaultCountRose}

@@ -6,4 +6,5 @@ pub mod HexLines
 pub mod Joining
 pub mod Objects
 pub mod Replying
+pub mod Told
 pub mod Verifying

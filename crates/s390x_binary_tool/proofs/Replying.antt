@@ -10,9 +10,9 @@ use Rattle.s390x_tool.specs.declared.input.InputError.{InputError}
 use Rattle.s390x_tool.specs.declared.input.InputError.TheVariants as input
 use Rattle.s390x_tool.specs.declared.status.Status.{Status}
 use Rattle.s390x_tool.specs.declared.status.Status.TheVariants as status
-use Rattle.s390x_binary_commands.specs.Words.{IsForm, IsNoForm}
-use Rattle.s390x_binary_commands.specs.declared.words.Command.{Command}
-use Rattle.s390x_binary_commands.specs.declared.words.Command.TheVariants.{Refusal, Verify, Disassemble, Assemble, Object, Objects}
+use Rattle.s390x_binary_tool.specs.Words.{IsForm, IsNoForm}
+use Rattle.s390x_binary_tool.specs.declared.words.Command.{Command}
+use Rattle.s390x_binary_tool.specs.declared.words.Command.TheVariants.{Refusal, Verify, Disassemble, Assemble, Object, Objects}
 use Rattle.s390x_binary_tool.specs.Replies.{IsDelivered, IsDone, IsInputAnswer, IsReply}
 use Rattle.s390x_binary_tool.specs.declared.status.BinaryStatus.{BinaryStatus}
 use Rattle.s390x_binary_tool.specs.declared.status.BinaryStatus.TheVariants.{Shared, Differs, ObjectRefused}

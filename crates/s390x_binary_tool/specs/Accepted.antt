@@ -12,9 +12,9 @@ use Rattle.s390x_elf.specs.Members.{members_cause}
 use Rattle.s390x_elf.specs.declared.members.ObjectMember.{ObjectMember}
 use Rattle.s390x_job.specs.Jobs.{IsJob, text_of_job}
 use Rattle.s390x_job.specs.declared.job.Job.{Job}
-use Rattle.s390x_binary_commands.specs.Words.{object_name}
-use Rattle.s390x_binary_commands.specs.declared.words.Command.{Command}
-use Rattle.s390x_binary_commands.specs.declared.words.Command.TheVariants.{Refusal, Verify, Disassemble, Assemble, Object, Objects}
+use Rattle.s390x_binary_tool.specs.Words.{object_name}
+use Rattle.s390x_binary_tool.specs.declared.words.Command.{Command}
+use Rattle.s390x_binary_tool.specs.declared.words.Command.TheVariants.{Refusal, Verify, Disassemble, Assemble, Object, Objects}
 use Rattle.s390x_tool.specs.Answers.{IsCodeOfJob, IsImageAt, job_cause}
 use Rattle.s390x_tool.specs.Bundled.{member_of}
 use Rattle.s390x_binary_tool.specs.ImageText.{IsImageText}

@@ -10,3 +10,4 @@ pub mod Refusal
 pub mod Replies
 pub mod Status
 pub mod Verify
+pub mod Words

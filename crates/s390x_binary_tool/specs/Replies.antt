@@ -6,9 +6,9 @@ use Rattle.s390x_tool.specs.Ends.{IsCutShort, IsPartRead, IsRead, IsTooLong, mos
 use Rattle.s390x_tool.specs.Lines.{line}
 use Rattle.s390x_tool.specs.Replies.{Found}
 use Rattle.s390x_tool.specs.declared.status.Status.TheVariants as status
-use Rattle.s390x_binary_commands.specs.Words.{IsForm, IsNoForm, object_name}
-use Rattle.s390x_binary_commands.specs.declared.words.Command.{Command}
-use Rattle.s390x_binary_commands.specs.declared.words.Command.TheVariants.{Refusal, Verify, Disassemble, Assemble, Object, Objects}
+use Rattle.s390x_binary_tool.specs.Words.{IsForm, IsNoForm, object_name}
+use Rattle.s390x_binary_tool.specs.declared.words.Command.{Command}
+use Rattle.s390x_binary_tool.specs.declared.words.Command.TheVariants.{Refusal, Verify, Disassemble, Assemble, Object, Objects}
 use Rattle.s390x_binary_tool.specs.Assemble.{IsAssembleAnswer}
 use Rattle.s390x_binary_tool.specs.Disassemble.{IsDisassembleAnswer}
 use Rattle.s390x_binary_tool.specs.Object.{IsObjectAnswer}

@@ -11,7 +11,9 @@ mod reply;
 mod status;
 mod top_call;
 mod verify;
+mod words;
 
 pub use reply::BinaryReply;
 pub use status::BinaryStatus;
 pub use top_call::run;
+pub use words::{Command, object_name, read_words};

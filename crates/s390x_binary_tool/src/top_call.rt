@@ -1,11 +1,11 @@
 //! The top call of the second program.
 ghost use Rattle.std.specs.Prelude.{◌≡◌, ◌<◌, ◌⊎◌, ℕ, List, Some, None, length};
 ghost use Rattle.std.specs.Cow.{cow_slice_items};
-ghost use Rattle.s390x_commands.specs.Words.{texts};
+ghost use Rattle.s390x_tool.specs.Words.{texts};
 ghost use Rattle.s390x_tool.specs.Causes.{FaultCountRose};
 ghost use Rattle.s390x_tool.specs.Ends.{IsTooLong, too_many};
-ghost use Rattle.s390x_binary_commands.specs.Words.{IsForm, IsNoForm};
-ghost use Rattle.s390x_binary_commands.specs.declared.words.Command.{Command};
+ghost use Rattle.s390x_binary_tool.specs.Words.{IsForm, IsNoForm};
+ghost use Rattle.s390x_binary_tool.specs.declared.words.Command.{Command};
 ghost use Rattle.s390x_binary_tool.specs.Accepted.{IsAccepted};
 ghost use Rattle.s390x_binary_tool.specs.Replies.{IsDelivered, IsDone, IsEnded, IsInputAnswer, IsReply};
 ghost use Rattle.s390x_binary_tool.specs.declared.status.BinaryStatus.TheVariants.{Shared};
@@ -19,7 +19,7 @@ use crate::refusal::refusal;
 use crate::reply::{BinaryReply, shared};
 use crate::status::BinaryStatus;
 use crate::verify::verify;
-use s390x_binary_commands::{Command, object_name, read_words};
+use crate::{Command, object_name, read_words};
 use s390x_tool::{Failed, Sink, Source, Status, fixed, read_input, unread, write_text};
 use std::alloc::Global;
 

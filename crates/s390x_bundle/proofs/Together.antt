@@ -9,8 +9,8 @@ use Rattle.s390x_image.specs.Fields.{filled}
 use Rattle.s390x_image.specs.declared.error.LinkError.{LinkError}
 use Rattle.s390x_operations.specs.State.{CodeImage}
 use Rattle.s390x_typed_steps.proofs.Causes.{first_right}
-use Rattle.s390x_joint_runs.proofs.JointInduction.{joint_block_runs, joint_return_runs}
-use Rattle.s390x_joint_runs.specs.Joint.{AreMembers, IsMember}
+use Rattle.s390x_schedule.proofs.JointInduction.{joint_block_runs, joint_return_runs}
+use Rattle.s390x_schedule.specs.Joint.{AreMembers, IsMember}
 use Rattle.s390x_emit_int.specs.Function.{checked_cause, start_cause}
 use Rattle.s390x_emit_int.proofs.Filling.{relocs_lie}
 use Rattle.s390x_emit_int.proofs.Linked.{is_placed}

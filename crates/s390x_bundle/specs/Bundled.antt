@@ -6,8 +6,8 @@ use Rattle.s390x_image.specs.declared.error.LinkError.{LinkError}
 use Rattle.s390x_operations.specs.State.{CodeImage}
 use Rattle.s390x_machine.specs.Functions.{function_layout}
 use Rattle.s390x_machine.specs.Layout.{Layout}
-use Rattle.s390x_joint_runs.specs.Joint.{AreMembers}
-use Rattle.s390x_joint_runs.specs.JointMatch.{EveryJointBlockRun, EveryJointReturnRun}
+use Rattle.s390x_schedule.specs.Joint.{AreMembers}
+use Rattle.s390x_schedule.specs.JointMatch.{EveryJointBlockRun, EveryJointReturnRun}
 use Rattle.s390x_emit_int.specs.Headline.{linked, linked_image}
 use Rattle.s390x_bundle.specs.declared.error.BundleError.{BundleError}
 use Rattle.s390x_bundle.specs.declared.error.BundleError.TheVariants.{DuplicateName, Emit as EmitRefused, EmptyMember as HasNoBytes, TooLong as EndsTooLate, AddressTooHigh as StartsTooHigh, Link as LinkRefused, NoMemory}

@@ -9,8 +9,7 @@ use s390x_calls::{MOST_BYTES, Reason, Status, put_entries};
 use s390x_emit_int::emit_function;
 use s390x_job::{Job, LineError, read_lines};
 use s390x_listing::listed_texts;
-use s390x_text::TextError;
-use s390x_text_laws::valid_blocks_have_texts;
+use s390x_text::{TextError, valid_blocks_have_texts};
 use std::alloc::Global;
 
 /// The texts of a job's instructions: for each block the line `block K`, and a line for each of its instructions. The input is the job's

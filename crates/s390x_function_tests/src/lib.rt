@@ -4,6 +4,8 @@
 #[cfg(test)]
 mod calls;
 #[cfg(test)]
+mod constructors;
+#[cfg(test)]
 mod emit;
 #[cfg(test)]
 mod functions;

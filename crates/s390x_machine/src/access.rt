@@ -11,8 +11,7 @@ ghost use Rattle.s390x_machine.specs.State.{memory_of};
 ghost use Rattle.s390x_machine.specs.Sound.{IsSound};
 
 use crate::memory::{Memory, reaches};
-use s390x_arithmetic::{bytes, layout_bytes};
-use s390x_operations::{Effect, Size, Source, StopKind};
+use s390x_operations::{Effect, Size, Source, StopKind, bytes, layout_bytes};
 
 /// The number in so many bytes, at most 16, the most significant first.
 #[tactic(auto, using(crate::proofs::Numbers::number_none, crate::proofs::Numbers::number_more, crate::proofs::Reaching::reached_at))]

@@ -11,6 +11,7 @@ mod law;
 mod machine;
 mod memory;
 mod perform;
+mod progress;
 mod register_action;
 mod registers;
 mod semantics;
@@ -32,5 +33,9 @@ pub use law::{
 };
 pub use machine::Machine;
 pub use memory::Memory;
+pub use progress::{
+    a_state_is_in_range, all_writes_have_a_run, every_run_goes_on, every_state_has_a_step,
+    every_write_leaves_a_step, runs_keep_ranges, steps_keep_ranges,
+};
 pub use semantics::ROW_SEMANTICS;
 pub use step::StepEnd;

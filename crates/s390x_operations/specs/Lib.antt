@@ -1,6 +1,7 @@
 pub mod Access
 pub mod Bits
 pub mod Effects
+pub mod Layouts
 pub mod Numbers
 pub mod Signed
 pub mod State

@@ -1,6 +1,10 @@
-pub mod Spelling
-pub mod Plans
-pub mod Parts
-pub mod Stopping
-pub mod Sizes
+pub mod AnsweredJobs
 pub mod Example
+pub mod Fields
+pub mod Parts
+pub mod Plans
+pub mod PortionLines
+pub mod Sizes
+pub mod Spelling
+pub mod Stopping
+pub mod TreeLines

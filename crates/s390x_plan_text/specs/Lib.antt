@@ -1,6 +1,7 @@
-pub mod Lines
-pub mod Text
-pub mod Order
 pub mod Completions
 pub mod Errors
 pub mod Example
+pub mod Jobs
+pub mod Lines
+pub mod Order
+pub mod Text

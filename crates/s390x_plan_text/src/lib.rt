@@ -1,6 +1,7 @@
 //! The text of a job with a plan of its registers: its exact reader.
 #![tactic(auto)]
 
+mod allocated_jobs;
 mod complete;
 mod error;
 mod find;
@@ -10,6 +11,7 @@ mod planned_job;
 mod progress;
 mod reader;
 
+pub use allocated_jobs::{answered_jobs_are_jobs, answered_jobs_are_read_back};
 pub use complete::complete;
 pub use error::PlanTextError;
 pub use find::{find_plan, find_planned};

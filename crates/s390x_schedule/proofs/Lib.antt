@@ -1,4 +1,9 @@
+pub mod Continuing
+pub mod Example
 pub mod Going
+pub mod JointInduction
+pub mod Loaded
+pub mod Parts
 pub mod Storing
 pub mod Views
 pub mod Worlds

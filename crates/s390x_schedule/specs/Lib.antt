@@ -1,1 +1,5 @@
+pub mod Example
+pub mod Joint
+pub mod JointMatch
+pub mod Parts
 pub mod Schedule

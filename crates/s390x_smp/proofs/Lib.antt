@@ -1,7 +1,8 @@
-pub mod Words
-pub mod Totals
+pub mod Drawing
 pub mod Memories
-pub mod Rows
 pub mod Places
-pub mod Stepping
+pub mod Rows
 pub mod Starting
+pub mod Stepping
+pub mod Totals
+pub mod Words

@@ -2,6 +2,8 @@
 #![tactic(auto)]
 
 #[cfg(test)]
+mod adder;
+#[cfg(test)]
 mod lanes;
 #[cfg(test)]
 mod rows;

@@ -1,3 +1,5 @@
+pub mod Agreement
 pub mod Calls
 pub mod Instructions
-pub mod Agreement
+pub mod Laws
+pub mod Rows

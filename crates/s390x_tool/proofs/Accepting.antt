@@ -8,8 +8,8 @@ use Rattle.s390x_bundle.specs.Joined.{misplaced_member}
 use Rattle.s390x_bundle.specs.declared.error.BundleError.{BundleError}
 use Rattle.s390x_bundle.specs.declared.error.BundleError.TheVariants as cause
 use Rattle.s390x_bundle.specs.declared.member.Member.{Member}
-use Rattle.s390x_commands.specs.Words.{IsForm}
-use Rattle.s390x_commands.specs.declared.words.Command.TheVariants.{Bundle}
+use Rattle.s390x_tool.specs.Words.{IsForm}
+use Rattle.s390x_tool.specs.declared.words.Command.TheVariants.{Bundle}
 use Rattle.s390x_tool.specs.Bundled.{CanBeBundled, IsBundleAccepted, member_of}
 use Rattle.s390x_tool.specs.Causes.{FaultCountRose}
 use Rattle.s390x_tool.specs.Lines.{line}

@@ -3,15 +3,15 @@ use Rattle.std.proofs.Common.{◌≡◌, ℕ, inl, inr, Global, List, String, �
 use Rattle.std.specs.Prelude.{codes, ◌++◌, ◌≢◌, IfOk, MatchResult, Result, Ok, Err, string_bytes}
 use Rattle.std.specs.Fmt.{decimal}
 use Rattle.s390x_alloc.specs.Answered.{IsAnswered}
-use Rattle.s390x_allocated_jobs.specs.Jobs.{AnsweredIsJob, with_function}
+use Rattle.s390x_plan_text.specs.Jobs.{AnsweredIsJob, with_function}
 use Rattle.s390x_alloc.specs.Blocks.{IsFault}
 use Rattle.s390x_alloc.specs.Checked.{checked}
 use Rattle.s390x_alloc.specs.Walks.{EveryWalkReadsAlike}
 use Rattle.s390x_alloc.specs.declared.fault.PlanFault.{PlanFault}
 use Rattle.s390x_alloc.specs.declared.fault.PlanFault.TheVariants as fault
 use Rattle.s390x_base.specs.declared.error.NoMemory.{NoMemory}
-use Rattle.s390x_commands.specs.Words.{IsForm}
-use Rattle.s390x_commands.specs.declared.words.Command.TheVariants.{Allocate}
+use Rattle.s390x_tool.specs.Words.{IsForm}
+use Rattle.s390x_tool.specs.declared.words.Command.TheVariants.{Allocate}
 use Rattle.s390x_inst.specs.declared.function.AllocatedFunction.{AllocatedFunction}
 use Rattle.s390x_job.specs.Completions.{pieces}
 use Rattle.s390x_job.specs.Jobs.{text_of_job}

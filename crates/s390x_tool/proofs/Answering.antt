@@ -34,8 +34,8 @@ use Rattle.s390x_operands.specs.declared.constraint.OperandError.TheVariants as 
 use Rattle.s390x_tool.specs.Lines.{line, IsMade, IsRefusal, IsLinkRefusal, IsOperandRefusal}
 use Rattle.s390x_tool.specs.Emitted.{emit_text}
 use Rattle.s390x_tool.specs.Answers.{IsAnswer, IsCodeOfJob, IsEmitReply, IsImageAt, IsImageReply, IsJobReply, IsLinked, IsOperandsReply, IsRunReply, IsShowReply, job_cause, link_cause_of, operands_cause_of, symbols_of}
-use Rattle.s390x_commands.specs.declared.words.JobCommand.{JobCommand}
-use Rattle.s390x_commands.specs.declared.words.JobCommand.TheVariants.{Image, Emit, Run, Operands, Show}
+use Rattle.s390x_tool.specs.declared.words.JobCommand.{JobCommand}
+use Rattle.s390x_tool.specs.declared.words.JobCommand.TheVariants.{Image, Emit, Run, Operands, Show}
 use Rattle.s390x_tool.specs.declared.status.Status.{Status}
 use Rattle.s390x_tool.specs.declared.status.Status.TheVariants as status
 

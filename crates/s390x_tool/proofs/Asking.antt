@@ -1,9 +1,9 @@
 -- A reply is that to the command that the words are.
 use Rattle.std.proofs.Common.{◌≡◌, ℕ, List, subst}
-use Rattle.s390x_commands.specs.Words.{IsForm}
-use Rattle.s390x_commands.proofs.Told.{same_command}
-use Rattle.s390x_commands.specs.declared.words.Command.{Command}
-use Rattle.s390x_commands.specs.declared.words.Command.TheVariants.{OnJob, Generate, Simulate, Allocate, Bundle}
+use Rattle.s390x_tool.specs.Words.{IsForm}
+use Rattle.s390x_tool.proofs.Told.{same_command}
+use Rattle.s390x_tool.specs.declared.words.Command.{Command}
+use Rattle.s390x_tool.specs.declared.words.Command.TheVariants.{OnJob, Generate, Simulate, Allocate, Bundle}
 use Rattle.s390x_tool.specs.Ends.{IsRead}
 use Rattle.s390x_tool.specs.Replies.{Found, IsAboutInput, IsAnswered, IsInputAnswer, IsReply, IsSimulationReply}
 use Rattle.s390x_tool.specs.declared.status.Status.{Status}

@@ -12,8 +12,8 @@ use Rattle.s390x_bundle.specs.declared.member.Member.{Member}
 use Rattle.s390x_bundle_text.specs.Completions.{IsBundleText, IsFirstWrongOfBundle}
 use Rattle.s390x_bundle_text.specs.Text.{AreFunctionsOf}
 use Rattle.s390x_bundle_text.specs.declared.named_job.NamedJob.{NamedJob}
-use Rattle.s390x_commands.specs.Words.{IsForm}
-use Rattle.s390x_commands.specs.declared.words.Command.TheVariants.{Bundle as AskBundle}
+use Rattle.s390x_tool.specs.Words.{IsForm}
+use Rattle.s390x_tool.specs.declared.words.Command.TheVariants.{Bundle as AskBundle}
 use Rattle.s390x_tool.proofs.Parts.{whole_part}
 use Rattle.s390x_tool.specs.Bundled.{IsBundleAnswer, IsBundleRefusal, member_of, refusal_of_bundle}
 use Rattle.s390x_tool.specs.Ends.{IsRead}

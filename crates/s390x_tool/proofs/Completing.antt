@@ -7,17 +7,17 @@ use Rattle.s390x_job.specs.Jobs.{IsJob}
 use Rattle.s390x_job.specs.Same.{SameJob}
 use Rattle.s390x_job.specs.declared.job.Job.{Job}
 use Rattle.s390x_tool.specs.Causes.{FaultCountRose}
-use Rattle.s390x_commands.specs.Words.{IsForm}
+use Rattle.s390x_tool.specs.Words.{IsForm}
 use Rattle.s390x_tool.specs.Answers.{IsAccepted, IsJobReply, IsUnrefused, Links}
-use Rattle.s390x_commands.proofs.Told.{same_command}
+use Rattle.s390x_tool.proofs.Told.{same_command}
 use Rattle.s390x_tool.proofs.SameJob.{same_cause, same_links}
 use Rattle.s390x_tool.proofs.SameOperands.{same_operands_cause}
 use Rattle.s390x_tool.proofs.Asking.{about, answered, not_generated, not_simulation}
 use Rattle.s390x_tool.proofs.Replying.{of_job}
 use Rattle.s390x_tool.specs.Replies.{Found, IsReply, IsDelivered}
-use Rattle.s390x_commands.specs.declared.words.Command.TheVariants.{OnJob, Generate, Simulate}
-use Rattle.s390x_commands.specs.declared.words.JobCommand.{JobCommand}
-use Rattle.s390x_commands.specs.declared.words.JobCommand.TheVariants.{Image, Emit, Run, Operands, Show}
+use Rattle.s390x_tool.specs.declared.words.Command.TheVariants.{OnJob, Generate, Simulate}
+use Rattle.s390x_tool.specs.declared.words.JobCommand.{JobCommand}
+use Rattle.s390x_tool.specs.declared.words.JobCommand.TheVariants.{Image, Emit, Run, Operands, Show}
 use Rattle.s390x_tool.specs.declared.status.Status.{Status}
 use Rattle.s390x_tool.specs.declared.status.Status.TheVariants as status
 

@@ -31,8 +31,8 @@ use Rattle.s390x_tool.specs.Generated.{IsGenerateReply, generated_base, summary_
 use Rattle.s390x_tool.specs.Lines.{IsLinkRefusal, IsMade, IsRefusal}
 use Rattle.s390x_tool.specs.Replies.{Found, IsReply}
 use Rattle.s390x_typed_steps.proofs.Baseline.{for_relative_machine}
-use Rattle.s390x_commands.specs.Words.{IsForm}
-use Rattle.s390x_commands.specs.declared.words.Command.TheVariants.{Generate}
+use Rattle.s390x_tool.specs.Words.{IsForm}
+use Rattle.s390x_tool.specs.declared.words.Command.TheVariants.{Generate}
 use Rattle.s390x_tool.specs.declared.status.Status.{Status}
 use Rattle.s390x_tool.specs.declared.status.Status.TheVariants as status
 

@@ -2,8 +2,8 @@
 use Rattle.std.proofs.Common.{◌≡◌, ℕ, ◌⊎◌, inl, inr, List, refl, sym, ◌∙◌, arith, subst, Some}
 use Rattle.std.specs.Prelude.{Option, Result, IsOk, Err}
 use Rattle.std.proofs.lemmas.Bool.{false≢true}
-use Rattle.s390x_commands.specs.Words.{IsForm}
-use Rattle.s390x_commands.specs.declared.words.Command.TheVariants.{Allocate}
+use Rattle.s390x_tool.specs.Words.{IsForm}
+use Rattle.s390x_tool.specs.declared.words.Command.TheVariants.{Allocate}
 use Rattle.s390x_job.specs.Completions.{joined}
 use Rattle.s390x_plan_text.specs.Example.{no_blocks}
 use Rattle.s390x_plan_text.proofs.Example.{no_blocks_are_text}

@@ -1,11 +1,11 @@
 -- What follows from a reply and how it was written.
 use Rattle.std.proofs.Common.{◌≡◌, ℕ, ◌⊎◌, inl, inr, List, refl, sym, ◌∙◌}
 use Rattle.std.specs.Prelude.{Option}
-use Rattle.s390x_commands.specs.Words.{IsForm, IsNoForm}
-use Rattle.s390x_commands.specs.declared.words.Command.{Command}
-use Rattle.s390x_commands.specs.declared.words.Command.TheVariants.{OnJob, Generate, Simulate, Allocate, Bundle}
-use Rattle.s390x_commands.specs.declared.words.JobCommand.{JobCommand}
-use Rattle.s390x_commands.specs.declared.words.JobCommand.TheVariants.{Image, Emit, Run, Operands, Show}
+use Rattle.s390x_tool.specs.Words.{IsForm, IsNoForm}
+use Rattle.s390x_tool.specs.declared.words.Command.{Command}
+use Rattle.s390x_tool.specs.declared.words.Command.TheVariants.{OnJob, Generate, Simulate, Allocate, Bundle}
+use Rattle.s390x_tool.specs.declared.words.JobCommand.{JobCommand}
+use Rattle.s390x_tool.specs.declared.words.JobCommand.TheVariants.{Image, Emit, Run, Operands, Show}
 use Rattle.s390x_job.specs.declared.job.Job.{Job}
 use Rattle.s390x_tool.proofs.Parts.{whole_part}
 use Rattle.s390x_tool.specs.Answers.{IsAnswer, IsJobReply}

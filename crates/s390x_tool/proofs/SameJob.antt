@@ -21,8 +21,8 @@ use Rattle.s390x_job.specs.declared.job.Job.{Job}
 use Rattle.s390x_image.specs.Causes.{link_cause}
 use Rattle.s390x_image.specs.Symbols.{no_symbols}
 use Rattle.s390x_tool.specs.Answers.{IsCodeOfJob, Links, job_cause, with_symbols}
-use Rattle.s390x_commands.specs.declared.words.JobCommand.{JobCommand}
-use Rattle.s390x_commands.specs.declared.words.JobCommand.TheVariants.{Image, Emit, Run, Operands, Show}
+use Rattle.s390x_tool.specs.declared.words.JobCommand.{JobCommand}
+use Rattle.s390x_tool.specs.declared.words.JobCommand.TheVariants.{Image, Emit, Run, Operands, Show}
 use Rattle.s390x_tool.proofs.SameTree.{LineTree, lines_tree, lines_for, line_blocks_cause, line_blocks_size, line_ranges, parts_code, line_at, line_places, line_environment, line_steps_from, same_blocks_cause, same_function_code, same_starts, same_block_starts, same_blocks_size}
 use Rattle.s390x_tool.proofs.SameTree.{parts_places, line_block_places, ranges_to, ranges_from, each_traps, same_function_traps, each_relocs, same_function_relocs, line_sites, same_function_sites, line_tries, same_function_tries}
 use Rattle.s390x_tool.proofs.SameEnds.{lines_from, line_peak, same_peak, folded_blocks_told, same_folded}

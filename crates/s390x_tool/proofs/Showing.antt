@@ -16,7 +16,7 @@ use Rattle.s390x_text.specs.Instructions.{after, inst_text, insts_text}
 use Rattle.s390x_row_text.specs.Texts.{first}
 use Rattle.s390x_row_text.specs.declared.error.TextError.{TextError}
 use Rattle.s390x_listing.specs.Texts.{blocks_texts, inst_texts}
-use Rattle.s390x_text_laws.specs.Laws.{HasTextsInOrder, tree_of_block}
+use Rattle.s390x_text.specs.Laws.{HasTextsInOrder, tree_of_block}
 use Rattle.s390x_job.specs.declared.job.Job.{Job}
 use Rattle.s390x_tool.specs.Answers.{job_cause, texts_of}
 

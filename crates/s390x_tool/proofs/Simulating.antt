@@ -3,8 +3,8 @@ use Rattle.std.proofs.Common.{◌≡◌, ℕ, ◌⊎◌, inl, inr, List, Some, r
 use Rattle.s390x_smp.specs.Image.{start_cause}
 use Rattle.s390x_smp.specs.declared.error.SmpError.{SmpError}
 use Rattle.s390x_smp.specs.declared.error.SmpError.TheVariants as cause
-use Rattle.s390x_commands.specs.Words.{IsForm}
-use Rattle.s390x_commands.specs.declared.words.Command.TheVariants.{Simulate}
+use Rattle.s390x_tool.specs.Words.{IsForm}
+use Rattle.s390x_tool.specs.declared.words.Command.TheVariants.{Simulate}
 use Rattle.s390x_tool.specs.Replies.{Found, IsReply}
 use Rattle.s390x_tool.specs.Simulated.{IsSimulateReply, IsSimulationRefusal}
 use Rattle.s390x_tool.specs.declared.status.Status.{Status}

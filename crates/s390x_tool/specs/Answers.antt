@@ -23,8 +23,8 @@ use Rattle.s390x_row_text.specs.Texts.{Text}
 use Rattle.s390x_listing.specs.Operands.{operands_listing}
 use Rattle.s390x_listing.specs.Texts.{texts_listing}
 use Rattle.s390x_tool.specs.Lines.{line, error_name, link_error_name, operand_error_name}
-use Rattle.s390x_commands.specs.declared.words.JobCommand.{JobCommand}
-use Rattle.s390x_commands.specs.declared.words.JobCommand.TheVariants.{Image, Emit, Run, Operands, Show}
+use Rattle.s390x_tool.specs.declared.words.JobCommand.{JobCommand}
+use Rattle.s390x_tool.specs.declared.words.JobCommand.TheVariants.{Image, Emit, Run, Operands, Show}
 use Rattle.s390x_tool.specs.declared.status.Status.{Status}
 use Rattle.s390x_tool.specs.declared.status.Status.TheVariants as status
 

@@ -1,7 +1,7 @@
 -- Inputs with code that the top call accepts: a job and a function that return at once, and such a job with its plan.
 use Rattle.std.specs.Prelude.{◌≡◌, ℕ, ◌+◌, ◌%◌, ◌^◌, ◌≤◌, List, [], ◌∷◌, codes}
-use Rattle.s390x_commands.specs.declared.words.JobCommand.{JobCommand}
-use Rattle.s390x_commands.specs.declared.words.JobCommand.TheVariants.{Image, Run}
+use Rattle.s390x_tool.specs.declared.words.JobCommand.{JobCommand}
+use Rattle.s390x_tool.specs.declared.words.JobCommand.TheVariants.{Image, Run}
 
 -- a job that returns at once
 abbrev pub one_job : List (List ℕ)

@@ -11,3 +11,4 @@ pub mod Lines
 pub mod Replies
 pub mod Simulated
 pub mod Status
+pub mod Words

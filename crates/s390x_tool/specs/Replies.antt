@@ -3,15 +3,15 @@ use Rattle.std.specs.Prelude.{ℕ, ◌≡◌, List, codes, Option, ◌⊎◌}
 use Rattle.std.specs.Io.KnownBytes.{Appends}
 use Rattle.s390x_tool.specs.Causes.{FaultCountRose}
 use Rattle.s390x_tool.specs.Ends.{IsPartRead, IsRead, IsTooLong, IsCutShort, most_bytes, too_many}
-use Rattle.s390x_commands.specs.Words.{IsForm, IsNoForm}
+use Rattle.s390x_tool.specs.Words.{IsForm, IsNoForm}
 use Rattle.s390x_tool.specs.Allocated.{IsAllocateAnswer}
 use Rattle.s390x_tool.specs.Answers.{IsAnswer}
 use Rattle.s390x_tool.specs.Bundled.{IsBundleAnswer}
 use Rattle.s390x_tool.specs.Generated.{IsGeneratedText}
 use Rattle.s390x_tool.specs.Lines.{line}
 use Rattle.s390x_tool.specs.Simulated.{IsSimulateReply}
-use Rattle.s390x_commands.specs.declared.words.Command.{Command}
-use Rattle.s390x_commands.specs.declared.words.Command.TheVariants.{OnJob, Generate, Simulate, Allocate, Bundle}
+use Rattle.s390x_tool.specs.declared.words.Command.{Command}
+use Rattle.s390x_tool.specs.declared.words.Command.TheVariants.{OnJob, Generate, Simulate, Allocate, Bundle}
 use Rattle.s390x_tool.specs.declared.status.Status.{Status}
 use Rattle.s390x_tool.specs.declared.status.Status.TheVariants as status
 

@@ -3,7 +3,7 @@ use Rattle.std.specs.Prelude.{ℕ, ◌≡◌, List, codes, Some, None}
 use Rattle.s390x_smp.specs.Image.{start_cause}
 use Rattle.s390x_smp.specs.declared.error.SmpError.{SmpError}
 use Rattle.s390x_smp.specs.declared.error.SmpError.TheVariants as cause
-use Rattle.s390x_smp_text.specs.Report.{IsSimulated}
+use Rattle.s390x_smp.specs.Report.{IsSimulated}
 use Rattle.s390x_tool.specs.Lines.{line}
 use Rattle.s390x_tool.specs.declared.status.Status.{Status}
 use Rattle.s390x_tool.specs.declared.status.Status.TheVariants as status

@@ -12,14 +12,13 @@ use crate::reply::{
 use crate::status::Status;
 use s390x_base::NoMemory;
 use s390x_buffer::MachBufferFinalized;
-use s390x_commands::JobCommand;
+use crate::JobCommand;
 use s390x_emit_int::{emit_function, linked_code_runs_as_typed};
 use s390x_execution::run_text;
 use s390x_image::{Image, LinkError, SymbolTable, link};
 use s390x_job::{Job, LineError, SymbolLine, read_lines};
 use s390x_listing::{listed_operands, listed_texts};
-use s390x_text::TextError;
-use s390x_text_laws::valid_blocks_have_texts;
+use s390x_text::{TextError, valid_blocks_have_texts};
 use std::alloc::Global;
 use std::borrow::CowStr;
 

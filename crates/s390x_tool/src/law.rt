@@ -1,6 +1,6 @@
 //! That what the top call's clauses ask for can be.
 ghost use Rattle.std.specs.Prelude.{◌≡◌, ℕ, ◌+◌, ◌%◌, ◌≤◌, ◌^◌, codes};
-ghost use Rattle.s390x_commands.specs.declared.words.JobCommand.{JobCommand};
+ghost use Rattle.s390x_tool.specs.declared.words.JobCommand.{JobCommand};
 ghost use Rattle.s390x_job.specs.Completions.{joined};
 ghost use Rattle.s390x_plan_text.specs.Example.{no_blocks};
 ghost use Rattle.s390x_tool.specs.Allocated.{IsPlanAccepted};

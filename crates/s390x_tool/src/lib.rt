@@ -18,6 +18,7 @@ mod simulate;
 mod standard;
 mod status;
 mod top_call;
+mod words;
 
 pub use allocated::allocated;
 pub use answer::answer;
@@ -38,3 +39,4 @@ pub use simulate::simulate;
 pub use standard::{StdSink, StdSource};
 pub use status::Status;
 pub use top_call::run;
+pub use words::{Command, JobCommand, read_words};

@@ -5,8 +5,7 @@ ghost use Rattle.s390x_tool.specs.Simulated.{IsSimulateReply, IsSimulationRefusa
 
 use crate::reply::{Reply, fixed, no_memory};
 use crate::status::Status;
-use s390x_smp::SmpError;
-use s390x_smp_text::simulated;
+use s390x_smp::{SmpError, simulated};
 use std::alloc::Global;
 use std::borrow::CowStr;
 

@@ -1,7 +1,7 @@
 //! The top call.
 ghost use Rattle.std.specs.Prelude.{◌≡◌, ◌<◌, ◌⊎◌, ℕ, List, Some, None, length};
-ghost use Rattle.s390x_commands.specs.declared.words.Command.TheVariants.{Allocate, Bundle, Generate, OnJob, Simulate};
-ghost use Rattle.s390x_commands.specs.declared.words.JobCommand.{JobCommand};
+ghost use Rattle.s390x_tool.specs.declared.words.Command.TheVariants.{Allocate, Bundle, Generate, OnJob, Simulate};
+ghost use Rattle.s390x_tool.specs.declared.words.JobCommand.{JobCommand};
 ghost use Rattle.std.specs.Cow.{cow_str_bytes};
 ghost use Rattle.s390x_smp.specs.Image.{start_cause};
 ghost use Rattle.s390x_tool.specs.Allocated.{IsPlanAccepted};
@@ -10,7 +10,7 @@ ghost use Rattle.s390x_tool.specs.Bundled.{IsBundleAccepted};
 ghost use Rattle.s390x_tool.specs.Causes.{FaultCountRose};
 ghost use Rattle.s390x_tool.specs.Ends.{IsTooLong, too_many};
 ghost use Rattle.s390x_tool.specs.Replies.{IsAboutInput, IsDelivered, IsDone, IsEnded, IsInputAnswer, IsReply};
-ghost use Rattle.s390x_commands.specs.Words.{IsForm, IsNoForm, texts};
+ghost use Rattle.s390x_tool.specs.Words.{IsForm, IsNoForm, texts};
 
 use crate::allocated::allocated;
 use crate::answer::answer;
@@ -22,7 +22,7 @@ use crate::output::write_text;
 use crate::reply::{Reply, fixed, unread};
 use crate::simulate::simulate;
 use crate::status::Status;
-use s390x_commands::{Command, read_words};
+use crate::{Command, read_words};
 use std::alloc::Global;
 
 /// Does what the words ask for with what the source holds, and writes the text or the line of the status to the sink. It

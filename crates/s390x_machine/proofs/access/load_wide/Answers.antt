@@ -1,5 +1,5 @@
 use Rattle.std.proofs.Common.{arith}
-use Rattle.s390x_arithmetic.proofs.Numbers.{wide_room}
+use Rattle.s390x_operations.proofs.Numbers.{wide_room}
 use Rattle.s390x_machine.proofs.Numbers.{number_more}
 use Rattle.s390x_machine.proofs.access.load_wide.Goals as goal
 

@@ -1,5 +1,5 @@
 use Rattle.std.proofs.Common.{refl, subst}
-use Rattle.s390x_commands.specs.Words.{IsForm, texts}
+use Rattle.s390x_tool.specs.Words.{IsForm, texts}
 use Rattle.s390x_tool.proofs.Generating.{reply_to_generate}
 use Rattle.s390x_tool.proofs.top_call.reply_to.Goals as goal
 

@@ -1,4 +1,0 @@
-pub mod Fields
-pub mod PortionLines
-pub mod TreeLines
-pub mod AnsweredJobs

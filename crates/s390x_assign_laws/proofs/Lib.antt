@@ -1,9 +1,0 @@
-pub mod Accesses
-pub mod Blame
-pub mod Control
-pub mod Given
-pub mod Laws
-pub mod Pairs
-pub mod Single
-pub mod Vectors
-pub mod Witness

@@ -1,2 +1,0 @@
-pub mod Allocatable
-pub mod Examples

@@ -1,5 +1,0 @@
-use Rattle.s390x_joint_runs.proofs.JointInduction.{joint_block_runs}
-use Rattle.s390x_joint_runs.proofs.law.every_joint_block_run.Goals as goal
-
-pub returns : goal.returns
-returns c = joint_block_runs

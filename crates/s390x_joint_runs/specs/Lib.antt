@@ -1,4 +1,0 @@
-pub mod Parts
-pub mod Joint
-pub mod JointMatch
-pub mod Example

@@ -1,5 +1,0 @@
-//! Tests of the vector rows on registers and immediates.
-#![tactic(auto)]
-
-#[cfg(test)]
-mod rows;

@@ -1,4 +1,0 @@
-pub mod Emitted
-pub mod Examples
-pub mod Machine
-pub mod Outputs

@@ -1,5 +1,0 @@
-use Rattle.s390x_progress.proofs.Keeping.{run_goes_on}
-use Rattle.s390x_progress.proofs.law.every_run_goes_on.Goals as goal
-
-pub returns : goal.returns
-returns c = run_goes_on

@@ -1,5 +1,0 @@
-use Rattle.s390x_progress.proofs.Steps.{written_steps}
-use Rattle.s390x_progress.proofs.law.every_write_leaves_a_step.Goals as goal
-
-pub returns : goal.returns
-returns c = written_steps

@@ -1,0 +1,164 @@
+-- An instruction that is no loop and has no cause of refusal has a text.
+use Rattle.std.proofs.Common.{◌≡◌, ℕ, Bool, true, false, Option, None, Some, is_some, ◌&&◌, ◌||◌, not, refl, sym, subst}
+use Rattle.std.proofs.lemmas.Bool.{and_parts, and_right}
+use Rattle.s390x_base.specs.declared.error.EmitError.{EmitError}
+use Rattle.s390x_inst.specs.Emission.{Emission}
+use Rattle.s390x_inst.specs.declared.state.IsaFlags.{IsaFlags}
+use Rattle.s390x_inst.specs.declared.load.Load.{Load}
+use Rattle.s390x_inst.specs.declared.load.LoadOp.{LoadOp}
+use Rattle.s390x_inst.specs.declared.load.LoadOp.TheVariants as LoadOps
+use Rattle.s390x_inst.specs.Loads.{as_load, by_load, load_instruction}
+use Rattle.s390x_base.specs.declared.regs.Reg.{Reg}
+use Rattle.s390x_inst.specs.declared.args.MemArg.{MemArg}
+use Rattle.s390x_inst.specs.declared.inst.Inst.{Inst}
+use Rattle.s390x_inst.specs.declared.inst.Inst.TheVariants.{AluRRR, AluRR, AluRRSImm16, AluRSImm16, AluRSImm32, AluRUImm32, AluRUImm16Shifted, AluRUImm32Shifted, RxSBG, RxSBGTest, SMulWide, Flogr, CmpRR, CmpRSImm16, CmpRSImm32, CmpRUImm32, CmpTrapRR, CmpTrapRSImm16, CmpTrapRUImm16}
+use Rattle.s390x_inst.specs.declared.inst.Inst.TheVariants.{Mov64UImm16Shifted, Mov64UImm32Shifted, Insert64UImm16Shifted, Insert64UImm32Shifted, Extend, LoadIndexedAddr, LoadLogicalIndexedAddr, AluRX, CmpRX, LoadMultiple64, StoreMultiple64, LoadAddr, AtomicRmw, AtomicCas32, AtomicCas64}
+use Rattle.s390x_inst.specs.declared.inst.Inst.TheVariants.{Store8, Store16, Store32, Store64, StoreRev16, StoreRev32, StoreRev64, StoreImm8, StoreImm16}
+use Rattle.s390x_inst.specs.declared.inst.Inst.TheVariants.{StoreImm32SExt16, StoreImm64SExt16, Loop', Call, ReturnCall, Vector}
+use Rattle.s390x_typed_steps.proofs.Causes.{first_left, first_right}
+use Rattle.s390x_typed_steps.proofs.RelativeRows.{alu_none, locked_none, vector_none}
+use Rattle.s390x_typed_steps.specs.Baseline.{body_for, whole_or_loaded}
+use Rattle.s390x_typed_steps.specs.Causes.{Declared, body_cause, branch_cause, cause_or, facility_cause, leaf_cause, memory_cause_or}
+use Rattle.s390x_typed_steps.specs.General.{is_general}
+use Rattle.s390x_typed_steps.specs.Memory.{MemoryInstruction, accesses_relative, loaded_memory, memory}
+use Rattle.s390x_typed_steps.specs.Operands.{resolved}
+use Rattle.s390x_typed_steps.specs.Resolved.{resolved_instruction, resolved_vector}
+use Rattle.s390x_typed_steps.specs.SingleInstruction.{single_instruction}
+use Rattle.s390x_typed_steps.specs.Storage.{alu_rx, alu_rxy, atomic_rsy}
+use Rattle.s390x_typed_steps.specs.Tree.{Whole}
+use Rattle.s390x_text.proofs.Agreement.{rows_agree}
+use Rattle.s390x_text.specs.Agreement.{RowsAgree}
+use Rattle.s390x_text.specs.Calls.{call_text}
+use Rattle.s390x_text.specs.Instructions.{leaf_text}
+use Rattle.s390x_row_text.specs.Integer.{alu_half_name, alu_part_name, extend_name, indexed_name, insert_half_name, insert_part_name, load_half_name, load_part_name, logical_indexed_name, selected_name}
+use Rattle.s390x_row_text.specs.Mnemonics.{alu_halfword_name, alu_signed_word_name, alu_three_halfword_name, alu_three_name, alu_two_name, alu_unsigned_word_name, atomic_name, cmp_halfword_name, cmp_signed_word_name, cmp_trap_name, cmp_trap_signed_name, cmp_trap_unsigned_name, cmp_two_name, cmp_unsigned_word_name}
+use Rattle.s390x_row_text.specs.Mnemonics.{load_short_name, load_long_name, load_relative_name, rotate_name, rotate_test_name}
+use Rattle.s390x_row_text.specs.Simple.{simple_text}
+use Rattle.s390x_row_text.specs.Texts.{Text, text_or}
+use Rattle.s390x_text.proofs.Machines.{has_others, loaded_there, whole_there}
+use Rattle.s390x_text.proofs.Rows.{access_refusal, accessed, address_fine, atomic_fine, comparison_fine, conditional_fine, operator_fine, pair_fine, pair_with_two_fine, refusal_there, row_fine, three_fine}
+use Rattle.s390x_text.proofs.Vectors.{vector_fine}
+
+-- the causes of an instruction behind those of its facility and of the stack sizes
+abbrev own_cause : Declared → (depth : ℕ) → Inst → Option EmitError
+own_cause D depth i = cause_or (single_instruction i) (memory_cause_or D (memory i) (branch_cause D.blocks depth i))
+
+-- the text of one that is no loop
+abbrev alone_text : (has : Bool) → Emission → Inst → Text
+alone_text has e i = text_or (call_text e i) (simple_text has e i)
+
+-- a load: the last clause is a copy for each
+load_fine : (has : Bool) (e : Emission) (op : LoadOp) (rd : Reg) (mem : MemArg) → refusal_there has (memory (resolved_instruction e (load_instruction op rd mem))) ≡ None → (alone_text has e (load_instruction op rd mem)).cause ≡ None
+unfolding load_short_name load_long_name load_relative_name
+load_fine has e LoadOps.Load64 rd mem t = address_fine _ t
+load_fine has e op rd mem t = address_fine _ t
+
+-- a load, or an instruction whose text has no cause of refusal
+load_or_fine : (has : Bool) (e : Emission) (i : Inst) (o : Option Load) → by_load (λ l. true ≡ true) ((alone_text has e i).cause ≡ None) o → refusal_there has (memory (resolved_instruction e (by_load (λ l. load_instruction l.op l.rd l.mem) i o))) ≡ None →
+    (alone_text has e (by_load (λ l. load_instruction l.op l.rd l.mem) i o)).cause ≡ None
+load_or_fine has e i None plain t = plain
+load_or_fine has e i (Some l) plain t = load_fine has e l.op l.rd l.mem t
+
+-- a load, or an instruction that has no row relative to the instruction
+load_or_refused : (e : Emission) (i : Inst) (o : Option Load) → is_some (by_load (λ l. loaded_memory (resolved_instruction e (load_instruction l.op l.rd l.mem))) None o) ≡ true → refusal_there false (memory (resolved_instruction e (by_load (λ l. load_instruction l.op l.rd l.mem) i o))) ≡ None →
+    (alone_text false e (by_load (λ l. load_instruction l.op l.rd l.mem) i o)).cause ≡ None
+load_or_refused e i None s t = absurd (cc)
+load_or_refused e i (Some l) s t = load_fine false e l.op l.rd l.mem t
+
+-- on a machine that has accesses relative to the instruction, or where this one is none
+fine : (has : Bool) (e : Emission) (D : Declared) (depth : ℕ) (i : Inst) → RowsAgree has e i → own_cause D depth (resolved_instruction e i) ≡ None → access_refusal (memory (resolved_instruction e i)) ≡ None → refusal_there has (memory (resolved_instruction e i)) ≡ None → (alone_text has e i).cause ≡ None
+fine has e D depth (AluRRR op rd rn rm) a h m t = three_fine (alu_three_name op) (alu_two_name op) _ _ _ _ _ a.arithmetic h
+fine has e D depth (AluRRSImm16 op rd rn imm) a h m t = three_fine (alu_three_halfword_name op) (alu_halfword_name op) _ _ _ _ _ a.arithmetic h
+fine has e D depth (AluRR op rd ri rm) a h m t = row_fine (alu_two_name op) _ _ _ a.arithmetic h
+fine has e D depth (AluRSImm16 op rd ri imm) a h m t = row_fine (alu_halfword_name op) _ _ _ a.arithmetic h
+fine has e D depth (AluRSImm32 op rd ri imm) a h m t = row_fine (alu_signed_word_name op) _ _ _ a.arithmetic h
+fine has e D depth (AluRUImm32 op rd ri imm) a h m t = row_fine (alu_unsigned_word_name op) _ _ _ a.arithmetic h
+fine has e D depth (AluRUImm16Shifted op rd ri imm) a h m t = row_fine (alu_part_name op imm.shift) _ _ _ a.arithmetic h
+fine has e D depth (AluRUImm32Shifted op rd ri imm) a h m t = row_fine (alu_half_name op imm.shift) _ _ _ a.arithmetic h
+fine has e D depth (RxSBG op rd ri rn start end amount) a h m t = row_fine (selected_name (Some (rotate_name op)) start end) _ _ _ a.arithmetic h
+fine has e D depth (RxSBGTest op rd rn start end amount) a h m t = row_fine (selected_name (rotate_test_name op) start end) _ _ _ a.arithmetic h
+fine has e D depth (SMulWide rd rn rm) a h m t = pair_with_two_fine rd.hi rd.lo (is_general rn) (is_general rm) _ h
+fine has e D depth (Flogr rd rn) a h m t = pair_fine rd.hi rd.lo (is_general rn) _ h
+fine has e D depth (CmpRR op rn rm) a h m t = row_fine (cmp_two_name op) _ _ _ a.comparisons h
+fine has e D depth (CmpRSImm16 op rn imm) a h m t = row_fine (cmp_halfword_name op) _ _ _ a.comparisons h
+fine has e D depth (CmpRSImm32 op rn imm) a h m t = row_fine (cmp_signed_word_name op) _ _ _ a.comparisons h
+fine has e D depth (CmpRUImm32 op rn imm) a h m t = row_fine (cmp_unsigned_word_name op) _ _ _ a.comparisons h
+fine has e D depth (CmpTrapRR op rn rm mask code) a h m t = conditional_fine (cmp_trap_name op) mask _ _ _ a.comparisons h
+fine has e D depth (CmpTrapRSImm16 op rn imm mask code) a h m t = conditional_fine (cmp_trap_signed_name op) mask _ _ _ a.comparisons h
+fine has e D depth (CmpTrapRUImm16 op rn imm mask code) a h m t = conditional_fine (cmp_trap_unsigned_name op) mask _ _ _ a.comparisons h
+fine has e D depth (Mov64UImm16Shifted rd imm) a h m t = row_fine (load_part_name imm.shift) _ _ _ a.moves h
+fine has e D depth (Mov64UImm32Shifted rd imm) a h m t = row_fine (load_half_name imm.shift) _ _ _ a.moves h
+fine has e D depth (Insert64UImm16Shifted rd ri imm) a h m t = row_fine (insert_part_name imm.shift) _ _ _ a.moves h
+fine has e D depth (Insert64UImm32Shifted rd ri imm) a h m t = row_fine (insert_half_name imm.shift) _ _ _ a.moves h
+fine has e D depth (Extend rd rn signed from to) a h m t = row_fine (extend_name signed from to) _ _ _ a.moves h
+fine has e D depth (LoadIndexedAddr rd base index offset size) a h m t = row_fine (indexed_name size) _ _ _ a.moves h
+fine has e D depth (LoadLogicalIndexedAddr rd base index offset size) a h m t = row_fine (logical_indexed_name size) _ _ _ a.moves h
+fine has e D depth (Store8 rd mem) a h m t = address_fine _ t
+fine has e D depth (Store16 rd mem) a h m t = address_fine _ t
+fine has e D depth (Store32 rd mem) a h m t = address_fine _ t
+fine has e D depth (Store64 rd mem) a h m t = address_fine _ t
+fine has e D depth (StoreRev16 rd mem) a h m t = address_fine _ t
+fine has e D depth (StoreRev32 rd mem) a h m t = address_fine _ t
+fine has e D depth (StoreRev64 rd mem) a h m t = address_fine _ t
+fine has e D depth (StoreImm8 imm mem) a h m t = address_fine _ t
+fine has e D depth (StoreImm16 imm mem) a h m t = address_fine _ t
+fine has e D depth (StoreImm32SExt16 imm mem) a h m t = address_fine _ t
+fine has e D depth (StoreImm64SExt16 imm mem) a h m t = address_fine _ t
+fine has e D depth (AluRX op rd ri mem) a h m t = operator_fine D has op rd ri mem (resolved e mem) _ a.operators h t
+fine has e D depth (CmpRX op rn mem) a h m t = comparison_fine has op (resolved e mem) t
+fine has e D depth (LoadMultiple64 rt rt2 mem) a h m t = address_fine _ t
+fine has e D depth (StoreMultiple64 rt rt2 mem) a h m t = address_fine _ t
+fine has e D depth (LoadAddr rd mem) a h m t = address_fine _ t
+fine has e D depth (AtomicRmw op rd rn mem) a h m t = atomic_fine D has (atomic_name op) (atomic_rsy op) rd rn mem (resolved e mem) _ a.operators h t
+fine has e D depth (AtomicCas32 rd ri rn mem) a h m t = address_fine _ t
+fine has e D depth (AtomicCas64 rd ri rn mem) a h m t = address_fine _ t
+fine has e D depth (Vector v) a h m t = vector_fine e D v h m
+-- loops and calls are no steps by themselves
+fine has e D depth (Loop' mask body all) a h m t = absurd (cc)
+fine has e D depth (Call link info) a h m t = absurd (cc)
+fine has e D depth (ReturnCall info) a h m t = absurd (cc)
+fine has e D depth i a h m t = load_or_fine has e i (as_load i) refl t
+
+there : (lacks : Bool) (flags : IsaFlags) (D : Declared) (n depth : ℕ) (e : Emission) (i : Inst) → (accesses_relative (memory (resolved_instruction e i)) && lacks) ≡ false → leaf_cause flags D n e.nominal depth (resolved_instruction e i) ≡ None → (alone_text (not lacks) e i).cause ≡ None
+there lacks flags D n depth e i has h =
+    let j = resolved_instruction e i in
+    let own = first_right _ (own_cause D depth j) (first_right _ _ (first_left _ _ h)) in
+    let allowed = accessed D j _ own in
+    fine (not lacks) e D depth i (rows_agree (not lacks) e i) own allowed (whole_there lacks (memory j) has allowed)
+
+-- where the machine has all rows
+pub whole_fine : (flags : IsaFlags) (D : Declared) (n depth : ℕ) (e : Emission) (i : Inst) → leaf_cause flags D n e.nominal depth (resolved_instruction e i) ≡ None → (text_or (call_text e i) (simple_text true e i)).cause ≡ None
+whole_fine flags D n depth e i h = there false flags D n depth e i (and_right (accesses_relative (memory (resolved_instruction e i))) false refl) h
+
+-- ---- an access whose row the machine lacks
+
+not_there : (o : Option MemoryInstruction) → o ≡ None → is_some o ≡ true → ⊥
+not_there None e s = absurd (cc)
+not_there (Some x) e s = absurd (cc)
+
+loaded_fine : (e : Emission) (i : Inst) → is_some (loaded_memory (resolved_instruction e i)) ≡ true → refusal_there false (memory (resolved_instruction e i)) ≡ None → (alone_text false e i).cause ≡ None
+loaded_fine e (Store16 rd mem) s t = address_fine _ t
+loaded_fine e (Store32 rd mem) s t = address_fine _ t
+loaded_fine e (Store64 rd mem) s t = address_fine _ t
+loaded_fine e (CmpRX op rn mem) s t = comparison_fine false op (resolved e mem) t
+-- the others have no such row
+loaded_fine e (AluRX op rd ri mem) s t =
+    absurd (not_there (loaded_memory (AluRX op rd ri (resolved e mem))) (alu_none (is_some (alu_rx op) || is_some (alu_rxy op)) (alu_rx op) (alu_rxy op) rd ri (resolved e mem)) s)
+loaded_fine e (AtomicRmw op rd rn mem) s t = absurd (not_there (loaded_memory (AtomicRmw op rd rn (resolved e mem))) (locked_none (atomic_rsy op) rd rn (resolved e mem)) s)
+loaded_fine e (Vector v) s t = absurd (not_there (loaded_memory (Vector (resolved_vector e v))) (vector_none (resolved_vector e v)) s)
+loaded_fine e i s t = load_or_refused e i (as_load i) s t
+
+-- ---- on each machine
+
+pub leaf_fine : (flags : IsaFlags) (D : Declared) (n depth : ℕ) (e : Emission) (i : Inst) → body_cause flags D n e.nominal depth (body_for flags (Whole (resolved_instruction e i))) ≡ None → (leaf_text flags e i).cause ≡ None
+leaf_fine flags D n depth e i h = go (accesses_relative (memory j) && flags.no_relative_memory) refl h
+  where
+    j : Inst
+    j = resolved_instruction e i
+
+    go : (t : Bool) → (accesses_relative (memory j) && flags.no_relative_memory) ≡ t → body_cause flags D n e.nominal depth (whole_or_loaded t j) ≡ None → (leaf_text flags e i).cause ≡ None
+    go false is h = there flags.no_relative_memory flags D n depth e i is h
+    go true is h =
+        let own = first_right (facility_cause flags j) _ (first_left _ _ h) in
+        let lacks = (and_parts (accesses_relative (memory j)) flags.no_relative_memory is).1 in
+        subst (λ l. (alone_text (not l) e i).cause ≡ None) (sym lacks) (loaded_fine e i (has_others D (loaded_memory j) own) (loaded_there D (memory j) own))

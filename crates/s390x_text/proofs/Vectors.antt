@@ -1,0 +1,156 @@
+-- A vector instruction that emission lets pass has a text.
+use Rattle.std.proofs.Common.{◌≡◌, inr, ℕ, ◌*◌, Bool, true, false, Option, Some, None, List, [], refl, ap, ◌∙◌, is_some, ◌&&◌, arith}
+use Rattle.std.proofs.lemmas.Bool.{and_parts, eqb-true, ltb-true}
+use Rattle.std.specs.Prelude.{cond, nat_eq, nat_lt, codes}
+use Rattle.s390x_base.specs.Regs.{number_of}
+use Rattle.s390x_base.specs.declared.error.EmitError.{EmitError}
+use Rattle.s390x_base.specs.declared.error.EmitError.TheVariants.{BadOperator}
+use Rattle.s390x_inst.specs.Emission.{Emission}
+use Rattle.s390x_inst.specs.declared.vec_inst.VecInst.{VecInst}
+use Rattle.s390x_inst.specs.declared.vec_inst.VecInst.TheVariants.{VecPermuteDWImm, VecImmReplicate, VecImmBitMask, VecReplicateLane, VecInsertLaneImm, VecInsertLaneImmUndef, VecInsertLane, VecInsertLaneUndef, VecExtractLane, FpuCMov32, FpuCMov64, VecCMov, VecEltRev, VecInt128SCmpHi, VecInt128UCmpHi}
+use Rattle.s390x_inst.specs.declared.vec_inst.VecInst.TheVariants.{VecLoad, VecLoadRev, VecLoadByte16Rev, VecLoadByte32Rev, VecLoadByte64Rev, VecLoadElt16Rev, VecLoadElt32Rev, VecLoadElt64Rev, VecStore, VecStoreRev, VecStoreByte16Rev, VecStoreByte32Rev, VecStoreByte64Rev, VecStoreElt16Rev}
+use Rattle.s390x_inst.specs.declared.vec_inst.VecInst.TheVariants.{VecStoreElt32Rev, VecStoreElt64Rev, VecLoadReplicate, VecLoadReplicateRev, VecLoadLane, VecLoadLaneRev, VecLoadLaneUndef, VecLoadLaneRevUndef, VecStoreLane, VecStoreLaneRev}
+use Rattle.s390x_typed_steps.specs.Causes.{Declared, cause_or, memory_cause_or}
+use Rattle.s390x_typed_steps.specs.MachineInstruction.{MachineInstruction}
+use Rattle.s390x_typed_steps.specs.Memory.{load_lane_opcode, load_reversed_opcode, store_lane_opcode, store_reversed_opcode, vector_memory}
+use Rattle.s390x_typed_steps.specs.Operands.{resolved}
+use Rattle.s390x_typed_steps.specs.Resolved.{resolved_vector}
+use Rattle.s390x_typed_steps.specs.SingleInstruction.{single_with}
+use Rattle.s390x_typed_steps.specs.VectorComposite.{composite_cause, rows_cause}
+use Rattle.s390x_typed_steps.specs.VectorInstruction.{bit_mask_row, element_code, is_float_doubleword, is_lane, is_vector, lane_row, replicate_row, reuses_vector, vector_operands_valid, vector_row}
+use Rattle.s390x_row_text.specs.Texts.{fixed, row}
+use Rattle.s390x_row_text.specs.Vector.{is_float_lane, lane_name, mask_name, vector_text}
+use Rattle.s390x_text.proofs.Elements.{named_at, one_size}
+use Rattle.s390x_text.proofs.Rows.{access_refusal, address_fine}
+use Rattle.s390x_text.proofs.VectorMemory.{lane_fine, left_lane_fine, replicated_fine, reversed_lane_fine, reversed_replicated_fine}
+
+-- ---- elements
+
+-- the first element has one for each size
+first_named : (b h f g : List ℕ) (size : ℕ) → is_some (element_code size) ≡ true → is_some (lane_name b h f g size 0) ≡ true
+first_named b h f g size code = named_at b h f g size 0 (one_size size code) (omega arith)
+
+lane_test : (b : Bool) (m : MachineInstruction) → is_some (cond b (Some m) None) ≡ true → b ≡ true
+lane_test true m h = refl
+lane_test false m h = h
+
+-- a row on an element has a code for its size, and the element lies in the vector
+lane_parts : (make : ℕ → MachineInstruction) (code : Option ℕ) (size lane : ℕ) → is_some (lane_row make code size lane) ≡ true → (is_some code ≡ true) × (is_lane size lane ≡ true)
+lane_parts make None size lane h = absurd (cc)
+lane_parts make (Some code) size lane h = (refl, lane_test (is_lane size lane) (make code) h)
+
+lane_named : (b h f g : List ℕ) (make : ℕ → MachineInstruction) (size lane : ℕ) → is_some (lane_row make (element_code size) size lane) ≡ true → is_some (lane_name b h f g size lane) ≡ true
+lane_named b h f g make size lane has =
+    let parts = lane_parts make (element_code size) size lane has in
+    named_at b h f g size lane (one_size size parts.0) (ltb-true (lane * size) 128 parts.1)
+
+-- the same of a doubleword that goes alone
+alone_named : (b h f g : List ℕ) (make : ℕ → MachineInstruction) (alone : MachineInstruction) (size v base lane : ℕ) (t : Bool) → is_float_doubleword size v base lane ≡ t
+    → is_some (cond t (Some alone) (lane_row make (element_code size) size lane)) ≡ true → is_some (lane_name b h f g size lane) ≡ true
+alone_named b h f g make alone size v base lane false is has = lane_named b h f g make size lane has
+alone_named b h f g make alone size v base lane true is has =
+    let left = and_parts (nat_eq size 64 && nat_eq lane 0) (nat_eq base 0) (and_parts (nat_eq size 64 && nat_eq lane 0 && nat_eq base 0) (nat_lt v 16) is).0 in
+    let parts = and_parts (nat_eq size 64) (nat_eq lane 0) left.0 in
+    let long = eqb-true size 64 parts.0 in
+    let first = eqb-true lane 0 parts.1 in
+    named_at b h f g size lane (inr (inr (inr long))) (rw first (omega arith))
+
+-- ---- rows
+
+row_named : (name : Option (List ℕ)) (xs : List (List ℕ)) → is_some name ≡ true → (row name xs).cause ≡ None
+row_named None xs h = absurd (cc)
+row_named (Some name) xs h = refl
+
+-- one that a test allows
+allowed : (b : Bool) (name : Option (List ℕ)) (m : MachineInstruction) (xs : List (List ℕ)) → is_some name ≡ true → is_some (cond b (Some m) None) ≡ true → (row (cond b name None) xs).cause ≡ None
+allowed true name m xs named h = row_named name xs named
+allowed false name m xs named h = absurd (cc)
+
+-- one of two, where neither is refused
+either : (b : Bool) (s : List ℕ) (name : Option (List ℕ)) (xs : List (List ℕ)) → is_some name ≡ true → (cond b (fixed s) (row name xs)).cause ≡ None
+either true s name xs h = refl
+either false s name xs h = row_named name xs h
+
+replicate_code : (code : Option ℕ) (d bits : ℕ) → is_some (replicate_row code d bits) ≡ true → is_some code ≡ true
+replicate_code None d bits h = h
+replicate_code (Some code) d bits h = refl
+
+mask_code : (code : Option ℕ) (size d start end : ℕ) → is_some (bit_mask_row code size d start end) ≡ true → is_some code ≡ true
+mask_code None size d start end h = h
+mask_code (Some code) size d start end h = refl
+
+mask_test : (code : Option ℕ) (size d start end : ℕ) → is_some (bit_mask_row code size d start end) ≡ true → (nat_lt start size && nat_lt end size) ≡ true
+mask_test None size d start end h = absurd (cc)
+mask_test (Some code) size d start end h = lane_test (nat_lt start size && nat_lt end size) _ h
+
+mask_named : (size d start end : ℕ) → is_some (bit_mask_row (element_code size) size d start end) ≡ true → is_some (mask_name size start end) ≡ true
+mask_named size d start end h =
+    ap (λ t. is_some (cond t (lane_name (codes "vgmb") (codes "vgmh") (codes "vgmf") (codes "vgmg") size 0) None)) (mask_test (element_code size) size d start end h)
+    ∙ first_named (codes "vgmb") (codes "vgmh") (codes "vgmf") (codes "vgmg") size (mask_code (element_code size) size d start end h)
+
+-- ---- instructions
+
+has_text : (e : Emission) (v : VecInst) → is_some (vector_row v) ≡ true → (vector_text e v).cause ≡ None
+has_text e (VecPermuteDWImm rd rn rm first second) h = allowed (nat_lt first 2 && nat_lt second 2) (Some (codes "vpdi")) _ _ refl h
+has_text e (VecImmReplicate size rd imm) h = row_named _ _ (first_named _ _ _ _ size (replicate_code (element_code size) _ _ h))
+has_text e (VecImmBitMask size rd start end) h = row_named _ _ (mask_named size _ start end h)
+has_text e (VecReplicateLane size rd rn lane) h = row_named _ _ (lane_named _ _ _ _ _ size lane h)
+has_text e (VecInsertLaneImm size rd ri imm lane) h = row_named _ _ (lane_named _ _ _ _ _ size lane h)
+has_text e (VecInsertLaneImmUndef size rd imm lane) h = row_named _ _ (lane_named _ _ _ _ _ size lane h)
+has_text e (VecInsertLane size rd ri rn lane base) h = row_named _ _ (lane_named _ _ _ _ _ size lane h)
+has_text e (VecInsertLaneUndef size rd rn lane base) h =
+    either (is_float_lane size rd lane base) _ _ _ (alone_named _ _ _ _ _ _ size (number_of rd) (number_of base) lane _ refl h)
+has_text e (VecExtractLane size rd rn lane base) h =
+    either (is_float_lane size rn lane base) _ _ _ (alone_named _ _ _ _ _ _ size (number_of rn) (number_of base) lane _ refl h)
+has_text e v h = cc
+
+-- elements in reverse order, by tests of their count
+reversal_fine : (a b c d valid : Bool) (p q r s : List ℕ) (w x y z : List MachineInstruction) → rows_cause (cond a (Some w) (cond b (Some x) (cond c (Some y) (cond d (Some z) None)))) valid ≡ None → (cond a (fixed p) (cond b (fixed q) (cond c (fixed r) (cond d (fixed s) (row None []))))).cause ≡ None
+reversal_fine true b c d valid p q r s w x y z h = refl
+reversal_fine false true c d valid p q r s w x y z h = refl
+reversal_fine false false true d valid p q r s w x y z h = refl
+reversal_fine false false false true valid p q r s w x y z h = refl
+reversal_fine false false false false valid p q r s w x y z h = absurd (cc)
+
+found : (valid : Bool) (o : Option MachineInstruction) (c : EmitError) → cause_or (single_with valid o) (Some c) ≡ None → is_some o ≡ true
+found valid None c h = absurd (cc)
+found valid (Some m) c h = refl
+
+-- one without a cause of refusal
+pub vector_fine : (e : Emission) (D : Declared) (v : VecInst)
+    → cause_or (single_with (vector_operands_valid (resolved_vector e v)) (vector_row (resolved_vector e v))) (memory_cause_or D (vector_memory (resolved_vector e v)) (composite_cause (resolved_vector e v))) ≡ None
+    → access_refusal (vector_memory (resolved_vector e v)) ≡ None → (vector_text e v).cause ≡ None
+vector_fine e D (VecLoad rd mem) h m = address_fine _ m
+vector_fine e D (VecLoadRev rd mem) h m = address_fine _ m
+vector_fine e D (VecLoadByte16Rev rd mem) h m = address_fine _ m
+vector_fine e D (VecLoadByte32Rev rd mem) h m = address_fine _ m
+vector_fine e D (VecLoadByte64Rev rd mem) h m = address_fine _ m
+vector_fine e D (VecLoadElt16Rev rd mem) h m = address_fine _ m
+vector_fine e D (VecLoadElt32Rev rd mem) h m = address_fine _ m
+vector_fine e D (VecLoadElt64Rev rd mem) h m = address_fine _ m
+vector_fine e D (VecStore rd mem) h m = address_fine _ m
+vector_fine e D (VecStoreRev rd mem) h m = address_fine _ m
+vector_fine e D (VecStoreByte16Rev rd mem) h m = address_fine _ m
+vector_fine e D (VecStoreByte32Rev rd mem) h m = address_fine _ m
+vector_fine e D (VecStoreByte64Rev rd mem) h m = address_fine _ m
+vector_fine e D (VecStoreElt16Rev rd mem) h m = address_fine _ m
+vector_fine e D (VecStoreElt32Rev rd mem) h m = address_fine _ m
+vector_fine e D (VecStoreElt64Rev rd mem) h m = address_fine _ m
+vector_fine e D (VecLoadReplicate size rd mem) h m = replicated_fine D _ _ _ _ 0xe705 rd size (resolved e mem) BadOperator h m
+vector_fine e D (VecLoadReplicateRev size rd mem) h m = reversed_replicated_fine D _ _ _ 0xe605 rd size (resolved e mem) BadOperator h m
+vector_fine e D (VecLoadLane size rd ri mem lane) h m = lane_fine D _ _ _ _ (reuses_vector rd ri) load_lane_opcode (number_of rd) size lane (resolved e mem) BadOperator h m
+vector_fine e D (VecLoadLaneRev size rd ri mem lane) h m = reversed_lane_fine D _ _ _ (reuses_vector rd ri) load_reversed_opcode (number_of rd) size lane (resolved e mem) BadOperator h m
+vector_fine e D (VecLoadLaneRevUndef size rd mem lane) h m = reversed_lane_fine D _ _ _ (is_vector rd) load_reversed_opcode (number_of rd) size lane (resolved e mem) BadOperator h m
+vector_fine e D (VecStoreLaneRev size rd mem lane) h m = reversed_lane_fine D _ _ _ (is_vector rd) store_reversed_opcode (number_of rd) size lane (resolved e mem) BadOperator h m
+vector_fine e D (VecLoadLaneUndef size rd mem lane) h m =
+    left_lane_fine D (codes "vleb") (codes "vleh") (codes "vlef") (codes "vleg") rd 0x78 0xed64 0x68 0xed65 load_lane_opcode size lane (resolved e mem) BadOperator _ _ _ h m (λ fine. (address_fine _ fine, address_fine _ fine)) refl
+vector_fine e D (VecStoreLane size rd mem lane) h m =
+    left_lane_fine D (codes "vsteb") (codes "vsteh") (codes "vstef") (codes "vsteg") rd 0x70 0xed66 0x60 0xed67 store_lane_opcode size lane (resolved e mem) BadOperator _ _ _ h m (λ fine. (address_fine _ fine, address_fine _ fine)) refl
+-- moves under a condition and comparisons have a text at any values, elements in reverse order at the counts that have machine instructions
+vector_fine e D (FpuCMov32 rd mask ri rm) h m = refl
+vector_fine e D (FpuCMov64 rd mask ri rm) h m = refl
+vector_fine e D (VecCMov rd mask ri rm) h m = refl
+vector_fine e D (VecInt128SCmpHi tmp rn rm) h m = refl
+vector_fine e D (VecInt128UCmpHi tmp rn rm) h m = refl
+vector_fine e D (VecEltRev count rd rn) h m = reversal_fine (nat_eq count 2) (nat_eq count 4) (nat_eq count 8) (nat_eq count 16) (is_vector rd && is_vector rn) _ _ _ _ _ _ _ _ h
+vector_fine e D v h m = has_text e v (found (vector_operands_valid v) (vector_row v) BadOperator h)
