@@ -15,8 +15,8 @@ mod plan;
 mod planning;
 mod same;
 mod shape;
-mod successors;
 mod step;
+mod successors;
 
 pub use entries::entry_fault;
 pub use fault::PlanFault;

@@ -15,8 +15,12 @@ ghost use Rattle.s390x_machine.specs.Step.{ExecutesOperation};
 use crate::access::{access_fault, found, load, load_wide, size_in_bytes, store, store_multiple};
 use crate::machine::Machine;
 use crate::memory::Memory;
-use s390x_operations::{CodeRule, ConditionCode, Effect, Operand, Operation, Pair, Size, Source, StopKind, VectorLayout, Width, bytes, compared, extended, layout_bytes, leftmost, loaded, operate, ordered, signed_division, unsigned_division, vector_stored, whole, wide_product};
 use s390x_lanes::{code, divides_by_zero, division_overflows, result};
+use s390x_operations::{
+    CodeRule, ConditionCode, Effect, Operand, Operation, Pair, Size, Source, StopKind,
+    VectorLayout, Width, bytes, compared, extended, layout_bytes, leftmost, loaded, operate,
+    ordered, signed_division, unsigned_division, vector_stored, whole, wide_product,
+};
 
 /// Whether the mask has the condition code's bit, the leftmost one for code 0.
 pub fn is_selected(mask: u8, code: ConditionCode) -> bool

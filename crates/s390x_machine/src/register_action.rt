@@ -9,9 +9,11 @@ use crate::field_values::{first_register, immediate, operand, performs, value_in
 use crate::machine::Machine;
 use crate::perform::is_selected;
 use crate::semantics::{Action, RowSemantics, SecondOperand};
-use s390x_operations::{CodeRule, Effect, Operator, SelectedBitsOperator, Size, Width, extended, rotated, selection};
 use s390x_format::Fields;
 use s390x_lanes::Signedness;
+use s390x_operations::{
+    CodeRule, Effect, Operator, SelectedBitsOperator, Size, Width, extended, rotated, selection,
+};
 
 /// Register r1 gets an operator's value.
 pub fn compute(

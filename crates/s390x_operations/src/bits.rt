@@ -5,10 +5,8 @@ ghost use Rattle.s390x_operations.specs.Numbers.{whole, half, signed, low};
 ghost use Rattle.s390x_operations.specs.Bits.{code_z, complement, bit_value, rotated, shifted, shift_code, selection, combined, select_value, select_code, ones_by_byte, reversed, leftmost};
 
 use crate::unsigned::whole;
+use crate::{BitOperator, ConditionCode, Pair, SelectedBitsOperator, Size, code_s, low, signed};
 use s390x_lanes::ShiftOperator;
-use crate::{
-    BitOperator, ConditionCode, Pair, SelectedBitsOperator, Size, code_s, low, signed,
-};
 
 /// ConditionCode Z.
 pub fn code_z(x: u64) -> ConditionCode

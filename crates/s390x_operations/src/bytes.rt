@@ -5,8 +5,8 @@ ghost use Rattle.s390x_operations.specs.Numbers.{whole};
 ghost use Rattle.s390x_operations.specs.Bits.{ones_by_byte, reversed, bits_of_width, bytes, extended, IsWithin};
 
 use crate::unsigned::whole;
-use s390x_lanes::Signedness;
 use crate::{Size, Width};
+use s390x_lanes::Signedness;
 
 /// The ones of each of the lowest bytes.
 #[tactic(auto, using(crate::proofs::Runs::ones_none, crate::proofs::Runs::ones_more, crate::proofs::Runs::ones_of_byte, crate::proofs::Numbers::room))]

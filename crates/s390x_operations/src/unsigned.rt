@@ -4,8 +4,8 @@ ghost use Rattle.std.specs.Prelude.{◌≡◌, ◌<◌, ◌^◌, pos, neg_ℤ, �
 ghost use Rattle.s390x_operations.specs.Numbers.{whole, half, signed, low};
 ghost use Rattle.s390x_operations.specs.Unsigned.{code_a, code_b, code_c, logical_value, logical_code, read, compared, wide_product, signed_division, unsigned_division, IsPairBelow};
 
-use s390x_lanes::Signedness;
 use crate::{ConditionCode, LogicalOperator, Pair, Size, fits, low, signed};
+use s390x_lanes::Signedness;
 
 /// How many numbers have the size.
 pub fn whole(size: Size) -> u128

@@ -7,8 +7,8 @@ ghost use Rattle.s390x_operations.specs.Bits.{reversed};
 ghost use Rattle.s390x_operations.specs.Vectors.{element_value, layout_bytes, loaded, vector_stored};
 ghost use Rattle.s390x_operations.specs.Layouts.{layout_size, loaded_lane};
 
-use s390x_lanes::{ElementSize, append, element};
 use crate::VectorLayout;
+use s390x_lanes::{ElementSize, append, element};
 
 /// The lowest bytes of a number in reverse order, at most 16.
 #[tactic(auto, using(crate::proofs::Runs::reversed_none, crate::proofs::Runs::reversed_more, crate::proofs::Numbers::wide_room))]

@@ -9,9 +9,9 @@ use crate::error_names::operand_error_name;
 use crate::reply::{Reply, fixed, made, no_memory, syntax, with_text};
 use crate::status::Status;
 use s390x_alloc::{PlanFault, check_plan};
-use s390x_plan_text::{PlanTextError, PlannedJob, answered_jobs_are_jobs, read_plan};
 use s390x_inst::MachInstEmitState;
 use s390x_job::lines_of_job;
+use s390x_plan_text::{PlanTextError, PlannedJob, answered_jobs_are_jobs, read_plan};
 use std::alloc::Global;
 
 /// The answer to `alloc` and its whole input:

@@ -5,6 +5,7 @@ ghost use Rattle.s390x_image.specs.Symbols.{no_symbols};
 ghost use Rattle.s390x_job.specs.Jobs.{IsJob};
 ghost use Rattle.s390x_tool.specs.Answers.{IsAnswer, IsCodeOfJob, IsEmitReply, IsImageReply, IsJobReply, IsLinked, IsOperandsReply, IsRunReply, IsShowReply, job_cause, link_cause_of, texts_of, with_symbols};
 
+use crate::JobCommand;
 use crate::reply::{
     Reply, in_hex, link_refused, no_memory, operands_refused, refused, syntax, with_tables,
     with_text,
@@ -12,7 +13,6 @@ use crate::reply::{
 use crate::status::Status;
 use s390x_base::NoMemory;
 use s390x_buffer::MachBufferFinalized;
-use crate::JobCommand;
 use s390x_emit_int::{emit_function, linked_code_runs_as_typed};
 use s390x_execution::run_text;
 use s390x_image::{Image, LinkError, SymbolTable, link};
