@@ -2,7 +2,7 @@
 use Rattle.std.proofs.Common.{◌≡◌, ℕ, zero, suc, ◌+◌, Bool, true, false, List, [], ◌∷◌, ◌++◌, take, length, Some, None, refl, sym, ap, ◌∙◌, arith}
 use Rattle.std.specs.Prelude.{codes, nat_lt, if◌then◌else◌, ◌==◌, ◌||◌, ◌^◌}
 use Rattle.std.specs.Str.{bytes_eq}
-use Rattle.s390x_fields.specs.Fields.{Field, FName, FNatural, FBytes, FStart, FFlags}
+use Rattle.s390x_words.specs.Fields.{Field, FName, FNatural, FBytes, FStart, FFlags}
 use Rattle.s390x_lines.specs.Kinds.{kinds}
 use Rattle.s390x_lines.specs.Line.{Line, IsLine, kinds_of, line_text, spelled}
 use Rattle.s390x_lines.specs.Names.{control_text, integer_text, load_name_text, memory_name_text, name_text, vector_name_text}

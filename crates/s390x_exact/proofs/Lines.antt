@@ -5,7 +5,7 @@ use Rattle.s390x_inst.specs.declared.args.MemArg.{MemArg}
 use Rattle.s390x_inst.specs.declared.inst.Inst.{Inst}
 use Rattle.s390x_inst.specs.declared.load.LoadOp.{LoadOp}
 use Rattle.s390x_inst.specs.Loads.{load_instruction}
-use Rattle.s390x_fields.specs.Fields.{Field, FMemory, FReg, spell}
+use Rattle.s390x_words.specs.Fields.{Field, FMemory, FReg, spell}
 use Rattle.s390x_lines.specs.Line.{spelled, AllFields, kinds_of}
 use Rattle.s390x_lines.specs.Kinds.{kinds}
 use Rattle.s390x_lines.specs.Instructions.{inst_line}

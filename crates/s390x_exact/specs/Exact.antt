@@ -1,6 +1,6 @@
 -- What is taken from a text only as it is printed.
 use Rattle.std.specs.Prelude.{◌≡◌, ℕ, List, ◌++◌}
-use Rattle.s390x_fields.specs.Fields.{Field, spell, IsField}
+use Rattle.s390x_words.specs.Fields.{Field, spell, IsField}
 use Rattle.s390x_lines.specs.Line.{Line, spelled, line_text, IsLine}
 use Rattle.s390x_lines.specs.declared.name.LineName.{LineName}
 use Rattle.s390x_lines.specs.declared.name.LineName.TheVariants as N

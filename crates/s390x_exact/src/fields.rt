@@ -3,7 +3,7 @@ ghost use Rattle.std.specs.Prelude.{◌≡◌, ◌++◌, ◌∷◌, ◌<◌, ◌
 ghost use Rattle.std.specs.Fmt.{decimal, signed_decimal};
 ghost use Rattle.s390x_words.specs.Atoms.{reg_text, IsReg};
 ghost use Rattle.s390x_words.specs.Numbers.{W8, W32, S16, S32};
-ghost use Rattle.s390x_fields.specs.Fields.{FAlu, FCmp, FCond, FInteger, FNatural, FReg, FShift, FUnary};
+ghost use Rattle.s390x_words.specs.Fields.{FAlu, FCmp, FCond, FInteger, FNatural, FReg, FShift, FUnary};
 ghost use Rattle.s390x_exact.specs.Exact.{Takes};
 
 use crate::cursor::ExactCursor;

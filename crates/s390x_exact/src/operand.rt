@@ -4,7 +4,7 @@ ghost use Rattle.std.specs.Fmt.{decimal, signed_decimal};
 ghost use Rattle.s390x_words.specs.Atoms.{access_text, IsSuffix, trap_text, trap_suffix, aligned_text};
 ghost use Rattle.s390x_words.specs.Numbers.{IsBelow};
 ghost use Rattle.s390x_base.specs.Traps.{IsKind};
-ghost use Rattle.s390x_fields.specs.Fields.{FMemory};
+ghost use Rattle.s390x_words.specs.Fields.{FMemory};
 ghost use Rattle.s390x_exact.specs.Exact.{Takes};
 
 use crate::cursor::ExactCursor;

@@ -10,7 +10,7 @@ use Rattle.s390x_operations.specs.declared.stop.StopKind.TheVariants as stop
 use Rattle.s390x_machine.specs.Codes.{trap_code_at}
 use Rattle.s390x_words.specs.Atoms.{trap_text}
 use Rattle.s390x_words.specs.Numbers.{W64}
-use Rattle.s390x_fields.specs.Fields.{FNatural, FBytes}
+use Rattle.s390x_words.specs.Fields.{FNatural, FBytes}
 use Rattle.s390x_lines.specs.Line.{Line}
 use Rattle.s390x_lines.specs.declared.name.LineName.TheVariants as N
 use Rattle.s390x_job.specs.Jobs.{lines_text, registers_lines}

@@ -4,7 +4,7 @@ use Rattle.std.specs.Str.{bytes_eq}
 use Rattle.s390x_base.specs.Registers.{RealRegister}
 use Rattle.s390x_base.specs.declared.regs.RegClass.{RegClass}
 use Rattle.s390x_base.specs.declared.regs.RegClass.TheVariants.{Int, Float}
-use Rattle.s390x_fields.specs.Fields.{Field, FName, FNatural, FBytes, FStart}
+use Rattle.s390x_words.specs.Fields.{Field, FName, FNatural, FBytes, FStart}
 use Rattle.s390x_lines.specs.Line.{Line, spelled}
 use Rattle.s390x_lines.specs.declared.name.LineName.{LineName}
 use Rattle.s390x_lines.specs.declared.name.LineName.TheVariants as N

@@ -6,7 +6,7 @@ use Rattle.s390x_inst.specs.declared.calls.CallConv.{CallConv}
 use Rattle.s390x_inst.specs.declared.state.FrameLayout.{FrameLayout}
 use Rattle.s390x_inst.specs.declared.state.IsaFlags.{IsaFlags}
 use Rattle.s390x_words.specs.Numbers.{W8, W16, W32, W64}
-use Rattle.s390x_fields.specs.Fields.{FFlags, FConvention, FNatural, FOption, FBytes, FName, FStart, FCond}
+use Rattle.s390x_words.specs.Fields.{FFlags, FConvention, FNatural, FOption, FBytes, FName, FStart, FCond}
 use Rattle.s390x_lines.specs.Line.{Line}
 use Rattle.s390x_lines.specs.Instructions.{inst_line}
 use Rattle.s390x_job.specs.Grammar.{class, Instruction}

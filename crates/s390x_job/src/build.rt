@@ -13,7 +13,7 @@ use crate::heading::{is_plain_flags, is_plain_frame};
 use crate::item::{Frame, Item};
 use crate::job::{Job, MemLine, StartRegs, SymbolLine};
 use s390x_base::{Cond, ConstantData};
-use s390x_fields::{GeneralStart, VectorStart};
+use s390x_words::{GeneralStart, VectorStart};
 use s390x_inst::{
     AllocatedFunction, Block, CallConv, EmitInfo, EmitState, FrameLayout, Inst, IsaFlags,
     MachInstEmitState,

@@ -2,11 +2,11 @@
 ghost use Rattle.std.specs.Prelude.{◌≡◌, ◌++◌, ◌∷◌, [], OnOk, IfOk, string_bytes, codes};
 ghost use Rattle.std.specs.Str.{bytes_eq};
 ghost use Rattle.s390x_words.specs.Numbers.{W8, W16, W32};
-ghost use Rattle.s390x_fields.specs.Fields.{FNatural, FOption};
+ghost use Rattle.s390x_words.specs.Fields.{FNatural, FOption};
 ghost use Rattle.s390x_lines.specs.Line.{spelled};
 ghost use Rattle.s390x_job.specs.Items.{flags_line, frame_line};
 
-use s390x_fields::Part;
+use s390x_words::Part;
 use s390x_inst::{CallConv, FrameLayout, IsaFlags};
 use std::alloc::{AllocError, Global};
 

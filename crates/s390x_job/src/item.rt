@@ -2,7 +2,7 @@
 
 use crate::job::{MemLine, SymbolLine};
 use s390x_base::{Cond, ConstantData};
-use s390x_fields::{GeneralStart, VectorStart};
+use s390x_words::{GeneralStart, VectorStart};
 use s390x_inst::{CallConv, FrameLayout, Inst, IsaFlags};
 
 /// A convention and a layout, as the line `frame` tells them.

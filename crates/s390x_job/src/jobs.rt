@@ -10,7 +10,7 @@ use crate::heading::{is_plain_flags, is_plain_frame};
 use crate::job::{Job, MemLine, StartRegs, SymbolLine};
 use crate::print_line::put_frame_line;
 use s390x_base::{ConstantData, NoMemory};
-use s390x_fields::{GeneralStart, VectorStart};
+use s390x_words::{GeneralStart, VectorStart};
 use s390x_inst::{Block, CallConv, FrameLayout, Inst, IsaFlags, MachInstEmitState};
 use s390x_lines::{LineName, line0, line1, line2, put_inst};
 use s390x_words::number::put;

@@ -6,7 +6,7 @@ ghost use Rattle.s390x_job.specs.Items.{item_line, IsItem};
 use crate::item::{Frame, Item};
 use crate::job::{MemLine, SymbolLine};
 use s390x_base::{ConstantData, RegClass};
-use s390x_fields::{Cursor, GeneralStart, VectorStart};
+use s390x_words::{Cursor, GeneralStart, VectorStart};
 use s390x_inst::{FrameLayout, Inst};
 use s390x_lines::{LineName, control, integer, load, memory, vector};
 use s390x_words::bytes::hex_number;

@@ -8,7 +8,7 @@ use crate::item::Item;
 use crate::print_line::put_item;
 use crate::read_line::item;
 use s390x_exact::exact_line;
-use s390x_fields::Cursor;
+use s390x_words::Cursor;
 use s390x_lines::find_name;
 use s390x_words::marks::front;
 use s390x_words::number::tail;

@@ -6,7 +6,7 @@ use Rattle.s390x_lines.specs.Names.{integer_text, load_name_text, memory_name_te
 use Rattle.s390x_inst.specs.declared.state.IsaFlags.{IsaFlags}
 use Rattle.s390x_words.specs.Bytes.{facility_text, facilities_text}
 use Rattle.s390x_lines.specs.Kinds.{integer_kinds, memory_kinds, control_kinds, vector_kinds, kinds}
-use Rattle.s390x_fields.specs.Fields.{Field, Kind, KFlags, FFlags, kind_of, spell, value_as, after_as}
+use Rattle.s390x_words.specs.Fields.{Field, Kind, KFlags, FFlags, kind_of, spell, value_as, after_as}
 use Rattle.s390x_lines.specs.Line.{Line, spelled, line_text, AllFields, kinds_of, IsLine, line_fields_of, line_with, line_of}
 use Rattle.s390x_lines.specs.declared.inst_name.IntegerName.{IntegerName}
 use Rattle.s390x_lines.specs.declared.inst_name.IntegerName.TheVariants as IntegerIs
@@ -22,8 +22,8 @@ use Rattle.s390x_lines.specs.declared.name.LineName.{LineName}
 use Rattle.s390x_lines.specs.declared.name.LineName.TheVariants as N
 use Rattle.s390x_lines.proofs.Slots.{name-round_trip}
 use Rattle.s390x_words.proofs.Avoids.{Avoids, Avoids-append, Avoids-fewer, Avoids-test, marks, IsOneWord, Ends, front-is, back-is}
-use Rattle.s390x_fields.proofs.Fields.{Rest, field-round_trip, field-after, field-feed}
-use Rattle.s390x_fields.proofs.Ranges.{value-ok, value-kind}
+use Rattle.s390x_words.proofs.Fields.{Rest, field-round_trip, field-after, field-feed}
+use Rattle.s390x_words.proofs.Ranges.{value-ok, value-kind}
 
 integer-one_word : (n : IntegerName) → IsOneWord (integer_text n)
 integer-one_word IntegerIs.AluRRR = Avoids-test marks (integer_text IntegerIs.AluRRR) refl

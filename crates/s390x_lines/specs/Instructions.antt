@@ -4,7 +4,7 @@ use Rattle.s390x_base.specs.Sets.{has}
 use Rattle.s390x_words.specs.Numbers.{W8, W16, W32, W64, S8, S16, S20, S32}
 use Rattle.s390x_words.specs.Calls.{try_part}
 use Rattle.s390x_words.specs.Sets.{members_of}
-use Rattle.s390x_fields.specs.Fields.{FAlu, FArgs, FBool, FCmp, FCond, FConvention, FDefs, FInteger, FLabels, FMemory, FNatural, FOption, FPair, FReal, FReg, FReloc, FRets, FRxsbg, FSet, FShift, FShifted, FTarget, FTrap, FTry, FUnary, FUses, FVecBinary, FVecCompare, FVecElementCompare, FVecShift, FVecUnary}
+use Rattle.s390x_words.specs.Fields.{FAlu, FArgs, FBool, FCmp, FCond, FConvention, FDefs, FInteger, FLabels, FMemory, FNatural, FOption, FPair, FReal, FReg, FReloc, FRets, FRxsbg, FSet, FShift, FShifted, FTarget, FTrap, FTry, FUnary, FUses, FVecBinary, FVecCompare, FVecElementCompare, FVecShift, FVecUnary}
 use Rattle.s390x_lines.specs.Line.{Line}
 use Rattle.s390x_lines.specs.declared.inst_name.IntegerName.TheVariants as IntegerIs
 use Rattle.s390x_lines.specs.declared.inst_name.MemoryName.TheVariants as MemoryIs

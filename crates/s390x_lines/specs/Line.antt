@@ -2,7 +2,7 @@
 use Rattle.std.specs.Prelude.{◌≡◌, ℕ, List, [], ◌∷◌, ◌++◌}
 use Rattle.s390x_words.specs.Marks.{before_mark, from_mark}
 use Rattle.s390x_lines.specs.Names.{line_name_of, name_text}
-use Rattle.s390x_fields.specs.Fields.{Field, Kind, kind_of, spell, IsField, value_as, after_as}
+use Rattle.s390x_words.specs.Fields.{Field, Kind, kind_of, spell, IsField, value_as, after_as}
 use Rattle.s390x_lines.specs.Kinds.{kinds}
 use Rattle.s390x_lines.specs.declared.name.LineName.{LineName}
 

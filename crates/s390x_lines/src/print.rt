@@ -11,7 +11,7 @@ use crate::name::LineName::{Control, Integer, Load, Memory};
 use crate::print_call::{put_call, put_return_call};
 use crate::print_vector::put_vector;
 use crate::put_line::{line0, line1, line2, line3, line4, line5, line6, line7};
-use s390x_fields::Part;
+use s390x_words::Part;
 use s390x_inst::Inst;
 use s390x_inst::LoadOp::*;
 use std::alloc::{AllocError, Global};

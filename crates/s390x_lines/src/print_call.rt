@@ -2,7 +2,7 @@
 ghost use Rattle.std.specs.Prelude.{◌≡◌, ◌++◌, ◌∷◌, [], OnOk, string_bytes};
 ghost use Rattle.s390x_words.specs.Numbers.{W32};
 ghost use Rattle.s390x_words.specs.Calls.{try_part};
-ghost use Rattle.s390x_fields.specs.Fields.{FNatural, FConvention, FTry, FBool, FOption};
+ghost use Rattle.s390x_words.specs.Fields.{FNatural, FConvention, FTry, FBool, FOption};
 ghost use Rattle.s390x_lines.specs.Line.{line_text, spelled};
 ghost use Rattle.s390x_lines.specs.Instructions.{inst_line};
 
@@ -10,7 +10,7 @@ use crate::inst_name::ControlName;
 use crate::name::LineName::Control;
 use crate::put_line::{line3, line5};
 use s390x_base::{Reg, Writable};
-use s390x_fields::Part;
+use s390x_words::Part;
 use s390x_inst::{CallInfo, CallInstDest, Inst, ReturnCallInfo};
 use std::alloc::{AllocError, Global};
 

@@ -3,7 +3,7 @@ ghost use Rattle.std.specs.Prelude.{◌≡◌, ◌++◌, ◌∷◌, [], OnOk, st
 ghost use Rattle.s390x_lines.specs.Line.{line_text};
 
 use crate::name::LineName;
-use s390x_fields::Part;
+use s390x_words::Part;
 use s390x_words::number::put;
 use s390x_words::word::Word;
 use std::alloc::{AllocError, Global};

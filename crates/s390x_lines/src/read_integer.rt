@@ -5,7 +5,7 @@ ghost use Rattle.s390x_lines.specs.Instructions.{inst_line};
 
 use crate::inst_name::IntegerName;
 use crate::name::LineName;
-use s390x_fields::Cursor;
+use s390x_words::Cursor;
 use s390x_inst::Inst;
 
 /// The instruction of this name, whose fields come next.

@@ -5,7 +5,7 @@ ghost use Rattle.s390x_lines.specs.Instructions.{vector_line};
 
 use crate::inst_name::VectorName;
 use crate::name::LineName;
-use s390x_fields::Cursor;
+use s390x_words::Cursor;
 use s390x_inst::VecInst;
 
 /// The instruction of this name, whose fields come next.

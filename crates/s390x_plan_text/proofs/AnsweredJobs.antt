@@ -12,7 +12,7 @@ use Rattle.s390x_inst.specs.declared.inst.Inst.{Inst}
 use Rattle.s390x_words.specs.Atoms.{IsReg}
 use Rattle.s390x_words.specs.Lists.{AllItems}
 use Rattle.s390x_words.specs.Numbers.{W32}
-use Rattle.s390x_fields.specs.Fields.{FBytes, FNatural}
+use Rattle.s390x_words.specs.Fields.{FBytes, FNatural}
 use Rattle.s390x_lines.specs.Line.{Line}
 use Rattle.s390x_lines.specs.declared.name.LineName.TheVariants as N
 use Rattle.s390x_job.specs.Grammar.{AtEnd, Header, Place, Within, class, next, run}

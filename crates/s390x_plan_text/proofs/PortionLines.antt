@@ -22,7 +22,7 @@ use Rattle.s390x_words.specs.Calls.{Goes, IsArg, IsCallTarget, IsResult, IsRet, 
 use Rattle.s390x_words.specs.Lists.{AllItems}
 use Rattle.s390x_words.specs.Numbers.{W32}
 use Rattle.s390x_words.specs.Sets.{members_of}
-use Rattle.s390x_fields.specs.Fields.{FArgs, FBool, FCond, FConvention, FDefs, FLabels, FNatural, FOption, FReg, FRets, FSet, FTarget, FTry, FUses}
+use Rattle.s390x_words.specs.Fields.{FArgs, FBool, FCond, FConvention, FDefs, FLabels, FNatural, FOption, FReg, FRets, FSet, FTarget, FTry, FUses}
 use Rattle.s390x_lines.specs.Instructions.{inst_line, vector_line}
 use Rattle.s390x_lines.specs.Kinds.{kinds}
 use Rattle.s390x_lines.specs.Line.{AllFields, IsLine, Line, kinds_of}

@@ -15,8 +15,8 @@ use Rattle.s390x_words.proofs.Avoids.{Avoids, Avoids-append, Avoids-fewer, Avoid
 use Rattle.s390x_words.proofs.Digits.{decimal-one_word, natural-round_trip}
 use Rattle.s390x_words.proofs.Lists.{Inner-one_word, IsElement, list-feed, list-round_trip}
 use Rattle.s390x_words.proofs.Members.{either}
-use Rattle.s390x_fields.specs.Fields.{KReal, KReg}
-use Rattle.s390x_fields.proofs.Ranges.{value-ok}
+use Rattle.s390x_words.specs.Fields.{KReal, KReg}
+use Rattle.s390x_words.proofs.Ranges.{value-ok}
 use Rattle.s390x_lines.proofs.Frees.{Free}
 use Rattle.s390x_alloc.specs.declared.plan.Place.{Place}
 use Rattle.s390x_alloc.specs.declared.plan.Place.TheVariants.{Reg as InReg, Slot}

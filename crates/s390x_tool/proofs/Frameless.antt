@@ -22,7 +22,7 @@ use Rattle.s390x_typed_steps.specs.StepBody.{Site, AtCall, AtTry, Calling}
 use Rattle.s390x_typed_steps.specs.Tree.{StepBody, Tree, block_tree, empty, leaf, leaves, loop_node, prepend, row_tree, Whole, CallStep}
 use Rattle.s390x_emit_int.specs.Function.{tree_of}
 use Rattle.s390x_words.specs.Calls.{TryPart, NoTry, Goes, try_part}
-use Rattle.s390x_fields.specs.Fields.{Field, FReg, FTarget, FUses, FDefs, FSet, FNatural, FConvention, FTry, FBool, FOption, FMemory}
+use Rattle.s390x_words.specs.Fields.{Field, FReg, FTarget, FUses, FDefs, FSet, FNatural, FConvention, FTry, FBool, FOption, FMemory}
 use Rattle.s390x_lines.specs.Line.{Line}
 use Rattle.s390x_lines.specs.Instructions.{inst_line, vector_line}
 use Rattle.s390x_lines.specs.declared.inst_name.ControlName.TheVariants as ControlIs

@@ -26,7 +26,7 @@ use Rattle.s390x_typed_steps.specs.Parts.{CodePart, Row, table_parts, step_parts
 use Rattle.s390x_typed_steps.specs.Steps.{step_of}
 use Rattle.s390x_typed_steps.specs.Tree as Body
 use Rattle.s390x_typed_steps.specs.Ranges.{IsConditionMask, InRange}
-use Rattle.s390x_fields.specs.Fields.{Field, FAlu, FUnary, FCmp, FShift, FRxsbg, FReg, FReal, FInteger, FNatural, FShifted, FPair, FTrap, FBool, FReloc, FLabels, FCond, FArgs, FRets, FMemory, FVecBinary, FVecCompare, FVecElementCompare, FVecShift, FVecUnary, FTarget, FUses, FDefs, FSet, FConvention, FTry, FOption}
+use Rattle.s390x_words.specs.Fields.{Field, FAlu, FUnary, FCmp, FShift, FRxsbg, FReg, FReal, FInteger, FNatural, FShifted, FPair, FTrap, FBool, FReloc, FLabels, FCond, FArgs, FRets, FMemory, FVecBinary, FVecCompare, FVecElementCompare, FVecShift, FVecUnary, FTarget, FUses, FDefs, FSet, FConvention, FTry, FOption}
 use Rattle.s390x_lines.specs.Line.{Line}
 use Rattle.s390x_lines.specs.Instructions.{inst_line, vector_line}
 use Rattle.s390x_lines.specs.declared.inst_name.IntegerName.TheVariants as IntegerIs

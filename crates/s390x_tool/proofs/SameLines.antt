@@ -16,7 +16,7 @@ use Rattle.s390x_inst.specs.declared.vec_inst.VecInst.TheVariants.{VecRR}
 use Rattle.s390x_buffer.specs.State.{Constant, constant_of}
 use Rattle.s390x_typed_steps.specs.Tree.{Tree}
 use Rattle.s390x_emit_int.specs.Function.{constants_of}
-use Rattle.s390x_fields.specs.Fields.{Field, FNatural, FBytes, FName, FCond, FFlags, FConvention, FOption}
+use Rattle.s390x_words.specs.Fields.{Field, FNatural, FBytes, FName, FCond, FFlags, FConvention, FOption}
 use Rattle.s390x_lines.specs.Line.{Line, spelled}
 use Rattle.s390x_lines.specs.Instructions.{inst_line, vector_line}
 use Rattle.s390x_job.specs.Items.{frame_line, constant_line, symbol_line, register_line, memory_line, block_line, loop_line, close_line, end_line}

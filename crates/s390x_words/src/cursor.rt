@@ -2,8 +2,8 @@
 ghost use Rattle.std.specs.Prelude.{◌≡◌, drop};
 ghost use Rattle.s390x_words.specs.Marks.{word, after_word};
 
-use s390x_words::marks::front;
-use s390x_words::number::tail;
+use crate::marks::front;
+use crate::number::tail;
 use std::marker::Model;
 
 /// A place in a line. Contracts see it as the bytes that are left.

@@ -11,7 +11,7 @@ ghost use Rattle.s390x_words.specs.Lists.{list_of};
 ghost use Rattle.s390x_words.specs.Sets.{members_of, is_in};
 ghost use Rattle.s390x_words.specs.Calls.{call_target_of, reloc_of, call_result_of, try_part, try_of, after_try, arg_of, ret_of, use_of, label_of};
 ghost use Rattle.s390x_words.specs.Bytes.{bytes_of_text, value_of, facilities_of};
-ghost use Rattle.s390x_fields.specs.Fields.{option_of};
+ghost use Rattle.s390x_words.specs.Fields.{option_of};
 
 use crate::cursor::Cursor;
 use s390x_base::{
@@ -23,18 +23,18 @@ use s390x_inst::{
     RetPair, RxSBGOp, ShiftOp, SymbolReloc, TryCallInfo, UnaryOp, VecBinaryOp, VecIntCmpOp,
     VecIntEltCmpOp, VecShiftOp, VecUnaryOp,
 };
-use s390x_words::atoms::{cond, name, real, reg, trap, truth, written};
-use s390x_words::bytes::{bytes, facilities};
-use s390x_words::calls::{handlers, reloc, target};
-use s390x_words::list::list;
-use s390x_words::marks::{after, word};
-use s390x_words::memory::{displacement20, memory};
-use s390x_words::number::{
+use crate::atoms::{cond, name, real, reg, trap, truth, written};
+use crate::bytes::{bytes, facilities};
+use crate::calls::{handlers, reloc, target};
+use crate::list::list;
+use crate::marks::{after, word};
+use crate::memory::{displacement20, memory};
+use crate::number::{
     integer8, integer16, integer32, natural8, natural16, natural32, natural64, tail,
 };
-use s390x_words::operators::{alu, cmp, convention, rxsbg, shift, unary};
-use s390x_words::sets::set_of;
-use s390x_words::vector_operators::{
+use crate::operators::{alu, cmp, convention, rxsbg, shift, unary};
+use crate::sets::set_of;
+use crate::vector_operators::{
     vec_binary, vec_compare, vec_element_compare, vec_shift, vec_unary,
 };
 use std::alloc::{AllocError, Global};

@@ -10,8 +10,8 @@ use Rattle.s390x_words.specs.Sets.{members_of, is_in}
 use Rattle.s390x_words.specs.Calls.{target_text, call_target_of, result_text, call_result_of, IsResult, arg_text, arg_of, IsArg, ret_text, ret_of, IsRet, use_text, use_of, IsUse, label_text, label_of, IsLabel}
 use Rattle.s390x_words.specs.Bytes.{bytes_text, bytes_of_text, value_text, value_of, facilities_text, facilities_of}
 use Rattle.s390x_words.specs.Operators.{alu_text, alu_of, cmp_text, cmp_of, shift_text, shift_of, rxsbg_text, rxsbg_of, unary_text, unary_of, vec_binary_text, vec_binary_of, vec_unary_text, vec_unary_of, vec_shift_text, vec_shift_of, vec_compare_text, vec_compare_of, vec_element_compare_text, vec_element_compare_of, convention_text, convention_of}
-use Rattle.s390x_fields.specs.Fields.{option_text, IsOption, option_of, Field, KStart, FReg, FReal, FPair, FBool, FNatural, FInteger, FShifted, FMemory, FCond, FTrap, FLabels, FArgs, FRets, FUses, FDefs, FSet, FTarget, FTry, FOption, FReloc, FName, FBytes, FStart, FFlags, FAlu, FCmp, FShift, FRxsbg}
-use Rattle.s390x_fields.specs.Fields.{FUnary, FVecBinary, FVecUnary, FVecShift, FVecCompare, FVecElementCompare, FConvention, kind_of, spell, IsField, value_as, after_as}
+use Rattle.s390x_words.specs.Fields.{option_text, IsOption, option_of, Field, KStart, FReg, FReal, FPair, FBool, FNatural, FInteger, FShifted, FMemory, FCond, FTrap, FLabels, FArgs, FRets, FUses, FDefs, FSet, FTarget, FTry, FOption, FReloc, FName, FBytes, FStart, FFlags, FAlu, FCmp, FShift, FRxsbg}
+use Rattle.s390x_words.specs.Fields.{FUnary, FVecBinary, FVecUnary, FVecShift, FVecCompare, FVecElementCompare, FConvention, kind_of, spell, IsField, value_as, after_as}
 use Rattle.s390x_words.proofs.Avoids.{Avoids, Avoids-append, Avoids-fewer, marks, IsOneWord, Ends, word-is, after-is}
 use Rattle.s390x_words.proofs.Digits.{decimal-one_word, signed-one_word, natural-round_trip, integer-round_trip, wide, signed_wide}
 use Rattle.s390x_words.proofs.AtomsRoundTrip.{real-round_trip, real-one_word, reg-round_trip, reg-one_word, mask-round_trip, trap-round_trip, trap-one_word, bool-round_trip, bool-one_word, name-round_trip, name-one_word}

@@ -22,7 +22,7 @@ use Rattle.s390x_words.specs.Marks.{upto}
 use Rattle.s390x_words.specs.Sets.{is_in}
 use Rattle.s390x_words.specs.Calls.{IsCallTarget, call_target_of, IsLocation, IsResult, location_of, call_result_of, IsHandler, handler_of, IsTry, try_of, arg_of, IsArg, ret_of, IsRet, use_of, IsUse, label_of, IsLabel}
 use Rattle.s390x_words.specs.Bytes.{bytes_of_text, decoded, hex_from, digit_of, value_limit, value_of}
-use Rattle.s390x_fields.specs.Fields.{IsOption, option_of, Kind, KAlu, KArgs, KBool, KBytes, KCmp, KCond, KConvention, KDefs, KFlags, KInteger, KLabels, KMemory, KName, KNatural, KOption, KPair, KReal, KReg, KReloc, KRets, KRxsbg, KSet, KShift, KShifted, KStart, KTarget, KTrap, KTry, KUnary, KUses, KVecBinary, KVecCompare, KVecElementCompare, KVecShift, KVecUnary, kind_of, IsField, value_as}
+use Rattle.s390x_words.specs.Fields.{IsOption, option_of, Kind, KAlu, KArgs, KBool, KBytes, KCmp, KCond, KConvention, KDefs, KFlags, KInteger, KLabels, KMemory, KName, KNatural, KOption, KPair, KReal, KReg, KReloc, KRets, KRxsbg, KSet, KShift, KShifted, KStart, KTarget, KTrap, KTry, KUnary, KUses, KVecBinary, KVecCompare, KVecElementCompare, KVecShift, KVecUnary, kind_of, IsField, value_as}
 use Rattle.s390x_words.proofs.Members.{either}
 use Rattle.s390x_words.proofs.Registers.{members-again}
 

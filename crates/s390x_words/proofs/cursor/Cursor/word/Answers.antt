@@ -1,7 +1,7 @@
 use Rattle.std.proofs.Common.{rules}
 use Rattle.s390x_words.specs.Marks.{word, after_word}
 use Rattle.s390x_words.proofs.Words.{behind_word}
-use Rattle.s390x_fields.proofs.cursor.Cursor.word.Goals as goal
+use Rattle.s390x_words.proofs.cursor.Cursor.word.Goals as goal
 
 pub returns-clause-value : goal.returns-clause-value
 unfolding word

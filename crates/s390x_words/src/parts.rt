@@ -4,7 +4,7 @@ ghost use Rattle.s390x_base.specs.Sets.{has};
 ghost use Rattle.s390x_words.specs.Numbers.{W8, W16, W32, W64, S8, S16, S20, S32};
 ghost use Rattle.s390x_words.specs.Calls.{try_part};
 ghost use Rattle.s390x_words.specs.Sets.{members_of};
-ghost use Rattle.s390x_fields.specs.Fields.{FAlu, FArgs, FBool, FBytes, FCmp, FCond, FConvention, FDefs, FFlags, FInteger, FLabels, FMemory, FName, FNatural, FOption, FPair, FReal, FReg, FReloc, FRets, FRxsbg, FSet, FShift, FShifted, FStart, FTarget, FTrap, FTry, FUnary, FUses, FVecBinary, FVecCompare, FVecElementCompare, FVecShift, FVecUnary};
+ghost use Rattle.s390x_words.specs.Fields.{FAlu, FArgs, FBool, FBytes, FCmp, FCond, FConvention, FDefs, FFlags, FInteger, FLabels, FMemory, FName, FNatural, FOption, FPair, FReal, FReg, FReloc, FRets, FRxsbg, FSet, FShift, FShifted, FStart, FTarget, FTrap, FTry, FUnary, FUses, FVecBinary, FVecCompare, FVecElementCompare, FVecShift, FVecUnary};
 
 use crate::part::Part;
 use s390x_base::{
@@ -16,14 +16,14 @@ use s390x_inst::{
     RetPair, RxSBGOp, ShiftOp, SymbolReloc, TryCallInfo, UnaryOp, VecBinaryOp, VecIntCmpOp,
     VecIntEltCmpOp, VecShiftOp, VecUnaryOp,
 };
-use s390x_words::atoms::{put_bool, put_name, put_real, put_reg, put_trap};
-use s390x_words::bytes::{put_bytes, put_facilities, put_vector};
-use s390x_words::calls::{put_reloc, put_target, put_try};
-use s390x_words::list::put_list;
-use s390x_words::memory::put_memory;
-use s390x_words::number::{put, put_char, put_integer, put_natural};
-use s390x_words::sets::set_members;
-use s390x_words::word::Word;
+use crate::atoms::{put_bool, put_name, put_real, put_reg, put_trap};
+use crate::bytes::{put_bytes, put_facilities, put_vector};
+use crate::calls::{put_reloc, put_target, put_try};
+use crate::list::put_list;
+use crate::memory::put_memory;
+use crate::number::{put, put_char, put_integer, put_natural};
+use crate::sets::set_members;
+use crate::word::Word;
 use std::alloc::{AllocError, Global};
 
 impl Part for Reg {

@@ -1,6 +1,6 @@
 //! The parts of a line: what each prints.
 ghost use Rattle.std.specs.Prelude.{◌≡◌, ◌++◌, OnOk, string_bytes};
-ghost use Rattle.s390x_fields.specs.Fields.{Field, spell};
+ghost use Rattle.s390x_words.specs.Fields.{Field, spell};
 
 use std::alloc::{AllocError, Global};
 
