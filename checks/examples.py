@@ -4,7 +4,7 @@
     checks/examples.py            prints what differs, and ends with 1 then
     checks/examples.py --write    writes the examples into the page
 
-In crates/s390x_cases/stdin a line `# examples/FILE` stands before a file's case. Without s390x-linux-gnu-objdump (Debian's package
+In crates/s390x_tool_cases/stdin a line `# examples/FILE` stands before a file's case. Without s390x-linux-gnu-objdump (Debian's package
 binutils-s390x-linux-gnu) the listings aren't compared.
 """
 import pathlib
@@ -34,7 +34,7 @@ SHOWN = {
 def cases():
     """What the gate runs of each file: the words, the input and the text that is wanted."""
     found = {}
-    text = (TOP / "crates" / "s390x_cases" / "stdin").read_text()
+    text = (TOP / "crates" / "s390x_tool_cases" / "stdin").read_text()
     for name, words, given, status, wanted in re.findall(r"^# examples/(\S+)\n> (.*)\n((?:(?!<).*\n)*)< (\d+)\n((?:(?![>*#]).*\n)*)", text, re.M):
         if status == "0":
             found[name] = (words, given, wanted)
@@ -57,7 +57,7 @@ def part():
     for name, said in SHOWN.items():
         text = (TOP / "examples" / name).read_text()
         if name not in told or told[name][1] != text:
-            differences.append(f"examples/{name} isn't the case of crates/s390x_cases/stdin")
+            differences.append(f"examples/{name} isn't the case of crates/s390x_tool_cases/stdin")
             continue
         words, _, wanted = told[name]
         lines += [f"### {name}", "", said, "", f"    ./s390x {words} < examples/{name}", ""]

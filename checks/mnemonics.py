@@ -1,5 +1,5 @@
 #!/usr/bin/env python3
-"""Lists the mnemonics of s390x_row_text that the input of s390x_text_tests expects nowhere: nothing else ties them to the manual.
+"""Lists the mnemonics of s390x_text_rows that the input of s390x_text_tests expects nowhere: nothing else ties them to the manual.
 
     checks/mnemonics.py
 
@@ -12,7 +12,7 @@ import re
 import sys
 
 CRATES = os.path.join(os.path.dirname(os.path.dirname(os.path.abspath(__file__))), "crates")
-SOURCES = os.path.join(CRATES, "s390x_row_text", "src")
+SOURCES = os.path.join(CRATES, "s390x_text_rows", "src")
 # The instructions whose texts read a table, one for each of its columns; none where they are named as the rows.
 READERS = {
     "ALU_MNEMONICS": ["AluRRR", "AluRR", "AluRSImm16", "AluRRSImm16", "AluRSImm32", "AluRUImm32", "AluRX", "AluRX", "AtomicRmw"],

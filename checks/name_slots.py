@@ -1,5 +1,5 @@
 #!/usr/bin/env python3
-"""Compares the tables OFFSETS of s390x_lines/src/name.rt and ALL_NAMES of its all_names.rt with the names of lines; run by hand.
+"""Compares the tables OFFSETS of s390x_job_lines/src/name.rt and ALL_NAMES of its all_names.rt with the names of lines; run by hand.
 
     checks/name_slots.py            prints whether they are these names' tables, and ends with 1 where not
     checks/name_slots.py --print    prints the tables for these names
@@ -16,7 +16,7 @@ from collections import defaultdict
 SLOTS = 512
 MULTIPLIER = 5
 CRATES = pathlib.Path(__file__).parent.parent / "crates"
-SOURCES = CRATES / "s390x_lines/src"
+SOURCES = CRATES / "s390x_job_lines/src"
 LOADS = CRATES / "s390x_inst/src/load.rt"
 
 
@@ -91,7 +91,7 @@ def main():
         if "--print" in sys.argv[1:]:
             print(f"{table}\n{lines}", end="")
         elif f"= [\n{lines}];" not in (SOURCES / file).read_text():
-            differences.append(f"{table} of s390x_lines/src/{file} isn't the table of these names: checks/name_slots.py --print")
+            differences.append(f"{table} of s390x_job_lines/src/{file} isn't the table of these names: checks/name_slots.py --print")
     if "--print" not in sys.argv[1:]:
         print("\n".join(differences or ["no difference"]))
     return 1 if differences else 0

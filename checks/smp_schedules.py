@@ -1,6 +1,6 @@
 #!/usr/bin/env python3
 """Computes what `smp BASE WORD N STEPS START` has to write, from the rule of its schedule and of its processors alone, and compares it with the cases
-of `crates/s390x_cases` that are answered; run by hand, from anywhere: checks/smp_schedules.py [N STEPS START].
+of `crates/s390x_tool_cases` that are answered; run by hand, from anywhere: checks/smp_schedules.py [N STEPS START].
 
 The schedule: x is START at first; before each step x becomes (x * 1664525 + 1013904223) mod 2^32, and the processor of number (x / 65536) mod N goes.
 Processors of even number run ARK %r4,%r2,%r3; CS %r2,%r4,0(%r5); BRCL 4 to the first; BR to the first. Those of odd number run LAAL %r4,%r3,0(%r5);
@@ -12,7 +12,7 @@ import re
 import sys
 
 ROOT = pathlib.Path(__file__).resolve().parent.parent
-CASES = ROOT / "crates" / "s390x_cases" / "stdin"
+CASES = ROOT / "crates" / "s390x_tool_cases" / "stdin"
 WORD = 2 ** 32
 CASE = re.compile(r"^> smp \d+ \d+ (\d+) (\d+) (\d+)\n(?:[^<].*\n)*< 0\n((?:word|cpu) (?:.*\n(?:cpu .*\n)*))", re.M)
 

@@ -36,7 +36,7 @@ class JobLists:
 
     def __init__(self, coverage, found):
         self.coverage, self.found = coverage, found
-        clauses = coverage.definitions("s390x_lines/specs/Kinds.antt")
+        clauses = coverage.definitions("s390x_job_lines/specs/Kinds.antt")
         self.kinds = {}
         for name in ("integer_kinds", "memory_kinds", "control_kinds", "vector_kinds", "kinds"):
             self.kinds |= {re.findall(r"\w+", patterns)[-1]: body for patterns, body in clauses[name]}
@@ -92,7 +92,7 @@ class JobLists:
 
     def spelled(self, facility):
         """A facility's word in the line `flags`."""
-        flags = dict(re.findall(r"facility_text f\.(?:has_)?(\w+) \(codes \"(\w+)\"\)", self.coverage.text("s390x_words/specs/Bytes.antt")))
+        flags = dict(re.findall(r"facility_text f\.(?:has_)?(\w+) \(codes \"(\w+)\"\)", self.coverage.text("s390x_job_fields/specs/Bytes.antt")))
         word = {"MIE3": "mie3", "MIE4": "mie4", "VXRS_EXT2": "vxrs_ext2", "VXRS_EXT3": "vxrs_ext3"}.get(facility.upper())
         if word not in flags.values():
             raise self.coverage.Unreadable(f"no flag for {facility}")
@@ -100,12 +100,12 @@ class JobLists:
 
     def names(self, file, table):
         """The words of a table of names."""
-        rows = re.search(rf"const {table}: [^=]*= &\[\n(.*?)\n\];", self.coverage.text(f"s390x_words/src/{file}.rt"), re.S)
+        rows = re.search(rf"const {table}: [^=]*= &\[\n(.*?)\n\];", self.coverage.text(f"s390x_job_fields/src/{file}.rt"), re.S)
         return re.findall(r'"(\w+)"', rows[1])
 
     def operand(self, name, declared):
         """A form of an operand in memory, with the kind of each field by the ranges that its text keeps."""
-        source, kinds = self.coverage.text("s390x_words/specs/Memory.antt"), []
+        source, kinds = self.coverage.text("s390x_job_fields/specs/Memory.antt"), []
         ranges, = re.findall(rf"^IsMemory \(M\.{name} .*?\) = (.*)$", source, re.M)
         inside, = re.findall(rf"^inside_text \(M\.{name} .*?\) = (.*)$", source, re.M)
         for kept in ranges.split(" × "):

@@ -7,7 +7,7 @@ mod reading;
 
 use crate::case::{Case, is_met};
 use crate::reading::Reader;
-use s390x_judging::{Judge, LineError, Verdict, judge_input};
+use s390x_case_runner::{Judge, LineError, Verdict, judge_input};
 use std::alloc::Global;
 use std::process::ExitCode;
 

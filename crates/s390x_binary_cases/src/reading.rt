@@ -1,7 +1,7 @@
 //! Reading the cases: a line begins one, or belongs to its input or to what it must write.
 
 use crate::case::Case;
-use s390x_judging::LineError;
+use s390x_case_runner::LineError;
 use std::alloc::Global;
 use std::mem;
 

@@ -10,7 +10,7 @@ use Rattle.s390x_disassembler.specs.Assembly.{IsNoSource, IsOnlySource, IsSource
 use Rattle.s390x_disassembler.specs.Disassembly.{IsDisassembly, IsOnlyCode}
 use Rattle.s390x_emit_int.specs.FunctionImage.{HasNoImage}
 use Rattle.s390x_emit_int.specs.declared.image.ImageError.TheVariants.{Refused, Link}
-use Rattle.s390x_bundle_text.specs.Cut.{IsCutAt}
+use Rattle.s390x_job_bundle.specs.Cut.{IsCutAt}
 use Rattle.s390x_job.specs.Completions.{pieces}
 use Rattle.s390x_job.specs.Errors.{IsError}
 use Rattle.s390x_job.specs.Jobs.{IsJob, text_of_job}

@@ -5,10 +5,10 @@ use Rattle.std.proofs.lemmas.List.{append_cancel_left, take-append-drop}
 use Rattle.s390x_job.specs.Completions.{joined, pieces}
 use Rattle.s390x_job.specs.Jobs.{IsJob, text_of_job}
 use Rattle.s390x_job.specs.declared.job.Job.{Job}
-use Rattle.s390x_bundle_text.specs.Cut.{HasNoEnd, IsCutAt}
-use Rattle.s390x_bundle_text.proofs.Heads.{cut_at}
-use Rattle.s390x_bundle_text.proofs.JobLines.{job_ended, job_free, job_joined, words_of}
-use Rattle.s390x_bundle_text.proofs.Lines.{pieces_joined}
+use Rattle.s390x_job_bundle.specs.Cut.{HasNoEnd, IsCutAt}
+use Rattle.s390x_job_bundle.proofs.Heads.{cut_at}
+use Rattle.s390x_job_bundle.proofs.JobLines.{job_ended, job_free, job_joined, words_of}
+use Rattle.s390x_job_bundle.proofs.Lines.{pieces_joined}
 
 -- `end` isn't among lines without it
 no_end_among : (a b : List (List ℕ)) → HasNoEnd (a ++ codes "end" ∷ b) → ⊥

@@ -4,10 +4,10 @@ use Rattle.std.specs.Prelude.{IsSome, is_some}
 use Rattle.std.proofs.Math.Seq.{take-append-add, take-append_seam}
 use Rattle.hex.specs.Hex.{decode_of}
 use Rattle.hex.specs.declared.error.FromHexError.{FromHexError}
-use Rattle.s390x_words.specs.Marks.{upto, past}
+use Rattle.s390x_job_fields.specs.Marks.{upto, past}
 use Rattle.s390x_job.specs.Completions.{joined, pieces}
 use Rattle.s390x_job.proofs.Above.{pieces_none}
-use Rattle.s390x_bundle_text.proofs.Lines.{AllFree, first_line, free_append, joined_append, pieces_free, pieces_joined, text_cut}
+use Rattle.s390x_job_bundle.proofs.Lines.{AllFree, first_line, free_append, joined_append, pieces_free, pieces_joined, text_cut}
 use Rattle.s390x_binary_tool.specs.ImageText.{IsImageText, IsWrongLine, bytes_before, bytes_of_lines}
 
 -- bytes of lines and of those behind them, where both are there

@@ -8,7 +8,7 @@ use Rattle.s390x_job.specs.Completions.{IsFirstWrong, pieces}
 use Rattle.s390x_job.specs.Jobs.{IsJob, text_of_job}
 use Rattle.s390x_job.specs.Same.{SameJob}
 use Rattle.s390x_job.specs.declared.job.Job.{Job}
-use Rattle.s390x_bundle_text.specs.Cut.{IsCutAt}
+use Rattle.s390x_job_bundle.specs.Cut.{IsCutAt}
 use Rattle.s390x_tool.specs.Lines.{line}
 use Rattle.s390x_binary_tool.specs.ImageText.{IsImageText, IsWrongLine}
 use Rattle.s390x_binary_tool.specs.Verify.{IsCutJob, IsVerified, IsVerifyReply, IsVerifySyntax, IsVerifyText}

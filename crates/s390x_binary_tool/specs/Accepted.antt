@@ -4,8 +4,8 @@ use Rattle.hex.specs.Hex.{IsBytes}
 use Rattle.s390x_buffer.specs.declared.entries.MachBufferFinalized.{MachBufferFinalized}
 use Rattle.s390x_bundle.specs.Bundled.{duplicate_of}
 use Rattle.s390x_bundle.specs.Emitted.{first_refused}
-use Rattle.s390x_bundle_text.specs.Text.{AreFunctions, text_of_functions}
-use Rattle.s390x_bundle_text.specs.declared.named_job.NamedJob.{NamedJob}
+use Rattle.s390x_job_bundle.specs.Text.{AreFunctions, text_of_functions}
+use Rattle.s390x_job_bundle.specs.declared.named_job.NamedJob.{NamedJob}
 use Rattle.s390x_disassembler.specs.Assembly.{IsSource}
 use Rattle.s390x_elf.specs.Causes.{object_cause}
 use Rattle.s390x_elf.specs.Members.{members_cause}

@@ -5,8 +5,8 @@ use Rattle.s390x_bundle.specs.Emitted.{IsEmitted, first_refused}
 use Rattle.s390x_bundle.specs.declared.error.BundleError.{BundleError}
 use Rattle.s390x_bundle.specs.declared.error.BundleError.TheVariants as cause
 use Rattle.s390x_bundle.specs.declared.member.Member.{Member}
-use Rattle.s390x_bundle_text.specs.Text.{AreFunctionsOf}
-use Rattle.s390x_bundle_text.specs.declared.named_job.NamedJob.{NamedJob}
+use Rattle.s390x_job_bundle.specs.Text.{AreFunctionsOf}
+use Rattle.s390x_job_bundle.specs.declared.named_job.NamedJob.{NamedJob}
 use Rattle.s390x_elf.specs.Members.{IsLinkedAsMembers, IsObjectOfMembers, members_cause}
 use Rattle.s390x_elf.specs.Names.{symbol_name}
 use Rattle.s390x_elf.specs.declared.error.ObjectError.{ObjectError}

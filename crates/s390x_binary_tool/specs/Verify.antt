@@ -7,7 +7,7 @@ use Rattle.s390x_job.specs.Completions.{IsFirstWrong, IsText, pieces}
 use Rattle.s390x_job.specs.Jobs.{IsJob, text_of_job}
 use Rattle.s390x_job.specs.Same.{SameJob}
 use Rattle.s390x_job.specs.declared.job.Job.{Job}
-use Rattle.s390x_bundle_text.specs.Cut.{IsCutAt}
+use Rattle.s390x_job_bundle.specs.Cut.{IsCutAt}
 use Rattle.s390x_tool.specs.Answers.{IsRefused, symbols_of}
 use Rattle.s390x_tool.specs.Lines.{line, link_error_name}
 use Rattle.s390x_tool.specs.declared.status.Status.TheVariants as status

@@ -3,7 +3,7 @@ ghost use Rattle.std.specs.Prelude.{◌≡◌, ◌<◌, IfOk, MatchResult, None,
 ghost use Rattle.std.specs.Cow.{cow_slice_items};
 ghost use Rattle.s390x_bundle.specs.Bundled.{duplicate_of};
 ghost use Rattle.s390x_bundle.specs.Emitted.{HasNoCode, IsEmitted, emit_cause, first_refused, refused_or};
-ghost use Rattle.s390x_bundle_text.specs.Text.{AreFunctionsOf};
+ghost use Rattle.s390x_job_bundle.specs.Text.{AreFunctionsOf};
 ghost use Rattle.s390x_elf.specs.Names.{symbol_name};
 ghost use Rattle.s390x_tool.specs.Bundled.{member_of};
 ghost use Rattle.s390x_tool.specs.Ends.{too_many};
@@ -14,9 +14,9 @@ use crate::reply::{BinaryReply, shared, with_file};
 use s390x_base::{EmitError, ExternalName};
 use s390x_buffer::MachBufferFinalized;
 use s390x_bundle::{BundleError, Member, duplicate_name};
-use s390x_bundle_text::{BundleTextError, NamedJob, read_bundle};
 use s390x_elf::ObjectMember;
 use s390x_emit_int::emit_function;
+use s390x_job_bundle::{BundleTextError, NamedJob, read_bundle};
 use s390x_tool::{bundle_refused, no_memory, syntax};
 use std::alloc::{AllocError, Global};
 

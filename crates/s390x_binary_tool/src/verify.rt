@@ -14,10 +14,10 @@ use crate::image_text::{first_difference, read_image};
 use crate::reply::{BinaryReply, made, shared};
 use crate::status::BinaryStatus;
 use s390x_base::NoMemory;
-use s390x_bundle_text::{count_lines, job_size};
 use s390x_emit_int::{ImageError, emit_image};
 use s390x_image::SymbolTable;
 use s390x_job::{Job, LineError, SymbolLine, read_lines};
+use s390x_job_bundle::{count_lines, job_size};
 use s390x_tool::{Status, fixed, link_refused, no_memory, refused, syntax};
 use std::alloc::Global;
 

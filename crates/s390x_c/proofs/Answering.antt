@@ -12,8 +12,8 @@ use Rattle.s390x_c.specs.Emit.{EmitsJobTo, EmitsTo, NothingIsWritten}
 use Rattle.s390x_bundle.specs.Bundled as bundled
 use Rattle.s390x_bundle.specs.declared.error.BundleError.{BundleError}
 use Rattle.s390x_bundle.specs.declared.joining.Bundle.{Bundle}
-use Rattle.s390x_bundle_text.specs.Text.{AreFunctionsOf}
-use Rattle.s390x_bundle_text.specs.declared.named_job.NamedJob.{NamedJob}
+use Rattle.s390x_job_bundle.specs.Text.{AreFunctionsOf}
+use Rattle.s390x_job_bundle.specs.declared.named_job.NamedJob.{NamedJob}
 use Rattle.s390x_c.specs.Bundle.{BundlesFunctionsTo, BundlesTo, IsBundleRefusal, member_of}
 use Rattle.s390x_emit_int.specs.FunctionImage.{HasNoImage}
 use Rattle.s390x_emit_int.specs.declared.image.ImageError.{ImageError}

@@ -13,8 +13,8 @@ use Rattle.s390x_typed_steps.proofs.Causes.{first_left, first_right, unless_true
 use Rattle.s390x_typed_steps.specs.Causes.{Declared, blocks_cause, declared_of}
 use Rattle.s390x_emit_int.specs.Function.{checked_cause, constants_of, start_cause, trees_of}
 use Rattle.s390x_text.specs.Instructions.{after, inst_text, insts_text}
-use Rattle.s390x_row_text.specs.Texts.{first}
-use Rattle.s390x_row_text.specs.declared.error.TextError.{TextError}
+use Rattle.s390x_text_rows.specs.Texts.{first}
+use Rattle.s390x_text_rows.specs.declared.error.TextError.{TextError}
 use Rattle.s390x_listing.specs.Texts.{blocks_texts, inst_texts}
 use Rattle.s390x_text.specs.Laws.{HasTextsInOrder, tree_of_block}
 use Rattle.s390x_job.specs.declared.job.Job.{Job}

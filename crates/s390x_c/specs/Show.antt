@@ -2,7 +2,7 @@
 use Rattle.std.specs.Prelude.{◌≡◌, ℕ, List, None}
 use Rattle.s390x_job.specs.declared.job.Job.{Job}
 use Rattle.s390x_listing.specs.Texts.{texts_listing}
-use Rattle.s390x_row_text.specs.Texts.{Text}
+use Rattle.s390x_text_rows.specs.Texts.{Text}
 use Rattle.s390x_calls.specs.Input.{IsSyntax, IsTextOf, IsTooLong}
 use Rattle.s390x_calls.specs.Put.{HasNoRoom, HoldsEntries, NoEntryIsWritten}
 use Rattle.s390x_calls.specs.Status.{number_of_status}

@@ -3,8 +3,8 @@ ghost use Rattle.std.specs.Prelude.{◌≡◌, IfOk, map};
 ghost use Rattle.s390x_c.specs.Bundle.{BundlesFunctionsTo, BundlesTo, IsBundleCall, IsBundleRefusal, member_of, reason_of_bundle};
 
 use s390x_bundle::{BundleError, Member, bundle};
-use s390x_bundle_text::{BundleTextError, NamedJob, read_bundle};
 use s390x_calls::{MOST_BYTES, Reason, Status, put_entries};
+use s390x_job_bundle::{BundleTextError, NamedJob, read_bundle};
 use std::alloc::{AllocError, Global};
 
 /// The image at a base of several functions that call each other by name. The input is their text.

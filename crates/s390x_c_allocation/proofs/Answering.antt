@@ -8,8 +8,8 @@ use Rattle.s390x_alloc.specs.declared.fault.PlanFault.{PlanFault}
 use Rattle.s390x_inst.specs.declared.function.AllocatedFunction.{AllocatedFunction}
 use Rattle.s390x_inst.specs.declared.state.FrameLayout.{FrameLayout}
 use Rattle.s390x_job.specs.declared.job.Job.{Job}
-use Rattle.s390x_plan_text.specs.Text.{IsPlannedOf}
-use Rattle.s390x_plan_text.specs.declared.planned_job.PlannedJob.{PlannedJob}
+use Rattle.s390x_job_plan.specs.Text.{IsPlannedOf}
+use Rattle.s390x_job_plan.specs.declared.planned_job.PlannedJob.{PlannedJob}
 use Rattle.s390x_calls.specs.Input.{IsTextOf}
 use Rattle.s390x_c_allocation.specs.Operands.{ReportsJobTo, ReportsTo, report_of}
 use Rattle.s390x_calls.specs.Put.{PutsEntries}

@@ -14,7 +14,7 @@ use Rattle.s390x_operands.specs.declared.constraint.OperandPos.{OperandPos}
 use Rattle.s390x_operands.specs.declared.constraint.OperandPos.TheVariants.{Early, Late}
 use Rattle.s390x_operands.specs.declared.constraint.Reported.{Reported}
 use Rattle.s390x_operands.specs.declared.constraint.Reported.TheVariants.{Operand, Fixed, Clobbers}
-use Rattle.s390x_words.specs.Sets.{members_of}
+use Rattle.s390x_job_fields.specs.Sets.{members_of}
 use Rattle.s390x_c_allocation.specs.declared.operand_entries.Constraint.{Constraint}
 use Rattle.s390x_c_allocation.specs.declared.operand_entries.OperandEntry.{OperandEntry}
 use Rattle.s390x_c_allocation.specs.declared.operand_entries.Register.{Register}

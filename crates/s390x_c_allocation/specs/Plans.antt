@@ -7,9 +7,9 @@ use Rattle.s390x_alloc.specs.declared.fault.PlanFault.TheVariants as fault
 use Rattle.s390x_job.specs.Completions.{pieces}
 use Rattle.s390x_operands.specs.declared.constraint.OperandError.{OperandError}
 use Rattle.s390x_operands.specs.declared.constraint.OperandError.TheVariants.{ReuseInLoop, NotReal, NoMemory}
-use Rattle.s390x_plan_text.specs.Completions.{IsFirstWrongOfPlanned, IsPlannedText}
-use Rattle.s390x_plan_text.specs.Text.{IsPlannedOf}
-use Rattle.s390x_plan_text.specs.declared.planned_job.PlannedJob.{PlannedJob}
+use Rattle.s390x_job_plan.specs.Completions.{IsFirstWrongOfPlanned, IsPlannedText}
+use Rattle.s390x_job_plan.specs.Text.{IsPlannedOf}
+use Rattle.s390x_job_plan.specs.declared.planned_job.PlannedJob.{PlannedJob}
 use Rattle.s390x_calls.specs.Input.{IsTooLong}
 use Rattle.s390x_calls.specs.Status.{number_of_status}
 use Rattle.s390x_c_allocation.specs.declared.plan.PlanReason.{PlanReason}

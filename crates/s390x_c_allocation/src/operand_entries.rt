@@ -3,8 +3,8 @@ ghost use Rattle.std.specs.Prelude.{◌≡◌, ◌++◌, ◌∷◌, [], OnOk, ma
 ghost use Rattle.s390x_c_allocation.specs.OperandEntries.{constraint_of, items_entries, item_entries, lost_entry, no_register, number_of_class, number_of_kind, number_of_pos, real_entry, register_of};
 
 use s390x_base::{PReg, Reg, RegClass};
+use s390x_job_fields::sets::set_members;
 use s390x_operands::{OperandConstraint, OperandKind, OperandPos, Reported};
-use s390x_words::sets::set_members;
 use std::alloc::{AllocError, Global};
 
 /// A register.

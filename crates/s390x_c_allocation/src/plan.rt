@@ -1,13 +1,13 @@
 //! The check of a plan of registers.
 ghost use Rattle.std.specs.Prelude.{◌≡◌};
-ghost use Rattle.s390x_plan_text.specs.Text.{IsPlannedOf};
+ghost use Rattle.s390x_job_plan.specs.Text.{IsPlannedOf};
 ghost use Rattle.s390x_c_allocation.specs.Plans.{ChecksTo, IsFaultTold, at_plan_line, number_of_operand_error, reason_of_fault};
 
 use crate::numbers::operand_error_number;
 use s390x_alloc::{PlanFault, check_plan};
 use s390x_calls::{MOST_BYTES, Status};
 use s390x_inst::MachInstEmitState;
-use s390x_plan_text::{PlanTextError, PlannedJob, read_plan};
+use s390x_job_plan::{PlanTextError, PlannedJob, read_plan};
 use std::alloc::Global;
 
 /// Why a plan is refused. What a status or a fault doesn't speak of is 0; blocks, instructions, edits, operands and pairs are counted from 0.

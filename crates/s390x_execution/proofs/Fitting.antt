@@ -2,7 +2,7 @@
 use Rattle.std.proofs.Common.{◌≡◌, ℕ, ◌+◌, ◌≤◌, ◌^◌, Bool, true, false, ◌||◌, if◌then◌else◌, List, [], ◌∷◌, ◌++◌, map, length, Option, Some, None, refl, sym, ap, ◌∙◌}
 use Rattle.std.specs.Prelude.{◌==◌, nat_lt}
 use Rattle.std.proofs.lemmas.Bool.{ltb-false, or_parts}
-use Rattle.s390x_lines.specs.Line.{Line}
+use Rattle.s390x_job_lines.specs.Line.{Line}
 use Rattle.s390x_job.specs.Items.{constant_line, symbol_line, memory_line, end_line}
 use Rattle.s390x_job.specs.Grammar.{Place, Header, Within, AtEnd, Head, Never, class, next, run, region_class}
 use Rattle.s390x_job.specs.Jobs.{IsJob, blocks_lines, flags_lines, frame_lines, registers_lines}

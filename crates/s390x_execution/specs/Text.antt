@@ -8,11 +8,11 @@ use Rattle.s390x_operations.specs.Effects.{number_of_code}
 use Rattle.s390x_operations.specs.declared.stop.StopKind.{StopKind}
 use Rattle.s390x_operations.specs.declared.stop.StopKind.TheVariants as stop
 use Rattle.s390x_machine.specs.Codes.{trap_code_at}
-use Rattle.s390x_words.specs.Atoms.{trap_text}
-use Rattle.s390x_words.specs.Numbers.{W64}
-use Rattle.s390x_words.specs.Fields.{FNatural, FBytes}
-use Rattle.s390x_lines.specs.Line.{Line}
-use Rattle.s390x_lines.specs.declared.name.LineName.TheVariants as N
+use Rattle.s390x_job_fields.specs.Atoms.{trap_text}
+use Rattle.s390x_job_fields.specs.Numbers.{W64}
+use Rattle.s390x_job_fields.specs.Fields.{FNatural, FBytes}
+use Rattle.s390x_job_lines.specs.Line.{Line}
+use Rattle.s390x_job_lines.specs.declared.name.LineName.TheVariants as N
 use Rattle.s390x_job.specs.Jobs.{lines_text, registers_lines}
 use Rattle.s390x_job.specs.declared.job.Job.{Job}
 use Rattle.s390x_job.specs.declared.job.MemLine.{MemLine}

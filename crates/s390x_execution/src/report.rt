@@ -14,10 +14,10 @@ use s390x_base::{NoMemory, TrapCode};
 use s390x_buffer::{MachBufferFinalized, TrapEntry};
 use s390x_image::Image;
 use s390x_job::{Job, MemLine, StartRegs, put_registers};
-use s390x_lines::{LineName, line2};
+use s390x_job_fields::atoms::put_trap;
+use s390x_job_lines::{LineName, line2};
 use s390x_machine::{Machine, Memory, code_at};
 use s390x_operations::{ConditionCode, StopKind};
-use s390x_words::atoms::put_trap;
 use std::alloc::{AllocError, Global};
 
 /// Executes a job's image, by at most so many steps, and tells how it went.

@@ -1,13 +1,13 @@
 -- No completion of more lines than were read is the text of a job.
 use Rattle.std.proofs.Common.{◌≡◌, ℕ, zero, suc, ◌+◌, ◌<◌, List, [], ◌∷◌, ◌++◌, length, map, take, None, refl, sym, ap, ◌∙◌, inl, inr, arith, append_assoc, append-nil, length-append}
 use Rattle.std.specs.Prelude.{◌==◌, ◌-◌, codes}
-use Rattle.s390x_words.specs.Marks.{upto, past}
-use Rattle.s390x_lines.specs.Line.{Line, line_text, IsLine}
+use Rattle.s390x_job_fields.specs.Marks.{upto, past}
+use Rattle.s390x_job_lines.specs.Line.{Line, line_text, IsLine}
 use Rattle.s390x_job.specs.Grammar.{Place, AtEnd, class, next}
 use Rattle.s390x_job.specs.Jobs.{lines_text, AllLines, text_of_job, IsJob}
 use Rattle.s390x_job.specs.Completions.{pieces_from, pieces, joined, closing, ending, completion, IsText}
 use Rattle.s390x_job.specs.declared.job.Job.{Job}
-use Rattle.s390x_lines.proofs.Frees.{Free, upto-free, line-free}
+use Rattle.s390x_job_lines.proofs.Frees.{Free, upto-free, line-free}
 use Rattle.s390x_job.specs.Errors.{IsStuckAt}
 use Rattle.s390x_job.proofs.Whole.{Inv, either, cut, nil, refuse_line, refuse_place, refuse_feed, refuse_end}
 

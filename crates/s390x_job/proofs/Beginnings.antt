@@ -6,13 +6,13 @@ use Rattle.std.proofs.lemmas.Fmt.{decimal_digit}
 use Rattle.std.proofs.lemmas.List.{map-append, get_or-set_other}
 use Rattle.std.proofs.lemmas.Bool.Decides.{nat_tests}
 use Rattle.s390x_base.specs.Registers.{RealRegister, general, vector}
-use Rattle.s390x_lines.specs.Line.{Line}
+use Rattle.s390x_job_lines.specs.Line.{Line}
 use Rattle.s390x_base.specs.declared.ir.ConstantData.{ConstantData}
 use Rattle.s390x_inst.specs.declared.calls.CallConv.{CallConv}
 use Rattle.s390x_inst.specs.declared.calls.CallConv.TheVariants.{SystemV}
 use Rattle.s390x_inst.specs.declared.state.FrameLayout.{FrameLayout}
 use Rattle.s390x_inst.specs.declared.state.IsaFlags.{IsaFlags}
-use Rattle.s390x_lines.specs.Line.{spelled}
+use Rattle.s390x_job_lines.specs.Line.{spelled}
 use Rattle.s390x_job.specs.Items.{flags_line, frame_line, constant_line, symbol_line, register_line, memory_line, block_line, end_line}
 use Rattle.s390x_job.specs.Grammar.{Place, may_follow, register_place, region_class, class, next, Header, Head}
 use Rattle.s390x_job.specs.Jobs.{plain_layout, flags_lines, frame_lines, start_lines, registers_lines, head_lines}
@@ -25,8 +25,8 @@ use Rattle.s390x_job.specs.declared.build.Stage.{Stage}
 use Rattle.s390x_job.specs.declared.build.Stage.TheVariants as S
 use Rattle.s390x_job.specs.declared.build.Progress.TheVariants as P
 use Rattle.s390x_job.specs.declared.job.StartRegs.{StartRegs}
-use Rattle.s390x_words.specs.Operators.{convention_text}
-use Rattle.s390x_words.proofs.Members.{either}
+use Rattle.s390x_job_fields.specs.Operators.{convention_text}
+use Rattle.s390x_job_fields.proofs.Members.{either}
 
 follows_cases : (a b c : Bool) → (a || (b && c)) ≡ true → (a ≡ true) ⊎ ((b ≡ true) × (c ≡ true))
 follows_cases true b c h = inl refl

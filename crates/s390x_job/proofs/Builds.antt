@@ -2,8 +2,8 @@
 use Rattle.std.proofs.Common.{◌≡◌, ℕ, suc, ◌<◌, true, List, [], ◌∷◌, ◌++◌, length, refl, sym, ap, ◌∙◌, arith, append_assoc, append-nil, Vec, Global}
 use Rattle.std.specs.Prelude.{Some, nat_lt}
 use Rattle.std.proofs.lemmas.Bool.Decides.{nat_tests}
-use Rattle.s390x_lines.specs.Line.{Line}
-use Rattle.s390x_lines.specs.Instructions.{inst_line}
+use Rattle.s390x_job_lines.specs.Line.{Line}
+use Rattle.s390x_job_lines.specs.Instructions.{inst_line}
 use Rattle.s390x_job.specs.Grammar.{class, next, Within, AtEnd, OpenBlock, OpenLoop as OpenLoop', CloseLoop, CloseJob, Instruction}
 use Rattle.s390x_job.specs.Items.{block_line, loop_line, close_line}
 use Rattle.s390x_job.specs.Jobs.{inst_lines, insts_lines, blocks_lines}

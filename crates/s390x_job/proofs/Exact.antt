@@ -3,10 +3,10 @@ use Rattle.std.proofs.Common.{◌≡◌, ℕ, true, false, List, sym, ap, ◌∙
 use Rattle.std.specs.Str.{bytes_eq}
 use Rattle.std.proofs.lemmas.Slice.Eq.{bytes_eq-Decides}
 use Rattle.std.proofs.lemmas.Bool.{false≢true}
-use Rattle.s390x_lines.specs.Line.{Line, line_text, IsLine, line_of}
+use Rattle.s390x_job_lines.specs.Line.{Line, line_text, IsLine, line_of}
 use Rattle.s390x_job.specs.Items.{item_line}
 use Rattle.s390x_job.specs.declared.item.Item.{Item}
-use Rattle.s390x_lines.proofs.RoundTrip.{line-round_trip, read-ok}
+use Rattle.s390x_job_lines.proofs.RoundTrip.{line-round_trip, read-ok}
 
 -- what is read is a line
 pub yes : (i : Item) (w : List ℕ) → item_line i ≡ line_of w → IsLine (item_line i)

@@ -1,8 +1,8 @@
 -- The place of the first of some bytes.
 use Rattle.std.proofs.Common.{◌≡◌, ℕ, zero, suc, ◌<◌, ◌≤◌, true, List, [], ◌∷◌, length, take, refl, ap, inl, inr, arith}
 use Rattle.std.specs.Prelude.{◌==◌, slice_index}
-use Rattle.s390x_words.specs.Marks.{upto}
-use Rattle.s390x_words.proofs.Members.{either}
+use Rattle.s390x_job_fields.specs.Marks.{upto}
+use Rattle.s390x_job_fields.proofs.Members.{either}
 
 -- what stands before the first c
 pub first_at : (c : ℕ) (s : List ℕ) (k : ℕ) → k < length s → ((j : ℕ) → 0 ≤ j → j < k → (slice_index s j == c) ≡ true → ⊥) → (slice_index s k == c) ≡ true → take k s ≡ upto c s

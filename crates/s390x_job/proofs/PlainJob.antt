@@ -4,7 +4,7 @@ use Rattle.std.proofs.lemmas.Fmt.{decimal_digit}
 use Rattle.s390x_inst.specs.State.{base_facilities, fresh_emission}
 use Rattle.s390x_inst.specs.declared.calls.CallConv.TheVariants.{SystemV}
 use Rattle.s390x_inst.specs.declared.function.Block.{Block}
-use Rattle.s390x_words.specs.Operators.{convention_text}
+use Rattle.s390x_job_fields.specs.Operators.{convention_text}
 use Rattle.s390x_job.specs.Grammar.{AtEnd, Header, run}
 use Rattle.s390x_job.specs.Items.{end_line}
 use Rattle.s390x_job.specs.Jobs.{AllLines, IsJob, blocks_lines, frame_lines, job_lines, plain_layout}

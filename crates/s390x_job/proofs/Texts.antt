@@ -2,9 +2,9 @@
 use Rattle.std.proofs.Common.{◌≡◌, ℕ, suc, ◌+◌, ◌<◌, List, [], ◌∷◌, ◌++◌, length, get_or, drop, refl, sym, ap, ◌∙◌, inl, inr, arith, append_assoc}
 use Rattle.std.specs.Prelude.{◌==◌, Result, Ok, Err, OnOk}
 use Rattle.s390x_base.specs.Registers.{RealRegister}
-use Rattle.s390x_words.proofs.Members.{either}
+use Rattle.s390x_job_fields.proofs.Members.{either}
 use Rattle.std.proofs.lemmas.List.{drop_more}
-use Rattle.s390x_lines.specs.Line.{Line, line_text}
+use Rattle.s390x_job_lines.specs.Line.{Line, line_text}
 use Rattle.s390x_job.specs.Jobs.{lines_text, start_lines}
 
 pub lines_text_append : (a b : List Line) → lines_text (a ++ b) ≡ lines_text a ++ lines_text b

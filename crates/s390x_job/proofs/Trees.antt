@@ -1,7 +1,7 @@
 -- The lines of loops, by their members.
 use Rattle.std.proofs.Common.{◌≡◌, ℕ, List, [], ◌∷◌, ◌++◌, refl, sym, ap, ◌∙◌, subst}
 use Rattle.std.proofs.Common.{Vec, Global}
-use Rattle.s390x_lines.specs.Instructions.{inst_line}
+use Rattle.s390x_job_lines.specs.Instructions.{inst_line}
 use Rattle.s390x_job.specs.Items.{loop_line, close_line}
 use Rattle.s390x_job.specs.Jobs.{inst_lines, row_lines, insts_lines}
 use Rattle.s390x_inst.specs.declared.inst.Inst.{Inst, Row_of-Inst, end_of-Inst, more_of-Inst, items-the_row-Inst, items_hidden-the_row-Inst-0, out-Inst, roll-Inst, roll-out-Inst}

@@ -2,14 +2,14 @@
 use Rattle.std.proofs.Common.{◌≡◌, ℕ, suc, ◌+◌, ◌<◌, ◌≤◌, Bool, true, false, List, [], ◌∷◌, ◌++◌, length, drop, Option, Some, None, refl, sym, ap, ◌∙◌, subst, inl, inr, ◌⊎◌, arith, append_assoc, append-nil, length-append}
 use Rattle.std.specs.Prelude.{◌==◌, Result, Ok, Err, IfOk}
 use Rattle.std.proofs.lemmas.Bool.Decides.{nat_tests}
-use Rattle.s390x_words.specs.Marks.{upto, past}
-use Rattle.s390x_lines.specs.Line.{Line, line_text, IsLine, line_of}
+use Rattle.s390x_job_fields.specs.Marks.{upto, past}
+use Rattle.s390x_job_lines.specs.Line.{Line, line_text, IsLine, line_of}
 use Rattle.s390x_job.specs.Grammar.{Place, Header, AtEnd, class, next, run}
 use Rattle.s390x_job.specs.Jobs.{lines_text, AllLines, job_lines, text_of_job, IsJob}
 use Rattle.s390x_job.specs.declared.job.Job.{Job}
 use Rattle.s390x_job.specs.Builds.{IsWhole}
-use Rattle.s390x_lines.proofs.Frees.{upto-free, past-free, line-free}
-use Rattle.s390x_lines.proofs.RoundTrip.{line-round_trip}
+use Rattle.s390x_job_lines.proofs.Frees.{upto-free, past-free, line-free}
+use Rattle.s390x_job_lines.proofs.RoundTrip.{line-round_trip}
 
 -- two lines with one text are one
 pub one_line : (k l : Line) → IsLine k → IsLine l → line_text k ≡ line_text l → k ≡ l

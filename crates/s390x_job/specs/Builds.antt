@@ -1,6 +1,6 @@
 -- The lines that a half-built job has had.
 use Rattle.std.specs.Prelude.{◌≡◌, ℕ, ◌+◌, ◌<◌, ◌≤◌, Option, Some, None, List, [], ◌∷◌, ◌++◌, length, get_or}
-use Rattle.s390x_lines.specs.Line.{Line}
+use Rattle.s390x_job_lines.specs.Line.{Line}
 use Rattle.s390x_job.specs.Items.{block_line, loop_line, end_line}
 use Rattle.s390x_job.specs.Jobs.{IsPlainWithoutLine, insts_lines, blocks_lines, flags_lines, frame_lines, head_lines}
 use Rattle.s390x_job.specs.Grammar.{Place, Header, Within, AtEnd, next, class}

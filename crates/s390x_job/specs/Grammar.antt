@@ -4,10 +4,10 @@ use Rattle.std.specs.Str.{bytes_eq}
 use Rattle.s390x_base.specs.Registers.{RealRegister}
 use Rattle.s390x_base.specs.declared.regs.RegClass.{RegClass}
 use Rattle.s390x_base.specs.declared.regs.RegClass.TheVariants.{Int, Float}
-use Rattle.s390x_words.specs.Fields.{Field, FName, FNatural, FBytes, FStart}
-use Rattle.s390x_lines.specs.Line.{Line, spelled}
-use Rattle.s390x_lines.specs.declared.name.LineName.{LineName}
-use Rattle.s390x_lines.specs.declared.name.LineName.TheVariants as N
+use Rattle.s390x_job_fields.specs.Fields.{Field, FName, FNatural, FBytes, FStart}
+use Rattle.s390x_job_lines.specs.Line.{Line, spelled}
+use Rattle.s390x_job_lines.specs.declared.name.LineName.{LineName}
+use Rattle.s390x_job_lines.specs.declared.name.LineName.TheVariants as N
 
 -- what a line is: a line before the blocks has a rank, a first number and the number past it
 pub data Class : Type 0 where

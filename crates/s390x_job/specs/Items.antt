@@ -5,12 +5,12 @@ use Rattle.s390x_base.specs.declared.ir.ConstantData.{ConstantData}
 use Rattle.s390x_inst.specs.declared.calls.CallConv.{CallConv}
 use Rattle.s390x_inst.specs.declared.state.FrameLayout.{FrameLayout}
 use Rattle.s390x_inst.specs.declared.state.IsaFlags.{IsaFlags}
-use Rattle.s390x_words.specs.Numbers.{W8, W16, W32, W64}
-use Rattle.s390x_words.specs.Fields.{FFlags, FConvention, FNatural, FOption, FBytes, FName, FStart, FCond}
-use Rattle.s390x_lines.specs.Line.{Line}
-use Rattle.s390x_lines.specs.Instructions.{inst_line}
+use Rattle.s390x_job_fields.specs.Numbers.{W8, W16, W32, W64}
+use Rattle.s390x_job_fields.specs.Fields.{FFlags, FConvention, FNatural, FOption, FBytes, FName, FStart, FCond}
+use Rattle.s390x_job_lines.specs.Line.{Line}
+use Rattle.s390x_job_lines.specs.Instructions.{inst_line}
 use Rattle.s390x_job.specs.Grammar.{class, Instruction}
-use Rattle.s390x_lines.specs.declared.name.LineName.TheVariants as N
+use Rattle.s390x_job_lines.specs.declared.name.LineName.TheVariants as N
 use Rattle.s390x_job.specs.declared.job.SymbolLine.{SymbolLine}
 use Rattle.s390x_job.specs.declared.job.MemLine.{MemLine}
 use Rattle.s390x_job.specs.declared.item.Item.{Item}

@@ -11,8 +11,8 @@ use Rattle.s390x_inst.specs.declared.state.IsaFlags.{IsaFlags}
 use Rattle.s390x_inst.specs.declared.function.Block.{Block}
 use Rattle.s390x_inst.specs.declared.inst.Inst.{Inst, Row_of-Inst, end_of-Inst, more_of-Inst}
 use Rattle.s390x_inst.specs.declared.inst.Inst.TheVariants.{Loop'}
-use Rattle.s390x_lines.specs.Line.{Line, line_text, spelled, IsLine}
-use Rattle.s390x_lines.specs.Instructions.{inst_line}
+use Rattle.s390x_job_lines.specs.Line.{Line, line_text, spelled, IsLine}
+use Rattle.s390x_job_lines.specs.Instructions.{inst_line}
 use Rattle.s390x_job.specs.Items.{flags_line, frame_line, constant_line, symbol_line, register_line, memory_line, block_line, loop_line, close_line, end_line}
 use Rattle.s390x_job.specs.Grammar.{run, Header, AtEnd}
 use Rattle.s390x_job.specs.declared.job.Job.{Job}

@@ -4,7 +4,7 @@ ghost use Rattle.std.specs.Str.{bytes_eq};
 ghost use Rattle.s390x_job.specs.Completions.{IsFirstWrongLine, IsStuck, pieces, joined, opens, closes, closing};
 
 use crate::split::before;
-use s390x_words::number::tail;
+use s390x_job_fields::number::tail;
 use std::alloc::{AllocError, Global};
 
 /// Appends bytes.

@@ -1,13 +1,13 @@
 //! The lines before the blocks that stand only where they say something: `flags` and `frame`.
 ghost use Rattle.std.specs.Prelude.{◌≡◌, ◌++◌, ◌∷◌, [], OnOk, IfOk, string_bytes, codes};
 ghost use Rattle.std.specs.Str.{bytes_eq};
-ghost use Rattle.s390x_words.specs.Numbers.{W8, W16, W32};
-ghost use Rattle.s390x_words.specs.Fields.{FNatural, FOption};
-ghost use Rattle.s390x_lines.specs.Line.{spelled};
+ghost use Rattle.s390x_job_fields.specs.Numbers.{W8, W16, W32};
+ghost use Rattle.s390x_job_fields.specs.Fields.{FNatural, FOption};
+ghost use Rattle.s390x_job_lines.specs.Line.{spelled};
 ghost use Rattle.s390x_job.specs.Items.{flags_line, frame_line};
 
-use s390x_words::Part;
 use s390x_inst::{CallConv, FrameLayout, IsaFlags};
+use s390x_job_fields::Part;
 use std::alloc::{AllocError, Global};
 
 /// Appends the sizes of a frame.

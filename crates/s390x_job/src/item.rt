@@ -2,8 +2,8 @@
 
 use crate::job::{MemLine, SymbolLine};
 use s390x_base::{Cond, ConstantData};
-use s390x_words::{GeneralStart, VectorStart};
 use s390x_inst::{CallConv, FrameLayout, Inst, IsaFlags};
+use s390x_job_fields::{GeneralStart, VectorStart};
 
 /// A convention and a layout, as the line `frame` tells them.
 #[derive(Clone, Copy)]

@@ -1,8 +1,8 @@
 //! Printing a job.
 ghost use Rattle.std.specs.Prelude.{◌≡◌, ◌≤◌, ◌++◌, ◌∷◌, [], OnOk, IfOk, map, length, string_bytes};
 ghost use Rattle.s390x_base.specs.Registers.{general, vector};
-ghost use Rattle.s390x_lines.specs.Line.{Line, line_text};
-ghost use Rattle.s390x_lines.specs.Instructions.{inst_line};
+ghost use Rattle.s390x_job_lines.specs.Line.{Line, line_text};
+ghost use Rattle.s390x_job_lines.specs.Instructions.{inst_line};
 ghost use Rattle.s390x_job.specs.Items.{flags_line, frame_line, constant_line, symbol_line, register_line, memory_line, block_line, end_line};
 ghost use Rattle.s390x_job.specs.Jobs.{lines_text, inst_lines, insts_lines, blocks_lines, flags_lines, frame_lines, start_lines, registers_lines, head_lines, text_of_job};
 
@@ -10,10 +10,10 @@ use crate::heading::{is_plain_flags, is_plain_frame};
 use crate::job::{Job, MemLine, StartRegs, SymbolLine};
 use crate::print_line::put_frame_line;
 use s390x_base::{ConstantData, NoMemory};
-use s390x_words::{GeneralStart, VectorStart};
 use s390x_inst::{Block, CallConv, FrameLayout, Inst, IsaFlags, MachInstEmitState};
-use s390x_lines::{LineName, line0, line1, line2, put_inst};
-use s390x_words::number::put;
+use s390x_job_fields::number::put;
+use s390x_job_fields::{GeneralStart, VectorStart};
+use s390x_job_lines::{LineName, line0, line1, line2, put_inst};
 use std::alloc::{AllocError, Global};
 
 fn put_name_line(out: &mut String, name: LineName) -> Result<(), AllocError>

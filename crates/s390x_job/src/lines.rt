@@ -15,7 +15,7 @@ use crate::completing::{
 use crate::job::{Job, LineError};
 use crate::reader::read_item;
 use crate::split::before;
-use s390x_words::number::tail;
+use s390x_job_fields::number::tail;
 use std::alloc::{AllocError, Global};
 
 /// What a reader found: a job, or a number of lines where the text is no job's: no more of them can be completed to one.

@@ -1,12 +1,12 @@
 //! Printing the line of each part of a job.
 ghost use Rattle.std.specs.Prelude.{◌≡◌, ◌++◌, OnOk, string_bytes};
-ghost use Rattle.s390x_lines.specs.Line.{line_text};
+ghost use Rattle.s390x_job_lines.specs.Line.{line_text};
 ghost use Rattle.s390x_job.specs.Items.{item_line, frame_line};
 
 use crate::heading::put_frame;
 use crate::item::Item;
 use s390x_inst::{CallConv, FrameLayout};
-use s390x_lines::{LineName, line0, line1, line2, put_inst};
+use s390x_job_lines::{LineName, line0, line1, line2, put_inst};
 use std::alloc::{AllocError, Global};
 
 /// Appends a line `frame`, without the line feed.

@@ -1,16 +1,16 @@
 //! Reading a line of each name.
 ghost use Rattle.std.specs.Prelude.{◌≡◌, IfOk, ◌<◌};
-ghost use Rattle.s390x_lines.specs.Line.{line_with};
+ghost use Rattle.s390x_job_lines.specs.Line.{line_with};
 ghost use Rattle.s390x_job.specs.Items.{item_line, IsItem};
 
 use crate::item::{Frame, Item};
 use crate::job::{MemLine, SymbolLine};
 use s390x_base::{ConstantData, RegClass};
-use s390x_words::{Cursor, GeneralStart, VectorStart};
 use s390x_inst::{FrameLayout, Inst};
-use s390x_lines::{LineName, control, integer, load, memory, vector};
-use s390x_words::bytes::hex_number;
-use s390x_words::number::natural;
+use s390x_job_fields::bytes::hex_number;
+use s390x_job_fields::number::natural;
+use s390x_job_fields::{Cursor, GeneralStart, VectorStart};
+use s390x_job_lines::{LineName, control, integer, load, memory, vector};
 use std::alloc::{AllocError, Global};
 
 fn frame(c: &mut Cursor) -> Frame

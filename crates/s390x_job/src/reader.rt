@@ -1,17 +1,17 @@
 //! The exact reader of lines.
 ghost use Rattle.std.specs.Prelude.{◌≡◌, ◌≢◌, IfOk, IfSome, MatchOption};
-ghost use Rattle.s390x_words.specs.Marks.{before_mark, from_mark};
-ghost use Rattle.s390x_lines.specs.Line.{Line, IsLine, line_text, line_of};
+ghost use Rattle.s390x_job_fields.specs.Marks.{before_mark, from_mark};
+ghost use Rattle.s390x_job_lines.specs.Line.{Line, IsLine, line_text, line_of};
 ghost use Rattle.s390x_job.specs.Items.{item_line, IsItem};
 
 use crate::item::Item;
 use crate::print_line::put_item;
 use crate::read_line::item;
-use s390x_exact::exact_line;
-use s390x_words::Cursor;
-use s390x_lines::find_name;
-use s390x_words::marks::front;
-use s390x_words::number::tail;
+use s390x_job_exact::exact_line;
+use s390x_job_fields::Cursor;
+use s390x_job_fields::marks::front;
+use s390x_job_fields::number::tail;
+use s390x_job_lines::find_name;
 use std::alloc::{AllocError, Global};
 
 /// The fields of a line, behind its name.

@@ -1,6 +1,6 @@
 //! Cutting off the first line of a text.
 ghost use Rattle.std.specs.Prelude.{◌≡◌};
-ghost use Rattle.s390x_words.specs.Marks.{upto};
+ghost use Rattle.s390x_job_fields.specs.Marks.{upto};
 
 use memchr::memchr;
 

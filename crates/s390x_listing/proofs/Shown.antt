@@ -6,9 +6,9 @@ use Rattle.s390x_inst.specs.Emission.{Emission}
 use Rattle.s390x_inst.specs.declared.inst.Inst.{Inst}
 use Rattle.s390x_inst.specs.declared.state.IsaFlags.{IsaFlags}
 use Rattle.s390x_inst.specs.declared.function.Block.{Block}
-use Rattle.s390x_row_text.specs.Texts.{Text, RefusedBy, Prints, both, first, fixed}
+use Rattle.s390x_text_rows.specs.Texts.{Text, RefusedBy, Prints, both, first, fixed}
 use Rattle.s390x_text.specs.Instructions.{after}
-use Rattle.s390x_row_text.specs.declared.error.TextError.{TextError}
+use Rattle.s390x_text_rows.specs.declared.error.TextError.{TextError}
 use Rattle.s390x_text.proofs.Loops.{refused_first}
 use Rattle.s390x_listing.specs.Texts.{block_texts, blocks_texts, inst_texts, text_line}
 

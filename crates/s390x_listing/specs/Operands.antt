@@ -12,9 +12,9 @@ use Rattle.s390x_operands.specs.declared.constraint.OperandKind.TheVariants.{Def
 use Rattle.s390x_operands.specs.declared.constraint.Reported.{Reported}
 use Rattle.s390x_operands.specs.declared.constraint.Reported.TheVariants.{Operand, Fixed, Clobbers}
 use Rattle.s390x_operands.specs.Operands.{operands, operands_cause}
-use Rattle.s390x_words.specs.Atoms.{reg_text, real_text}
-use Rattle.s390x_words.specs.Lists.{list_text}
-use Rattle.s390x_words.specs.Sets.{members_of}
+use Rattle.s390x_job_fields.specs.Atoms.{reg_text, real_text}
+use Rattle.s390x_job_fields.specs.Lists.{list_text}
+use Rattle.s390x_job_fields.specs.Sets.{members_of}
 use Rattle.s390x_listing.specs.Listings.{Listing, fixed, both, each, block_head}
 
 -- whether it is read or written

@@ -4,7 +4,7 @@ use Rattle.s390x_inst.specs.Emission.{Emission}
 use Rattle.s390x_inst.specs.declared.inst.Inst.{Inst}
 use Rattle.s390x_inst.specs.declared.state.IsaFlags.{IsaFlags}
 use Rattle.s390x_inst.specs.declared.function.Block.{Block}
-use Rattle.s390x_row_text.specs.Texts.{Text, fixed, both}
+use Rattle.s390x_text_rows.specs.Texts.{Text, fixed, both}
 use Rattle.s390x_text.specs.Instructions.{after, inst_text}
 use Rattle.s390x_listing.specs.Listings.{block_head}
 

@@ -1,19 +1,19 @@
 //! The operands of a function, as text.
 ghost use Rattle.std.specs.Prelude.{◌≡◌, ◌++◌, ◌∷◌, [], None, MatchResult, OnOk, string_bytes};
-ghost use Rattle.s390x_words.specs.Atoms.{reg_text, real_text};
+ghost use Rattle.s390x_job_fields.specs.Atoms.{reg_text, real_text};
 ghost use Rattle.s390x_listing.specs.Listings.{IsCause, Appends, each};
 ghost use Rattle.s390x_listing.specs.Operands.{block_operands, item_text, items_text, kind_text, more_items, operand_text, operands_line, operands_listing};
 
 use crate::head::put_head;
 use s390x_base::{PReg, Reg};
 use s390x_inst::{Block, Inst};
+use s390x_job_fields::atoms::{put_real, put_reg};
+use s390x_job_fields::list::put_list;
+use s390x_job_fields::number::put;
+use s390x_job_fields::sets::set_members;
 use s390x_operands::{
     MachInst, OperandConstraint, OperandError, OperandKind, OperandList, Reported,
 };
-use s390x_words::atoms::{put_real, put_reg};
-use s390x_words::list::put_list;
-use s390x_words::number::put;
-use s390x_words::sets::set_members;
 use std::alloc::{AllocError, Global};
 
 /// For each block the line `block K`, and a line for each of its instructions: what it reports, joined by `, `, or `none`.

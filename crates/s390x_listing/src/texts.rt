@@ -1,13 +1,13 @@
 //! The texts of a function's instructions.
 ghost use Rattle.std.specs.Prelude.{◌≡◌, ◌++◌, ◌∷◌, [], None, IfOk, MatchResult, string_bytes};
-ghost use Rattle.s390x_row_text.specs.Texts.{RefusedBy, Prints};
+ghost use Rattle.s390x_text_rows.specs.Texts.{RefusedBy, Prints};
 ghost use Rattle.s390x_text.specs.Instructions.{after};
 ghost use Rattle.s390x_listing.specs.Texts.{block_texts, blocks_texts, inst_texts, text_line, texts_listing};
 
 use crate::head::put_head;
 use s390x_inst::{Block, EmitInfo, EmitState, Inst};
+use s390x_job_fields::number::put;
 use s390x_text::{TextError, pretty_print_inst};
-use s390x_words::number::put;
 use std::alloc::Global;
 
 /// For each block the line `block K`, and a line for each of its instructions: its text, in the state of emission behind

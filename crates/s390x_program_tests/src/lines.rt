@@ -1,6 +1,6 @@
 //! A line of each name and of each form of an operand that the exact readers take, and lines that they leave to others.
 
-use s390x_exact::exact_line;
+use s390x_job_exact::exact_line;
 use std::test::Fail;
 
 // Loads and stores, by turns with each form of an operand.

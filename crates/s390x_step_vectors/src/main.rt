@@ -9,7 +9,7 @@ mod region;
 
 use crate::known_step::ends_as_told;
 use crate::reading::read_line;
-use s390x_judging::{Judge, LineError, Verdict, judge_input};
+use s390x_case_runner::{Judge, LineError, Verdict, judge_input};
 use std::alloc::Global;
 use std::process::ExitCode;
 

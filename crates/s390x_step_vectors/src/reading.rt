@@ -6,11 +6,11 @@ ghost use Rattle.std.specs.Prelude.{◌<◌, ◌≤◌, length, IfOk};
 use crate::contents::Contents;
 use crate::known_step::KnownStep;
 use crate::region::Region;
-use s390x_judging::LineError;
+use s390x_case_runner::LineError;
+use s390x_job_fields::bytes::{bytes, hex_number};
+use s390x_job_fields::marks::{after_word, back, front, word};
+use s390x_job_fields::number::{first, natural, tail};
 use s390x_machine::Machine;
-use s390x_words::bytes::{bytes, hex_number};
-use s390x_words::marks::{after_word, back, front, word};
-use s390x_words::number::{first, natural, tail};
 use std::alloc::Global;
 
 /// The address of the instruction.

@@ -16,7 +16,7 @@ use Rattle.s390x_inst.specs.declared.load.Load.{Load}
 use Rattle.s390x_inst.specs.declared.load.LoadOp.{LoadOp}
 use Rattle.s390x_inst.specs.declared.load.LoadOp.TheVariants as LoadOps
 use Rattle.s390x_inst.specs.Loads.{as_load, by_load}
-use Rattle.s390x_words.specs.Atoms.{reg_text}
+use Rattle.s390x_job_fields.specs.Atoms.{reg_text}
 use Rattle.s390x_inst.specs.declared.inst.Inst.{Inst}
 use Rattle.s390x_inst.specs.declared.inst.Inst.TheVariants.{AluRRR, AluRR, AluRRSImm16, AluRSImm16, AluRSImm32, AluRUImm32, AluRUImm16Shifted, AluRUImm32Shifted, ShiftRR, RxSBG, RxSBGTest, UnaryRR, SMulWide, UMulWide, Flogr, SDivMod32, SDivMod64, UDivMod32, UDivMod64, CmpRR, CmpRSImm16, CmpRSImm32}
 use Rattle.s390x_inst.specs.declared.inst.Inst.TheVariants.{CmpRUImm32, CmpTrapRR, CmpTrapRSImm16, CmpTrapRUImm16, Mov64UImm16Shifted, Mov64UImm32Shifted, Insert64UImm16Shifted, Insert64UImm32Shifted, Extend, LoadIndexedAddr, LoadLogicalIndexedAddr, Mov64, MovPReg, Mov32, Mov32Imm, Mov32SImm16}
@@ -29,15 +29,15 @@ use Rattle.s390x_typed_steps.specs.Opcodes.{alu_three, alu_two, cmp_two, cmp_tra
 use Rattle.s390x_typed_steps.specs.Opcodes.{load_half, insert_part, insert_half, extend_two, rotate_then_test, indexed_opcode, logical_indexed_opcode}
 use Rattle.s390x_typed_steps.specs.Storage.{alu_rx, alu_rxy, atomic_rsy}
 use Rattle.s390x_typed_steps.specs.Memory.{MemoryInstruction, load_memory, other_memory, operate, load_and_operate, memory}
-use Rattle.s390x_row_text.specs.Texts.{Text, row}
+use Rattle.s390x_text_rows.specs.Texts.{Text, row}
 use Rattle.s390x_base.specs.declared.regs.Reg.TheVariants.{Real, Virtual}
-use Rattle.s390x_row_text.specs.Operands.{is_reg, pair_cause}
-use Rattle.s390x_row_text.specs.Mnemonics.{alu_three_name, alu_two_name, alu_halfword_name, alu_three_halfword_name, alu_signed_word_name, alu_unsigned_word_name, alu_short_name, alu_long_name, atomic_name, cmp_short_name, cmp_long_name, cmp_relative_name, cmp_two_name, cmp_halfword_name}
-use Rattle.s390x_row_text.specs.Mnemonics.{cmp_signed_word_name, cmp_unsigned_word_name, cmp_trap_name, cmp_trap_signed_name, cmp_trap_unsigned_name, load_short_name, load_long_name, load_relative_name, rotate_name, rotate_test_name}
-use Rattle.s390x_row_text.specs.Integer.{three_text, conditional_row, one_of_two, one_of_four, only_one, alu_part_name, alu_half_name, load_part_name, load_half_name, insert_part_name, insert_half_name, extend_name, indexed_name, logical_indexed_name, arithmetic_text, pair_instruction_text, compare_text, move_text}
-use Rattle.s390x_row_text.specs.Storage.{rx, rs, has_row, access_where, address_cause, load_mnemonics, load_text, store_text, storage_operator_text}
+use Rattle.s390x_text_rows.specs.Operands.{is_reg, pair_cause}
+use Rattle.s390x_text_rows.specs.Mnemonics.{alu_three_name, alu_two_name, alu_halfword_name, alu_three_halfword_name, alu_signed_word_name, alu_unsigned_word_name, alu_short_name, alu_long_name, atomic_name, cmp_short_name, cmp_long_name, cmp_relative_name, cmp_two_name, cmp_halfword_name}
+use Rattle.s390x_text_rows.specs.Mnemonics.{cmp_signed_word_name, cmp_unsigned_word_name, cmp_trap_name, cmp_trap_signed_name, cmp_trap_unsigned_name, load_short_name, load_long_name, load_relative_name, rotate_name, rotate_test_name}
+use Rattle.s390x_text_rows.specs.Integer.{three_text, conditional_row, one_of_two, one_of_four, only_one, alu_part_name, alu_half_name, load_part_name, load_half_name, insert_part_name, insert_half_name, extend_name, indexed_name, logical_indexed_name, arithmetic_text, pair_instruction_text, compare_text, move_text}
+use Rattle.s390x_text_rows.specs.Storage.{rx, rs, has_row, access_where, address_cause, load_mnemonics, load_text, store_text, storage_operator_text}
 use Rattle.s390x_text.specs.Agreement.{has_row_text, Agrees, RowsAgree}
-use Rattle.s390x_row_text.specs.declared.error.TextError.TheVariants.{NoRow, BadPair}
+use Rattle.s390x_text_rows.specs.declared.error.TextError.TheVariants.{NoRow, BadPair}
 
 -- ---- tables
 

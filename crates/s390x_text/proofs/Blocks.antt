@@ -19,9 +19,9 @@ use Rattle.s390x_typed_steps.specs.Resolved.{resolved_instruction}
 use Rattle.s390x_typed_steps.specs.Stack.{nominal_after, outgoing_after, outgoing_behind, state_after}
 use Rattle.s390x_typed_steps.specs.Tree.{Whole, block_tree, empty, prepend, row_tree}
 use Rattle.s390x_text.specs.Instructions.{after, inst_text, insts_after, insts_text, row_after, row_text}
-use Rattle.s390x_row_text.specs.Texts.{first}
-use Rattle.s390x_row_text.specs.declared.error.TextError.{TextError}
-use Rattle.s390x_row_text.specs.declared.error.TextError.TheVariants.{NoRow}
+use Rattle.s390x_text_rows.specs.Texts.{first}
+use Rattle.s390x_text_rows.specs.declared.error.TextError.{TextError}
+use Rattle.s390x_text_rows.specs.declared.error.TextError.TheVariants.{NoRow}
 use Rattle.s390x_text.proofs.Calls.{call_fine, first_fine, tail_fine, takes_all}
 use Rattle.s390x_text.proofs.Leaves.{leaf_fine}
 use Rattle.s390x_text.proofs.Mapless.{mapped, same_resolved}

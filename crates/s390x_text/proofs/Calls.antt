@@ -33,9 +33,9 @@ use Rattle.s390x_typed_steps.specs.Stack.{nominal_after}
 use Rattle.s390x_typed_steps.specs.StepBody.{Calling, StepBody}
 use Rattle.s390x_typed_steps.specs.Tree.{empty, leaves}
 use Rattle.s390x_text.specs.Calls.{epilogue_text, is_first_saved as has_epilogue, loaded_text, loads_text, plain_call_text, result_at, results_text, simple_texts, tail_call_text}
-use Rattle.s390x_row_text.specs.Simple.{simple_text, unbuilt}
-use Rattle.s390x_row_text.specs.Texts.{Text, first, fixed}
-use Rattle.s390x_row_text.specs.declared.error.TextError.{TextError}
+use Rattle.s390x_text_rows.specs.Simple.{simple_text, unbuilt}
+use Rattle.s390x_text_rows.specs.Texts.{Text, first, fixed}
+use Rattle.s390x_text_rows.specs.declared.error.TextError.{TextError}
 use Rattle.s390x_text.proofs.Leaves.{whole_fine}
 use Rattle.s390x_text.proofs.Mapless.{mapped}
 

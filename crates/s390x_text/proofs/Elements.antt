@@ -3,7 +3,7 @@ use Rattle.std.proofs.Common.{◌≡◌, ◌⊎◌, inl, inr, ℕ, ◌*◌, ◌<
 use Rattle.std.proofs.lemmas.Bool.{eqb-true, lt-ltb}
 use Rattle.std.specs.Prelude.{cond, nat_eq}
 use Rattle.s390x_typed_steps.specs.VectorInstruction.{element_code}
-use Rattle.s390x_row_text.specs.Vector.{lane_name}
+use Rattle.s390x_text_rows.specs.Vector.{lane_name}
 
 -- the size of an element in bits
 abbrev pub IsSize : ℕ → Type 0

@@ -30,11 +30,11 @@ use Rattle.s390x_text.proofs.Agreement.{rows_agree}
 use Rattle.s390x_text.specs.Agreement.{RowsAgree}
 use Rattle.s390x_text.specs.Calls.{call_text}
 use Rattle.s390x_text.specs.Instructions.{leaf_text}
-use Rattle.s390x_row_text.specs.Integer.{alu_half_name, alu_part_name, extend_name, indexed_name, insert_half_name, insert_part_name, load_half_name, load_part_name, logical_indexed_name, selected_name}
-use Rattle.s390x_row_text.specs.Mnemonics.{alu_halfword_name, alu_signed_word_name, alu_three_halfword_name, alu_three_name, alu_two_name, alu_unsigned_word_name, atomic_name, cmp_halfword_name, cmp_signed_word_name, cmp_trap_name, cmp_trap_signed_name, cmp_trap_unsigned_name, cmp_two_name, cmp_unsigned_word_name}
-use Rattle.s390x_row_text.specs.Mnemonics.{load_short_name, load_long_name, load_relative_name, rotate_name, rotate_test_name}
-use Rattle.s390x_row_text.specs.Simple.{simple_text}
-use Rattle.s390x_row_text.specs.Texts.{Text, text_or}
+use Rattle.s390x_text_rows.specs.Integer.{alu_half_name, alu_part_name, extend_name, indexed_name, insert_half_name, insert_part_name, load_half_name, load_part_name, logical_indexed_name, selected_name}
+use Rattle.s390x_text_rows.specs.Mnemonics.{alu_halfword_name, alu_signed_word_name, alu_three_halfword_name, alu_three_name, alu_two_name, alu_unsigned_word_name, atomic_name, cmp_halfword_name, cmp_signed_word_name, cmp_trap_name, cmp_trap_signed_name, cmp_trap_unsigned_name, cmp_two_name, cmp_unsigned_word_name}
+use Rattle.s390x_text_rows.specs.Mnemonics.{load_short_name, load_long_name, load_relative_name, rotate_name, rotate_test_name}
+use Rattle.s390x_text_rows.specs.Simple.{simple_text}
+use Rattle.s390x_text_rows.specs.Texts.{Text, text_or}
 use Rattle.s390x_text.proofs.Machines.{has_others, loaded_there, whole_there}
 use Rattle.s390x_text.proofs.Rows.{access_refusal, accessed, address_fine, atomic_fine, comparison_fine, conditional_fine, operator_fine, pair_fine, pair_with_two_fine, refusal_there, row_fine, three_fine}
 use Rattle.s390x_text.proofs.Vectors.{vector_fine}

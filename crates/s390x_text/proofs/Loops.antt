@@ -11,10 +11,10 @@ use Rattle.s390x_inst.specs.declared.inst.Inst.TheBlock.{hidden-the_row-Inst-0}
 use Rattle.s390x_inst.specs.declared.inst.Inst.TheOpen as O
 use Rattle.s390x_inst.specs.declared.inst.Inst.TheViews as V
 use denote.Hole.Carrier
-use Rattle.s390x_row_text.proofs.Joined.{more_texts}
-use Rattle.s390x_row_text.specs.Texts.{Text, first, both, RefusedBy}
-use Rattle.s390x_row_text.specs.declared.error.TextError.{TextError}
-use Rattle.s390x_row_text.specs.declared.error.TextError.TheVariants.{NoRow, Virtual, BadPair, Address, NoMemory}
+use Rattle.s390x_text_rows.proofs.Joined.{more_texts}
+use Rattle.s390x_text_rows.specs.Texts.{Text, first, both, RefusedBy}
+use Rattle.s390x_text_rows.specs.declared.error.TextError.{TextError}
+use Rattle.s390x_text_rows.specs.declared.error.TextError.TheVariants.{NoRow, Virtual, BadPair, Address, NoMemory}
 use Rattle.s390x_text.specs.Instructions.{leaf_text, leaf_after, after, row_after, insts_after, followed, has_none, inst_text, row_text, insts_text, looped}
 
 -- what is blamed on a text is blamed on it and what follows

@@ -19,7 +19,7 @@ use Rattle.s390x_typed_steps.specs.Operands.{resolved}
 use Rattle.s390x_typed_steps.specs.Resolved.{resolved_instruction}
 use Rattle.s390x_typed_steps.specs.SingleInstruction.{single_instruction}
 use Rattle.s390x_typed_steps.specs.Storage.{alu_rx, alu_rxy, atomic_rsy}
-use Rattle.s390x_row_text.specs.Simple.{simple_text}
+use Rattle.s390x_text_rows.specs.Simple.{simple_text}
 use Rattle.s390x_text.specs.Agreement.{has_row_text}
 use Rattle.s390x_text.proofs.Agreement.{rows_agree}
 use Rattle.s390x_text.specs.Rows.{has_rows, names_row}

@@ -25,14 +25,14 @@ use Rattle.s390x_typed_steps.specs.SingleInstruction.{SingleInstruction, single_
 use Rattle.s390x_typed_steps.specs.VectorInstruction.{vector_operands_valid, vector_row}
 use Rattle.s390x_typed_steps.specs.declared.mem_inst_type.MemInstType.{MemInstType}
 use Rattle.s390x_typed_steps.specs.Storage.{alu_rx, alu_rxy, cmp_ril, cmp_rx, cmp_rxy}
-use Rattle.s390x_words.specs.Atoms.{reg_text}
+use Rattle.s390x_job_fields.specs.Atoms.{reg_text}
 use Rattle.s390x_text.specs.Agreement.{has_row_text}
-use Rattle.s390x_row_text.specs.Integer.{conditional_row, three_text}
-use Rattle.s390x_row_text.specs.Mnemonics.{alu_long_name, alu_short_name, cmp_long_name, cmp_relative_name, cmp_short_name}
-use Rattle.s390x_row_text.specs.Operands.{is_reg, pair_cause}
-use Rattle.s390x_row_text.specs.Storage.{access_cause, address_cause, has_row, rs, rx, type_of_rows}
-use Rattle.s390x_row_text.specs.Texts.{row}
-use Rattle.s390x_row_text.specs.declared.error.TextError.TheVariants.{BadPair, NoRow}
+use Rattle.s390x_text_rows.specs.Integer.{conditional_row, three_text}
+use Rattle.s390x_text_rows.specs.Mnemonics.{alu_long_name, alu_short_name, cmp_long_name, cmp_relative_name, cmp_short_name}
+use Rattle.s390x_text_rows.specs.Operands.{is_reg, pair_cause}
+use Rattle.s390x_text_rows.specs.Storage.{access_cause, address_cause, has_row, rs, rx, type_of_rows}
+use Rattle.s390x_text_rows.specs.Texts.{row}
+use Rattle.s390x_text_rows.specs.declared.error.TextError.TheVariants.{BadPair, NoRow}
 
 -- ---- registers and immediates
 

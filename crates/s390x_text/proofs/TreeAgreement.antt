@@ -20,10 +20,10 @@ use Rattle.s390x_typed_steps.specs.Calls.{behind_call, call_bodies, continuation
 use Rattle.s390x_typed_steps.specs.Resolved.{resolved_instruction}
 use Rattle.s390x_typed_steps.specs.Stack.{state_after}
 use Rattle.s390x_typed_steps.specs.Tree.{StepBody, Tree, Whole, TailJump, empty, leaves, prepend, row_tree}
-use Rattle.s390x_row_text.specs.Simple.{simple_text, unbuilt}
-use Rattle.s390x_row_text.specs.Texts.{first, fixed}
-use Rattle.s390x_row_text.specs.declared.error.TextError.{TextError}
-use Rattle.s390x_row_text.specs.declared.error.TextError.TheVariants.{NoRow}
+use Rattle.s390x_text_rows.specs.Simple.{simple_text, unbuilt}
+use Rattle.s390x_text_rows.specs.Texts.{first, fixed}
+use Rattle.s390x_text_rows.specs.declared.error.TextError.{TextError}
+use Rattle.s390x_text_rows.specs.declared.error.TextError.TheVariants.{NoRow}
 use Rattle.s390x_text.specs.Agreement.{has_row_text}
 use Rattle.s390x_text.specs.Calls.{epilogue_text, is_first_saved as has_epilogue, loaded_text, loads_text, plain_call_text, result_at, results_text, simple_texts, tail_call_text}
 use Rattle.s390x_text.specs.Instructions.{after, inst_text, nesting_cause, row_after, row_text}

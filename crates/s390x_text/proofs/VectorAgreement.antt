@@ -20,11 +20,11 @@ use Rattle.s390x_typed_steps.specs.Resolved.{resolved_vector}
 use Rattle.s390x_typed_steps.specs.SingleInstruction.{single_with}
 use Rattle.s390x_typed_steps.specs.VectorComposite.{rows_cause}
 use Rattle.s390x_typed_steps.specs.VectorInstruction.{bit_mask_row, element_code, is_float_doubleword, is_lane, is_vector, lane_row, replicate_row, reuses_vector}
-use Rattle.s390x_row_text.specs.Operands.{is_float, is_zero}
-use Rattle.s390x_row_text.specs.Storage.{address_cause}
-use Rattle.s390x_row_text.specs.Texts.{Text, fixed, row}
-use Rattle.s390x_row_text.specs.Vector.{is_float_lane, lane_name, mask_name, reversed_name, vector_text}
-use Rattle.s390x_row_text.specs.declared.error.TextError.TheVariants.{NoRow}
+use Rattle.s390x_text_rows.specs.Operands.{is_float, is_zero}
+use Rattle.s390x_text_rows.specs.Storage.{address_cause}
+use Rattle.s390x_text_rows.specs.Texts.{Text, fixed, row}
+use Rattle.s390x_text_rows.specs.Vector.{is_float_lane, lane_name, mask_name, reversed_name, vector_text}
+use Rattle.s390x_text_rows.specs.declared.error.TextError.TheVariants.{NoRow}
 use Rattle.s390x_text.specs.Agreement.{has_row_text}
 use Rattle.s390x_text.specs.Rows.{has_rows, names_row}
 use Rattle.s390x_text.proofs.Elements.{IsSize}

@@ -14,10 +14,10 @@ use Rattle.s390x_typed_steps.specs.Memory.{MemoryInstruction, StorageForm, VrxFo
 use Rattle.s390x_typed_steps.specs.Operands.{operand_general}
 use Rattle.s390x_typed_steps.specs.VectorInstruction.{element_code, is_lane, is_vector}
 use Rattle.s390x_typed_steps.specs.declared.mem_inst_type.MemInstType.{MemInstType}
-use Rattle.s390x_row_text.specs.Operands.{is_float}
-use Rattle.s390x_row_text.specs.Storage.{access_cause, rx}
-use Rattle.s390x_row_text.specs.Texts.{Text}
-use Rattle.s390x_row_text.specs.Vector.{lane_name, reversed_name}
+use Rattle.s390x_text_rows.specs.Operands.{is_float}
+use Rattle.s390x_text_rows.specs.Storage.{access_cause, rx}
+use Rattle.s390x_text_rows.specs.Texts.{Text}
+use Rattle.s390x_text_rows.specs.Vector.{lane_name, reversed_name}
 use Rattle.s390x_text.proofs.Elements.{IsSize, named_at, one_size}
 use Rattle.s390x_text.proofs.Rows.{access_refusal, address_fine}
 

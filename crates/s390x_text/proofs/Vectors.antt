@@ -18,8 +18,8 @@ use Rattle.s390x_typed_steps.specs.Resolved.{resolved_vector}
 use Rattle.s390x_typed_steps.specs.SingleInstruction.{single_with}
 use Rattle.s390x_typed_steps.specs.VectorComposite.{composite_cause, rows_cause}
 use Rattle.s390x_typed_steps.specs.VectorInstruction.{bit_mask_row, element_code, is_float_doubleword, is_lane, is_vector, lane_row, replicate_row, reuses_vector, vector_operands_valid, vector_row}
-use Rattle.s390x_row_text.specs.Texts.{fixed, row}
-use Rattle.s390x_row_text.specs.Vector.{is_float_lane, lane_name, mask_name, vector_text}
+use Rattle.s390x_text_rows.specs.Texts.{fixed, row}
+use Rattle.s390x_text_rows.specs.Vector.{is_float_lane, lane_name, mask_name, vector_text}
 use Rattle.s390x_text.proofs.Elements.{named_at, one_size}
 use Rattle.s390x_text.proofs.Rows.{access_refusal, address_fine}
 use Rattle.s390x_text.proofs.VectorMemory.{lane_fine, left_lane_fine, replicated_fine, reversed_lane_fine, reversed_replicated_fine}

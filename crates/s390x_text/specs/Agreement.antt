@@ -4,11 +4,11 @@ use Rattle.s390x_inst.specs.Emission.{Emission}
 use Rattle.s390x_inst.specs.declared.inst.Inst.{Inst}
 use Rattle.s390x_typed_steps.specs.SingleInstruction.{single_instruction}
 use Rattle.s390x_typed_steps.specs.Memory.{memory}
-use Rattle.s390x_row_text.specs.Texts.{Text}
-use Rattle.s390x_row_text.specs.Integer.{arithmetic_text, pair_instruction_text, compare_text, move_text}
-use Rattle.s390x_row_text.specs.Storage.{load_text, store_text, storage_operator_text}
-use Rattle.s390x_row_text.specs.declared.error.TextError.{TextError}
-use Rattle.s390x_row_text.specs.declared.error.TextError.TheVariants.{NoRow}
+use Rattle.s390x_text_rows.specs.Texts.{Text}
+use Rattle.s390x_text_rows.specs.Integer.{arithmetic_text, pair_instruction_text, compare_text, move_text}
+use Rattle.s390x_text_rows.specs.Storage.{load_text, store_text, storage_operator_text}
+use Rattle.s390x_text_rows.specs.declared.error.TextError.{TextError}
+use Rattle.s390x_text_rows.specs.declared.error.TextError.TheVariants.{NoRow}
 
 -- the cause isn't that there is no row
 abbrev pub has_row_text : Option TextError → Bool

@@ -18,10 +18,10 @@ use Rattle.s390x_inst.specs.declared.calls.TryCallHandler.TheVariants.{Tag, Defa
 use Rattle.s390x_inst.specs.declared.calls.TryCallInfo.{TryCallInfo}
 use Rattle.s390x_inst.specs.declared.inst.Inst.{Inst}
 use Rattle.s390x_inst.specs.declared.inst.Inst.TheVariants.{Call, ReturnCall}
-use Rattle.s390x_words.specs.Atoms.{reg_text}
-use Rattle.s390x_row_text.specs.Texts.{Text, fixed, both, before_semicolon, spelled}
-use Rattle.s390x_row_text.specs.Operands.{label_text, name_text}
-use Rattle.s390x_row_text.specs.Simple.{unbuilt, simple_text}
+use Rattle.s390x_job_fields.specs.Atoms.{reg_text}
+use Rattle.s390x_text_rows.specs.Texts.{Text, fixed, both, before_semicolon, spelled}
+use Rattle.s390x_text_rows.specs.Operands.{label_text, name_text}
+use Rattle.s390x_text_rows.specs.Simple.{unbuilt, simple_text}
 
 -- the branch of a call, by its target
 abbrev pub branch_and_link_text : (link : Reg) → CallInstDest → List ℕ

@@ -4,12 +4,12 @@ use Rattle.s390x_inst.specs.Emission.{Emission}
 use Rattle.s390x_inst.specs.declared.state.IsaFlags.{IsaFlags}
 use Rattle.s390x_inst.specs.declared.inst.Inst.{Inst, Row_of-Inst, end_of-Inst, more_of-Inst}
 use Rattle.s390x_inst.specs.declared.inst.Inst.TheVariants.{Loop', Call, AllocateArgs}
-use Rattle.s390x_row_text.specs.Texts.{Text, first, fixed, both, before_semicolon, text_or}
-use Rattle.s390x_row_text.specs.Operands.{cond_text}
-use Rattle.s390x_row_text.specs.Simple.{simple_text}
+use Rattle.s390x_text_rows.specs.Texts.{Text, first, fixed, both, before_semicolon, text_or}
+use Rattle.s390x_text_rows.specs.Operands.{cond_text}
+use Rattle.s390x_text_rows.specs.Simple.{simple_text}
 use Rattle.s390x_text.specs.Calls.{call_text}
-use Rattle.s390x_row_text.specs.declared.error.TextError.{TextError}
-use Rattle.s390x_row_text.specs.declared.error.TextError.TheVariants.{NoRow}
+use Rattle.s390x_text_rows.specs.declared.error.TextError.{TextError}
+use Rattle.s390x_text_rows.specs.declared.error.TextError.TheVariants.{NoRow}
 
 -- the text of an instruction that is no `Loop`, on a machine by its flags. The steps of calls access nothing relative to the instruction
 abbrev pub leaf_text : IsaFlags → Emission → Inst → Text

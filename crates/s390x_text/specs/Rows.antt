@@ -10,8 +10,8 @@ use Rattle.s390x_typed_steps.specs.Causes.{branch_cause}
 use Rattle.s390x_typed_steps.specs.Memory.{memory}
 use Rattle.s390x_typed_steps.specs.SingleInstruction.{single_instruction}
 use Rattle.s390x_typed_steps.specs.Tree.{StepBody, Tree, Whole, NoLoad, TailOpening, empty, leaf, loop_node, prepend}
-use Rattle.s390x_row_text.specs.Simple.{simple_text}
-use Rattle.s390x_row_text.specs.declared.error.TextError.{TextError}
+use Rattle.s390x_text_rows.specs.Simple.{simple_text}
+use Rattle.s390x_text_rows.specs.declared.error.TextError.{TextError}
 use Rattle.s390x_text.specs.Agreement.{has_row_text}
 use Rattle.s390x_text.specs.Instructions.{inst_text}
 

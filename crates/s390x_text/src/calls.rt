@@ -2,8 +2,8 @@
 ghost use Rattle.std.specs.Prelude.{◌≡◌, ◌++◌, codes, OnOk, IfOk, string_bytes, true};
 ghost use Rattle.std.specs.Fmt.{decimal};
 ghost use Rattle.s390x_inst.specs.Frames.{load_from, copied_target};
-ghost use Rattle.s390x_row_text.specs.Texts.{Prints, PrintsWhere, before_semicolon};
-ghost use Rattle.s390x_row_text.specs.Simple.{simple_text};
+ghost use Rattle.s390x_text_rows.specs.Texts.{Prints, PrintsWhere, before_semicolon};
+ghost use Rattle.s390x_text_rows.specs.Simple.{simple_text};
 ghost use Rattle.s390x_text.specs.Calls.{branch_and_link_text, popped_text, loaded_text, result_text, results_text, loads_text, handler_text, more_handlers, handlers_text, try_text, plain_call_text, is_first_saved, simple_texts, epilogue_text, tail_branch_text, tail_call_text, call_text};
 
 use s390x_base::Reg;
@@ -11,8 +11,8 @@ use s390x_inst::{
     CallInfo, CallInstDest, CallRetPair, EmitState, Inst, MachInstEmitState, MemArg, RetLocation,
     ReturnCallInfo, TryCallHandler, TryCallInfo, gen_tail_epilogue,
 };
-use s390x_row_text::{Operand, TextError, put_simple, spelled1, spelled2};
-use s390x_words::number::{put, put_natural};
+use s390x_job_fields::number::{put, put_natural};
+use s390x_text_rows::{Operand, TextError, put_simple, spelled1, spelled2};
 use std::alloc::{AllocError, Global};
 
 // The branch of a call.

@@ -11,7 +11,7 @@ pub use law::rows_agree;
 pub use pretty::pretty_print_inst;
 pub use pretty_print::PrettyPrint;
 pub use row_laws::{texts_have_rows_as_bytes, valid_blocks_have_texts};
-pub use s390x_row_text::{
+pub use s390x_text_rows::{
     TextError, maybe_show_fpr, pretty_print_fpr, pretty_print_reg, pretty_print_reg_mod,
     pretty_print_regpair, pretty_print_regpair_mod, pretty_print_regpair_mod_lo, show_reg,
 };

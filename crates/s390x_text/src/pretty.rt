@@ -1,14 +1,14 @@
 //! The text of an instruction.
 ghost use Rattle.std.specs.Prelude.{◌≡◌, ◌+◌, ◌==◌, ◌++◌, length, codes, None, IfOk, OnOk, OnErr, MatchResult, string_bytes};
-ghost use Rattle.s390x_row_text.specs.Texts.{RefusedBy, Prints, before_semicolon};
-ghost use Rattle.s390x_row_text.specs.Operands.{cond_text};
+ghost use Rattle.s390x_text_rows.specs.Texts.{RefusedBy, Prints, before_semicolon};
+ghost use Rattle.s390x_text_rows.specs.Operands.{cond_text};
 ghost use Rattle.s390x_text.specs.Instructions.{leaf_text, leaf_after, after, insts_after, inst_text, insts_text, looped, back_text};
 
 use crate::calls::put_call;
 use s390x_base::Cond;
 use s390x_inst::{EmitInfo, EmitState, Inst, IsaFlags};
-use s390x_row_text::{TextError, cond_name, put_simple};
-use s390x_words::number::put;
+use s390x_job_fields::number::put;
+use s390x_text_rows::{TextError, cond_name, put_simple};
 use std::alloc::{AllocError, Global};
 
 // Appends the text of an instruction that is no `Loop`.

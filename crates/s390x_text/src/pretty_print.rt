@@ -1,13 +1,13 @@
 //! The texts of operands by themselves.
 ghost use Rattle.std.specs.Prelude.{◌≡◌, ◌++◌, None, MatchResult, string_bytes};
 ghost use Rattle.std.specs.Fmt.{decimal, signed_decimal};
-ghost use Rattle.s390x_row_text.specs.Texts.{Text, RefusedBy, fixed};
-ghost use Rattle.s390x_row_text.specs.Operands.{cond_text};
-ghost use Rattle.s390x_row_text.specs.Storage.{operand_alone};
+ghost use Rattle.s390x_text_rows.specs.Texts.{Text, RefusedBy, fixed};
+ghost use Rattle.s390x_text_rows.specs.Operands.{cond_text};
+ghost use Rattle.s390x_text_rows.specs.Storage.{operand_alone};
 
 use s390x_base::{Cond, SImm20, UImm12, UImm16Shifted, UImm32Shifted};
 use s390x_inst::MemArg;
-use s390x_row_text::{TextError, alone, cond_name, is_virtual};
+use s390x_text_rows::{TextError, alone, cond_name, is_virtual};
 use std::alloc::Global;
 
 /// A value that has a text.

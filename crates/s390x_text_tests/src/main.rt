@@ -9,7 +9,7 @@ mod states;
 mod texts;
 
 use crate::texts::is_line_met;
-use s390x_judging::{Judge, LineError, Verdict, judge_input};
+use s390x_case_runner::{Judge, LineError, Verdict, judge_input};
 use std::alloc::Global;
 use std::process::ExitCode;
 

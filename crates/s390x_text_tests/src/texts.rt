@@ -1,9 +1,9 @@
 //! A line: a job, a tab, and the texts of its instructions, in which ` / ` stands for the end of a line. Where ` ~ ` stands before what is told, it is one of the
 //! machine instructions that are joined by ` ; `.
 
+use s390x_case_runner::LineError;
 use s390x_inst::{EmitInfo, EmitState, Inst};
 use s390x_job::read_lines;
-use s390x_judging::LineError;
 use s390x_text::{TextError, pretty_print_inst};
 use std::alloc::Global;
 

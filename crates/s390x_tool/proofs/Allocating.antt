@@ -3,7 +3,7 @@ use Rattle.std.proofs.Common.{◌≡◌, ℕ, inl, inr, Global, List, String, �
 use Rattle.std.specs.Prelude.{codes, ◌++◌, ◌≢◌, IfOk, MatchResult, Result, Ok, Err, string_bytes}
 use Rattle.std.specs.Fmt.{decimal}
 use Rattle.s390x_alloc.specs.Answered.{IsAnswered}
-use Rattle.s390x_plan_text.specs.Jobs.{AnsweredIsJob, with_function}
+use Rattle.s390x_job_plan.specs.Jobs.{AnsweredIsJob, with_function}
 use Rattle.s390x_alloc.specs.Blocks.{IsFault}
 use Rattle.s390x_alloc.specs.Checked.{checked}
 use Rattle.s390x_alloc.specs.Walks.{EveryWalkReadsAlike}
@@ -15,9 +15,9 @@ use Rattle.s390x_tool.specs.declared.words.Command.TheVariants.{Allocate}
 use Rattle.s390x_inst.specs.declared.function.AllocatedFunction.{AllocatedFunction}
 use Rattle.s390x_job.specs.Completions.{pieces}
 use Rattle.s390x_job.specs.Jobs.{text_of_job}
-use Rattle.s390x_plan_text.specs.Completions.{IsFirstWrongOfPlanned, IsPlannedText}
-use Rattle.s390x_plan_text.specs.Text.{IsPlannedOf}
-use Rattle.s390x_plan_text.specs.declared.planned_job.PlannedJob.{PlannedJob}
+use Rattle.s390x_job_plan.specs.Completions.{IsFirstWrongOfPlanned, IsPlannedText}
+use Rattle.s390x_job_plan.specs.Text.{IsPlannedOf}
+use Rattle.s390x_job_plan.specs.declared.planned_job.PlannedJob.{PlannedJob}
 use Rattle.s390x_tool.proofs.Parts.{whole_part}
 use Rattle.s390x_tool.specs.Allocated.{IsAllocateAnswer, IsPlanRefusal, fault_line}
 use Rattle.s390x_tool.specs.Ends.{IsRead}

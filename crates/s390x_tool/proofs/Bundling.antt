@@ -9,9 +9,9 @@ use Rattle.s390x_bundle.specs.declared.error.BundleError.{BundleError}
 use Rattle.s390x_bundle.specs.declared.error.BundleError.TheVariants as cause
 use Rattle.s390x_bundle.specs.declared.joining.Bundle.{Bundle}
 use Rattle.s390x_bundle.specs.declared.member.Member.{Member}
-use Rattle.s390x_bundle_text.specs.Completions.{IsBundleText, IsFirstWrongOfBundle}
-use Rattle.s390x_bundle_text.specs.Text.{AreFunctionsOf}
-use Rattle.s390x_bundle_text.specs.declared.named_job.NamedJob.{NamedJob}
+use Rattle.s390x_job_bundle.specs.Completions.{IsBundleText, IsFirstWrongOfBundle}
+use Rattle.s390x_job_bundle.specs.Text.{AreFunctionsOf}
+use Rattle.s390x_job_bundle.specs.declared.named_job.NamedJob.{NamedJob}
 use Rattle.s390x_tool.specs.Words.{IsForm}
 use Rattle.s390x_tool.specs.declared.words.Command.TheVariants.{Bundle as AskBundle}
 use Rattle.s390x_tool.proofs.Parts.{whole_part}

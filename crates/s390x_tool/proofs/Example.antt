@@ -16,8 +16,8 @@ use Rattle.s390x_bundle.specs.Linking.{unlinked_or}
 use Rattle.s390x_bundle.specs.Places.{misplaced_or, place_cause}
 use Rattle.s390x_bundle.specs.Table.{symbols_of}
 use Rattle.s390x_bundle.specs.declared.member.Member.{Member}
-use Rattle.s390x_bundle_text.specs.Text.{close_line, text_of_functions}
-use Rattle.s390x_bundle_text.specs.declared.named_job.NamedJob.{NamedJob}
+use Rattle.s390x_job_bundle.specs.Text.{close_line, text_of_functions}
+use Rattle.s390x_job_bundle.specs.declared.named_job.NamedJob.{NamedJob}
 use Rattle.s390x_tool.specs.Bundled.{CanBeBundled, IsBundleAccepted, member_of}
 use Rattle.s390x_tool.specs.Example.{one_function}
 use Rattle.s390x_job.proofs.PlainJob.{plain_job, vec}

@@ -21,13 +21,13 @@ use Rattle.s390x_typed_steps.specs.Stack.{outgoing_after, outgoing_behind, state
 use Rattle.s390x_typed_steps.specs.StepBody.{Site, AtCall, AtTry, Calling}
 use Rattle.s390x_typed_steps.specs.Tree.{StepBody, Tree, block_tree, empty, leaf, leaves, loop_node, prepend, row_tree, Whole, CallStep}
 use Rattle.s390x_emit_int.specs.Function.{tree_of}
-use Rattle.s390x_words.specs.Calls.{TryPart, NoTry, Goes, try_part}
-use Rattle.s390x_words.specs.Fields.{Field, FReg, FTarget, FUses, FDefs, FSet, FNatural, FConvention, FTry, FBool, FOption, FMemory}
-use Rattle.s390x_lines.specs.Line.{Line}
-use Rattle.s390x_lines.specs.Instructions.{inst_line, vector_line}
-use Rattle.s390x_lines.specs.declared.inst_name.ControlName.TheVariants as ControlIs
-use Rattle.s390x_lines.specs.declared.name.LineName.{LineName}
-use Rattle.s390x_lines.specs.declared.name.LineName.TheVariants as N
+use Rattle.s390x_job_fields.specs.Calls.{TryPart, NoTry, Goes, try_part}
+use Rattle.s390x_job_fields.specs.Fields.{Field, FReg, FTarget, FUses, FDefs, FSet, FNatural, FConvention, FTry, FBool, FOption, FMemory}
+use Rattle.s390x_job_lines.specs.Line.{Line}
+use Rattle.s390x_job_lines.specs.Instructions.{inst_line, vector_line}
+use Rattle.s390x_job_lines.specs.declared.inst_name.ControlName.TheVariants as ControlIs
+use Rattle.s390x_job_lines.specs.declared.name.LineName.{LineName}
+use Rattle.s390x_job_lines.specs.declared.name.LineName.TheVariants as N
 use Rattle.s390x_tool.proofs.SameInstruction.{line_reading, reading_after, nominal_read}
 use Rattle.s390x_tool.proofs.SameTree.{BodyLine, of_line, of_step, body_line, LineTree, none, one, around, lines_tree, lines_for, tree_for_told}
 use Rattle.s390x_inst.specs.declared.state.IsaFlags.{IsaFlags}

@@ -18,10 +18,10 @@ use Rattle.s390x_alloc.specs.declared.plan.Edit.TheVariants.{Move, Step}
 use Rattle.s390x_alloc.specs.declared.plan.EntryPair.{EntryPair}
 use Rattle.s390x_job.specs.Completions.{joined}
 use Rattle.s390x_job.proofs.PlainJob.{plain_job, vec}
-use Rattle.s390x_plan_text.specs.Lines.{Closing, Heading, Opening, Stepping}
-use Rattle.s390x_plan_text.specs.Text.{IsPlanned, blocks_lines, edit_line, pair_line, plan_lines, text_of_planned}
-use Rattle.s390x_plan_text.specs.declared.planned_job.PlannedJob.{PlannedJob}
-use Rattle.s390x_plan_text.proofs.Parts.{one_planned}
+use Rattle.s390x_job_plan.specs.Lines.{Closing, Heading, Opening, Stepping}
+use Rattle.s390x_job_plan.specs.Text.{IsPlanned, blocks_lines, edit_line, pair_line, plan_lines, text_of_planned}
+use Rattle.s390x_job_plan.specs.declared.planned_job.PlannedJob.{PlannedJob}
+use Rattle.s390x_job_plan.proofs.Parts.{one_planned}
 use Rattle.s390x_tool.specs.Allocated.{IsPlanAccepted}
 use Rattle.s390x_tool.specs.Example.{one_step}
 use Rattle.s390x_tool.proofs.ReturnJob.{is_job, job, job_text, return_inst}

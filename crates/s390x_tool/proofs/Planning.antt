@@ -5,8 +5,8 @@ use Rattle.std.proofs.lemmas.Bool.{false≢true}
 use Rattle.s390x_tool.specs.Words.{IsForm}
 use Rattle.s390x_tool.specs.declared.words.Command.TheVariants.{Allocate}
 use Rattle.s390x_job.specs.Completions.{joined}
-use Rattle.s390x_plan_text.specs.Example.{no_blocks}
-use Rattle.s390x_plan_text.proofs.Example.{no_blocks_are_text}
+use Rattle.s390x_job_plan.specs.Example.{no_blocks}
+use Rattle.s390x_job_plan.proofs.Example.{no_blocks_are_text}
 use Rattle.s390x_tool.specs.Allocated.{IsPlanAccepted}
 use Rattle.s390x_tool.specs.Causes.{FaultCountRose}
 use Rattle.s390x_tool.specs.Replies.{Found, IsDelivered, IsReply}

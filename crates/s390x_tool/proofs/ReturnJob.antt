@@ -8,8 +8,8 @@ use Rattle.s390x_base.specs.declared.regs.Reg.TheVariants.{Real}
 use Rattle.s390x_inst.specs.declared.function.Block.{Block}
 use Rattle.s390x_inst.specs.declared.inst.Inst.{Inst}
 use Rattle.s390x_inst.specs.declared.inst.Inst.TheVariants.{Ret}
-use Rattle.s390x_lines.specs.Instructions.{inst_line}
-use Rattle.s390x_lines.specs.Line.{Line}
+use Rattle.s390x_job_lines.specs.Instructions.{inst_line}
+use Rattle.s390x_job_lines.specs.Line.{Line}
 use Rattle.s390x_job.specs.Completions.{joined}
 use Rattle.s390x_job.specs.Items.{block_line, end_line}
 use Rattle.s390x_job.specs.Jobs.{IsJob, job_lines, lines_text, text_of_job}

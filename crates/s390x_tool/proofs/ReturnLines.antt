@@ -5,10 +5,10 @@ use Rattle.s390x_inst.specs.declared.function.Block.{Block}
 use Rattle.s390x_inst.specs.declared.inst.Inst.{Inst}
 use Rattle.s390x_inst.specs.declared.inst.Inst.TheVariants.{Args, Call, IndirectBr, JTSequence, Loop', Nop0, Rets, ReturnCall}
 use Rattle.s390x_typed_steps.specs.Tree.{Tree}
-use Rattle.s390x_lines.specs.Contents.{Contents, Whole, contents}
-use Rattle.s390x_lines.specs.Instructions.{inst_line}
-use Rattle.s390x_lines.specs.Line.{Line}
-use Rattle.s390x_lines.proofs.Contents.{same_contents}
+use Rattle.s390x_job_lines.specs.Contents.{Contents, Whole, contents}
+use Rattle.s390x_job_lines.specs.Instructions.{inst_line}
+use Rattle.s390x_job_lines.specs.Line.{Line}
+use Rattle.s390x_job_lines.proofs.Contents.{same_contents}
 use Rattle.s390x_job.specs.Items.{end_line}
 use Rattle.s390x_job.specs.Jobs.{IsJob}
 use Rattle.s390x_job.specs.Same.{SameJob}

@@ -4,7 +4,7 @@ use Rattle.std.specs.Prelude.{max}
 use Rattle.s390x_base.specs.declared.ir.MachLabel.{MachLabel}
 use Rattle.s390x_inst.specs.declared.inst.Inst.{Inst}
 use Rattle.s390x_inst.specs.declared.inst.Inst.TheVariants.{Jump, CondBr, Vector}
-use Rattle.s390x_lines.specs.Instructions.{inst_line}
+use Rattle.s390x_job_lines.specs.Instructions.{inst_line}
 use Rattle.s390x_typed_steps.specs.Folding.{BlockBranches, Always, Conditional, branches_of, remainder, shortened, fold, folded, folded_before, next_block, folded_from, folded_trees, peak_from, peak}
 use Rattle.s390x_typed_steps.specs.Sizes.{tree_size}
 use Rattle.s390x_typed_steps.specs.Tree.{Remainder, NothingLeft, BranchLeft, StepBody, Tree, Whole, Folded, empty, leaf, loop_node}

@@ -26,17 +26,17 @@ use Rattle.s390x_typed_steps.specs.Parts.{CodePart, Row, table_parts, step_parts
 use Rattle.s390x_typed_steps.specs.Steps.{step_of}
 use Rattle.s390x_typed_steps.specs.Tree as Body
 use Rattle.s390x_typed_steps.specs.Ranges.{IsConditionMask, InRange}
-use Rattle.s390x_words.specs.Fields.{Field, FAlu, FUnary, FCmp, FShift, FRxsbg, FReg, FReal, FInteger, FNatural, FShifted, FPair, FTrap, FBool, FReloc, FLabels, FCond, FArgs, FRets, FMemory, FVecBinary, FVecCompare, FVecElementCompare, FVecShift, FVecUnary, FTarget, FUses, FDefs, FSet, FConvention, FTry, FOption}
-use Rattle.s390x_lines.specs.Line.{Line}
-use Rattle.s390x_lines.specs.Instructions.{inst_line, vector_line}
-use Rattle.s390x_lines.specs.declared.inst_name.IntegerName.TheVariants as IntegerIs
-use Rattle.s390x_lines.specs.declared.inst_name.ControlName.TheVariants as ControlIs
-use Rattle.s390x_lines.specs.declared.inst_name.MemoryName.TheVariants as MemoryIs
-use Rattle.s390x_lines.specs.declared.inst_name.VectorName.TheVariants as VectorIs
-use Rattle.s390x_lines.specs.declared.name.LineName.{LineName}
+use Rattle.s390x_job_fields.specs.Fields.{Field, FAlu, FUnary, FCmp, FShift, FRxsbg, FReg, FReal, FInteger, FNatural, FShifted, FPair, FTrap, FBool, FReloc, FLabels, FCond, FArgs, FRets, FMemory, FVecBinary, FVecCompare, FVecElementCompare, FVecShift, FVecUnary, FTarget, FUses, FDefs, FSet, FConvention, FTry, FOption}
+use Rattle.s390x_job_lines.specs.Line.{Line}
+use Rattle.s390x_job_lines.specs.Instructions.{inst_line, vector_line}
+use Rattle.s390x_job_lines.specs.declared.inst_name.IntegerName.TheVariants as IntegerIs
+use Rattle.s390x_job_lines.specs.declared.inst_name.ControlName.TheVariants as ControlIs
+use Rattle.s390x_job_lines.specs.declared.inst_name.MemoryName.TheVariants as MemoryIs
+use Rattle.s390x_job_lines.specs.declared.inst_name.VectorName.TheVariants as VectorIs
+use Rattle.s390x_job_lines.specs.declared.name.LineName.{LineName}
 use Rattle.s390x_typed_steps.specs.Memory.{memory, accesses_relative}
 use Rattle.s390x_typed_steps.specs.Stack.{nominal_after}
-use Rattle.s390x_lines.specs.declared.name.LineName.TheVariants as N
+use Rattle.s390x_job_lines.specs.declared.name.LineName.TheVariants as N
 
 -- What emission reads of an instruction that is a step by itself: all of one without lists; of one with lists, their items instead of the vectors
 -- that hold them, but nothing of one that only names registers. A call is no step by itself: as one it would take its arguments and be refused.

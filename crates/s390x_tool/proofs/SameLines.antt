@@ -16,13 +16,13 @@ use Rattle.s390x_inst.specs.declared.vec_inst.VecInst.TheVariants.{VecRR}
 use Rattle.s390x_buffer.specs.State.{Constant, constant_of}
 use Rattle.s390x_typed_steps.specs.Tree.{Tree}
 use Rattle.s390x_emit_int.specs.Function.{constants_of}
-use Rattle.s390x_words.specs.Fields.{Field, FNatural, FBytes, FName, FCond, FFlags, FConvention, FOption}
-use Rattle.s390x_lines.specs.Line.{Line, spelled}
-use Rattle.s390x_lines.specs.Instructions.{inst_line, vector_line}
+use Rattle.s390x_job_fields.specs.Fields.{Field, FNatural, FBytes, FName, FCond, FFlags, FConvention, FOption}
+use Rattle.s390x_job_lines.specs.Line.{Line, spelled}
+use Rattle.s390x_job_lines.specs.Instructions.{inst_line, vector_line}
 use Rattle.s390x_job.specs.Items.{frame_line, constant_line, symbol_line, register_line, memory_line, block_line, loop_line, close_line, end_line}
 use Rattle.s390x_job.specs.Jobs.{plain_layout, IsPlainWithoutLine, inst_lines, row_lines, insts_lines, blocks_lines, flags_lines, frame_lines, start_lines, registers_lines, job_lines}
-use Rattle.s390x_lines.specs.declared.name.LineName.{LineName}
-use Rattle.s390x_lines.specs.declared.name.LineName.TheVariants as N
+use Rattle.s390x_job_lines.specs.declared.name.LineName.{LineName}
+use Rattle.s390x_job_lines.specs.declared.name.LineName.TheVariants as N
 use Rattle.s390x_job.specs.declared.job.Job.{Job}
 use Rattle.s390x_job.specs.declared.job.StartRegs.{StartRegs}
 use Rattle.s390x_job.specs.declared.job.SymbolLine.{SymbolLine}

@@ -12,8 +12,8 @@ use Rattle.s390x_bundle.specs.Linking.{first_unlinked, unlinked_or}
 use Rattle.s390x_bundle.specs.Names.{duplicate_in, first_duplicate, is_among, line_among, name_or, names_of}
 use Rattle.s390x_bundle.specs.Table.{symbols_of, with_lines, with_members}
 use Rattle.s390x_bundle.specs.declared.member.Member.{Member}
-use Rattle.s390x_bundle_text.specs.Text.{AreFunctions, SameFunctions}
-use Rattle.s390x_bundle_text.specs.declared.named_job.NamedJob.{NamedJob}
+use Rattle.s390x_job_bundle.specs.Text.{AreFunctions, SameFunctions}
+use Rattle.s390x_job_bundle.specs.declared.named_job.NamedJob.{NamedJob}
 use Rattle.s390x_tool.specs.Answers.{IsCodeOfJob}
 use Rattle.s390x_tool.specs.Bundled.{CanBeBundled, member_of}
 use Rattle.s390x_tool.proofs.SameJob.{same_cause, same_code, same_symbols}

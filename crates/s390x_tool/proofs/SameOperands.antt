@@ -17,8 +17,8 @@ use Rattle.s390x_operands.specs.Visits.{item_cause}
 use Rattle.s390x_operands.specs.Requests.{cause_of, first_operand_cause, used, scratch_request}
 use Rattle.s390x_operands.specs.Calls.{argument, call_requests, call_result, clobbered, destination_requests, incoming, outgoing}
 use Rattle.s390x_operands.specs.Operands.{is_loop, operands_cause, requests, row_requests}
-use Rattle.s390x_lines.specs.Contents.{Contents, Whole, Branches, Table, LoopOf, Calls, TailCalls, Arguments, Results, contents}
-use Rattle.s390x_lines.proofs.Contents.{same_contents}
+use Rattle.s390x_job_lines.specs.Contents.{Contents, Whole, Branches, Table, LoopOf, Calls, TailCalls, Arguments, Results, contents}
+use Rattle.s390x_job_lines.proofs.Contents.{same_contents}
 use Rattle.s390x_listing.specs.Listings.{each}
 use Rattle.s390x_listing.specs.Operands.{block_operands, operands_line}
 use Rattle.s390x_job.specs.Jobs.{IsJob}

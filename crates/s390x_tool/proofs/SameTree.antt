@@ -23,8 +23,8 @@ use Rattle.s390x_typed_steps.specs.Traps.{parts_traps, traps_from, function_trap
 use Rattle.s390x_typed_steps.specs.Ranges.{IsConditionMask, BodyInRange, AllInRange, BlocksInRange}
 use Rattle.s390x_typed_steps.specs.Sites.{PlacedSite, parts_sites, sites_from, function_sites, try_entries, function_try_entries}
 use Rattle.s390x_buffer.specs.Finish.{PlacedTryCallSite}
-use Rattle.s390x_lines.specs.Line.{Line}
-use Rattle.s390x_lines.specs.Instructions.{inst_line}
+use Rattle.s390x_job_lines.specs.Line.{Line}
+use Rattle.s390x_job_lines.specs.Instructions.{inst_line}
 use Rattle.s390x_base.specs.declared.error.EmitError.TheVariants.{BadStackState}
 use Rattle.s390x_tool.proofs.SameInstruction.{line_reading, lacking, lacking_read, reading_cause, reading_fresh_labels, fresh_labels_read, reading_parts, reading_range, cause_read, parts_read, range_read, range_round_trip, nominal_read, reading_after}
 

@@ -6,13 +6,13 @@ use Rattle.s390x_alloc.specs.Checked.{checked}
 use Rattle.s390x_alloc.specs.Walks.{EveryWalkReadsAlike}
 use Rattle.s390x_alloc.specs.declared.fault.PlanFault.{PlanFault}
 use Rattle.s390x_alloc.specs.declared.fault.PlanFault.TheVariants as fault
-use Rattle.s390x_plan_text.specs.Jobs.{with_function}
+use Rattle.s390x_job_plan.specs.Jobs.{with_function}
 use Rattle.s390x_inst.specs.declared.function.AllocatedFunction.{AllocatedFunction}
 use Rattle.s390x_job.specs.Completions.{pieces}
 use Rattle.s390x_job.specs.Jobs.{IsJob, text_of_job}
-use Rattle.s390x_plan_text.specs.Completions.{IsFirstWrongOfPlanned, IsPlannedText}
-use Rattle.s390x_plan_text.specs.Text.{IsPlanned, IsPlannedOf, text_of_planned}
-use Rattle.s390x_plan_text.specs.declared.planned_job.PlannedJob.{PlannedJob}
+use Rattle.s390x_job_plan.specs.Completions.{IsFirstWrongOfPlanned, IsPlannedText}
+use Rattle.s390x_job_plan.specs.Text.{IsPlanned, IsPlannedOf, text_of_planned}
+use Rattle.s390x_job_plan.specs.declared.planned_job.PlannedJob.{PlannedJob}
 use Rattle.s390x_tool.specs.Lines.{line, operand_error_name}
 use Rattle.s390x_tool.specs.declared.status.Status.{Status}
 use Rattle.s390x_tool.specs.declared.status.Status.TheVariants as status

@@ -19,7 +19,7 @@ use Rattle.s390x_job.specs.declared.job.SymbolLine.{SymbolLine}
 use Rattle.s390x_execution.specs.Text.{IsRunText}
 use Rattle.s390x_tool.specs.Emitted.{emit_text}
 use Rattle.s390x_operands.specs.declared.constraint.OperandError.{OperandError}
-use Rattle.s390x_row_text.specs.Texts.{Text}
+use Rattle.s390x_text_rows.specs.Texts.{Text}
 use Rattle.s390x_listing.specs.Operands.{operands_listing}
 use Rattle.s390x_listing.specs.Texts.{texts_listing}
 use Rattle.s390x_tool.specs.Lines.{line, error_name, link_error_name, operand_error_name}

@@ -12,9 +12,9 @@ use Rattle.s390x_bundle.specs.declared.error.BundleError.{BundleError}
 use Rattle.s390x_bundle.specs.declared.error.BundleError.TheVariants as cause
 use Rattle.s390x_bundle.specs.declared.joining.Bundle.{Bundle}
 use Rattle.s390x_bundle.specs.declared.member.Member.{Member}
-use Rattle.s390x_bundle_text.specs.Completions.{IsBundleText, IsFirstWrongOfBundle}
-use Rattle.s390x_bundle_text.specs.Text.{AreFunctions, AreFunctionsOf, text_of_functions}
-use Rattle.s390x_bundle_text.specs.declared.named_job.NamedJob.{NamedJob}
+use Rattle.s390x_job_bundle.specs.Completions.{IsBundleText, IsFirstWrongOfBundle}
+use Rattle.s390x_job_bundle.specs.Text.{AreFunctions, AreFunctionsOf, text_of_functions}
+use Rattle.s390x_job_bundle.specs.declared.named_job.NamedJob.{NamedJob}
 use Rattle.s390x_tool.specs.Lines.{error_name, line, link_error_name}
 use Rattle.s390x_tool.specs.declared.status.Status.{Status}
 use Rattle.s390x_tool.specs.declared.status.Status.TheVariants as status

@@ -10,9 +10,9 @@ use Rattle.s390x_buffer.specs.declared.entries.HandlerEntry.{HandlerEntry}
 use Rattle.s390x_buffer.specs.declared.entries.PatchEntry.{PatchEntry}
 use Rattle.s390x_buffer.specs.declared.entries.MapEntry.{MapEntry}
 use Rattle.s390x_buffer.specs.declared.entries.MachBufferFinalized.{MachBufferFinalized}
-use Rattle.s390x_words.specs.Atoms.{trap_text}
-use Rattle.s390x_words.specs.Bytes.{bytes_text}
-use Rattle.s390x_words.specs.Lists.{list_text}
+use Rattle.s390x_job_fields.specs.Atoms.{trap_text}
+use Rattle.s390x_job_fields.specs.Bytes.{bytes_text}
+use Rattle.s390x_job_fields.specs.Lists.{list_text}
 
 -- `code HEX`, with `-` for no bytes
 abbrev pub code_line : List ℕ → List ℕ

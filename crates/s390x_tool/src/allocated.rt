@@ -1,7 +1,7 @@
 //! The reply to the command `alloc`.
 ghost use Rattle.std.specs.Prelude.{◌≡◌, ◌<◌, ◌++◌, ◌∷◌, [], codes, length};
 ghost use Rattle.std.specs.Cow.{cow_str_bytes};
-ghost use Rattle.s390x_plan_text.specs.Text.{IsPlannedOf};
+ghost use Rattle.s390x_job_plan.specs.Text.{IsPlannedOf};
 ghost use Rattle.s390x_tool.specs.Allocated.{IsAllocateAnswer, IsPlanRefusal, numbered_fault};
 ghost use Rattle.s390x_tool.specs.Lines.{IsMade, line};
 
@@ -11,7 +11,7 @@ use crate::status::Status;
 use s390x_alloc::{PlanFault, check_plan};
 use s390x_inst::MachInstEmitState;
 use s390x_job::lines_of_job;
-use s390x_plan_text::{PlanTextError, PlannedJob, answered_jobs_are_jobs, read_plan};
+use s390x_job_plan::{PlanTextError, PlannedJob, answered_jobs_are_jobs, read_plan};
 use std::alloc::Global;
 
 /// The answer to `alloc` and its whole input:

@@ -2,7 +2,7 @@
 ghost use Rattle.std.specs.Prelude.{◌≡◌, ◌<◌, ◌++◌, ◌∷◌, IfOk, codes, length, map};
 ghost use Rattle.std.specs.Cow.{cow_str_bytes};
 ghost use Rattle.std.specs.Fmt.{decimal};
-ghost use Rattle.s390x_bundle_text.specs.Text.{AreFunctionsOf};
+ghost use Rattle.s390x_job_bundle.specs.Text.{AreFunctionsOf};
 ghost use Rattle.s390x_tool.specs.Bundled.{IsBundleAnswer, IsBundleRefusal, inner_refusal, member_of, named_refusal};
 ghost use Rattle.s390x_tool.specs.Lines.{IsMade, line};
 
@@ -11,7 +11,7 @@ use crate::reply::{Reply, in_hex, made, no_memory, syntax};
 use crate::status::Status;
 use s390x_base::ExternalName;
 use s390x_bundle::{BundleError, Member, bundle};
-use s390x_bundle_text::{BundleTextError, NamedJob, read_bundle};
+use s390x_job_bundle::{BundleTextError, NamedJob, read_bundle};
 use std::alloc::{AllocError, Global};
 
 /// The answer to `bundle` at this base and its whole input:

@@ -1,8 +1,8 @@
 //! The text of `emit`: the finished code and its tables, a line for each entry.
 ghost use Rattle.std.specs.Prelude.{◌≡◌, ℕ, List, [], ◌∷◌, ◌++◌, map, IfOk, OnOk, string_bytes};
-ghost use Rattle.s390x_words.specs.Atoms.{trap_text};
-ghost use Rattle.s390x_words.specs.Bytes.{bytes_text};
-ghost use Rattle.s390x_words.specs.Lists.{more_text, open_text};
+ghost use Rattle.s390x_job_fields.specs.Atoms.{trap_text};
+ghost use Rattle.s390x_job_fields.specs.Bytes.{bytes_text};
+ghost use Rattle.s390x_job_fields.specs.Lists.{more_text, open_text};
 ghost use Rattle.s390x_tool.specs.Emitted.{call_line, code_lines, emit_text, handler_entry_text, code_head_lines, reloc_kind_text, text_of_lines, map_line, numbered, patch_line, reloc_line, site_lines, start_offset_lines, trap_line, try_line};
 
 use s390x_base::{CodeOffset, Reloc, TrapCode, TrapKind};

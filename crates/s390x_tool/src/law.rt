@@ -2,7 +2,7 @@
 ghost use Rattle.std.specs.Prelude.{◌≡◌, ℕ, ◌+◌, ◌%◌, ◌≤◌, ◌^◌, codes};
 ghost use Rattle.s390x_tool.specs.declared.words.JobCommand.{JobCommand};
 ghost use Rattle.s390x_job.specs.Completions.{joined};
-ghost use Rattle.s390x_plan_text.specs.Example.{no_blocks};
+ghost use Rattle.s390x_job_plan.specs.Example.{no_blocks};
 ghost use Rattle.s390x_tool.specs.Allocated.{IsPlanAccepted};
 ghost use Rattle.s390x_tool.specs.Answers.{IsAccepted};
 ghost use Rattle.s390x_tool.specs.Bundled.{IsBundleAccepted};

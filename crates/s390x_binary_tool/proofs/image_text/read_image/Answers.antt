@@ -1,6 +1,6 @@
 use Rattle.std.proofs.Common.{◌≡◌, ◌+◌, ◌++◌, length, sym, ap, ◌∙◌, subst, arith}
 use Rattle.hex.specs.Hex.{decode_of}
-use Rattle.s390x_words.specs.Marks.{past, upto}
+use Rattle.s390x_job_fields.specs.Marks.{past, upto}
 use Rattle.s390x_job.proofs.Places.{none_left, some_left}
 use Rattle.s390x_job.proofs.Whole.{shorter}
 use Rattle.s390x_binary_tool.proofs.HexLines.{Read, read_bad, read_end, read_more, read_unended}

@@ -1,5 +1,5 @@
 use Rattle.std.proofs.Common.{◌++◌, ◌∷◌, [], length, ap, ◌∙◌}
-use Rattle.s390x_lines.specs.Instructions.{inst_line}
+use Rattle.s390x_job_lines.specs.Instructions.{inst_line}
 use Rattle.s390x_job.specs.Grammar.{next, Within}
 use Rattle.s390x_job.specs.Items.{block_line}
 use Rattle.s390x_job.specs.Jobs.{insts_lines, blocks_lines}

@@ -1,6 +1,6 @@
 use Rattle.std.proofs.Common.{◌≡◌, ◌++◌, ◌∷◌, [], List, ℕ, Bor, length, map, sym, ap, ◌∙◌, arith, append_assoc, append-nil}
 use Rattle.std.proofs.lemmas.List.{map-append}
-use Rattle.s390x_words.specs.Marks.{upto, past}
+use Rattle.s390x_job_fields.specs.Marks.{upto, past}
 use Rattle.s390x_job.specs.Completions.{pieces}
 use Rattle.s390x_job.proofs.Whole.{shorter, nil, behind}
 use Rattle.s390x_job.proofs.Above.{pieces_cut, pieces_none}

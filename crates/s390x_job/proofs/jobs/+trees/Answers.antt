@@ -1,5 +1,5 @@
 use Rattle.std.proofs.Common.{string_bytes, ◌++◌, ◌∷◌, [], refl, sym, ap, ◌∙◌, arith}
-use Rattle.s390x_lines.specs.Instructions.{inst_line}
+use Rattle.s390x_job_lines.specs.Instructions.{inst_line}
 use Rattle.s390x_job.specs.Items.{close_line}
 use Rattle.s390x_job.specs.Jobs.{inst_lines, insts_lines, lines_text}
 use Rattle.s390x_job.proofs.Texts.{more_lines, three_texts}

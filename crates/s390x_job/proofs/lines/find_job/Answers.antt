@@ -1,5 +1,5 @@
 use Rattle.std.proofs.Common.{◌≡◌, ◌∷◌, [], length, sym, ap, ◌∙◌, subst, arith, length-append}
-use Rattle.s390x_words.specs.Marks.{upto}
+use Rattle.s390x_job_fields.specs.Marks.{upto}
 use Rattle.s390x_job.specs.Grammar.{AtEnd}
 use Rattle.s390x_job.specs.Items.{item_line}
 use Rattle.s390x_job.specs.Builds.{lines_at, place_at}

@@ -1,5 +1,5 @@
 use Rattle.std.proofs.Common.{length, drop, ap, ◌∙◌}
-use Rattle.s390x_words.proofs.Words.{behind_word}
+use Rattle.s390x_job_fields.proofs.Words.{behind_word}
 use Rattle.s390x_job.proofs.reader.fields_of.Goals as goal
 
 pub returns : goal.returns

@@ -1,6 +1,6 @@
 use Rattle.std.proofs.Common.{◌++◌, sym, ap, ◌∙◌}
 use Rattle.std.proofs.lemmas.Slice.Eq.{bytes_eq-Decides}
-use Rattle.s390x_lines.specs.Line.{line_text}
+use Rattle.s390x_job_lines.specs.Line.{line_text}
 use Rattle.s390x_job.specs.Items.{item_line}
 use Rattle.s390x_job.proofs.Exact.{yes, not_same}
 use Rattle.s390x_job.proofs.reader.printed_item.Goals as goal

@@ -1,5 +1,5 @@
 use Rattle.std.proofs.Common.{string_bytes, arith}
-use Rattle.s390x_row_text.specs.Texts.{RefusedBy}
+use Rattle.s390x_text_rows.specs.Texts.{RefusedBy}
 use Rattle.s390x_text.proofs.Loops.{again}
 use Rattle.s390x_listing.specs.Texts.{blocks_texts}
 use Rattle.s390x_listing.proofs.Shown.{blocks_blamed, blocks_clear, blocks_went}

@@ -1,5 +1,5 @@
 use Rattle.std.proofs.Common.{string_bytes, arith}
-use Rattle.s390x_row_text.specs.Texts.{RefusedBy}
+use Rattle.s390x_text_rows.specs.Texts.{RefusedBy}
 use Rattle.s390x_text.proofs.Loops.{again}
 use Rattle.s390x_listing.specs.Texts.{inst_texts}
 use Rattle.s390x_listing.proofs.Shown.{insts_blamed, insts_clear, insts_went}

@@ -2,7 +2,7 @@ use Rattle.std.proofs.Common.{◌++◌, ◌∙◌, ap, string_bytes}
 use Rattle.std.proofs.lemmas.Result.{on_ok_weaker}
 use Rattle.std.specs.Prelude.{codes}
 use Rattle.std.specs.Fmt.{decimal}
-use Rattle.s390x_row_text.proofs.Joined.{joined_one}
+use Rattle.s390x_text_rows.proofs.Joined.{joined_one}
 use Rattle.s390x_text.proofs.calls.put_pop_size.Goals as goal
 
 pub returns : goal.returns

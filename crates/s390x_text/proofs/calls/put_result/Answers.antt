@@ -1,6 +1,6 @@
 use Rattle.std.proofs.Common.{◌∙◌, ap, sym, subst, string_bytes}
 use Rattle.s390x_inst.specs.Frames.{load_from}
-use Rattle.s390x_row_text.specs.Texts.{Prints}
+use Rattle.s390x_text_rows.specs.Texts.{Prints}
 use Rattle.s390x_text.specs.Calls.{loaded_text, result_at}
 use Rattle.s390x_text.proofs.calls.put_result.Goals as goal
 

@@ -1,5 +1,5 @@
 use Rattle.std.proofs.Common.{string_bytes, refl, arith}
-use Rattle.s390x_row_text.specs.Texts.{RefusedBy}
+use Rattle.s390x_text_rows.specs.Texts.{RefusedBy}
 use Rattle.s390x_text.specs.Calls.{result_text, results_text}
 use Rattle.s390x_text.proofs.Loops.{more_bytes, more_causes, more_stops, again}
 use Rattle.s390x_text.proofs.calls.put_results.Goals as goal

@@ -1,6 +1,6 @@
 use Rattle.std.proofs.Common.{true, string_bytes, refl, arith}
-use Rattle.s390x_row_text.specs.Texts.{RefusedBy, before_semicolon}
-use Rattle.s390x_row_text.specs.Simple.{simple_text}
+use Rattle.s390x_text_rows.specs.Texts.{RefusedBy, before_semicolon}
+use Rattle.s390x_text_rows.specs.Simple.{simple_text}
 use Rattle.s390x_text.specs.Calls.{simple_texts}
 use Rattle.s390x_text.proofs.Loops.{more_bytes, more_causes, more_stops, again}
 use Rattle.s390x_text.proofs.calls.put_simples.Goals as goal

@@ -1,6 +1,6 @@
 use Rattle.std.proofs.Common.{◌≡◌, string_bytes, sym, subst, arith}
 use Rattle.std.specs.Prelude.{IfOk}
-use Rattle.s390x_row_text.specs.Texts.{RefusedBy, Prints}
+use Rattle.s390x_text_rows.specs.Texts.{RefusedBy, Prints}
 use Rattle.s390x_text.specs.Instructions.{insts_text}
 use Rattle.s390x_text.proofs.Loops.{bytes_go_on, cause_goes_on, state_goes_on, stops, again, whole_loop, after_loop, plain}
 use Rattle.s390x_text.proofs.pretty.+members.Goals as goal

@@ -1,5 +1,5 @@
 use Rattle.std.proofs.Common.{◌≡◌, ◌++◌, drop, string_bytes}
-use Rattle.s390x_words.specs.Lists.{more_text}
+use Rattle.s390x_job_fields.specs.Lists.{more_text}
 use Rattle.s390x_tool.specs.Emitted.{handler_entry_text}
 use Rattle.s390x_tool.proofs.emitted.put_more_handlers.Given as goal
 

@@ -1,9 +1,0 @@
-use Rattle.std.proofs.Common.{length}
-use Rattle.s390x_bundle_text.proofs.Cutting.{Scanned}
-use Rattle.s390x_bundle_text.proofs.cut.job_size.Given as goal
-
-abbrev pub invariant-loop-rest : goal.invariant-loop-rest
-invariant-loop-rest l = Scanned l.bytes l.rest
-
-abbrev pub decreases-loop-rest : goal.decreases-loop-rest
-decreases-loop-rest l = length l.rest

@@ -1,5 +1,0 @@
-use Rattle.s390x_emission_laws.proofs.Example.{jump_stands}
-use Rattle.s390x_emission_laws.proofs.law.a_jump_stands_anywhere.Goals as goal
-
-pub returns : goal.returns
-returns c = jump_stands

@@ -1,5 +1,0 @@
-use Rattle.s390x_emission_laws.proofs.Functions.{function_built}
-use Rattle.s390x_emission_laws.proofs.law.functions_are_built.Goals as goal
-
-pub returns : goal.returns
-returns c = function_built

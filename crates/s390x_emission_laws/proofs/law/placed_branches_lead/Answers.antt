@@ -1,5 +1,0 @@
-use Rattle.s390x_emission_laws.proofs.Places.{branches_lead}
-use Rattle.s390x_emission_laws.proofs.law.placed_branches_lead.Goals as goal
-
-pub returns : goal.returns
-returns c = branches_lead

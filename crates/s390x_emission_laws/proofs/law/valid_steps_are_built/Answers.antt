@@ -1,5 +1,0 @@
-use Rattle.s390x_emission_laws.proofs.Built.{built}
-use Rattle.s390x_emission_laws.proofs.law.valid_steps_are_built.Goals as goal
-
-pub returns : goal.returns
-returns c = built

@@ -1,0 +1,36 @@
+-- What the reader answers.
+use Rattle.std.specs.Prelude.{◌≡◌, ℕ, ◌<◌, List}
+use Rattle.s390x_base.specs.declared.ir.ExternalName.{ExternalName}
+use Rattle.s390x_job.specs.Completions.{IsFirstWrong, IsStuck, IsText, pieces}
+use Rattle.s390x_job_bundle.specs.Text.{AreFunctionsOf, close_line, head_line}
+use Rattle.s390x_job_bundle.specs.Completions.{IsBundleText, IsFirstWrongOfBundle, bundle_completion}
+use Rattle.s390x_job_bundle.specs.declared.head.Head.{Head}
+use Rattle.s390x_job_bundle.specs.declared.head.Head.TheVariants.{Function, Close, Other}
+use Rattle.s390x_job_bundle.specs.declared.find.Found.{Found}
+use Rattle.s390x_job_bundle.specs.declared.find.Found.TheVariants.{Whole, Stuck}
+use Rattle.s390x_job_bundle.specs.declared.error.BundleTextError.{BundleTextError}
+use Rattle.s390x_job_bundle.specs.declared.error.BundleTextError.TheVariants.{Syntax, NoMemory}
+
+-- what stands between two jobs
+abbrev pub IsHead : List ℕ → Head → Type 0
+IsHead w (Function name) = (name.0 < 4294967296) × (head_line name ≡ w)
+IsHead w Close = w ≡ close_line
+IsHead w Other = (w ≡ close_line → ⊥) × ((name : ExternalName) → name.0 < 4294967296 → head_line name ≡ w → ⊥)
+
+-- the bytes are the text of no job, and this is their first wrong line
+abbrev pub HasNoJob : List ℕ → (line : ℕ) → Type 0
+HasNoJob bytes line = (IsText bytes → ⊥) × IsFirstWrong (pieces bytes) line
+
+-- the bytes are the text of no functions, and no completion of more than k lines is one
+abbrev pub IsStuckAt : List ℕ → ℕ → Type 0
+IsStuckAt bytes k = IsStuck IsBundleText bundle_completion bytes k
+
+-- what was found is so: the functions whose text the bytes are, or a number of lines that none of these texts goes past
+abbrev pub IsFound : List ℕ → Found → Type 0
+IsFound bytes (Whole functions) = AreFunctionsOf bytes functions.items
+IsFound bytes (Stuck k) = IsStuckAt bytes k
+
+-- `Syntax` exactly where the bytes are the text of no functions, with the line by completions
+abbrev pub HasNoFunctions : List ℕ → BundleTextError → Type 0
+HasNoFunctions bytes (Syntax line) = (IsBundleText bytes → ⊥) × IsFirstWrongOfBundle (pieces bytes) line
+HasNoFunctions bytes NoMemory = Unit {0}

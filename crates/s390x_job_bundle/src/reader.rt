@@ -1,0 +1,66 @@
+//! The exact reader of several functions' text.
+ghost use Rattle.std.specs.Prelude.{◌<◌, IfErr, IfOk, MatchResult, length};
+ghost use Rattle.s390x_job_bundle.specs.Completions.{IsBundleText, bundle_completion};
+ghost use Rattle.s390x_job_bundle.specs.Errors.{HasNoFunctions};
+ghost use Rattle.s390x_job_bundle.specs.Text.{AreFunctionsOf};
+
+use crate::complete::complete;
+use crate::error::BundleTextError;
+use crate::find::{Found, find_functions};
+use crate::named_job::NamedJob;
+use s390x_job::{Completes, first_wrong};
+use std::alloc::{AllocError, Global};
+
+/// The text of functions.
+struct BundleText;
+
+impl Completes for BundleText {
+    ghost limit = { 268435456 };
+
+    ghost completed = { bundle_completion };
+
+    ghost IsWhole = { IsBundleText };
+
+    fn complete(alloc: Global, ws: &[&[u8]]) -> Result<Vec<u8>, AllocError> {
+        complete(alloc, ws)
+    }
+
+    fn is_whole(alloc: Global, bytes: &[u8]) -> Result<bool, AllocError> {
+        match find_functions(alloc, bytes)? {
+            Found::Whole(_) => Ok(true),
+            Found::Stuck(_) => Ok(false),
+        }
+    }
+}
+
+fn read_inner(
+    alloc: Global,
+    bytes: &[u8],
+) -> Result<Result<Vec<NamedJob>, BundleTextError>, AllocError>
+    requires { length bytes.now < 268435456 }
+    ensures { IfOk result (λ r. MatchResult r (λ functions. AreFunctionsOf bytes.now functions.items) (HasNoFunctions bytes.now)) }
+{
+    match find_functions(alloc, bytes)? {
+        Found::Whole(functions) => Ok(Ok(functions)),
+        Found::Stuck(top) => {
+            let line = first_wrong::<BundleText>(alloc, bytes, top)?;
+            Ok(Err(BundleTextError::Syntax { line }))
+        }
+    }
+}
+
+/// The functions whose text this is: for each a line `function uN` with its name and a job, and then a line `close`.
+///
+/// `Syntax` comes exactly where the bytes are the text of no functions. Its line is 1 plus the greatest k that is 0 or for which the first k lines can be
+/// completed to such a text. Completing adds, where more of the lines begin with `function ` than are `end`, a line `endloop` for each line that begins with
+/// `Loop ` beyond those that are `endloop`, and a line `end`; then a line `close`, where none is one. `NoMemory` comes for want of memory alone.
+pub fn read_bundle(alloc: Global, bytes: &[u8]) -> Result<Vec<NamedJob>, BundleTextError>
+    requires { length bytes.now < 268435456 }
+    ensures functions { IfOk result (λ functions. AreFunctionsOf bytes.now functions.items) }
+    ensures error { IfErr result (HasNoFunctions bytes.now) }
+{
+    match read_inner(alloc, bytes) {
+        Ok(read) => read,
+        Err(_) => Err(BundleTextError::NoMemory),
+    }
+}

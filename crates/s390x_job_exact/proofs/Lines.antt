@@ -1,0 +1,51 @@
+-- Fields that are taken one after the other make a line.
+use Rattle.std.proofs.Common.{◌≡◌, ℕ, List, [], ◌∷◌, ◌++◌, sym, ap, ◌∙◌, refl, subst, append_assoc}
+use Rattle.s390x_base.specs.declared.regs.Reg.{Reg}
+use Rattle.s390x_inst.specs.declared.args.MemArg.{MemArg}
+use Rattle.s390x_inst.specs.declared.inst.Inst.{Inst}
+use Rattle.s390x_inst.specs.declared.load.LoadOp.{LoadOp}
+use Rattle.s390x_inst.specs.Loads.{load_instruction}
+use Rattle.s390x_job_fields.specs.Fields.{Field, FMemory, FReg, spell}
+use Rattle.s390x_job_lines.specs.Line.{spelled, AllFields, kinds_of}
+use Rattle.s390x_job_lines.specs.Kinds.{kinds}
+use Rattle.s390x_job_lines.specs.Instructions.{inst_line}
+use Rattle.s390x_job_lines.specs.declared.name.LineName.{LineName}
+use Rattle.s390x_job_lines.specs.declared.name.LineName.TheVariants as N
+use Rattle.s390x_job_lines.proofs.LoadLines.{is_load_line}
+use Rattle.s390x_job_exact.specs.Exact.{Takes, TakesFields}
+
+-- fields that are taken one after the other
+abbrev TakesAll : List Field → List ℕ → List ℕ → Type 0
+TakesAll fs s t = AllFields fs × (s ≡ spelled fs ++ t)
+
+none : (s : List ℕ) → TakesAll [] s s
+none s = (tt, refl)
+
+more : (f : Field) (fs : List Field) (s t u : List ℕ) → Takes f s t → TakesAll fs t u → TakesAll (f ∷ fs) s u
+more f fs s t u h k =
+    ((h.in_range, k.0), h.taken ∙ ap (λ x. spell f ++ x) k.1 ∙ sym (append_assoc (spell f) (spelled fs) u))
+
+whole : (n : LineName) (fs : List Field) (s t : List ℕ) → kinds n ≡ kinds_of fs → TakesAll fs s t → TakesFields n (record { name = n; fields = fs }) s t
+whole n fs s t k h = record { name = refl; line = record { kinds_fit = k; fields_fit = h.0 }; taken = h.1 }
+
+pub one : (n : LineName) (a : Field) (s t : List ℕ) → kinds n ≡ kinds_of (a ∷ []) → Takes a s t → TakesFields n (record { name = n; fields = a ∷ [] }) s t
+one n a s t k h = whole n (a ∷ []) s t k (more a [] s t t h (none t))
+
+pub two : (n : LineName) (a b : Field) (s t u : List ℕ) → kinds n ≡ kinds_of (a ∷ b ∷ []) → Takes a s t → Takes b t u → TakesFields n (record { name = n; fields = a ∷ b ∷ [] }) s u
+two n a b s t u k h i = whole n (a ∷ b ∷ []) s u k (more a (b ∷ []) s t u h (more b [] t u u i (none u)))
+
+pub three : (n : LineName) (a b c : Field) (s t u v : List ℕ) → kinds n ≡ kinds_of (a ∷ b ∷ c ∷ []) → Takes a s t → Takes b t u → Takes c u v → TakesFields n (record { name = n; fields = a ∷ b ∷ c ∷ [] }) s v
+three n a b c s t u v k h i j =
+    whole n (a ∷ b ∷ c ∷ []) s v k (more a (b ∷ c ∷ []) s t v h (more b (c ∷ []) t u v i (more c [] u v v j (none v))))
+
+pub four : (n : LineName) (a b c d : Field) (s t u v w : List ℕ) → kinds n ≡ kinds_of (a ∷ b ∷ c ∷ d ∷ []) → Takes a s t → Takes b t u → Takes c u v → Takes d v w → TakesFields n (record { name = n; fields = a ∷ b ∷ c ∷ d ∷ [] }) s w
+four n a b c d s t u v w k h i j l =
+    whole n (a ∷ b ∷ c ∷ d ∷ []) s w k (more a (b ∷ c ∷ d ∷ []) s t w h (more b (c ∷ d ∷ []) t u w i (more c (d ∷ []) u v w j (more d [] v w w l (none w)))))
+
+pub five : (n : LineName) (a b c d e : Field) (s t u v w x : List ℕ) → kinds n ≡ kinds_of (a ∷ b ∷ c ∷ d ∷ e ∷ []) → Takes a s t → Takes b t u → Takes c u v → Takes d v w → Takes e w x → TakesFields n (record { name = n; fields = a ∷ b ∷ c ∷ d ∷ e ∷ [] }) s x
+five n a b c d e s t u v w x k h i j l m =
+    whole n (a ∷ b ∷ c ∷ d ∷ e ∷ []) s x k (more a (b ∷ c ∷ d ∷ e ∷ []) s t x h (more b (c ∷ d ∷ e ∷ []) t u x i (more c (d ∷ e ∷ []) u v x j (more d (e ∷ []) v w x l (more e [] w x x m (none x))))))
+
+pub load : (op : LoadOp) (rd : Reg) (mem : MemArg) (i : Inst) (s t u : List ℕ) → i ≡ load_instruction op rd mem → Takes (FReg rd) s t → Takes (FMemory mem) t u → TakesFields (N.Load op) (inst_line i) s u
+load op rd mem i s t u e h k =
+    subst (λ l. TakesFields (N.Load op) l s u) (sym (ap inst_line e ∙ is_load_line op rd mem)) (two (N.Load op) (FReg rd) (FMemory mem) s t u refl h k)

@@ -1,0 +1,175 @@
+//! Fields, taken only as they are printed.
+ghost use Rattle.std.specs.Prelude.{◌≡◌, ◌++◌, ◌∷◌, ◌<◌, ◌≤ℤ◌, ◌<ℤ◌, neg_ℤ, pos, IfSome};
+ghost use Rattle.std.specs.Fmt.{decimal, signed_decimal};
+ghost use Rattle.s390x_job_fields.specs.Atoms.{reg_text, IsReg};
+ghost use Rattle.s390x_job_fields.specs.Numbers.{W8, W32, S16, S32};
+ghost use Rattle.s390x_job_fields.specs.Fields.{FAlu, FCmp, FCond, FInteger, FNatural, FReg, FShift, FUnary};
+ghost use Rattle.s390x_job_exact.specs.Exact.{Takes};
+
+use crate::cursor::ExactCursor;
+use s390x_base::{Cond, MachLabel, Reg, RegClass, Writable, gpr_preg, vr_preg};
+use s390x_inst::{ALUOp, CmpOp, ShiftOp, UnaryOp};
+use s390x_job_fields::marks::front;
+use s390x_job_fields::operators::{ALU_NAMES, CMP_NAMES, SHIFT_NAMES, UNARY_NAMES};
+use s390x_job_fields::word::{Names, Word, find};
+
+impl<'a> ExactCursor<'a> {
+    /// Takes a register's name.
+    #[inline(always)]
+    pub fn register(&mut self) -> Option<Reg>
+        ensures text { IfSome result (λ r. self.old ≡ reg_text r ++ self.new) }
+        ensures range { IfSome result IsReg }
+    {
+        self.byte(b'%')?;
+        let letter = self.next()?;
+        let number = self.natural()?;
+        match letter {
+            b'r' if number < 16 => Some(Reg::Real(gpr_preg(number as u8))),
+            b'v' if number < 32 => Some(Reg::Real(vr_preg(number as u8))),
+            b'i' if number < 4294967296 => Some(Reg::Virtual {
+                num: number as u32,
+                class: RegClass::Int,
+            }),
+            b'x' if number < 4294967296 => Some(Reg::Virtual {
+                num: number as u32,
+                class: RegClass::Float,
+            }),
+            _ => None,
+        }
+    }
+
+    /// Takes a register.
+    pub fn reg(&mut self) -> Option<Reg>
+        ensures { IfSome result (λ r. Takes (FReg r) self.old self.new) }
+    {
+        self.byte(b' ')?;
+        self.register()
+    }
+
+    /// Takes a register that is written.
+    #[inline(always)]
+    pub fn written(&mut self) -> Option<Writable<Reg>>
+        ensures { IfSome result (λ r. Takes (FReg r) self.old self.new) }
+    {
+        let reg = self.reg()?;
+        Some(Writable::from_reg(reg))
+    }
+
+    /// Takes a number below a limit.
+    #[inline(always)]
+    fn below(&mut self, limit: u64) -> Option<u64>
+        ensures text { IfSome result (λ n. self.old ≡ 32 ∷ (decimal n ++ self.new)) }
+        ensures below { IfSome result (λ n. n < limit) }
+    {
+        self.byte(b' ')?;
+        let number = self.natural()?;
+        if number < limit { Some(number) } else { None }
+    }
+
+    /// Takes a number of 8 bits.
+    pub fn u8(&mut self) -> Option<u8>
+        ensures { IfSome result (λ n. Takes (FNatural W8 n) self.old self.new) }
+    {
+        let number = self.below(256)?;
+        Some(number as u8)
+    }
+
+    /// Takes a number of 32 bits.
+    pub fn u32(&mut self) -> Option<u32>
+        ensures { IfSome result (λ n. Takes (FNatural W32 n) self.old self.new) }
+    {
+        let number = self.below(4294967296)?;
+        Some(number as u32)
+    }
+
+    /// Takes the number of a block.
+    pub fn label(&mut self) -> Option<MachLabel>
+        ensures { IfSome result (λ l. Takes (FNatural W32 l.0) self.old self.new) }
+    {
+        let number = self.u32()?;
+        Some(MachLabel(number))
+    }
+
+    /// Takes a condition.
+    pub fn cond(&mut self) -> Option<Cond>
+        ensures { IfSome result (λ c. Takes (FCond c) self.old self.new) }
+    {
+        let number = self.below(15)?;
+        if 0 < number {
+            Some(Cond::from_mask(number as u8))
+        } else {
+            None
+        }
+    }
+
+    /// Takes a number with a sign, at least `-limit` and below `limit`.
+    #[inline(always)]
+    fn signed(&mut self, limit: i64) -> Option<i64>
+        requires { pos 0 <ℤ limit }
+        ensures text { IfSome result (λ z. self.old ≡ 32 ∷ (signed_decimal z ++ self.new)) }
+        ensures least { IfSome result (λ z. neg_ℤ limit ≤ℤ z) }
+        ensures below { IfSome result (λ z. z <ℤ limit) }
+    {
+        self.byte(b' ')?;
+        let number = self.integer()?;
+        if -limit <= number && number < limit {
+            Some(number)
+        } else {
+            None
+        }
+    }
+
+    /// Takes a number with a sign of 16 bits.
+    pub fn i16(&mut self) -> Option<i16>
+        ensures { IfSome result (λ z. Takes (FInteger S16 z) self.old self.new) }
+    {
+        let number = self.signed(1 << 15)?;
+        Some(number as i16)
+    }
+
+    /// Takes a number with a sign of 32 bits.
+    pub fn i32(&mut self) -> Option<i32>
+        ensures { IfSome result (λ z. Takes (FInteger S32 z) self.old self.new) }
+    {
+        let number = self.signed(1 << 31)?;
+        Some(number as i32)
+    }
+
+    /// Takes the word that spells a value.
+    fn operator<T: Word>(&mut self, names: Names<T>, other: T) -> Option<T>
+        ensures { IfSome result (λ o. self.old ≡ 32 ∷ (T.spelling o ++ self.new)) }
+    {
+        self.byte(b' ')?;
+        let value = find(names, front(self.rest()), other);
+        self.text(value.text().as_bytes())?;
+        Some(value)
+    }
+
+    /// Takes an operation on integers.
+    pub fn alu(&mut self) -> Option<ALUOp>
+        ensures { IfSome result (λ o. Takes (FAlu o) self.old self.new) }
+    {
+        self.operator(ALU_NAMES, ALUOp::Add32)
+    }
+
+    /// Takes a comparison.
+    pub fn cmp(&mut self) -> Option<CmpOp>
+        ensures { IfSome result (λ o. Takes (FCmp o) self.old self.new) }
+    {
+        self.operator(CMP_NAMES, CmpOp::CmpS32)
+    }
+
+    /// Takes a shift.
+    pub fn shift_op(&mut self) -> Option<ShiftOp>
+        ensures { IfSome result (λ o. Takes (FShift o) self.old self.new) }
+    {
+        self.operator(SHIFT_NAMES, ShiftOp::RotL32)
+    }
+
+    /// Takes an operation on one integer.
+    pub fn unary(&mut self) -> Option<UnaryOp>
+        ensures { IfSome result (λ o. Takes (FUnary o) self.old self.new) }
+    {
+        self.operator(UNARY_NAMES, UnaryOp::Abs32)
+    }
+}

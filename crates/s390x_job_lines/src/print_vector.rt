@@ -1,0 +1,73 @@
+//! Printing the lines of vector and float instructions.
+ghost use Rattle.std.specs.Prelude.{◌≡◌, ◌++◌, OnOk, string_bytes};
+ghost use Rattle.s390x_job_lines.specs.Line.{line_text};
+ghost use Rattle.s390x_job_lines.specs.Instructions.{vector_line};
+
+use crate::inst_name::VectorName;
+use crate::name::LineName::Vector;
+use crate::put_line::{line2, line3, line4, line5, line6};
+use s390x_inst::VecInst;
+use std::alloc::{AllocError, Global};
+
+/// Appends the line of an instruction on vector or float registers, without the line feed.
+#[rattlefmt::skip]
+pub fn put_vector(alloc: Global, out: &mut String, v: &VecInst) -> Result<(), AllocError>
+    ensures { OnOk result (string_bytes out.new ≡ string_bytes out.old ++ line_text (vector_line v.now)) }
+{
+    match v {
+        VecInst::VecRRR { op, rd, rn, rm } => line4(alloc, out, Vector(VectorName::VecRRR), op, rd, rn, rm),
+        VecInst::VecRR { op, rd, rn } => line3(alloc, out, Vector(VectorName::VecRR), op, rd, rn),
+        VecInst::VecShiftRR { shift_op, rd, rn, shift_imm, shift_reg } => line5(alloc, out, Vector(VectorName::VecShiftRR), shift_op, rd, rn, shift_imm, shift_reg),
+        VecInst::VecSelect { rd, rn, rm, ra } => line4(alloc, out, Vector(VectorName::VecSelect), rd, rn, rm, ra),
+        VecInst::VecPermute { rd, rn, rm, ra } => line4(alloc, out, Vector(VectorName::VecPermute), rd, rn, rm, ra),
+        VecInst::VecBlend { rd, rn, rm, ra } => line4(alloc, out, Vector(VectorName::VecBlend), rd, rn, rm, ra),
+        VecInst::VecEvaluate { imm, rd, rn, rm, ra } => line5(alloc, out, Vector(VectorName::VecEvaluate), imm, rd, rn, rm, ra),
+        VecInst::VecPermuteDWImm { rd, rn, rm, idx1, idx2 } => line5(alloc, out, Vector(VectorName::VecPermuteDWImm), rd, rn, rm, idx1, idx2),
+        VecInst::VecIntCmp { op, rd, rn, rm } => line4(alloc, out, Vector(VectorName::VecIntCmp), op, rd, rn, rm),
+        VecInst::VecIntCmpS { op, rd, rn, rm } => line4(alloc, out, Vector(VectorName::VecIntCmpS), op, rd, rn, rm),
+        VecInst::VecIntEltCmp { op, rn, rm } => line3(alloc, out, Vector(VectorName::VecIntEltCmp), op, rn, rm),
+        VecInst::VecInt128SCmpHi { tmp, rn, rm } => line3(alloc, out, Vector(VectorName::VecInt128SCmpHi), tmp, rn, rm),
+        VecInst::VecInt128UCmpHi { tmp, rn, rm } => line3(alloc, out, Vector(VectorName::VecInt128UCmpHi), tmp, rn, rm),
+        VecInst::VecLoad { rd, mem } => line2(alloc, out, Vector(VectorName::VecLoad), rd, mem),
+        VecInst::VecLoadRev { rd, mem } => line2(alloc, out, Vector(VectorName::VecLoadRev), rd, mem),
+        VecInst::VecLoadByte16Rev { rd, mem } => line2(alloc, out, Vector(VectorName::VecLoadByte16Rev), rd, mem),
+        VecInst::VecLoadByte32Rev { rd, mem } => line2(alloc, out, Vector(VectorName::VecLoadByte32Rev), rd, mem),
+        VecInst::VecLoadByte64Rev { rd, mem } => line2(alloc, out, Vector(VectorName::VecLoadByte64Rev), rd, mem),
+        VecInst::VecLoadElt16Rev { rd, mem } => line2(alloc, out, Vector(VectorName::VecLoadElt16Rev), rd, mem),
+        VecInst::VecLoadElt32Rev { rd, mem } => line2(alloc, out, Vector(VectorName::VecLoadElt32Rev), rd, mem),
+        VecInst::VecLoadElt64Rev { rd, mem } => line2(alloc, out, Vector(VectorName::VecLoadElt64Rev), rd, mem),
+        VecInst::VecStore { rd, mem } => line2(alloc, out, Vector(VectorName::VecStore), rd, mem),
+        VecInst::VecStoreRev { rd, mem } => line2(alloc, out, Vector(VectorName::VecStoreRev), rd, mem),
+        VecInst::VecStoreByte16Rev { rd, mem } => line2(alloc, out, Vector(VectorName::VecStoreByte16Rev), rd, mem),
+        VecInst::VecStoreByte32Rev { rd, mem } => line2(alloc, out, Vector(VectorName::VecStoreByte32Rev), rd, mem),
+        VecInst::VecStoreByte64Rev { rd, mem } => line2(alloc, out, Vector(VectorName::VecStoreByte64Rev), rd, mem),
+        VecInst::VecStoreElt16Rev { rd, mem } => line2(alloc, out, Vector(VectorName::VecStoreElt16Rev), rd, mem),
+        VecInst::VecStoreElt32Rev { rd, mem } => line2(alloc, out, Vector(VectorName::VecStoreElt32Rev), rd, mem),
+        VecInst::VecStoreElt64Rev { rd, mem } => line2(alloc, out, Vector(VectorName::VecStoreElt64Rev), rd, mem),
+        VecInst::VecLoadReplicate { size, rd, mem } => line3(alloc, out, Vector(VectorName::VecLoadReplicate), size, rd, mem),
+        VecInst::VecLoadReplicateRev { size, rd, mem } => line3(alloc, out, Vector(VectorName::VecLoadReplicateRev), size, rd, mem),
+        VecInst::VecLoadLane { size, rd, ri, mem, lane_imm } => line5(alloc, out, Vector(VectorName::VecLoadLane), size, rd, ri, mem, lane_imm),
+        VecInst::VecLoadLaneRev { size, rd, ri, mem, lane_imm } => line5(alloc, out, Vector(VectorName::VecLoadLaneRev), size, rd, ri, mem, lane_imm),
+        VecInst::VecLoadLaneUndef { size, rd, mem, lane_imm } => line4(alloc, out, Vector(VectorName::VecLoadLaneUndef), size, rd, mem, lane_imm),
+        VecInst::VecLoadLaneRevUndef { size, rd, mem, lane_imm } => line4(alloc, out, Vector(VectorName::VecLoadLaneRevUndef), size, rd, mem, lane_imm),
+        VecInst::VecStoreLane { size, rd, mem, lane_imm } => line4(alloc, out, Vector(VectorName::VecStoreLane), size, rd, mem, lane_imm),
+        VecInst::VecStoreLaneRev { size, rd, mem, lane_imm } => line4(alloc, out, Vector(VectorName::VecStoreLaneRev), size, rd, mem, lane_imm),
+        VecInst::VecMov { rd, rn } => line2(alloc, out, Vector(VectorName::VecMov), rd, rn),
+        VecInst::FpuMove32 { rd, rn } => line2(alloc, out, Vector(VectorName::FpuMove32), rd, rn),
+        VecInst::FpuMove64 { rd, rn } => line2(alloc, out, Vector(VectorName::FpuMove64), rd, rn),
+        VecInst::FpuCMov32 { rd, cond, ri, rm } => line4(alloc, out, Vector(VectorName::FpuCMov32), rd, cond, ri, rm),
+        VecInst::FpuCMov64 { rd, cond, ri, rm } => line4(alloc, out, Vector(VectorName::FpuCMov64), rd, cond, ri, rm),
+        VecInst::VecCMov { rd, cond, ri, rm } => line4(alloc, out, Vector(VectorName::VecCMov), rd, cond, ri, rm),
+        VecInst::MovToVec128 { rd, rn, rm } => line3(alloc, out, Vector(VectorName::MovToVec128), rd, rn, rm),
+        VecInst::VecImmByteMask { rd, mask } => line2(alloc, out, Vector(VectorName::VecImmByteMask), rd, mask),
+        VecInst::VecImmBitMask { size, rd, start_bit, end_bit } => line4(alloc, out, Vector(VectorName::VecImmBitMask), size, rd, start_bit, end_bit),
+        VecInst::VecImmReplicate { size, rd, imm } => line3(alloc, out, Vector(VectorName::VecImmReplicate), size, rd, imm),
+        VecInst::VecInsertLane { size, rd, ri, rn, lane_imm, lane_reg } => line6(alloc, out, Vector(VectorName::VecInsertLane), size, rd, ri, rn, lane_imm, lane_reg),
+        VecInst::VecInsertLaneUndef { size, rd, rn, lane_imm, lane_reg } => line5(alloc, out, Vector(VectorName::VecInsertLaneUndef), size, rd, rn, lane_imm, lane_reg),
+        VecInst::VecExtractLane { size, rd, rn, lane_imm, lane_reg } => line5(alloc, out, Vector(VectorName::VecExtractLane), size, rd, rn, lane_imm, lane_reg),
+        VecInst::VecInsertLaneImm { size, rd, ri, imm, lane_imm } => line5(alloc, out, Vector(VectorName::VecInsertLaneImm), size, rd, ri, imm, lane_imm),
+        VecInst::VecInsertLaneImmUndef { size, rd, imm, lane_imm } => line4(alloc, out, Vector(VectorName::VecInsertLaneImmUndef), size, rd, imm, lane_imm),
+        VecInst::VecReplicateLane { size, rd, rn, lane_imm } => line4(alloc, out, Vector(VectorName::VecReplicateLane), size, rd, rn, lane_imm),
+        VecInst::VecEltRev { lane_count, rd, rn } => line3(alloc, out, Vector(VectorName::VecEltRev), lane_count, rd, rn),
+    }
+}

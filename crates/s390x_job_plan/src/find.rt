@@ -1,0 +1,81 @@
+//! The planned job of a text.
+ghost use Rattle.std.specs.Prelude.{◌≡◌, ◌<◌, Decides, IfOk, length, map};
+ghost use Rattle.s390x_job.specs.Completions.{joined};
+ghost use Rattle.s390x_job_plan.specs.Errors.{IsFound, IsPlanFound};
+
+use crate::complete::join;
+use crate::line::read_line;
+use crate::planned_job::PlannedJob;
+use crate::progress::{Progress, follow};
+use s390x_alloc::Plan;
+use s390x_job::split_lines;
+use s390x_job_bundle::{count_lines, job_size, read_job};
+use std::alloc::{AllocError, Global};
+
+/// What the lines behind a job are: a plan, or a number of them that no plan goes past.
+#[derive(Drop)]
+pub enum PlanFound {
+    Whole(Plan),
+    Stuck(usize),
+}
+
+/// What a reader found: the planned job, or a number of lines where the text is no planned job's: no more of them can be completed to one.
+#[derive(Drop)]
+pub enum Found {
+    Whole(PlannedJob),
+    Stuck(usize),
+}
+
+/// The plan whose lines these are. Where there is none, a number of them: no plan begins with more.
+pub fn find_plan(alloc: Global, lines: &[&[u8]]) -> Result<PlanFound, AllocError>
+    ensures { IfOk result (IsPlanFound (map (λ w. w.now) lines.now)) }
+{
+    let mut progress = Progress::Start;
+    let mut text = String::new(alloc);
+    for (n, bytes) in lines.iter().enumerate() {
+        let Some(line) = read_line(alloc, &mut text, bytes)? else {
+            return Ok(PlanFound::Stuck(n));
+        };
+        match follow(alloc, progress, line)? {
+            None => return Ok(PlanFound::Stuck(n)),
+            Some(more) => progress = more,
+        }
+    }
+    match progress {
+        Progress::Done(blocks) => Ok(PlanFound::Whole(Plan { blocks })),
+        _ => Ok(PlanFound::Stuck(lines.len())),
+    }
+}
+
+// Whether the text ends with its last line.
+fn is_all(alloc: Global, lines: &[&[u8]], bytes: &[u8]) -> Result<bool, AllocError>
+    ensures { IfOk result (λ b. Decides b (joined (map (λ w. w.now) lines.now) ≡ bytes.now)) }
+{
+    let text = join(alloc, lines)?;
+    Ok(text.as_slice() == bytes)
+}
+
+/// The planned job whose text this is. Where there is none, a number of its lines: no more of them can be completed to the text of a planned job.
+pub fn find_planned(alloc: Global, bytes: &[u8]) -> Result<Found, AllocError>
+    requires { length bytes.now < 4294967295 }
+    ensures { IfOk result (IsFound bytes.now) }
+{
+    let size = job_size(bytes);
+    let job = match read_job(alloc, &bytes[..size])? {
+        Ok(job) => job,
+        Err(line) => return Ok(Found::Stuck(line as usize - 1)),
+    };
+    let before = count_lines(&bytes[..size]);
+    let rest = &bytes[size..];
+    let lines = split_lines(alloc, rest)?;
+    match find_plan(alloc, &lines)? {
+        PlanFound::Stuck(n) => Ok(Found::Stuck(before + n)),
+        PlanFound::Whole(plan) => {
+            if is_all(alloc, &lines, rest)? {
+                Ok(Found::Whole(PlannedJob { job, plan }))
+            } else {
+                Ok(Found::Stuck(before + lines.len()))
+            }
+        }
+    }
+}

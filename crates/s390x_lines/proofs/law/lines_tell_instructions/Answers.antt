@@ -1,5 +1,0 @@
-use Rattle.s390x_lines.proofs.Contents.{same_contents}
-use Rattle.s390x_lines.proofs.law.lines_tell_instructions.Goals as goal
-
-pub returns : goal.returns
-returns c = same_contents

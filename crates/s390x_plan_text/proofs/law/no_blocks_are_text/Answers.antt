@@ -1,5 +1,0 @@
-use Rattle.s390x_plan_text.proofs.Example.{no_blocks_are_text}
-use Rattle.s390x_plan_text.proofs.law.no_blocks_are_text.Goals as goal
-
-pub returns : goal.returns
-returns c = no_blocks_are_text

@@ -1,5 +1,0 @@
-use Rattle.s390x_plan_text.proofs.Example.{some_lines_are_text}
-use Rattle.s390x_plan_text.proofs.law.some_lines_are_text.Goals as goal
-
-pub returns : goal.returns
-returns c = some_lines_are_text

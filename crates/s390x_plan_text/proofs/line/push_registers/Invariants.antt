@@ -1,7 +1,0 @@
-use Rattle.std.proofs.Common.{◌≡◌, ◌++◌, drop}
-use Rattle.s390x_words.specs.Lists.{elements}
-use Rattle.s390x_plan_text.specs.Lines.{step_register_of}
-use Rattle.s390x_plan_text.proofs.line.push_registers.Given as goal
-
-abbrev pub invariant-loop-i : goal.invariant-loop-i
-invariant-loop-i l = l.regs.items ++ elements step_register_of (drop l.i l.s) ≡ l.initial.regs.items ++ elements step_register_of l.s

@@ -1,6 +1,0 @@
-use Rattle.std.proofs.Common.{◌≡◌, ◌++◌, drop, string_bytes}
-use Rattle.s390x_row_text.specs.Control.{labels_text}
-use Rattle.s390x_row_text.proofs.control.put_labels.Given as goal
-
-abbrev pub invariant-loop-label : goal.invariant-loop-label
-invariant-loop-label l = string_bytes l.out ++ labels_text (drop l.label-index l.labels) ≡ string_bytes l.initial.out ++ labels_text l.labels

@@ -1,0 +1,12 @@
+use Rattle.std.proofs.Common.{string_bytes}
+use Rattle.std.proofs.lemmas.Result.{on_ok_weaker}
+use Rattle.std.specs.Prelude.{codes}
+use Rattle.s390x_job_fields.specs.Atoms.{reg_text}
+use Rattle.s390x_text_rows.proofs.Joined.{joined_one}
+use Rattle.s390x_text_rows.proofs.control.put_table_load.Goals as goal
+
+pub returns : goal.returns
+returns c =
+    on_ok_weaker c.put_reg.result
+    (λ e. joined_one (codes " ; larl %r1, 14 ; agf %r1, 0(") (reg_text c.args.index) (string_bytes c.args.out.now) (string_bytes c.put.new.out) (string_bytes c.put_reg.new.out) c.in_ok-put.ensures e)
+    c.put_reg.ensures

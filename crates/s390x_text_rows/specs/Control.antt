@@ -1,0 +1,77 @@
+-- The texts of instructions that go elsewhere, end a run, name a place or have no bytes (cranelift-codegen, `mod.rs`).
+use Rattle.std.specs.Prelude.{ℕ, pos, ◌-ℤ◌, List, [], ◌∷◌, ◌++◌, codes, cond, nat_le, Option, Some, None}
+use Rattle.std.specs.Fmt.{decimal, signed_decimal}
+use Rattle.s390x_base.specs.declared.ir.MachLabel.{MachLabel}
+use Rattle.s390x_base.specs.declared.regs.Reg.{Reg}
+use Rattle.s390x_inst.specs.declared.calls.ArgPair.{ArgPair}
+use Rattle.s390x_inst.specs.declared.calls.RetPair.{RetPair}
+use Rattle.s390x_inst.specs.declared.calls.SymbolReloc.{SymbolReloc}
+use Rattle.s390x_inst.specs.declared.calls.SymbolReloc.TheVariants.{Absolute}
+use Rattle.s390x_inst.specs.declared.inst.Inst.{Inst}
+use Rattle.s390x_inst.specs.declared.inst.Inst.TheVariants.{Fence, Nop0, Nop2, Debugtrap, Trap, TrapIf, Jump, CondBr, IndirectBr, Ret, JTSequence, CondBreak, AllocateArgs, LoadSymbolReloc, LabelAddress, Args, Rets, DummyUse, SequencePoint}
+use Rattle.s390x_job_fields.specs.Atoms.{reg_text, trap_text}
+use Rattle.s390x_text_rows.specs.Texts.{Text, fixed, spelled}
+use Rattle.s390x_text_rows.specs.Operands.{cond_text, label_text, name_text}
+
+-- a branch to a block under a condition
+abbrev pub branch_text : (mask label : ℕ) → List ℕ
+branch_text mask label = spelled (codes "jg" ++ cond_text mask) (label_text label ∷ [])
+
+-- labels, a space before each
+abbrev pub labels_text : List MachLabel → List ℕ
+labels_text [] = []
+labels_text (l ∷ ls) = codes " " ++ (label_text l.0 ++ labels_text ls)
+
+-- a register that holds a value, and the one that the convention wants, behind a space
+abbrev pub convention_text : (held wanted : Reg) → List ℕ
+convention_text held wanted = codes " " ++ (reg_text held ++ (codes "=" ++ reg_text wanted))
+
+-- arguments as they come in
+abbrev pub args_text : List ArgPair → List ℕ
+args_text [] = []
+args_text (a ∷ more) = convention_text a.vreg a.preg ++ args_text more
+
+-- results as they go out
+abbrev pub rets_text : List RetPair → List ℕ
+rets_text [] = []
+rets_text (r ∷ more) = convention_text r.vreg r.preg ++ rets_text more
+
+-- how bytes are taken from the stack
+abbrev pub allocate_text : ℕ → List ℕ
+allocate_text size =
+    cond (nat_le size 32767) (codes "aghi %r15, " ++ signed_decimal (pos 0 -ℤ pos size)) (codes "slgfi %r15, " ++ decimal size)
+
+-- a symbol plus an offset
+abbrev pub reloc_text : SymbolReloc → List ℕ
+reloc_text (Absolute name offset) = name_text name.0 ++ (codes " + " ++ signed_decimal offset)
+
+-- a table's address, the word that is added, and the jump
+abbrev pub table_sum_text : (index : Reg) → List ℕ
+table_sum_text index = codes " ; larl %r1, 14 ; agf %r1, 0(" ++ (reg_text index ++ codes ", %r1) ; br %r1 ; jt_entries")
+
+-- a jump by a table: to the default, by the word at the index, and the words
+abbrev pub table_text : (index : Reg) → (other mask : ℕ) → List MachLabel → List ℕ
+table_text index other mask targets = branch_text mask other ++ (table_sum_text index ++ labels_text targets)
+
+-- control instructions and those without bytes
+abbrev pub control_text : Inst → Option Text
+control_text Fence = Some (fixed (codes "bcr 14, 0"))
+control_text Nop0 = Some (fixed (codes "nop-zero-len"))
+control_text Nop2 = Some (fixed (codes "nop"))
+control_text Debugtrap = Some (fixed (codes ".word 0x0001 # debugtrap"))
+control_text (Trap code) = Some (fixed (codes ".word 0x0000 # trap=" ++ trap_text code))
+control_text (TrapIf mask code) = Some (fixed ((codes "jg" ++ (cond_text mask ++ codes " .+2 # trap=")) ++ trap_text code))
+control_text (Jump dest) = Some (fixed (spelled (codes "jg") (label_text dest.0 ∷ [])))
+control_text (CondBr taken not_taken mask) = Some (fixed (branch_text mask taken.0 ++ (codes " ; " ++ spelled (codes "jg") (label_text not_taken.0 ∷ []))))
+control_text (IndirectBr rn targets) = Some (fixed (spelled (codes "br") (reg_text rn ∷ [])))
+control_text (Ret link) = Some (fixed (spelled (codes "br") (reg_text link ∷ [])))
+control_text (JTSequence ridx other mask targets) = Some (fixed (table_text ridx other.0 mask targets.items))
+control_text (CondBreak mask) = Some (fixed (codes "jg" ++ (cond_text mask ++ codes " 1f")))
+control_text (AllocateArgs size) = Some (fixed (allocate_text size))
+control_text (LoadSymbolReloc rd reloc) = Some (fixed (codes "bras %r1, 12 ; data " ++ (reloc_text reloc ++ (codes " ; lg " ++ (reg_text rd ++ codes ", 0(%r1)")))))
+control_text (LabelAddress dst label) = Some (fixed (spelled (codes "label_address") (reg_text dst ∷ label_text label.0 ∷ [])))
+control_text (Args args) = Some (fixed (codes "args" ++ args_text args.items))
+control_text (Rets rets) = Some (fixed (codes "rets" ++ rets_text rets.items))
+control_text (DummyUse reg) = Some (fixed (spelled (codes "dummy_use") (reg_text reg ∷ [])))
+control_text SequencePoint = Some (fixed (codes "sequence_point"))
+control_text _ = None

@@ -1,0 +1,190 @@
+-- The texts of instructions on general registers and immediates (cranelift-codegen, `mod.rs`).
+use Rattle.std.specs.Prelude.{ℕ, ◌+◌, List, [], ◌∷◌, ◌++◌, codes, Bool, cond, ◌&&◌, nat_eq, nat_lt, Option, Some, None}
+use Rattle.std.specs.Fmt.{decimal, signed_decimal}
+use Rattle.s390x_base.specs.declared.regs.Reg.{Reg}
+use Rattle.s390x_base.specs.declared.regs.WritableRegPair.{WritableRegPair}
+use Rattle.s390x_inst.specs.declared.inst.Inst.{Inst}
+use Rattle.s390x_inst.specs.declared.inst.Inst.TheVariants.{AluRRR, AluRR, AluRRSImm16, AluRSImm16, AluRSImm32, AluRUImm32, AluRUImm16Shifted, AluRUImm32Shifted, SMulWide, UMulWide, Flogr, ShiftRR, RxSBG, RxSBGTest, UnaryRR, CmpRR, CmpRSImm16, CmpRSImm32, CmpRUImm32, Mov64, MovPReg, Mov32, Mov32Imm}
+use Rattle.s390x_inst.specs.declared.inst.Inst.TheVariants.{Mov32SImm16, Mov64SImm16, Mov64SImm32, Mov64UImm16Shifted, Mov64UImm32Shifted, Insert64UImm16Shifted, Insert64UImm32Shifted, CMov32, CMov64, CMov32SImm16, CMov64SImm16, Extend, LoadAR, InsertAR, LoadIndexedAddr, LoadLogicalIndexedAddr}
+use Rattle.s390x_inst.specs.declared.inst.Inst.TheVariants.{SDivMod32, SDivMod64, UDivMod32, UDivMod64, CmpTrapRR, CmpTrapRSImm16, CmpTrapRUImm16}
+use Rattle.s390x_inst.specs.declared.ops.ALUOp.{ALUOp}
+use Rattle.s390x_inst.specs.declared.ops.ALUOp.TheVariants.{And32, And64, Orr32, Orr64, Xor32, Xor64}
+use Rattle.s390x_inst.specs.declared.ops.UnaryOp.{UnaryOp}
+use Rattle.s390x_inst.specs.declared.ops.UnaryOp.TheVariants.{PopcntReg}
+use Rattle.s390x_typed_steps.specs.General.{rotation}
+use Rattle.s390x_job_fields.specs.Atoms.{reg_text, real_text}
+use Rattle.s390x_text_rows.specs.Texts.{Text, row, fixed, spelled}
+use Rattle.s390x_text_rows.specs.Operands.{is_reg, reused_text, pair_text, pair_cause, reused_pair_text, reused_low_text, amount_text, access_register_text, cond_text, indexed_text}
+use Rattle.s390x_text_rows.specs.Mnemonics.{alu_three_name, alu_two_name, alu_halfword_name, alu_three_halfword_name, alu_signed_word_name, alu_unsigned_word_name, cmp_two_name, cmp_halfword_name, cmp_signed_word_name, cmp_unsigned_word_name, cmp_trap_name, cmp_trap_signed_name, cmp_trap_unsigned_name, shift_name, rotate_name, rotate_test_name, unary_name}
+
+-- ---- mnemonics that a number chooses
+
+-- one of two by its number
+abbrev pub one_of_two : (zeroth first : List ℕ) → ℕ → Option (List ℕ)
+one_of_two zeroth first n = cond (nat_eq n 0) (Some zeroth) (cond (nat_eq n 1) (Some first) None)
+
+-- one of four by its number
+abbrev pub one_of_four : (zeroth first second third : List ℕ) → ℕ → Option (List ℕ)
+one_of_four zeroth first second third n =
+    cond (nat_eq n 0) (Some zeroth) (cond (nat_eq n 1) (Some first) (cond (nat_eq n 2) (Some second) (cond (nat_eq n 3) (Some third) None)))
+
+-- the only one, whose number is 0
+abbrev pub only_one : List ℕ → ℕ → Option (List ℕ)
+only_one zeroth n = cond (nat_eq n 0) (Some zeroth) None
+
+-- on a part of 16 bits, by its number from the right; of 32-bit operators the right two alone
+abbrev pub alu_part_name : ALUOp → ℕ → Option (List ℕ)
+alu_part_name And32 shift = one_of_two (codes "nill") (codes "nilh") shift
+alu_part_name And64 shift = one_of_four (codes "nill") (codes "nilh") (codes "nihl") (codes "nihh") shift
+alu_part_name Orr32 shift = one_of_two (codes "oill") (codes "oilh") shift
+alu_part_name Orr64 shift = one_of_four (codes "oill") (codes "oilh") (codes "oihl") (codes "oihh") shift
+alu_part_name _ shift = None
+
+-- on a half of 32 bits, by its number from the right; of 32-bit operators the right one alone
+abbrev pub alu_half_name : ALUOp → ℕ → Option (List ℕ)
+alu_half_name And32 shift = only_one (codes "nilf") shift
+alu_half_name And64 shift = one_of_two (codes "nilf") (codes "nihf") shift
+alu_half_name Orr32 shift = only_one (codes "oilf") shift
+alu_half_name Orr64 shift = one_of_two (codes "oilf") (codes "oihf") shift
+alu_half_name Xor32 shift = only_one (codes "xilf") shift
+alu_half_name Xor64 shift = one_of_two (codes "xilf") (codes "xihf") shift
+alu_half_name _ shift = None
+
+-- a part of 16 bits alone
+abbrev pub load_part_name : ℕ → Option (List ℕ)
+load_part_name shift = one_of_four (codes "llill") (codes "llilh") (codes "llihl") (codes "llihh") shift
+
+-- a half of 32 bits alone
+abbrev pub load_half_name : ℕ → Option (List ℕ)
+load_half_name shift = one_of_two (codes "llilf") (codes "llihf") shift
+
+-- a part of 16 bits in a register
+abbrev pub insert_part_name : ℕ → Option (List ℕ)
+insert_part_name shift = one_of_four (codes "iill") (codes "iilh") (codes "iihl") (codes "iihh") shift
+
+-- a half of 32 bits in a register
+abbrev pub insert_half_name : ℕ → Option (List ℕ)
+insert_half_name shift = one_of_two (codes "iilf") (codes "iihf") shift
+
+-- a number of so many bits becomes one of 32 bits; one bit counts as a byte with its sign
+abbrev pub extend_to_word_name : Bool → ℕ → Option (List ℕ)
+extend_to_word_name signed from =
+    cond (nat_eq from 1) (Some (codes "lbr")) (cond (nat_eq from 8) (Some (cond signed (codes "lbr") (codes "llcr"))) (cond (nat_eq from 16) (Some (cond signed (codes "lhr") (codes "llhr"))) None))
+
+-- or of 64 bits
+abbrev pub extend_to_doubleword_name : Bool → ℕ → Option (List ℕ)
+extend_to_doubleword_name signed from =
+    cond (nat_eq from 1) (Some (codes "lgbr"))
+    (cond (nat_eq from 8) (Some (cond signed (codes "lgbr") (codes "llgcr")))
+    (cond (nat_eq from 16) (Some (cond signed (codes "lghr") (codes "llghr")))
+    (cond (nat_eq from 32) (Some (cond signed (codes "lgfr") (codes "llgfr"))) None)))
+
+-- an extension to 32 or to 64 bits
+abbrev pub extend_name : Bool → (from to : ℕ) → Option (List ℕ)
+extend_name signed from to = cond (nat_eq to 32) (extend_to_word_name signed from) (cond (nat_eq to 64) (extend_to_doubleword_name signed from) None)
+
+-- an indexed address by the size of its elements, the index with its sign
+abbrev pub indexed_name : ℕ → Option (List ℕ)
+indexed_name size =
+    cond (nat_eq size 1) (Some (codes "lxah")) (cond (nat_eq size 2) (Some (codes "lxaf")) (cond (nat_eq size 3) (Some (codes "lxag")) (cond (nat_eq size 4) (Some (codes "lxaq")) None)))
+
+-- the same, the index without a sign
+abbrev pub logical_indexed_name : ℕ → Option (List ℕ)
+logical_indexed_name size =
+    cond (nat_eq size 1) (Some (codes "llxah")) (cond (nat_eq size 2) (Some (codes "llxaf")) (cond (nat_eq size 3) (Some (codes "llxag")) (cond (nat_eq size 4) (Some (codes "llxaq")) None)))
+
+-- selected bits are numbered below 64; no row for others
+abbrev pub selected_name : Option (List ℕ) → (start end : ℕ) → Option (List ℕ)
+selected_name name start end = cond (nat_lt start 64 && nat_lt end 64) name None
+
+-- ---- rows
+
+-- into another register, or two operands where there is such a row and the input is the output
+abbrev pub three_text : (three two : Option (List ℕ)) → (rd rn : Reg) → (last : List ℕ) → Text
+three_text None two rd rn last = row None []
+three_text (Some three) None rd rn last = row (Some three) (reg_text rd ∷ reg_text rn ∷ last ∷ [])
+three_text (Some three) (Some two) rd rn last = cond (is_reg rd rn) (row (Some two) (reg_text rd ∷ last ∷ [])) (row (Some three) (reg_text rd ∷ reg_text rn ∷ last ∷ []))
+
+-- an output and an operand; a count of ones by whole registers shows its mode
+abbrev pub unary_operands : UnaryOp → (rd rn : Reg) → List (List ℕ)
+unary_operands PopcntReg rd rn = reg_text rd ∷ reg_text rn ∷ decimal 8 ∷ []
+unary_operands _ rd rn = reg_text rd ∷ reg_text rn ∷ []
+
+-- a row whose first operand is a pair
+abbrev pub pair_row : List ℕ → WritableRegPair → List (List ℕ) → Text
+pair_row name rd xs = record { cause = pair_cause rd.hi rd.lo; bytes = spelled name (pair_text rd.hi rd.lo ∷ xs) }
+
+-- a row with a condition
+abbrev pub conditional : List ℕ → (mask : ℕ) → List (List ℕ) → Text
+conditional name mask xs = fixed (spelled (name ++ cond_text mask) xs)
+
+-- the same where there may be no row
+abbrev pub conditional_row : Option (List ℕ) → (mask : ℕ) → List (List ℕ) → Text
+conditional_row None mask xs = row None []
+conditional_row (Some name) mask xs = conditional name mask xs
+
+-- ---- instructions
+
+-- operators on registers and immediates
+abbrev pub arithmetic_text : Inst → Option Text
+arithmetic_text (AluRRR op rd rn rm) = Some (three_text (alu_three_name op) (alu_two_name op) rd rn (reg_text rm))
+arithmetic_text (AluRRSImm16 op rd rn imm) = Some (three_text (alu_three_halfword_name op) (alu_halfword_name op) rd rn (signed_decimal imm))
+arithmetic_text (AluRR op rd ri rm) = Some (row (alu_two_name op) (reused_text rd ri ∷ reg_text rm ∷ []))
+arithmetic_text (AluRSImm16 op rd ri imm) = Some (row (alu_halfword_name op) (reused_text rd ri ∷ signed_decimal imm ∷ []))
+arithmetic_text (AluRSImm32 op rd ri imm) = Some (row (alu_signed_word_name op) (reused_text rd ri ∷ signed_decimal imm ∷ []))
+arithmetic_text (AluRUImm32 op rd ri imm) = Some (row (alu_unsigned_word_name op) (reused_text rd ri ∷ decimal imm ∷ []))
+arithmetic_text (AluRUImm16Shifted op rd ri imm) = Some (row (alu_part_name op imm.shift) (reused_text rd ri ∷ decimal imm.bits ∷ []))
+arithmetic_text (AluRUImm32Shifted op rd ri imm) = Some (row (alu_half_name op imm.shift) (reused_text rd ri ∷ decimal imm.bits ∷ []))
+arithmetic_text (UnaryRR op rd rn) = Some (fixed (spelled (unary_name op) (unary_operands op rd rn)))
+arithmetic_text (ShiftRR op rd rn amount register) = Some (fixed (spelled (shift_name op) (reg_text rd ∷ reg_text rn ∷ amount_text amount register ∷ [])))
+arithmetic_text (RxSBG op rd ri rn start end amount) =
+    Some (row (selected_name (Some (rotate_name op)) start end) (reused_text rd ri ∷ reg_text rn ∷ decimal start ∷ decimal end ∷ decimal (rotation amount) ∷ []))
+arithmetic_text (RxSBGTest op rd rn start end amount) =
+    Some (row (selected_name (rotate_test_name op) start end) (reg_text rd ∷ reg_text rn ∷ decimal (start + 128) ∷ decimal end ∷ decimal (rotation amount) ∷ []))
+arithmetic_text _ = None
+
+-- products, divisions and counts of leading zeros, whose output is a pair
+abbrev pub pair_instruction_text : Inst → Option Text
+pair_instruction_text (SMulWide rd rn rm) = Some (pair_row (codes "mgrk") rd (reg_text rn ∷ reg_text rm ∷ []))
+pair_instruction_text (UMulWide rd ri rn) = Some (fixed (spelled (codes "mlgr") (reused_low_text rd.hi rd.lo ri ∷ reg_text rn ∷ [])))
+pair_instruction_text (SDivMod32 rd ri rn) = Some (fixed (spelled (codes "dsgfr") (reused_low_text rd.hi rd.lo ri ∷ reg_text rn ∷ [])))
+pair_instruction_text (SDivMod64 rd ri rn) = Some (fixed (spelled (codes "dsgr") (reused_low_text rd.hi rd.lo ri ∷ reg_text rn ∷ [])))
+pair_instruction_text (UDivMod32 rd ri rn) = Some (fixed (spelled (codes "dlr") (reused_pair_text rd.hi rd.lo ri.hi ri.lo ∷ reg_text rn ∷ [])))
+pair_instruction_text (UDivMod64 rd ri rn) = Some (fixed (spelled (codes "dlgr") (reused_pair_text rd.hi rd.lo ri.hi ri.lo ∷ reg_text rn ∷ [])))
+pair_instruction_text (Flogr rd rn) = Some (pair_row (codes "flogr") rd (reg_text rn ∷ []))
+pair_instruction_text _ = None
+
+-- comparisons, some of which trap
+abbrev pub compare_text : Inst → Option Text
+compare_text (CmpRR op rn rm) = Some (row (cmp_two_name op) (reg_text rn ∷ reg_text rm ∷ []))
+compare_text (CmpRSImm16 op rn imm) = Some (row (cmp_halfword_name op) (reg_text rn ∷ signed_decimal imm ∷ []))
+compare_text (CmpRSImm32 op rn imm) = Some (row (cmp_signed_word_name op) (reg_text rn ∷ signed_decimal imm ∷ []))
+compare_text (CmpRUImm32 op rn imm) = Some (row (cmp_unsigned_word_name op) (reg_text rn ∷ decimal imm ∷ []))
+compare_text (CmpTrapRR op rn rm mask code) = Some (conditional_row (cmp_trap_name op) mask (reg_text rn ∷ reg_text rm ∷ []))
+compare_text (CmpTrapRSImm16 op rn imm mask code) = Some (conditional_row (cmp_trap_signed_name op) mask (reg_text rn ∷ signed_decimal imm ∷ []))
+compare_text (CmpTrapRUImm16 op rn imm mask code) = Some (conditional_row (cmp_trap_unsigned_name op) mask (reg_text rn ∷ decimal imm ∷ []))
+compare_text _ = None
+
+-- moves, and addresses that are summed
+abbrev pub move_text : Inst → Option Text
+move_text (Mov64 rd rm) = Some (fixed (spelled (codes "lgr") (reg_text rd ∷ reg_text rm ∷ [])))
+move_text (MovPReg rd rm) = Some (fixed (spelled (codes "lgr") (reg_text rd ∷ real_text rm ∷ [])))
+move_text (Mov32 rd rm) = Some (fixed (spelled (codes "lr") (reg_text rd ∷ reg_text rm ∷ [])))
+move_text (Mov32Imm rd imm) = Some (fixed (spelled (codes "iilf") (reg_text rd ∷ decimal imm ∷ [])))
+move_text (Mov32SImm16 rd imm) = Some (fixed (spelled (codes "lhi") (reg_text rd ∷ signed_decimal imm ∷ [])))
+move_text (Mov64SImm16 rd imm) = Some (fixed (spelled (codes "lghi") (reg_text rd ∷ signed_decimal imm ∷ [])))
+move_text (Mov64SImm32 rd imm) = Some (fixed (spelled (codes "lgfi") (reg_text rd ∷ signed_decimal imm ∷ [])))
+move_text (Mov64UImm16Shifted rd imm) = Some (row (load_part_name imm.shift) (reg_text rd ∷ decimal imm.bits ∷ []))
+move_text (Mov64UImm32Shifted rd imm) = Some (row (load_half_name imm.shift) (reg_text rd ∷ decimal imm.bits ∷ []))
+move_text (Insert64UImm16Shifted rd ri imm) = Some (row (insert_part_name imm.shift) (reused_text rd ri ∷ decimal imm.bits ∷ []))
+move_text (Insert64UImm32Shifted rd ri imm) = Some (row (insert_half_name imm.shift) (reused_text rd ri ∷ decimal imm.bits ∷ []))
+move_text (CMov32 rd mask ri rm) = Some (conditional (codes "locr") mask (reused_text rd ri ∷ reg_text rm ∷ []))
+move_text (CMov64 rd mask ri rm) = Some (conditional (codes "locgr") mask (reused_text rd ri ∷ reg_text rm ∷ []))
+move_text (CMov32SImm16 rd mask ri imm) = Some (conditional (codes "lochi") mask (reused_text rd ri ∷ signed_decimal imm ∷ []))
+move_text (CMov64SImm16 rd mask ri imm) = Some (conditional (codes "locghi") mask (reused_text rd ri ∷ signed_decimal imm ∷ []))
+move_text (Extend rd rn signed from to) = Some (row (extend_name signed from to) (reg_text rd ∷ reg_text rn ∷ []))
+move_text (LoadAR rd ar) = Some (fixed (spelled (codes "ear") (reg_text rd ∷ access_register_text ar ∷ [])))
+move_text (InsertAR rd ri ar) = Some (fixed (spelled (codes "ear") (reused_text rd ri ∷ access_register_text ar ∷ [])))
+move_text (LoadIndexedAddr rd base index offset size) = Some (row (indexed_name size) (reg_text rd ∷ indexed_text offset index base ∷ []))
+move_text (LoadLogicalIndexedAddr rd base index offset size) = Some (row (logical_indexed_name size) (reg_text rd ∷ indexed_text offset index base ∷ []))
+move_text _ = None

@@ -1,0 +1,175 @@
+-- The texts of memory operands, and of instructions that have one (cranelift-codegen, `args.rs` and `mod.rs`).
+use Rattle.std.specs.Prelude.{ℕ, List, [], ◌∷◌, ◌++◌, codes, Bool, true, false, cond, not, ◌&&◌, ◌||◌, is_some, Option, Some, None}
+use Rattle.std.specs.Fmt.{decimal, signed_decimal}
+use Rattle.std.specs.Option.{option_map}
+use Rattle.s390x_base.specs.declared.error.EmitError.{EmitError}
+use Rattle.s390x_base.specs.declared.regs.Reg.{Reg}
+use Rattle.s390x_inst.specs.Emission.{Emission}
+use Rattle.s390x_inst.specs.declared.args.MemArg.{MemArg}
+use Rattle.s390x_inst.specs.declared.args.MemArg.TheVariants.{BXD12, BXD20, Label, Constant, Symbol, RegOffset, InitialSPOffset, IncomingArgOffset, OutgoingArgOffset, SlotOffset, SpillOffset}
+use Rattle.s390x_inst.specs.declared.load.LoadOp.{LoadOp}
+use Rattle.s390x_inst.specs.Loads.{as_load, by_load}
+use Rattle.s390x_inst.specs.declared.inst.Inst.{Inst}
+use Rattle.s390x_inst.specs.declared.inst.Inst.TheVariants.{Mov64SImm32, AluRX, CmpRX, Store8, Store16, Store32}
+use Rattle.s390x_inst.specs.declared.inst.Inst.TheVariants.{Store64, StoreRev16, StoreRev32, StoreRev64, StoreImm8, StoreImm16, StoreImm32SExt16, StoreImm64SExt16, LoadMultiple64, StoreMultiple64, LoadAddr, AtomicRmw, AtomicCas32, AtomicCas64}
+use Rattle.s390x_typed_steps.specs.Operands.{Finalized, finalized, resolved}
+use Rattle.s390x_typed_steps.specs.Causes.{operand_cause}
+use Rattle.s390x_typed_steps.specs.declared.mem_inst_type.MemInstType.{MemInstType}
+use Rattle.s390x_job_fields.specs.Atoms.{reg_text}
+use Rattle.s390x_text_rows.specs.Texts.{Text, spelled}
+use Rattle.s390x_text_rows.specs.Operands.{is_zero, label_text, name_text, reused_text}
+use Rattle.s390x_text_rows.specs.Mnemonics.{alu_short_name, alu_long_name, atomic_name, cmp_short_name, cmp_long_name, cmp_relative_name, load_short_name, load_long_name, load_relative_name}
+use Rattle.s390x_text_rows.specs.declared.error.TextError.{TextError}
+use Rattle.s390x_text_rows.specs.declared.error.TextError.TheVariants.{NoRow, Virtual, Address}
+use Rattle.s390x_text_rows.specs.declared.storage.Rows.{Rows as DeclaredRows}
+
+-- ---- operands
+
+-- a base and an index behind a displacement: `(X,B)`, `(B)`, `(X,)`, or nothing
+abbrev pub sum_text : (base index : Reg) → List ℕ
+sum_text base index =
+    cond (is_zero base) (cond (is_zero index) [] (codes "(" ++ (reg_text index ++ codes ",)")))
+    (cond (is_zero index) (codes "(" ++ (reg_text base ++ codes ")")) (codes "(" ++ (reg_text index ++ (codes "," ++ (reg_text base ++ codes ")")))))
+
+-- an operand that stands in an access; nothing for one that doesn't before its offset has become a displacement
+abbrev pub memory_text : MemArg → List ℕ
+memory_text (BXD12 base index disp flags) = decimal disp ++ sum_text base index
+memory_text (BXD20 base index disp flags) = signed_decimal disp ++ sum_text base index
+memory_text (Label target) = label_text target.0
+memory_text (Constant c) = codes "[const(" ++ (decimal c.0 ++ codes ")]")
+memory_text (Symbol name offset flags) = name_text name.0 ++ (codes " + " ++ signed_decimal offset)
+memory_text m = []
+
+-- an offset from a register, or in the frame
+abbrev pub is_virtual : MemArg → Bool
+is_virtual (RegOffset reg off flags) = true
+is_virtual (InitialSPOffset off) = true
+is_virtual (IncomingArgOffset off) = true
+is_virtual (OutgoingArgOffset off) = true
+is_virtual (SlotOffset off) = true
+is_virtual (SpillOffset off) = true
+is_virtual m = false
+
+-- the text of an operand by itself, or its refusal
+abbrev pub operand_alone : MemArg → Text
+operand_alone m = record { cause = cond (is_virtual m) (Some Virtual) None; bytes = memory_text m }
+
+-- ---- rows
+
+-- the mnemonics that an instruction has by the form of its operand: a displacement of 12 bits, one of 20 bits, and relative to the instruction;
+-- whether its rows have an index, and whether they access memory
+pub record Rows : Type 0 where
+  pub short : Option (List ℕ)
+  pub long : Option (List ℕ)
+  pub relative : Option (List ℕ)
+  pub index : Bool
+  pub accesses : Bool
+
+-- rows of formats RX, RXY and RIL-B
+abbrev pub rx : (short long relative : Option (List ℕ)) → Rows
+rx short long relative = record { short = short; long = long; relative = relative; index = true; accesses = true }
+
+-- rows without an index or a relative form: of formats RS, RSY, SI, SIY and SIL
+abbrev pub rs : (short long : Option (List ℕ)) → Rows
+rs short long = record { short = short; long = long; relative = None; index = false; accesses = true }
+
+-- the rows of LOAD ADDRESS
+abbrev pub address_rows : Rows
+address_rows = record { short = Some (codes "la"); long = Some (codes "lay"); relative = Some (codes "larl"); index = true; accesses = false }
+
+-- a table's rows as contracts see them
+abbrev pub rows_of : DeclaredRows → Rows
+rows_of r = record { short = option_map (λ s. s.now) r.short; long = option_map (λ s. s.now) r.long; relative = option_map (λ s. s.now) r.relative; index = r.index; accesses = r.accesses }
+
+-- there is a row for some operand
+abbrev pub has_row : Rows → Bool
+has_row r = is_some r.short || is_some r.long || is_some r.relative
+
+-- the forms of an operand that the rows have, on a machine that has accesses relative to the instruction or lacks them; a relative operand of an access has to be
+-- aligned
+abbrev pub type_of_rows : (has_relative : Bool) → Rows → MemInstType
+type_of_rows has r =
+    record { have_d12 = is_some r.short; have_d20 = is_some r.long; have_pcrel = is_some r.relative && (has || not r.accesses); have_unaligned_pcrel = is_some r.relative && not r.accesses; have_index = r.index }
+
+-- a mnemonic; nothing where there is none
+abbrev pub or_nothing : Option (List ℕ) → List ℕ
+or_nothing None = []
+or_nothing (Some name) = name
+
+-- the mnemonic at an operand
+abbrev pub name_at : Rows → MemArg → List ℕ
+name_at r (BXD12 base index disp flags) = or_nothing r.short
+name_at r (BXD20 base index disp flags) = or_nothing r.long
+name_at r (Label target) = or_nothing r.relative
+name_at r (Constant c) = or_nothing r.relative
+name_at r (Symbol name offset flags) = or_nothing r.relative
+name_at r m = []
+
+-- the instructions that come before an access: an offset that is loaded, and an address
+abbrev pub helper_text : Inst → List ℕ
+helper_text (Mov64SImm32 rd imm) = spelled (codes "lgfi") (reg_text rd ∷ signed_decimal imm ∷ [])
+helper_text (LoadAddr rd mem) = spelled (name_at address_rows mem) (reg_text rd ∷ memory_text mem ∷ [])
+helper_text i = []
+
+-- helpers in order, each followed by a semicolon
+abbrev pub helpers_text : List Inst → List ℕ
+helpers_text [] = []
+helpers_text (i ∷ is) = (helper_text i ++ codes " ; ") ++ helpers_text is
+
+-- a cause of the address
+abbrev pub address_cause : Option EmitError → Option TextError
+address_cause None = None
+address_cause (Some e) = Some (Address e)
+
+-- the causes: there is no row at all, or the address can't be made
+abbrev pub access_cause : (has_relative : Bool) → Rows → MemArg → Option TextError
+access_cause has r m = cond (has_row r) (address_cause (operand_cause (type_of_rows has r) m)) (Some NoRow)
+
+-- helpers, and the access with its operands before and behind that in memory
+abbrev pub finalized_text : Rows → Finalized → (before after : List (List ℕ)) → List ℕ
+finalized_text r f before after = helpers_text f.helpers ++ spelled (name_at r f.operand) (before ++ (memory_text f.operand ∷ after))
+
+-- the text of an instruction with an operand in memory, in a state of emission
+abbrev pub access_where : (has_relative : Bool) → Rows → Emission → (before : List (List ℕ)) → MemArg → (after : List (List ℕ)) → Text
+access_where has r e before m after = record { cause = access_cause has r (resolved e m); bytes = finalized_text r (finalized (type_of_rows has r) (resolved e m)) before after }
+
+-- the same of one that has no row relative to the instruction, or of LOAD ADDRESS, which each machine has
+abbrev pub access : Rows → Emission → (before : List (List ℕ)) → MemArg → (after : List (List ℕ)) → Text
+access r e before m after = access_where true r e before m after
+
+-- ---- instructions
+
+-- the mnemonics of a load
+abbrev pub load_mnemonics : LoadOp → Rows
+load_mnemonics op = rx (load_short_name op) (load_long_name op) (load_relative_name op)
+
+-- loads, on a machine that has rows relative to the instruction or lacks them
+abbrev pub load_text : (has_relative : Bool) → Emission → Inst → Option Text
+load_text has e i = by_load (λ l. Some (access_where has (load_mnemonics l.op) e (reg_text l.rd ∷ []) l.mem [])) None (as_load i)
+
+-- stores; those of an immediate show the operand first
+abbrev pub store_text : (has_relative : Bool) → Emission → Inst → Option Text
+store_text has e (Store8 rd mem) = Some (access_where has (rx (Some (codes "stc")) (Some (codes "stcy")) None) e (reg_text rd ∷ []) mem [])
+store_text has e (Store16 rd mem) = Some (access_where has (rx (Some (codes "sth")) (Some (codes "sthy")) (Some (codes "sthrl"))) e (reg_text rd ∷ []) mem [])
+store_text has e (Store32 rd mem) = Some (access_where has (rx (Some (codes "st")) (Some (codes "sty")) (Some (codes "strl"))) e (reg_text rd ∷ []) mem [])
+store_text has e (Store64 rd mem) = Some (access_where has (rx None (Some (codes "stg")) (Some (codes "stgrl"))) e (reg_text rd ∷ []) mem [])
+store_text has e (StoreRev16 rd mem) = Some (access_where has (rx None (Some (codes "strvh")) None) e (reg_text rd ∷ []) mem [])
+store_text has e (StoreRev32 rd mem) = Some (access_where has (rx None (Some (codes "strv")) None) e (reg_text rd ∷ []) mem [])
+store_text has e (StoreRev64 rd mem) = Some (access_where has (rx None (Some (codes "strvg")) None) e (reg_text rd ∷ []) mem [])
+store_text has e (StoreImm8 imm mem) = Some (access_where has (rs (Some (codes "mvi")) (Some (codes "mviy"))) e [] mem (decimal imm ∷ []))
+store_text has e (StoreImm16 imm mem) = Some (access_where has (rs (Some (codes "mvhhi")) None) e [] mem (signed_decimal imm ∷ []))
+store_text has e (StoreImm32SExt16 imm mem) = Some (access_where has (rs (Some (codes "mvhi")) None) e [] mem (signed_decimal imm ∷ []))
+store_text has e (StoreImm64SExt16 imm mem) = Some (access_where has (rs (Some (codes "mvghi")) None) e [] mem (signed_decimal imm ∷ []))
+store_text has e _ = None
+
+-- operators with an operand in memory, multiples, addresses, and accesses that are locked
+abbrev pub storage_operator_text : (has_relative : Bool) → Emission → Inst → Option Text
+storage_operator_text has e (AluRX op rd ri mem) = Some (access_where has (rx (alu_short_name op) (alu_long_name op) None) e (reused_text rd ri ∷ []) mem [])
+storage_operator_text has e (CmpRX op rn mem) = Some (access_where has (rx (cmp_short_name op) (cmp_long_name op) (Some (cmp_relative_name op))) e (reg_text rn ∷ []) mem [])
+storage_operator_text has e (LoadMultiple64 rt rt2 mem) = Some (access_where has (rs None (Some (codes "lmg"))) e (reg_text rt ∷ reg_text rt2 ∷ []) mem [])
+storage_operator_text has e (StoreMultiple64 rt rt2 mem) = Some (access_where has (rs None (Some (codes "stmg"))) e (reg_text rt ∷ reg_text rt2 ∷ []) mem [])
+storage_operator_text has e (LoadAddr rd mem) = Some (access_where has address_rows e (reg_text rd ∷ []) mem [])
+storage_operator_text has e (AtomicRmw op rd rn mem) = Some (access_where has (rs None (atomic_name op)) e (reg_text rd ∷ reg_text rn ∷ []) mem [])
+storage_operator_text has e (AtomicCas32 rd ri rn mem) = Some (access_where has (rs (Some (codes "cs")) (Some (codes "csy"))) e (reused_text rd ri ∷ reg_text rn ∷ []) mem [])
+storage_operator_text has e (AtomicCas64 rd ri rn mem) = Some (access_where has (rs None (Some (codes "csg"))) e (reused_text rd ri ∷ reg_text rn ∷ []) mem [])
+storage_operator_text has e _ = None

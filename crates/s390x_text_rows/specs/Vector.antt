@@ -1,0 +1,219 @@
+-- The texts of instructions on vector and float registers (cranelift-codegen, `mod.rs`).
+use Rattle.std.specs.Prelude.{ℕ, ◌+◌, ◌*◌, ◌-◌, List, [], ◌∷◌, ◌++◌, codes, Bool, cond, ◌&&◌, nat_eq, nat_lt, Option, Some, None}
+use Rattle.std.specs.Fmt.{decimal, signed_decimal}
+use Rattle.s390x_base.specs.declared.regs.Reg.{Reg}
+use Rattle.s390x_inst.specs.Emission.{Emission}
+use Rattle.s390x_inst.specs.declared.args.MemArg.{MemArg}
+use Rattle.s390x_inst.specs.declared.vec_inst.VecInst.{VecInst}
+use Rattle.s390x_inst.specs.declared.vec_inst.VecInst.TheVariants.{VecRRR, VecRR, VecShiftRR, VecSelect, VecPermute, VecBlend, VecEvaluate, VecPermuteDWImm, VecIntCmp, VecIntCmpS, VecIntEltCmp, VecInt128SCmpHi, VecInt128UCmpHi, VecLoad, VecLoadRev, VecLoadByte16Rev, VecLoadByte32Rev}
+use Rattle.s390x_inst.specs.declared.vec_inst.VecInst.TheVariants.{VecLoadByte64Rev, VecLoadElt16Rev, VecLoadElt32Rev, VecLoadElt64Rev, VecStore, VecStoreRev, VecStoreByte16Rev, VecStoreByte32Rev, VecStoreByte64Rev, VecStoreElt16Rev, VecStoreElt32Rev, VecStoreElt64Rev, VecLoadReplicate}
+use Rattle.s390x_inst.specs.declared.vec_inst.VecInst.TheVariants.{VecLoadReplicateRev, VecLoadLane, VecLoadLaneRev, VecLoadLaneUndef, VecLoadLaneRevUndef, VecStoreLane, VecStoreLaneRev, VecMov, FpuMove32, FpuMove64, FpuCMov32, FpuCMov64, VecCMov, MovToVec128, VecImmByteMask, VecImmBitMask}
+use Rattle.s390x_inst.specs.declared.vec_inst.VecInst.TheVariants.{VecImmReplicate, VecInsertLane, VecInsertLaneUndef, VecExtractLane, VecInsertLaneImm, VecInsertLaneImmUndef, VecReplicateLane, VecEltRev}
+use Rattle.s390x_inst.specs.declared.vec_ops.VecBinaryOp.{VecBinaryOp}
+use Rattle.s390x_inst.specs.declared.vec_ops.VecBinaryOp.TheVariants.{UDiv32x4, UDiv64x2, UDiv128, SDiv32x4, SDiv64x2, SDiv128, URem32x4, URem64x2, URem128, SRem32x4, SRem64x2, SRem128}
+use Rattle.s390x_job_fields.specs.Atoms.{reg_text}
+use Rattle.s390x_text_rows.specs.Texts.{Text, row, fixed, spelled, text_or}
+use Rattle.s390x_text_rows.specs.Operands.{reused_text, amount_text, cond_text, is_float, float_text, is_zero}
+use Rattle.s390x_text_rows.specs.Storage.{rx, access}
+use Rattle.s390x_text_rows.specs.VectorMnemonics.{vec_binary_name, vec_unary_name, vec_shift_name, vec_compare_name, vec_compare_set_name, vec_element_compare_name}
+
+-- ---- mnemonics that a width and a lane choose
+
+-- by the width of a lane in bits: no row for another width, or where there are no so many lanes
+abbrev pub lane_name : (b h f g : List ℕ) → (size lane : ℕ) → Option (List ℕ)
+lane_name b h f g size lane =
+    cond (nat_eq size 8 && nat_lt lane 16) (Some b)
+    (cond (nat_eq size 16 && nat_lt lane 8) (Some h) (cond (nat_eq size 32 && nat_lt lane 4) (Some f) (cond (nat_eq size 64 && nat_lt lane 2) (Some g) None)))
+
+-- the same from 16 bits on, where bytes are reversed
+abbrev pub reversed_name : (h f g : List ℕ) → (size lane : ℕ) → Option (List ℕ)
+reversed_name h f g size lane = cond (nat_eq size 16 && nat_lt lane 8) (Some h) (cond (nat_eq size 32 && nat_lt lane 4) (Some f) (cond (nat_eq size 64 && nat_lt lane 2) (Some g) None))
+
+-- both bit numbers lie below the width
+abbrev pub mask_name : (size start end : ℕ) → Option (List ℕ)
+mask_name size start end = cond (nat_lt start size && nat_lt end size) (lane_name (codes "vgmb") (codes "vgmh") (codes "vgmf") (codes "vgmg") size 0) None
+
+-- ---- rows
+
+-- divisions show a mask
+abbrev pub vec_binary_operands : VecBinaryOp → (rd rn rm : Reg) → List (List ℕ)
+vec_binary_operands UDiv32x4 rd rn rm = reg_text rd ∷ reg_text rn ∷ reg_text rm ∷ decimal 0 ∷ []
+vec_binary_operands UDiv64x2 rd rn rm = reg_text rd ∷ reg_text rn ∷ reg_text rm ∷ decimal 0 ∷ []
+vec_binary_operands UDiv128 rd rn rm = reg_text rd ∷ reg_text rn ∷ reg_text rm ∷ decimal 0 ∷ []
+vec_binary_operands SDiv32x4 rd rn rm = reg_text rd ∷ reg_text rn ∷ reg_text rm ∷ decimal 0 ∷ []
+vec_binary_operands SDiv64x2 rd rn rm = reg_text rd ∷ reg_text rn ∷ reg_text rm ∷ decimal 0 ∷ []
+vec_binary_operands SDiv128 rd rn rm = reg_text rd ∷ reg_text rn ∷ reg_text rm ∷ decimal 0 ∷ []
+vec_binary_operands URem32x4 rd rn rm = reg_text rd ∷ reg_text rn ∷ reg_text rm ∷ decimal 0 ∷ []
+vec_binary_operands URem64x2 rd rn rm = reg_text rd ∷ reg_text rn ∷ reg_text rm ∷ decimal 0 ∷ []
+vec_binary_operands URem128 rd rn rm = reg_text rd ∷ reg_text rn ∷ reg_text rm ∷ decimal 0 ∷ []
+vec_binary_operands SRem32x4 rd rn rm = reg_text rd ∷ reg_text rn ∷ reg_text rm ∷ decimal 0 ∷ []
+vec_binary_operands SRem64x2 rd rn rm = reg_text rd ∷ reg_text rn ∷ reg_text rm ∷ decimal 0 ∷ []
+vec_binary_operands SRem128 rd rn rm = reg_text rd ∷ reg_text rn ∷ reg_text rm ∷ decimal 0 ∷ []
+vec_binary_operands _ rd rn rm = reg_text rd ∷ reg_text rn ∷ reg_text rm ∷ []
+
+-- doublewords are chosen by 0 or 1
+abbrev pub doublewords_text : (rd rn rm : Reg) → (idx1 idx2 : ℕ) → Text
+doublewords_text rd rn rm idx1 idx2 =
+    row (cond (nat_lt idx1 2 && nat_lt idx2 2) (Some (codes "vpdi")) None) (reg_text rd ∷ reg_text rn ∷ reg_text rm ∷ decimal (4 * idx1 + idx2) ∷ [])
+
+-- a comparison of two numbers of 128 bits: their left halves, and where these are equal their right ones
+abbrev pub wide_compare_text : List ℕ → (tmp rn rm : Reg) → List ℕ
+wide_compare_text name tmp rn rm = spelled name (reg_text rm ∷ reg_text rn ∷ []) ++ (codes " ; jne 10 ; " ++ spelled (codes "vchlgs") (reg_text tmp ∷ reg_text rn ∷ reg_text rm ∷ []))
+
+-- both registers are float registers
+abbrev pub are_floats : (r s : Reg) → Bool
+are_floats r s = is_float r && is_float s
+
+-- a move of float registers, or of whole ones
+abbrev pub float_move_text : List ℕ → (rd rn : Reg) → List ℕ
+float_move_text name rd rn = cond (are_floats rd rn) (spelled name (float_text rd ∷ float_text rn ∷ [])) (spelled (codes "vlr") (reg_text rd ∷ reg_text rn ∷ []))
+
+-- a branch over what follows, where a condition doesn't hold
+abbrev pub unless_text : (mask : ℕ) → (over : List ℕ) → List ℕ
+unless_text mask over = codes "j" ++ (cond_text (15 - mask) ++ (codes " " ++ (over ++ codes " ; ")))
+
+-- a move where a condition holds, over whose bytes a branch goes
+abbrev pub float_cmov_text : List ℕ → (rd : Reg) → (mask : ℕ) → (rm : Reg) → List ℕ
+float_cmov_text name rd mask rm = unless_text mask (cond (are_floats rd rm) (codes "6") (codes "10")) ++ float_move_text name rd rm
+
+-- a general register into lane 0 of 64 bits: a float register, where the lane has no register
+abbrev pub is_float_lane : (size : ℕ) → Reg → (lane : ℕ) → Reg → Bool
+is_float_lane size r lane lane_reg = nat_eq size 64 && nat_eq lane 0 && is_zero lane_reg && is_float r
+
+-- doublewords in reverse order; and then halves of them, by rotation, on the register itself, until lanes are
+abbrev pub reverse2_text : (rd rn : Reg) → List ℕ
+reverse2_text rd rn = spelled (codes "vpdi") (reg_text rd ∷ reg_text rn ∷ reg_text rn ∷ decimal 4 ∷ [])
+
+abbrev pub reverse4_text : (rd rn : Reg) → List ℕ
+reverse4_text rd rn = reverse2_text rd rn ++ (codes " ; " ++ spelled (codes "verllg") (reg_text rd ∷ reg_text rd ∷ decimal 32 ∷ []))
+
+abbrev pub reverse8_text : (rd rn : Reg) → List ℕ
+reverse8_text rd rn = reverse4_text rd rn ++ (codes " ; " ++ spelled (codes "verllf") (reg_text rd ∷ reg_text rd ∷ decimal 16 ∷ []))
+
+abbrev pub reverse16_text : (rd rn : Reg) → List ℕ
+reverse16_text rd rn = reverse8_text rd rn ++ (codes " ; " ++ spelled (codes "verllh") (reg_text rd ∷ reg_text rd ∷ decimal 8 ∷ []))
+
+-- by the count of lanes
+abbrev pub reverse_text : (rd rn : Reg) → (count : ℕ) → Text
+reverse_text rd rn count =
+    cond (nat_eq count 2) (fixed (reverse2_text rd rn))
+    (cond (nat_eq count 4) (fixed (reverse4_text rd rn)) (cond (nat_eq count 8) (fixed (reverse8_text rd rn)) (cond (nat_eq count 16) (fixed (reverse16_text rd rn)) (row None []))))
+
+-- a load of lane 0 into a float register, or of a lane
+abbrev pub load_lane_text : Emission → (size : ℕ) → Reg → MemArg → (lane : ℕ) → Text
+load_lane_text e size rd mem lane =
+    cond (is_float rd && nat_eq lane 0 && nat_eq size 32) (access (rx (Some (codes "le")) (Some (codes "ley")) None) e (float_text rd ∷ []) mem [])
+    (cond (is_float rd && nat_eq lane 0 && nat_eq size 64) (access (rx (Some (codes "ld")) (Some (codes "ldy")) None) e (float_text rd ∷ []) mem [])
+    (access (rx (lane_name (codes "vleb") (codes "vleh") (codes "vlef") (codes "vleg") size lane) None None) e (reg_text rd ∷ []) mem (decimal lane ∷ [])))
+
+-- a store of lane 0 of a float register, or of a lane
+abbrev pub store_lane_text : Emission → (size : ℕ) → Reg → MemArg → (lane : ℕ) → Text
+store_lane_text e size rd mem lane =
+    cond (is_float rd && nat_eq lane 0 && nat_eq size 32) (access (rx (Some (codes "ste")) (Some (codes "stey")) None) e (float_text rd ∷ []) mem [])
+    (cond (is_float rd && nat_eq lane 0 && nat_eq size 64) (access (rx (Some (codes "std")) (Some (codes "stdy")) None) e (float_text rd ∷ []) mem [])
+    (access (rx (lane_name (codes "vsteb") (codes "vsteh") (codes "vstef") (codes "vsteg") size lane) None None) e (reg_text rd ∷ []) mem (decimal lane ∷ [])))
+
+-- a whole register, by a row of format VRX
+abbrev pub whole_text : List ℕ → Emission → Reg → MemArg → Text
+whole_text name e rd mem = access (rx (Some name) None None) e (reg_text rd ∷ []) mem []
+
+-- ---- instructions
+
+-- operators, and bits and lanes that are chosen
+abbrev pub vec_operator_text : VecInst → Option Text
+vec_operator_text (VecRRR op rd rn rm) = Some (fixed (spelled (vec_binary_name op) (vec_binary_operands op rd rn rm)))
+vec_operator_text (VecRR op rd rn) = Some (fixed (spelled (vec_unary_name op) (reg_text rd ∷ reg_text rn ∷ [])))
+vec_operator_text (VecShiftRR op rd rn amount register) = Some (fixed (spelled (vec_shift_name op) (reg_text rd ∷ reg_text rn ∷ amount_text amount register ∷ [])))
+vec_operator_text (VecSelect rd rn rm ra) = Some (fixed (spelled (codes "vsel") (reg_text rd ∷ reg_text rn ∷ reg_text rm ∷ reg_text ra ∷ [])))
+vec_operator_text (VecPermute rd rn rm ra) = Some (fixed (spelled (codes "vperm") (reg_text rd ∷ reg_text rn ∷ reg_text rm ∷ reg_text ra ∷ [])))
+vec_operator_text (VecBlend rd rn rm ra) = Some (fixed (spelled (codes "vblend") (reg_text rd ∷ reg_text rn ∷ reg_text rm ∷ reg_text ra ∷ [])))
+vec_operator_text (VecEvaluate imm rd rn rm ra) = Some (fixed (spelled (codes "veval") (reg_text rd ∷ reg_text rn ∷ reg_text rm ∷ reg_text ra ∷ decimal imm ∷ [])))
+vec_operator_text (VecPermuteDWImm rd rn rm idx1 idx2) = Some (doublewords_text rd rn rm idx1 idx2)
+vec_operator_text (VecIntCmp op rd rn rm) = Some (fixed (spelled (vec_compare_name op) (reg_text rd ∷ reg_text rn ∷ reg_text rm ∷ [])))
+vec_operator_text (VecIntCmpS op rd rn rm) = Some (fixed (spelled (vec_compare_set_name op) (reg_text rd ∷ reg_text rn ∷ reg_text rm ∷ [])))
+vec_operator_text (VecIntEltCmp op rn rm) = Some (fixed (spelled (vec_element_compare_name op) (reg_text rn ∷ reg_text rm ∷ [])))
+vec_operator_text (VecInt128SCmpHi tmp rn rm) = Some (fixed (wide_compare_text (codes "vecg") tmp rn rm))
+vec_operator_text (VecInt128UCmpHi tmp rn rm) = Some (fixed (wide_compare_text (codes "veclg") tmp rn rm))
+vec_operator_text _ = None
+
+-- moves and immediates
+abbrev pub vec_move_text : VecInst → Option Text
+vec_move_text (VecMov rd rn) = Some (fixed (spelled (codes "vlr") (reg_text rd ∷ reg_text rn ∷ [])))
+vec_move_text (FpuMove32 rd rn) = Some (fixed (float_move_text (codes "ler") rd rn))
+vec_move_text (FpuMove64 rd rn) = Some (fixed (float_move_text (codes "ldr") rd rn))
+vec_move_text (FpuCMov32 rd mask ri rm) = Some (fixed (float_cmov_text (codes "ler") rd mask rm))
+vec_move_text (FpuCMov64 rd mask ri rm) = Some (fixed (float_cmov_text (codes "ldr") rd mask rm))
+vec_move_text (VecCMov rd mask ri rm) = Some (fixed (unless_text mask (codes "10") ++ spelled (codes "vlr") (reused_text rd ri ∷ reg_text rm ∷ [])))
+vec_move_text (MovToVec128 rd rn rm) = Some (fixed (spelled (codes "vlvgp") (reg_text rd ∷ reg_text rn ∷ reg_text rm ∷ [])))
+vec_move_text (VecImmByteMask rd mask) = Some (fixed (spelled (codes "vgbm") (reg_text rd ∷ decimal mask ∷ [])))
+vec_move_text (VecImmBitMask size rd start end) = Some (row (mask_name size start end) (reg_text rd ∷ decimal start ∷ decimal end ∷ []))
+vec_move_text (VecImmReplicate size rd imm) = Some (row (lane_name (codes "vrepib") (codes "vrepih") (codes "vrepif") (codes "vrepig") size 0) (reg_text rd ∷ signed_decimal imm ∷ []))
+vec_move_text _ = None
+
+-- a register into a lane: the other lanes may change, so lane 0 of 64 bits may be a float register
+abbrev pub insert_lane_text : (size : ℕ) → (rd rn : Reg) → (lane : ℕ) → (lane_reg : Reg) → Text
+insert_lane_text size rd rn lane lane_reg =
+    cond (is_float_lane size rd lane lane_reg) (fixed (spelled (codes "ldgr") (float_text rd ∷ reg_text rn ∷ [])))
+    (row (lane_name (codes "vlvgb") (codes "vlvgh") (codes "vlvgf") (codes "vlvgg") size lane) (reg_text rd ∷ reg_text rn ∷ amount_text lane lane_reg ∷ []))
+
+-- a lane into a general register
+abbrev pub extract_lane_text : (size : ℕ) → (rd rn : Reg) → (lane : ℕ) → (lane_reg : Reg) → Text
+extract_lane_text size rd rn lane lane_reg =
+    cond (is_float_lane size rn lane lane_reg) (fixed (spelled (codes "lgdr") (reg_text rd ∷ float_text rn ∷ [])))
+    (row (lane_name (codes "vlgvb") (codes "vlgvh") (codes "vlgvf") (codes "vlgvg") size lane) (reg_text rd ∷ reg_text rn ∷ amount_text lane lane_reg ∷ []))
+
+-- lanes
+abbrev pub vec_lane_text : VecInst → Option Text
+vec_lane_text (VecInsertLane size rd ri rn lane lane_reg) =
+    Some (row (lane_name (codes "vlvgb") (codes "vlvgh") (codes "vlvgf") (codes "vlvgg") size lane) (reused_text rd ri ∷ reg_text rn ∷ amount_text lane lane_reg ∷ []))
+vec_lane_text (VecInsertLaneUndef size rd rn lane lane_reg) = Some (insert_lane_text size rd rn lane lane_reg)
+vec_lane_text (VecExtractLane size rd rn lane lane_reg) = Some (extract_lane_text size rd rn lane lane_reg)
+vec_lane_text (VecInsertLaneImm size rd ri imm lane) =
+    Some (row (lane_name (codes "vleib") (codes "vleih") (codes "vleif") (codes "vleig") size lane) (reused_text rd ri ∷ signed_decimal imm ∷ decimal lane ∷ []))
+vec_lane_text (VecInsertLaneImmUndef size rd imm lane) =
+    Some (row (lane_name (codes "vleib") (codes "vleih") (codes "vleif") (codes "vleig") size lane) (reg_text rd ∷ signed_decimal imm ∷ decimal lane ∷ []))
+vec_lane_text (VecReplicateLane size rd rn lane) =
+    Some (row (lane_name (codes "vrepb") (codes "vreph") (codes "vrepf") (codes "vrepg") size lane) (reg_text rd ∷ reg_text rn ∷ decimal lane ∷ []))
+vec_lane_text (VecEltRev count rd rn) = Some (reverse_text rd rn count)
+vec_lane_text _ = None
+
+-- loads and stores of whole registers
+abbrev pub vec_whole_text : Emission → VecInst → Option Text
+vec_whole_text e (VecLoad rd mem) = Some (whole_text (codes "vl") e rd mem)
+vec_whole_text e (VecLoadRev rd mem) = Some (whole_text (codes "vlbrq") e rd mem)
+vec_whole_text e (VecLoadByte16Rev rd mem) = Some (whole_text (codes "vlbrh") e rd mem)
+vec_whole_text e (VecLoadByte32Rev rd mem) = Some (whole_text (codes "vlbrf") e rd mem)
+vec_whole_text e (VecLoadByte64Rev rd mem) = Some (whole_text (codes "vlbrg") e rd mem)
+vec_whole_text e (VecLoadElt16Rev rd mem) = Some (whole_text (codes "vlerh") e rd mem)
+vec_whole_text e (VecLoadElt32Rev rd mem) = Some (whole_text (codes "vlerf") e rd mem)
+vec_whole_text e (VecLoadElt64Rev rd mem) = Some (whole_text (codes "vlerg") e rd mem)
+vec_whole_text e (VecStore rd mem) = Some (whole_text (codes "vst") e rd mem)
+vec_whole_text e (VecStoreRev rd mem) = Some (whole_text (codes "vstbrq") e rd mem)
+vec_whole_text e (VecStoreByte16Rev rd mem) = Some (whole_text (codes "vstbrh") e rd mem)
+vec_whole_text e (VecStoreByte32Rev rd mem) = Some (whole_text (codes "vstbrf") e rd mem)
+vec_whole_text e (VecStoreByte64Rev rd mem) = Some (whole_text (codes "vstbrg") e rd mem)
+vec_whole_text e (VecStoreElt16Rev rd mem) = Some (whole_text (codes "vsterh") e rd mem)
+vec_whole_text e (VecStoreElt32Rev rd mem) = Some (whole_text (codes "vsterf") e rd mem)
+vec_whole_text e (VecStoreElt64Rev rd mem) = Some (whole_text (codes "vsterg") e rd mem)
+vec_whole_text e _ = None
+
+-- loads and stores of lanes
+abbrev pub vec_part_text : Emission → VecInst → Option Text
+vec_part_text e (VecLoadReplicate size rd mem) =
+    Some (access (rx (lane_name (codes "vlrepb") (codes "vlreph") (codes "vlrepf") (codes "vlrepg") size 0) None None) e (reg_text rd ∷ []) mem [])
+vec_part_text e (VecLoadReplicateRev size rd mem) = Some (access (rx (reversed_name (codes "vlbrreph") (codes "vlbrrepf") (codes "vlbrrepg") size 0) None None) e (reg_text rd ∷ []) mem [])
+vec_part_text e (VecLoadLane size rd ri mem lane) =
+    Some (access (rx (lane_name (codes "vleb") (codes "vleh") (codes "vlef") (codes "vleg") size lane) None None) e (reg_text rd ∷ []) mem (decimal lane ∷ []))
+vec_part_text e (VecLoadLaneRev size rd ri mem lane) =
+    Some (access (rx (reversed_name (codes "vlebrh") (codes "vlebrf") (codes "vlebrg") size lane) None None) e (reg_text rd ∷ []) mem (decimal lane ∷ []))
+vec_part_text e (VecLoadLaneUndef size rd mem lane) = Some (load_lane_text e size rd mem lane)
+vec_part_text e (VecLoadLaneRevUndef size rd mem lane) =
+    Some (access (rx (reversed_name (codes "vlebrh") (codes "vlebrf") (codes "vlebrg") size lane) None None) e (reg_text rd ∷ []) mem (decimal lane ∷ []))
+vec_part_text e (VecStoreLane size rd mem lane) = Some (store_lane_text e size rd mem lane)
+vec_part_text e (VecStoreLaneRev size rd mem lane) =
+    Some (access (rx (reversed_name (codes "vstebrh") (codes "vstebrf") (codes "vstebrg") size lane) None None) e (reg_text rd ∷ []) mem (decimal lane ∷ []))
+vec_part_text e _ = None
+
+-- the text of an instruction on vector or float registers
+abbrev pub vector_text : Emission → VecInst → Text
+vector_text e v = text_or (vec_operator_text v) (text_or (vec_move_text v) (text_or (vec_lane_text v) (text_or (vec_whole_text e v) (text_or (vec_part_text e v) (row None [])))))

@@ -1,0 +1,262 @@
+//! The texts of instructions that go elsewhere, end a run, name a place or have no bytes.
+ghost use Rattle.std.specs.Prelude.{◌≡◌, ◌++◌, ◌∷◌, [], codes, OnOk, string_bytes};
+ghost use Rattle.s390x_job_fields.specs.Atoms.{reg_text, trap_text};
+ghost use Rattle.s390x_text_rows.specs.Texts.{PrintsWhere, spelled};
+ghost use Rattle.s390x_text_rows.specs.Operands.{cond_text, label_text};
+ghost use Rattle.s390x_text_rows.specs.Control.{branch_text, labels_text, convention_text, args_text, rets_text, allocate_text, reloc_text, table_sum_text, table_text, control_text};
+
+use crate::error::TextError;
+use crate::operand::{Operand, cond_name};
+use crate::row::{answered, fixed1, fixed2, spelled1};
+use s390x_base::{Cond, MachLabel, Reg, TrapCode, Writable};
+use s390x_inst::{ArgPair, Inst, RetPair, SymbolReloc};
+use s390x_job_fields::atoms::{put_name, put_reg, put_trap};
+use s390x_job_fields::number::{put, put_integer, put_natural};
+use std::alloc::AllocError;
+
+// A branch to a block under a condition.
+fn put_branch(out: &mut String, cond: Cond, label: MachLabel) -> Result<(), AllocError>
+    ensures { OnOk result (string_bytes out.new ≡ string_bytes out.old ++ branch_text cond label.0) }
+{
+    put(out, "jg")?;
+    spelled1(out, cond_name(cond), &label)
+}
+
+fn put_two_branches(
+    out: &mut String,
+    cond: Cond,
+    taken: MachLabel,
+    not_taken: MachLabel,
+) -> Result<(), AllocError>
+    ensures { OnOk result (string_bytes out.new ≡ string_bytes out.old ++ (branch_text cond taken.0 ++ (codes " ; " ++ spelled (codes "jg") (label_text not_taken.0 ∷ [])))) }
+{
+    put_branch(out, cond, taken)?;
+    put(out, " ; ")?;
+    spelled1(out, "jg", &not_taken)
+}
+
+// A branch under a condition that goes where the text behind it says.
+fn put_jump(out: &mut String, cond: Cond, end: &str) -> Result<(), AllocError>
+    ensures { OnOk result (string_bytes out.new ≡ string_bytes out.old ++ (codes "jg" ++ (cond_text cond ++ end.now))) }
+{
+    put(out, "jg")?;
+    put(out, cond_name(cond))?;
+    put(out, end)
+}
+
+// The mnemonic of a branch under a condition.
+fn put_branch_name(out: &mut String, cond: Cond) -> Result<(), AllocError>
+    ensures { OnOk result (string_bytes out.new ≡ string_bytes out.old ++ (codes "jg" ++ cond_text cond)) }
+{
+    put(out, "jg")?;
+    put(out, cond_name(cond))
+}
+
+// The place in a branch that traps, and the trap's code.
+fn put_trap_place(out: &mut String, code: TrapCode) -> Result<(), AllocError>
+    ensures { OnOk result (string_bytes out.new ≡ string_bytes out.old ++ (codes " .+2 # trap=" ++ trap_text code)) }
+{
+    put(out, " .+2 # trap=")?;
+    put_trap(out, code)
+}
+
+fn put_trap_if(out: &mut String, cond: Cond, code: TrapCode) -> Result<(), AllocError>
+    ensures { OnOk result (string_bytes out.new ≡ string_bytes out.old ++ ((codes "jg" ++ (cond_text cond ++ codes " .+2 # trap=")) ++ trap_text code)) }
+{
+    put_branch_name(out, cond)?;
+    put_trap_place(out, code)
+}
+
+fn put_trap_word(out: &mut String, code: TrapCode) -> Result<(), AllocError>
+    ensures { OnOk result (string_bytes out.new ≡ string_bytes out.old ++ (codes ".word 0x0000 # trap=" ++ trap_text code)) }
+{
+    put(out, ".word 0x0000 # trap=")?;
+    put_trap(out, code)
+}
+
+// A label behind a space.
+fn put_label(out: &mut String, label: &MachLabel) -> Result<(), AllocError>
+    ensures { OnOk result (string_bytes out.new ≡ string_bytes out.old ++ (codes " " ++ label_text label.now.0)) }
+{
+    put(out, " ")?;
+    label.put(out)
+}
+
+fn put_labels(out: &mut String, labels: &[MachLabel]) -> Result<(), AllocError>
+    ensures { OnOk result (string_bytes out.new ≡ string_bytes out.old ++ labels_text labels.now) }
+{
+    for label in labels {
+        put_label(out, label)?;
+    }
+    Ok(())
+}
+
+// The word of a table that is added to its address.
+fn put_table_load(out: &mut String, index: Reg) -> Result<(), AllocError>
+    ensures { OnOk result (string_bytes out.new ≡ string_bytes out.old ++ (codes " ; larl %r1, 14 ; agf %r1, 0(" ++ reg_text index)) }
+{
+    put(out, " ; larl %r1, 14 ; agf %r1, 0(")?;
+    put_reg(out, index)
+}
+
+fn put_table_jump(out: &mut String) -> Result<(), AllocError>
+    ensures { OnOk result (string_bytes out.new ≡ string_bytes out.old ++ codes ", %r1) ; br %r1 ; jt_entries") }
+{
+    put(out, ", %r1) ; br %r1 ; jt_entries")
+}
+
+// The same, and the jump.
+fn put_table_sum(out: &mut String, index: Reg) -> Result<(), AllocError>
+    ensures { OnOk result (string_bytes out.new ≡ string_bytes out.old ++ table_sum_text index) }
+{
+    put_table_load(out, index)?;
+    put_table_jump(out)
+}
+
+fn put_table(
+    out: &mut String,
+    index: Reg,
+    other: MachLabel,
+    cond: Cond,
+    targets: &[MachLabel],
+) -> Result<(), AllocError>
+    ensures { OnOk result (string_bytes out.new ≡ string_bytes out.old ++ table_text index other.0 cond targets.now) }
+{
+    put_branch(out, cond, other)?;
+    put_table_sum(out, index)?;
+    put_labels(out, targets)
+}
+
+// A register that holds a value, and the one that the convention wants.
+fn put_convention(out: &mut String, held: Reg, wanted: Reg) -> Result<(), AllocError>
+    ensures { OnOk result (string_bytes out.new ≡ string_bytes out.old ++ convention_text held wanted) }
+{
+    put(out, " ")?;
+    put_reg(out, held)?;
+    put(out, "=")?;
+    put_reg(out, wanted)
+}
+
+fn put_arg(out: &mut String, arg: &ArgPair) -> Result<(), AllocError>
+    ensures { OnOk result (string_bytes out.new ≡ string_bytes out.old ++ convention_text arg.now.vreg arg.now.preg) }
+{
+    put_convention(out, arg.vreg.to_reg(), arg.preg)
+}
+
+fn put_arg_pairs(out: &mut String, args: &[ArgPair]) -> Result<(), AllocError>
+    ensures { OnOk result (string_bytes out.new ≡ string_bytes out.old ++ args_text args.now) }
+{
+    for arg in args {
+        put_arg(out, arg)?;
+    }
+    Ok(())
+}
+
+fn put_ret(out: &mut String, ret: &RetPair) -> Result<(), AllocError>
+    ensures { OnOk result (string_bytes out.new ≡ string_bytes out.old ++ convention_text ret.now.vreg ret.now.preg) }
+{
+    put_convention(out, ret.vreg, ret.preg)
+}
+
+fn put_ret_pairs(out: &mut String, rets: &[RetPair]) -> Result<(), AllocError>
+    ensures { OnOk result (string_bytes out.new ≡ string_bytes out.old ++ rets_text rets.now) }
+{
+    for ret in rets {
+        put_ret(out, ret)?;
+    }
+    Ok(())
+}
+
+fn put_args(out: &mut String, args: &[ArgPair]) -> Result<(), AllocError>
+    ensures { OnOk result (string_bytes out.new ≡ string_bytes out.old ++ (codes "args" ++ args_text args.now)) }
+{
+    put(out, "args")?;
+    put_arg_pairs(out, args)
+}
+
+fn put_rets(out: &mut String, rets: &[RetPair]) -> Result<(), AllocError>
+    ensures { OnOk result (string_bytes out.new ≡ string_bytes out.old ++ (codes "rets" ++ rets_text rets.now)) }
+{
+    put(out, "rets")?;
+    put_ret_pairs(out, rets)
+}
+
+// How bytes are taken from the stack.
+fn put_allocate(out: &mut String, size: u32) -> Result<(), AllocError>
+    ensures { OnOk result (string_bytes out.new ≡ string_bytes out.old ++ allocate_text size) }
+{
+    if size <= 32767 {
+        put(out, "aghi %r15, ")?;
+        put_integer(out, 0 - i64::from(size))
+    } else {
+        put(out, "slgfi %r15, ")?;
+        put_natural(out, u64::from(size))
+    }
+}
+
+// A symbol plus an offset.
+fn put_reloc(out: &mut String, reloc: SymbolReloc) -> Result<(), AllocError>
+    ensures { OnOk result (string_bytes out.new ≡ string_bytes out.old ++ reloc_text reloc) }
+{
+    match reloc {
+        SymbolReloc::Absolute { name, offset } => {
+            put_name(out, name)?;
+            put(out, " + ")?;
+            put_integer(out, offset)
+        }
+    }
+}
+
+fn put_symbol_load(
+    out: &mut String,
+    rd: Writable<Reg>,
+    reloc: SymbolReloc,
+) -> Result<(), AllocError>
+    ensures { OnOk result (string_bytes out.new ≡ string_bytes out.old ++ (codes "bras %r1, 12 ; data " ++ (reloc_text reloc ++ (codes " ; lg " ++ (reg_text rd ++ codes ", 0(%r1)"))))) }
+{
+    put(out, "bras %r1, 12 ; data ")?;
+    put_reloc(out, reloc)?;
+    put(out, " ; lg ")?;
+    put_reg(out, rd.to_reg())?;
+    put(out, ", 0(%r1)")
+}
+
+/// Appends the text of an instruction that goes elsewhere, ends a run, names a place or has no bytes; None for another one. Loops, calls and
+/// tail calls aren't among them.
+pub fn put_control(out: &mut String, inst: &Inst) -> Option<Result<(), TextError>>
+    ensures { PrintsWhere result (string_bytes out.old) (string_bytes out.new) (control_text inst.now) }
+{
+    match inst {
+        Inst::Fence => Some(answered(put(out, "bcr 14, 0"))),
+        Inst::Nop0 => Some(answered(put(out, "nop-zero-len"))),
+        Inst::Nop2 => Some(answered(put(out, "nop"))),
+        Inst::Debugtrap => Some(answered(put(out, ".word 0x0001 # debugtrap"))),
+        Inst::Trap { trap_code } => Some(answered(put_trap_word(out, *trap_code))),
+        Inst::TrapIf { cond, trap_code } => Some(answered(put_trap_if(out, *cond, *trap_code))),
+        Inst::Jump { dest } => Some(fixed1(out, "jg", dest)),
+        Inst::CondBr {
+            taken,
+            not_taken,
+            cond,
+        } => Some(answered(put_two_branches(out, *cond, *taken, *not_taken))),
+        Inst::IndirectBr { rn, .. } => Some(fixed1(out, "br", rn)),
+        Inst::Ret { link } => Some(fixed1(out, "br", link)),
+        Inst::JTSequence {
+            ridx,
+            default,
+            default_cond,
+            targets,
+        } => Some(answered(put_table(out, *ridx, *default, *default_cond, targets))),
+        Inst::CondBreak { cond } => Some(answered(put_jump(out, *cond, " 1f"))),
+        Inst::AllocateArgs { size } => Some(answered(put_allocate(out, *size))),
+        Inst::LoadSymbolReloc { rd, symbol_reloc } => {
+            Some(answered(put_symbol_load(out, *rd, *symbol_reloc)))
+        }
+        Inst::LabelAddress { dst, label } => Some(fixed2(out, "label_address", dst, label)),
+        Inst::Args { args } => Some(answered(put_args(out, args))),
+        Inst::Rets { rets } => Some(answered(put_rets(out, rets))),
+        Inst::DummyUse { reg } => Some(fixed1(out, "dummy_use", reg)),
+        Inst::SequencePoint => Some(answered(put(out, "sequence_point"))),
+        _ => None,
+    }
+}

@@ -1,0 +1,79 @@
+//! The text of an instruction that is neither a loop nor a call.
+ghost use Rattle.std.specs.Prelude.{string_bytes};
+ghost use Rattle.s390x_text_rows.specs.Texts.{Prints};
+ghost use Rattle.s390x_text_rows.specs.Simple.{other_text, register_text, simple_text};
+
+use crate::arithmetic::{put_arithmetic, put_pair_instruction};
+use crate::compare::put_compare;
+use crate::control::put_control;
+use crate::error::TextError;
+use crate::memory::{put_load, put_storage_operator, put_store};
+use crate::moves::put_move;
+use crate::vector_memory::put_vector;
+use s390x_inst::{EmitState, Inst};
+use std::alloc::Global;
+
+// Appends the text of an instruction that is none of the others.
+fn put_other(
+    alloc: Global,
+    out: &mut String,
+    state: &EmitState,
+    inst: &Inst,
+) -> Result<(), TextError>
+    ensures { Prints result (string_bytes out.old) (string_bytes out.new) (other_text state.now inst.now) }
+{
+    match inst {
+        Inst::Vector(vector) => put_vector(alloc, out, state, vector),
+        _ => Err(TextError::NoRow),
+    }
+}
+
+// Appends the text of an instruction without an operand in memory, or of another one.
+fn put_register(
+    alloc: Global,
+    out: &mut String,
+    state: &EmitState,
+    inst: &Inst,
+) -> Result<(), TextError>
+    ensures { Prints result (string_bytes out.old) (string_bytes out.new) (register_text state.now inst.now) }
+{
+    if let Some(answer) = put_arithmetic(out, inst) {
+        return answer;
+    }
+    if let Some(answer) = put_pair_instruction(out, inst) {
+        return answer;
+    }
+    if let Some(answer) = put_compare(out, inst) {
+        return answer;
+    }
+    if let Some(answer) = put_move(out, inst) {
+        return answer;
+    }
+    match put_control(out, inst) {
+        Some(answer) => answer,
+        None => put_other(alloc, out, state, inst),
+    }
+}
+
+/// Appends the text of an instruction that is neither a loop nor a call, on a machine that has accesses relative to the instruction or lacks them; `NoRow`
+/// for a loop or a call.
+pub fn put_simple(
+    alloc: Global,
+    out: &mut String,
+    has: bool,
+    state: &EmitState,
+    inst: &Inst,
+) -> Result<(), TextError>
+    ensures { Prints result (string_bytes out.old) (string_bytes out.new) (simple_text has state.now inst.now) }
+{
+    if let Some(answer) = put_load(alloc, out, has, state, inst) {
+        return answer;
+    }
+    if let Some(answer) = put_store(alloc, out, has, state, inst) {
+        return answer;
+    }
+    match put_storage_operator(alloc, out, has, state, inst) {
+        Some(answer) => answer,
+        None => put_register(alloc, out, state, inst),
+    }
+}

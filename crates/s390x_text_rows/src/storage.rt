@@ -1,0 +1,371 @@
+//! How an instruction with an operand in memory is put together: helpers, mnemonic and operands.
+ghost use Rattle.std.specs.Prelude.{◌≡◌, ◌++◌, ◌∷◌, [], codes, OnOk, MatchResult, None, Some, true, string_bytes};
+ghost use Rattle.std.specs.Option.{option_map};
+ghost use Rattle.s390x_typed_steps.specs.Operands.{finalized, resolved};
+ghost use Rattle.s390x_text_rows.specs.Texts.{RefusedBy, Prints};
+ghost use Rattle.s390x_text_rows.specs.Storage.{sum_text, memory_text, is_virtual, rx, rs, address_rows, rows_of, has_row, type_of_rows, name_at, helper_text, helpers_text, access, access_where, access_cause};
+
+use crate::error::TextError;
+use crate::operand::{Operand, is_zero};
+use crate::row::{spelled2, spelled3};
+use s390x_address::mem_finalize;
+use s390x_base::Reg;
+use s390x_inst::{EmitState, Inst, MemArg};
+use s390x_job_fields::atoms::{put_name, put_reg};
+use s390x_job_fields::number::{put, put_integer, put_natural};
+use s390x_typed_steps::MemInstType;
+use std::alloc::{AllocError, Global};
+
+/// The mnemonics that an instruction has by the form of its operand in memory.
+#[derive(Clone, Copy)]
+pub struct Rows {
+    /// At a displacement of 12 bits.
+    pub short: Option<&'static str>,
+    /// At a displacement of 20 bits.
+    pub long: Option<&'static str>,
+    /// At an address relative to the instruction.
+    pub relative: Option<&'static str>,
+    /// Whether the rows have an index.
+    pub index: bool,
+    /// Whether they access memory.
+    pub accesses: bool,
+}
+
+/// The rows of LOAD ADDRESS.
+pub fn address_rows() -> Rows
+    ensures { rows_of result ≡ address_rows }
+{
+    Rows {
+        short: Some("la"),
+        long: Some("lay"),
+        relative: Some("larl"),
+        index: true,
+        accesses: false,
+    }
+}
+
+// A base and an index behind a displacement.
+fn put_sum(out: &mut String, base: &Reg, index: &Reg) -> Result<(), AllocError>
+    ensures { OnOk result (string_bytes out.new ≡ string_bytes out.old ++ sum_text base.now index.now) }
+{
+    if is_zero(base) {
+        if is_zero(index) {
+            return Ok(());
+        }
+        put(out, "(")?;
+        put_reg(out, *index)?;
+        return put(out, ",)");
+    }
+    put(out, "(")?;
+    if is_zero(index) {
+        put_reg(out, *base)?;
+        return put(out, ")");
+    }
+    put_reg(out, *index)?;
+    put(out, ",")?;
+    put_reg(out, *base)?;
+    put(out, ")")
+}
+
+impl Operand for MemArg {
+    ghost shown = { memory_text };
+
+    fn put(&self, out: &mut String) -> Result<(), AllocError> {
+        match *self {
+            MemArg::BXD12 {
+                base,
+                index,
+                disp,
+                ..
+            } => {
+                put_natural(out, u64::from(disp.bits()))?;
+                put_sum(out, &base, &index)
+            }
+            MemArg::BXD20 {
+                base,
+                index,
+                disp,
+                ..
+            } => {
+                put_integer(out, i64::from(disp.value()))?;
+                put_sum(out, &base, &index)
+            }
+            MemArg::Label { target } => target.put(out),
+            MemArg::Constant { constant } => {
+                put(out, "[const(")?;
+                put_natural(out, u64::from(constant.0))?;
+                put(out, ")]")
+            }
+            MemArg::Symbol { name, offset, .. } => {
+                put_name(out, name)?;
+                put(out, " + ")?;
+                put_integer(out, i64::from(offset))
+            }
+            _ => Ok(()),
+        }
+    }
+}
+
+/// Whether an operand is an offset from a register, or in the frame.
+pub fn is_virtual(mem: &MemArg) -> bool
+    ensures { result ≡ is_virtual mem.now }
+{
+    match mem {
+        MemArg::BXD12 { .. }
+        | MemArg::BXD20 { .. }
+        | MemArg::Label { .. }
+        | MemArg::Constant { .. }
+        | MemArg::Symbol { .. } => false,
+        MemArg::RegOffset { .. }
+        | MemArg::InitialSPOffset { .. }
+        | MemArg::IncomingArgOffset { .. }
+        | MemArg::OutgoingArgOffset { .. }
+        | MemArg::SlotOffset { .. }
+        | MemArg::SpillOffset { .. } => true,
+    }
+}
+
+impl Rows {
+    // There is a row for some operand.
+    fn has_row(&self) -> bool
+        ensures { result ≡ has_row (rows_of self.now) }
+    {
+        self.short.is_some() || self.long.is_some() || self.relative.is_some()
+    }
+
+    // The forms of an operand that the rows have, on a machine that has accesses relative to the instruction or lacks them.
+    fn inst_type(&self, has: bool) -> MemInstType
+        ensures { result ≡ type_of_rows has (rows_of self.now) }
+    {
+        MemInstType {
+            have_d12: self.short.is_some(),
+            have_d20: self.long.is_some(),
+            have_pcrel: self.relative.is_some() && (has || !self.accesses),
+            have_unaligned_pcrel: self.relative.is_some() && !self.accesses,
+            have_index: self.index,
+        }
+    }
+
+    // The mnemonic at an operand; nothing where there is none.
+    fn name_at(&self, mem: &MemArg) -> &'static str
+        ensures { result.now ≡ name_at (rows_of self.now) mem.now }
+    {
+        let name = match mem {
+            MemArg::BXD12 { .. } => self.short,
+            MemArg::BXD20 { .. } => self.long,
+            MemArg::Label { .. } | MemArg::Constant { .. } | MemArg::Symbol { .. } => self.relative,
+            _ => None,
+        };
+        match name {
+            Some(mnemonic) => mnemonic,
+            None => "",
+        }
+    }
+}
+
+// An instruction that comes before an access.
+fn put_helper(out: &mut String, helper: &Inst) -> Result<(), AllocError>
+    ensures { OnOk result (string_bytes out.new ≡ string_bytes out.old ++ helper_text helper.now) }
+{
+    match helper {
+        Inst::Mov64SImm32 { rd, imm } => spelled2(out, "lgfi", rd, imm),
+        Inst::LoadAddr { rd, mem } => spelled2(out, address_rows().name_at(mem), rd, mem),
+        _ => Ok(()),
+    }
+}
+
+// The same, and a semicolon behind it.
+fn put_before(out: &mut String, helper: &Inst) -> Result<(), AllocError>
+    ensures { OnOk result (string_bytes out.new ≡ string_bytes out.old ++ (helper_text helper.now ++ codes " ; ")) }
+{
+    put_helper(out, helper)?;
+    put(out, " ; ")
+}
+
+fn put_helpers(out: &mut String, helpers: &[Inst]) -> Result<(), AllocError>
+    ensures { OnOk result (string_bytes out.new ≡ string_bytes out.old ++ helpers_text helpers.now) }
+{
+    for helper in helpers {
+        put_before(out, helper)?;
+    }
+    Ok(())
+}
+
+// Appends the helpers of an operand, and gives the operand of the access.
+fn open(
+    alloc: Global,
+    out: &mut String,
+    has: bool,
+    rows: &Rows,
+    state: &EmitState,
+    mem: &MemArg,
+) -> Result<MemArg, TextError>
+    ensures { MatchResult result (λ m. (access_cause has (rows_of rows.now) (resolved state.now mem.now) ≡ None) × (m ≡ (finalized (type_of_rows has (rows_of rows.now)) (resolved state.now mem.now)).operand)
+        × (string_bytes out.new ≡ string_bytes out.old ++ helpers_text (finalized (type_of_rows has (rows_of rows.now)) (resolved state.now mem.now)).helpers)) (λ e. RefusedBy (access_cause has (rows_of rows.now) (resolved state.now mem.now)) e) }
+{
+    if !rows.has_row() {
+        return Err(TextError::NoRow);
+    }
+    match mem_finalize(alloc, mem, state, rows.inst_type(has)) {
+        Ok((helpers, operand)) => {
+            put_helpers(out, helpers.as_slice())?;
+            Ok(operand)
+        }
+        Err(error) => Err(TextError::Address(error)),
+    }
+}
+
+/// Appends the text of an access with one operand before that in memory, on a machine that has accesses relative to the
+/// instruction or lacks them.
+pub fn access2<A: Operand>(
+    alloc: Global,
+    out: &mut String,
+    has: bool,
+    rows: &Rows,
+    state: &EmitState,
+    a: &A,
+    mem: &MemArg,
+) -> Result<(), TextError>
+    ensures { Prints result (string_bytes out.old) (string_bytes out.new) (access_where has (rows_of rows.now) state.now (A.shown a.now ∷ []) mem.now []) }
+{
+    let operand = open(alloc, out, has, rows, state, mem)?;
+    Ok(spelled2(out, rows.name_at(&operand), a, &operand)?)
+}
+
+/// Appends the text of an access with two operands before that in memory.
+pub fn access3<A: Operand, B: Operand>(
+    alloc: Global,
+    out: &mut String,
+    rows: &Rows,
+    state: &EmitState,
+    a: &A,
+    b: &B,
+    mem: &MemArg,
+) -> Result<(), TextError>
+    ensures { Prints result (string_bytes out.old) (string_bytes out.new) (access (rows_of rows.now) state.now (A.shown a.now ∷ B.shown b.now ∷ []) mem.now []) }
+{
+    let operand = open(alloc, out, true, rows, state, mem)?;
+    Ok(spelled3(out, rows.name_at(&operand), a, b, &operand)?)
+}
+
+/// Appends the text of an access with an operand behind that in memory.
+pub fn access_then<A: Operand>(
+    alloc: Global,
+    out: &mut String,
+    rows: &Rows,
+    state: &EmitState,
+    mem: &MemArg,
+    a: &A,
+) -> Result<(), TextError>
+    ensures { Prints result (string_bytes out.old) (string_bytes out.new) (access (rows_of rows.now) state.now [] mem.now (A.shown a.now ∷ [])) }
+{
+    let operand = open(alloc, out, true, rows, state, mem)?;
+    Ok(spelled2(out, rows.name_at(&operand), &operand, a)?)
+}
+
+/// Appends the text of an access with an operand on either side of that in memory.
+pub fn access_between<A: Operand, B: Operand>(
+    alloc: Global,
+    out: &mut String,
+    rows: &Rows,
+    state: &EmitState,
+    a: &A,
+    mem: &MemArg,
+    b: &B,
+) -> Result<(), TextError>
+    ensures { Prints result (string_bytes out.old) (string_bytes out.new) (access (rows_of rows.now) state.now (A.shown a.now ∷ []) mem.now (B.shown b.now ∷ [])) }
+{
+    let operand = open(alloc, out, true, rows, state, mem)?;
+    Ok(spelled3(out, rows.name_at(&operand), a, &operand, b)?)
+}
+
+/// Appends the text of an access by rows of formats RX, RXY and RIL-B, with one operand before that in memory.
+pub fn rx_access<A: Operand>(
+    alloc: Global,
+    out: &mut String,
+    has: bool,
+    state: &EmitState,
+    short: Option<&'static str>,
+    long: Option<&'static str>,
+    relative: Option<&'static str>,
+    a: &A,
+    mem: &MemArg,
+) -> Result<(), TextError>
+    ensures { Prints result (string_bytes out.old) (string_bytes out.new) (access_where has (rx (option_map (λ s. s.now) short.entry) (option_map (λ s. s.now) long.entry) (option_map (λ s. s.now) relative.entry)) state.now (A.shown a.now ∷ []) mem.now []) }
+{
+    let rows = Rows {
+        short,
+        long,
+        relative,
+        index: true,
+        accesses: true,
+    };
+    access2(alloc, out, has, &rows, state, a, mem)
+}
+
+/// Appends the text of an access by a row of format VRX, with an operand on either side of that in memory.
+pub fn rx_access_between<A: Operand, B: Operand>(
+    alloc: Global,
+    out: &mut String,
+    state: &EmitState,
+    name: Option<&'static str>,
+    a: &A,
+    mem: &MemArg,
+    b: &B,
+) -> Result<(), TextError>
+    ensures { Prints result (string_bytes out.old) (string_bytes out.new) (access (rx (option_map (λ s. s.now) name.entry) None None) state.now (A.shown a.now ∷ []) mem.now (B.shown b.now ∷ [])) }
+{
+    let rows = Rows {
+        short: name,
+        long: None,
+        relative: None,
+        index: true,
+        accesses: true,
+    };
+    access_between(alloc, out, &rows, state, a, mem, b)
+}
+
+/// Appends the text of an access by rows without an index, with two operands before that in memory.
+pub fn rs_access3<A: Operand, B: Operand>(
+    alloc: Global,
+    out: &mut String,
+    state: &EmitState,
+    short: Option<&'static str>,
+    long: Option<&'static str>,
+    a: &A,
+    b: &B,
+    mem: &MemArg,
+) -> Result<(), TextError>
+    ensures { Prints result (string_bytes out.old) (string_bytes out.new) (access (rs (option_map (λ s. s.now) short.entry) (option_map (λ s. s.now) long.entry)) state.now (A.shown a.now ∷ B.shown b.now ∷ []) mem.now []) }
+{
+    let rows = Rows {
+        short,
+        long,
+        relative: None,
+        index: false,
+        accesses: true,
+    };
+    access3(alloc, out, &rows, state, a, b, mem)
+}
+
+/// Appends the text of an access by rows without an index, with an operand behind that in memory.
+pub fn rs_access_then<A: Operand>(
+    alloc: Global,
+    out: &mut String,
+    state: &EmitState,
+    short: Option<&'static str>,
+    long: Option<&'static str>,
+    mem: &MemArg,
+    a: &A,
+) -> Result<(), TextError>
+    ensures { Prints result (string_bytes out.old) (string_bytes out.new) (access (rs (option_map (λ s. s.now) short.entry) (option_map (λ s. s.now) long.entry)) state.now [] mem.now (A.shown a.now ∷ [])) }
+{
+    let rows = Rows {
+        short,
+        long,
+        relative: None,
+        index: false,
+        accesses: true,
+    };
+    access_then(alloc, out, &rows, state, mem, a)
+}

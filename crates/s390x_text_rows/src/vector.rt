@@ -1,0 +1,510 @@
+//! The texts of operators, moves and lanes of vector and float registers.
+ghost use Rattle.std.specs.Prelude.{◌≡◌, ◌++◌, ◌∷◌, [], codes, cond, OnOk, string_bytes};
+ghost use Rattle.std.specs.Option.{option_map};
+ghost use Rattle.s390x_job_fields.specs.Atoms.{reg_text};
+ghost use Rattle.s390x_text_rows.specs.Texts.{Prints, PrintsWhere, fixed, spelled};
+ghost use Rattle.s390x_text_rows.specs.Operands.{reused_text};
+ghost use Rattle.s390x_text_rows.specs.VectorMnemonics.{vec_binary_name};
+ghost use Rattle.s390x_text_rows.specs.Vector.{lane_name, reversed_name, mask_name, vec_binary_operands, doublewords_text, wide_compare_text, are_floats, float_move_text, unless_text, float_cmov_text, is_float_lane, reverse2_text, reverse4_text, reverse8_text, reverse16_text, reverse_text, insert_lane_text, extract_lane_text, vec_operator_text, vec_move_text, vec_lane_text};
+
+use crate::arithmetic::reused;
+use crate::error::TextError;
+use crate::operand::{Amount, Float, Reused, cond_name, is_zero};
+use crate::regs::is_float;
+use crate::row::{answered, fixed2, fixed3, row2, row3, spelled2, spelled3, spelled4, spelled5};
+use crate::vector_mnemonics::{
+    vec_binary_name, vec_compare_name, vec_compare_set_name, vec_element_compare_name,
+    vec_shift_name, vec_unary_name,
+};
+use s390x_base::{Cond, Reg};
+use s390x_inst::{VecBinaryOp, VecInst};
+use s390x_job_fields::number::put;
+use std::alloc::AllocError;
+
+/// By the width of a lane in bits: 8, 16, 32 or 64; None for another width, or where the lane's number isn't below the count of lanes.
+pub fn lane_name(
+    b: &'static str,
+    h: &'static str,
+    f: &'static str,
+    g: &'static str,
+    size: u32,
+    lane: u8,
+) -> Option<&'static str>
+    ensures { option_map (λ s. s.now) result ≡ lane_name b.now h.now f.now g.now size lane }
+{
+    if size == 8 && lane < 16 {
+        return Some(b);
+    }
+    if size == 16 && lane < 8 {
+        return Some(h);
+    }
+    if size == 32 && lane < 4 {
+        return Some(f);
+    }
+    if size == 64 && lane < 2 {
+        Some(g)
+    } else {
+        None
+    }
+}
+
+/// The mnemonic with the letter of an element's size, from 16 bits on, where bytes are reversed.
+pub fn reversed_name(
+    h: &'static str,
+    f: &'static str,
+    g: &'static str,
+    size: u32,
+    lane: u8,
+) -> Option<&'static str>
+    ensures { option_map (λ s. s.now) result ≡ reversed_name h.now f.now g.now size lane }
+{
+    if size == 16 && lane < 8 {
+        return Some(h);
+    }
+    if size == 32 && lane < 4 {
+        return Some(f);
+    }
+    if size == 64 && lane < 2 {
+        Some(g)
+    } else {
+        None
+    }
+}
+
+// Both bit numbers lie below the width.
+fn mask_name(size: u32, start: u8, end: u8) -> Option<&'static str>
+    ensures { option_map (λ s. s.now) result ≡ mask_name size start end }
+{
+    if u32::from(start) < size && u32::from(end) < size {
+        lane_name("vgmb", "vgmh", "vgmf", "vgmg", size, 0)
+    } else {
+        None
+    }
+}
+
+fn put_binary(
+    out: &mut String,
+    op: VecBinaryOp,
+    rd: Reg,
+    rn: Reg,
+    rm: Reg,
+) -> Result<(), AllocError>
+    ensures { OnOk result (string_bytes out.new ≡ string_bytes out.old ++ spelled (vec_binary_name op) (vec_binary_operands op rd rn rm)) }
+{
+    match op {
+        VecBinaryOp::UDiv32x4
+        | VecBinaryOp::UDiv64x2
+        | VecBinaryOp::UDiv128
+        | VecBinaryOp::SDiv32x4
+        | VecBinaryOp::SDiv64x2
+        | VecBinaryOp::SDiv128
+        | VecBinaryOp::URem32x4
+        | VecBinaryOp::URem64x2
+        | VecBinaryOp::URem128
+        | VecBinaryOp::SRem32x4
+        | VecBinaryOp::SRem64x2
+        | VecBinaryOp::SRem128 => spelled4(out, vec_binary_name(op), &rd, &rn, &rm, &0u8),
+        _ => spelled3(out, vec_binary_name(op), &rd, &rn, &rm),
+    }
+}
+
+// Doublewords are chosen by 0 or 1.
+fn put_doublewords(
+    out: &mut String,
+    rd: Reg,
+    rn: Reg,
+    rm: Reg,
+    idx1: u8,
+    idx2: u8,
+) -> Result<(), TextError>
+    ensures { Prints result (string_bytes out.old) (string_bytes out.new) (doublewords_text rd rn rm idx1 idx2) }
+{
+    if idx1 < 2 && idx2 < 2 {
+        answered(spelled4(out, "vpdi", &rd, &rn, &rm, &(4 * idx1 + idx2)))
+    } else {
+        Err(TextError::NoRow)
+    }
+}
+
+// A comparison of two numbers of 128 bits.
+fn put_wide_compare(
+    out: &mut String,
+    name: &str,
+    tmp: Reg,
+    rn: Reg,
+    rm: Reg,
+) -> Result<(), AllocError>
+    ensures { OnOk result (string_bytes out.new ≡ string_bytes out.old ++ wide_compare_text name.now tmp rn rm) }
+{
+    spelled2(out, name, &rm, &rn)?;
+    put(out, " ; jne 10 ; ")?;
+    spelled3(out, "vchlgs", &tmp, &rn, &rm)
+}
+
+/// Appends the text of an operator on vectors; None for another instruction.
+pub fn put_vec_operator(out: &mut String, inst: &VecInst) -> Option<Result<(), TextError>>
+    ensures { PrintsWhere result (string_bytes out.old) (string_bytes out.new) (vec_operator_text inst.now) }
+{
+    match inst {
+        VecInst::VecRRR { op, rd, rn, rm } => {
+            Some(answered(put_binary(out, *op, rd.to_reg(), *rn, *rm)))
+        }
+        VecInst::VecRR { op, rd, rn } => Some(fixed2(out, vec_unary_name(*op), rd, rn)),
+        VecInst::VecShiftRR {
+            shift_op,
+            rd,
+            rn,
+            shift_imm,
+            shift_reg,
+        } => Some(fixed3(
+            out,
+            vec_shift_name(*shift_op),
+            rd,
+            rn,
+            &Amount {
+                imm: *shift_imm,
+                reg: *shift_reg,
+            },
+        )),
+        VecInst::VecSelect { rd, rn, rm, ra } => {
+            Some(answered(spelled4(out, "vsel", rd, rn, rm, ra)))
+        }
+        VecInst::VecPermute { rd, rn, rm, ra } => {
+            Some(answered(spelled4(out, "vperm", rd, rn, rm, ra)))
+        }
+        VecInst::VecBlend { rd, rn, rm, ra } => {
+            Some(answered(spelled4(out, "vblend", rd, rn, rm, ra)))
+        }
+        VecInst::VecEvaluate {
+            imm,
+            rd,
+            rn,
+            rm,
+            ra,
+        } => Some(answered(spelled5(out, "veval", rd, rn, rm, ra, imm))),
+        VecInst::VecPermuteDWImm {
+            rd,
+            rn,
+            rm,
+            idx1,
+            idx2,
+        } => Some(put_doublewords(out, rd.to_reg(), *rn, *rm, *idx1, *idx2)),
+        VecInst::VecIntCmp { op, rd, rn, rm } => {
+            Some(fixed3(out, vec_compare_name(*op), rd, rn, rm))
+        }
+        VecInst::VecIntCmpS { op, rd, rn, rm } => {
+            Some(fixed3(out, vec_compare_set_name(*op), rd, rn, rm))
+        }
+        VecInst::VecIntEltCmp { op, rn, rm } => {
+            Some(fixed2(out, vec_element_compare_name(*op), rn, rm))
+        }
+        VecInst::VecInt128SCmpHi { tmp, rn, rm } => Some(answered(put_wide_compare(
+            out,
+            "vecg",
+            tmp.to_reg(),
+            *rn,
+            *rm,
+        ))),
+        VecInst::VecInt128UCmpHi { tmp, rn, rm } => Some(answered(put_wide_compare(
+            out,
+            "veclg",
+            tmp.to_reg(),
+            *rn,
+            *rm,
+        ))),
+        _ => None,
+    }
+}
+
+// Whether both registers are float registers.
+fn are_floats(r: &Reg, s: &Reg) -> bool
+    ensures { result ≡ are_floats r.now s.now }
+{
+    is_float(r) && is_float(s)
+}
+
+// A move of float registers, or of whole ones.
+fn put_float_move(out: &mut String, name: &str, rd: &Reg, rn: &Reg) -> Result<(), AllocError>
+    ensures { OnOk result (string_bytes out.new ≡ string_bytes out.old ++ float_move_text name.now rd.now rn.now) }
+{
+    if are_floats(rd, rn) {
+        spelled2(out, name, &Float(*rd), &Float(*rn))
+    } else {
+        spelled2(out, "vlr", rd, rn)
+    }
+}
+
+// A branch over what follows, where a condition doesn't hold.
+fn put_unless(out: &mut String, cond: Cond, over: &str) -> Result<(), AllocError>
+    ensures { OnOk result (string_bytes out.new ≡ string_bytes out.old ++ unless_text cond over.now) }
+{
+    put(out, "j")?;
+    put(out, cond_name(cond.invert()))?;
+    put(out, " ")?;
+    put(out, over)?;
+    put(out, " ; ")
+}
+
+// How far a branch goes over a move of float registers, or of whole ones.
+fn move_end(rd: &Reg, rm: &Reg) -> &'static str
+    ensures { result.now ≡ cond (are_floats rd.now rm.now) (codes "6") (codes "10") }
+{
+    if are_floats(rd, rm) { "6" } else { "10" }
+}
+
+// A move where a condition holds.
+fn put_float_cmov(
+    out: &mut String,
+    name: &str,
+    rd: &Reg,
+    cond: Cond,
+    rm: &Reg,
+) -> Result<(), AllocError>
+    ensures { OnOk result (string_bytes out.new ≡ string_bytes out.old ++ float_cmov_text name.now rd.now cond rm.now) }
+{
+    put_unless(out, cond, move_end(rd, rm))?;
+    put_float_move(out, name, rd, rm)
+}
+
+fn put_vec_cmov(out: &mut String, operand: &Reused, cond: Cond, rm: Reg) -> Result<(), AllocError>
+    ensures { OnOk result (string_bytes out.new ≡ string_bytes out.old ++ (unless_text cond (codes "10") ++ spelled (codes "vlr") (reused_text operand.now.rd operand.now.ri ∷ reg_text rm ∷ []))) }
+{
+    put_unless(out, cond, "10")?;
+    spelled2(out, "vlr", operand, &rm)
+}
+
+/// Appends the text of a move of vector or float registers, or of an immediate; None for another instruction.
+pub fn put_vec_move(out: &mut String, inst: &VecInst) -> Option<Result<(), TextError>>
+    ensures { PrintsWhere result (string_bytes out.old) (string_bytes out.new) (vec_move_text inst.now) }
+{
+    match inst {
+        VecInst::VecMov { rd, rn } => Some(fixed2(out, "vlr", rd, rn)),
+        VecInst::FpuMove32 { rd, rn } => {
+            Some(answered(put_float_move(out, "ler", &rd.to_reg(), rn)))
+        }
+        VecInst::FpuMove64 { rd, rn } => {
+            Some(answered(put_float_move(out, "ldr", &rd.to_reg(), rn)))
+        }
+        VecInst::FpuCMov32 { rd, cond, rm, .. } => Some(answered(put_float_cmov(
+            out,
+            "ler",
+            &rd.to_reg(),
+            *cond,
+            rm,
+        ))),
+        VecInst::FpuCMov64 { rd, cond, rm, .. } => Some(answered(put_float_cmov(
+            out,
+            "ldr",
+            &rd.to_reg(),
+            *cond,
+            rm,
+        ))),
+        VecInst::VecCMov { rd, cond, ri, rm } => {
+            Some(answered(put_vec_cmov(out, &reused(rd, ri), *cond, *rm)))
+        }
+        VecInst::MovToVec128 { rd, rn, rm } => Some(fixed3(out, "vlvgp", rd, rn, rm)),
+        VecInst::VecImmByteMask { rd, mask } => Some(fixed2(out, "vgbm", rd, mask)),
+        VecInst::VecImmBitMask {
+            size,
+            rd,
+            start_bit,
+            end_bit,
+        } => Some(row3(
+            out,
+            mask_name(*size, *start_bit, *end_bit),
+            rd,
+            start_bit,
+            end_bit,
+        )),
+        VecInst::VecImmReplicate { size, rd, imm } => Some(row2(
+            out,
+            lane_name("vrepib", "vrepih", "vrepif", "vrepig", *size, 0),
+            rd,
+            imm,
+        )),
+        _ => None,
+    }
+}
+
+// Lane 0 of 64 bits of a float register, where no register is added to the lane.
+fn is_float_lane(size: u32, r: &Reg, lane: &Amount) -> bool
+    ensures { result ≡ is_float_lane size r.now lane.now.imm lane.now.reg }
+{
+    size == 64 && lane.imm == 0 && is_zero(&lane.reg) && is_float(r)
+}
+
+// A general register into a lane, where the other lanes may change.
+fn put_insert_lane(
+    out: &mut String,
+    size: u32,
+    rd: Reg,
+    rn: Reg,
+    lane: &Amount,
+) -> Result<(), TextError>
+    ensures { Prints result (string_bytes out.old) (string_bytes out.new) (insert_lane_text size rd rn lane.now.imm lane.now.reg) }
+{
+    if is_float_lane(size, &rd, lane) {
+        fixed2(out, "ldgr", &Float(rd), &rn)
+    } else {
+        row3(
+            out,
+            lane_name("vlvgb", "vlvgh", "vlvgf", "vlvgg", size, lane.imm),
+            &rd,
+            &rn,
+            lane,
+        )
+    }
+}
+
+// A lane into a general register.
+fn put_extract_lane(
+    out: &mut String,
+    size: u32,
+    rd: Reg,
+    rn: Reg,
+    lane: &Amount,
+) -> Result<(), TextError>
+    ensures { Prints result (string_bytes out.old) (string_bytes out.new) (extract_lane_text size rd rn lane.now.imm lane.now.reg) }
+{
+    if is_float_lane(size, &rn, lane) {
+        fixed2(out, "lgdr", &rd, &Float(rn))
+    } else {
+        row3(
+            out,
+            lane_name("vlgvb", "vlgvh", "vlgvf", "vlgvg", size, lane.imm),
+            &rd,
+            &rn,
+            lane,
+        )
+    }
+}
+
+fn put_reverse2(out: &mut String, rd: Reg, rn: Reg) -> Result<(), AllocError>
+    ensures { OnOk result (string_bytes out.new ≡ string_bytes out.old ++ reverse2_text rd rn) }
+{
+    spelled4(out, "vpdi", &rd, &rn, &rn, &4u8)
+}
+
+fn put_reverse4(out: &mut String, rd: Reg, rn: Reg) -> Result<(), AllocError>
+    ensures { OnOk result (string_bytes out.new ≡ string_bytes out.old ++ reverse4_text rd rn) }
+{
+    put_reverse2(out, rd, rn)?;
+    put(out, " ; ")?;
+    spelled3(out, "verllg", &rd, &rd, &32u8)
+}
+
+fn put_reverse8(out: &mut String, rd: Reg, rn: Reg) -> Result<(), AllocError>
+    ensures { OnOk result (string_bytes out.new ≡ string_bytes out.old ++ reverse8_text rd rn) }
+{
+    put_reverse4(out, rd, rn)?;
+    put(out, " ; ")?;
+    spelled3(out, "verllf", &rd, &rd, &16u8)
+}
+
+fn put_reverse16(out: &mut String, rd: Reg, rn: Reg) -> Result<(), AllocError>
+    ensures { OnOk result (string_bytes out.new ≡ string_bytes out.old ++ reverse16_text rd rn) }
+{
+    put_reverse8(out, rd, rn)?;
+    put(out, " ; ")?;
+    spelled3(out, "verllh", &rd, &rd, &8u8)
+}
+
+// Lanes in reverse order, by their count.
+fn put_reverse(out: &mut String, rd: Reg, rn: Reg, count: u64) -> Result<(), TextError>
+    ensures { Prints result (string_bytes out.old) (string_bytes out.new) (reverse_text rd rn count) }
+{
+    match count {
+        2 => answered(put_reverse2(out, rd, rn)),
+        4 => answered(put_reverse4(out, rd, rn)),
+        8 => answered(put_reverse8(out, rd, rn)),
+        16 => answered(put_reverse16(out, rd, rn)),
+        _ => Err(TextError::NoRow),
+    }
+}
+
+// A lane, and the register that is added to it.
+fn amount(imm: &u8, reg: &Reg) -> Amount
+    ensures { result ≡ record { imm = imm.now; reg = reg.now } }
+{
+    Amount {
+        imm: *imm,
+        reg: *reg,
+    }
+}
+
+/// Appends the text of an instruction on a lane of registers; None for another one.
+pub fn put_vec_lane(out: &mut String, inst: &VecInst) -> Option<Result<(), TextError>>
+    ensures { PrintsWhere result (string_bytes out.old) (string_bytes out.new) (vec_lane_text inst.now) }
+{
+    match inst {
+        VecInst::VecInsertLane {
+            size,
+            rd,
+            ri,
+            rn,
+            lane_imm,
+            lane_reg,
+        } => Some(row3(
+            out,
+            lane_name("vlvgb", "vlvgh", "vlvgf", "vlvgg", *size, *lane_imm),
+            &reused(rd, ri),
+            rn,
+            &amount(lane_imm, lane_reg),
+        )),
+        VecInst::VecInsertLaneUndef {
+            size,
+            rd,
+            rn,
+            lane_imm,
+            lane_reg,
+        } => Some(put_insert_lane(out, *size, rd.to_reg(), *rn, &amount(lane_imm, lane_reg))),
+        VecInst::VecExtractLane {
+            size,
+            rd,
+            rn,
+            lane_imm,
+            lane_reg,
+        } => Some(put_extract_lane(out, *size, rd.to_reg(), *rn, &amount(lane_imm, lane_reg))),
+        VecInst::VecInsertLaneImm {
+            size,
+            rd,
+            ri,
+            imm,
+            lane_imm,
+        } => Some(row3(
+            out,
+            lane_name("vleib", "vleih", "vleif", "vleig", *size, *lane_imm),
+            &reused(rd, ri),
+            imm,
+            lane_imm,
+        )),
+        VecInst::VecInsertLaneImmUndef {
+            size,
+            rd,
+            imm,
+            lane_imm,
+        } => Some(row3(
+            out,
+            lane_name("vleib", "vleih", "vleif", "vleig", *size, *lane_imm),
+            rd,
+            imm,
+            lane_imm,
+        )),
+        VecInst::VecReplicateLane {
+            size,
+            rd,
+            rn,
+            lane_imm,
+        } => Some(row3(
+            out,
+            lane_name("vrepb", "vreph", "vrepf", "vrepg", *size, *lane_imm),
+            rd,
+            rn,
+            lane_imm,
+        )),
+        VecInst::VecEltRev { lane_count, rd, rn } => {
+            Some(put_reverse(out, rd.to_reg(), *rn, *lane_count))
+        }
+        _ => None,
+    }
+}

@@ -1,0 +1,176 @@
+//! Reading the cases: a line begins one, belongs to its input or to what it must write, or is a case by itself.
+
+use crate::case::Case;
+use s390x_case_runner::LineError;
+use s390x_tool::Status;
+use std::alloc::{AllocError, Global};
+use std::mem;
+
+/// What the next line belongs to.
+#[derive(Clone, Copy)]
+enum Part {
+    /// No case, or it is one by itself.
+    Outside,
+    /// The input of a case, or it ends it.
+    Input,
+    /// What a case must write, or it ends it.
+    Text,
+}
+
+/// A reader of lines.
+#[derive(Drop)]
+pub struct Reader {
+    // The number of the line that it took last.
+    number: u64,
+    part: Part,
+    // The first line of the jobs of rows with its line feed, or nothing.
+    head: String,
+    // What was read of the case that isn't ended.
+    case: Case,
+}
+
+impl Reader {
+    /// A reader that has taken no line.
+    pub fn new(alloc: Global) -> Reader {
+        Reader {
+            number: 0,
+            part: Part::Outside,
+            head: String::new(alloc),
+            case: empty_case(alloc, 0),
+        }
+    }
+
+    /// Takes the line of this number, and gives the case that it ends or is. `Unreadable` where no line of this form can stand.
+    pub fn take_line(
+        &mut self,
+        alloc: Global,
+        number: u64,
+        line: &str,
+    ) -> Result<Option<Case>, LineError> {
+        self.number = number;
+        match self.part {
+            Part::Outside => self.take_outside(alloc, line),
+            Part::Input => self.take_input(line),
+            Part::Text => self.take_text(alloc, line),
+        }
+    }
+
+    /// Gives the case that the end of the lines ends. `Unreadable` where it lacks what must be written.
+    pub fn take_end(&mut self, alloc: Global) -> Result<Option<Case>, LineError> {
+        match self.part {
+            Part::Outside => Ok(None),
+            Part::Input => Err(LineError::Unreadable),
+            Part::Text => Ok(Some(self.end_case(alloc))),
+        }
+    }
+
+    // A line that isn't within a case.
+    fn take_outside(&mut self, alloc: Global, line: &str) -> Result<Option<Case>, LineError> {
+        if line.starts_with("#") {
+            return Ok(None);
+        }
+        if let Some(words) = marked(line, ">") {
+            self.case = empty_case(alloc, self.number);
+            self.case.words.push_str(words)?;
+            self.part = Part::Input;
+            return Ok(None);
+        }
+        if let Some(head) = marked(line, "*") {
+            self.head = line_of(alloc, head)?;
+            return Ok(None);
+        }
+        let case = self.row(alloc, line)?;
+        Ok(Some(case))
+    }
+
+    // A line of a case's input, or the one behind it with the status.
+    fn take_input(&mut self, line: &str) -> Result<Option<Case>, LineError> {
+        match marked(line, "<") {
+            Some(status) => {
+                self.case.status = status.parse::<u8>().map_err(|_| LineError::Unreadable)?;
+                self.part = Part::Text;
+            }
+            None => {
+                self.case.input.push_str(line)?;
+                self.case.input.push_str("\n")?;
+            }
+        }
+        Ok(None)
+    }
+
+    // A line that a case must write, or one that ends the case.
+    fn take_text(&mut self, alloc: Global, line: &str) -> Result<Option<Case>, LineError> {
+        if ends_text(line) {
+            let ended = self.end_case(alloc);
+            self.take_outside(alloc, line)?;
+            return Ok(Some(ended));
+        }
+        self.case.text.push_str(line)?;
+        self.case.text.push_str("\n")?;
+        Ok(None)
+    }
+
+    // The case that was read, whose end this is.
+    fn end_case(&mut self, alloc: Global) -> Case {
+        self.part = Part::Outside;
+        mem::replace(&mut self.case, empty_case(alloc, 0))
+    }
+
+    // The case of an instruction and its code, or of why it is refused.
+    fn row(&self, alloc: Global, line: &str) -> Result<Case, LineError> {
+        let Some((instruction, wanted)) = line.split_once(" = ") else {
+            return Err(LineError::Unreadable);
+        };
+        let wanted = match wanted.split_once(" # ") {
+            Some((text, _)) => text,
+            None => wanted,
+        };
+        let status = if wanted.starts_with("refused ") {
+            Status::Refused
+        } else {
+            Status::Ok
+        };
+        let head = self.head.as_str();
+        Ok(Case {
+            line: self.number,
+            words: String::from_str(alloc, "image 4096")?,
+            input: format!(in alloc; "{head}block\n{instruction}\nend\n")?,
+            status: status.number(),
+            text: line_of(alloc, wanted)?,
+        })
+    }
+}
+
+// What stands behind a mark and a space, if a line begins so; behind the mark alone stands nothing.
+fn marked<'a>(line: &'a str, mark: &str) -> Option<&'a str> {
+    match line.strip_prefix(mark) {
+        Some("") => Some(""),
+        Some(rest) => rest.strip_prefix(" "),
+        None => None,
+    }
+}
+
+// Whether a line ends the text of a case: it is a comment, begins a case or tells how jobs begin.
+fn ends_text(line: &str) -> bool {
+    line.starts_with("#") || marked(line, ">").is_some() || marked(line, "*").is_some()
+}
+
+// A text with its line feed, or nothing.
+fn line_of(alloc: Global, text: &str) -> Result<String, AllocError> {
+    if text.is_empty() {
+        Ok(String::new(alloc))
+    } else {
+        format!(in alloc; "{text}\n")
+    }
+}
+
+// A case of which nothing was read.
+fn empty_case(alloc: Global, line: u64) -> Case {
+    Case {
+        line,
+        words: String::new(alloc),
+        input: String::new(alloc),
+        status: 0,
+        text: String::new(alloc),
+    }
+}

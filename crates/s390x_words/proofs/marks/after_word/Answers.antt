@@ -1,7 +1,0 @@
-use Rattle.std.proofs.Common.{rules}
-use Rattle.s390x_words.specs.Marks.{after_word}
-use Rattle.s390x_words.proofs.marks.after_word.Goals as goal
-
-pub returns : goal.returns
-unfolding after_word
-returns c = search rules
