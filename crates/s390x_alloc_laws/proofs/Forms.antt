@@ -39,7 +39,7 @@ use Rattle.s390x_assign.specs.Assignments.{portion_at, register_at, after, memor
 use Rattle.s390x_alloc_laws.proofs.Vectors.{elements_accessed, lane_accessed, left_accessed, first_row, reverse_single}
 use Rattle.s390x_alloc_laws.proofs.Control.{portion_refusal}
 use Rattle.std.specs.Prelude.{true, cond, ◌/◌}
-use Rattle.s390x_lanes.specs.declared.operation.Signedness.TheVariants.{Signed, Unsigned}
+use Rattle.s390x_lanes.specs.declared.operators.Signedness.TheVariants.{Signed, Unsigned}
 use Rattle.s390x_operations.specs.declared.size.Size.TheVariants.{Word, Doubleword}
 use Rattle.s390x_operations.specs.declared.size.Width.TheVariants.{Bits32, Bits64}
 use Rattle.s390x_operations.specs.declared.effect.CodeRule.TheVariants.{Kept, Set}
@@ -66,7 +66,7 @@ use Rattle.s390x_alloc_laws.proofs.Portions.{portion_kind, portion_loaded_kind}
 use Rattle.s390x_typed_steps.specs.VectorOpcodes.{is_division}
 use Rattle.s390x_operations.specs.declared.operator.Operator.TheVariants.{Move}
 use Rattle.s390x_operations.specs.declared.operator.SelectedBitsOperator.TheVariants as Select
-use Rattle.s390x_lanes.specs.declared.operation.VectorOperation.TheVariants as Lanes
+use Rattle.s390x_lanes.specs.declared.operators.VectorOperation.TheVariants as Lanes
 use Rattle.s390x_lanes.specs.declared.size.ElementSize.TheVariants as ElementSize
 
 -- a load: the last clause is a copy for each

@@ -6,7 +6,7 @@ use Rattle.s390x_base.specs.declared.ir.MachLabel.{MachLabel}
 use Rattle.s390x_base.specs.declared.regs.Reg.{Reg}
 use Rattle.s390x_base.specs.declared.regs.Reg.TheVariants.{Real}
 use Rattle.s390x_base.specs.declared.trap.TrapKind.{TrapKind}
-use Rattle.s390x_lanes.specs.declared.operation.Signedness.{Signedness}
+use Rattle.s390x_lanes.specs.declared.operators.Signedness.{Signedness}
 use Rattle.s390x_operations.specs.State.{Registers, Core, set_general, set_vector, with_code}
 use Rattle.s390x_operations.specs.Effects.{is_selected}
 use Rattle.s390x_operations.specs.declared.effect.Operation.{Operation}

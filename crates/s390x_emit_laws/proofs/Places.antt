@@ -7,7 +7,7 @@ use Rattle.s390x_base.specs.declared.ir.MachLabel.{MachLabel}
 use Rattle.s390x_inst.specs.declared.inst.Inst.{Inst}
 use Rattle.s390x_inst.specs.declared.inst.Inst.TheVariants.{Jump, CondBr, JTSequence}
 use Rattle.s390x_format.specs.Formats.{length_of}
-use Rattle.s390x_lanes.specs.declared.operation.Signedness.TheVariants.{Signed}
+use Rattle.s390x_lanes.specs.declared.operators.Signedness.TheVariants.{Signed}
 use Rattle.s390x_operations.specs.Bits.{extended}
 use Rattle.s390x_operations.specs.Effects.{is_selected}
 use Rattle.s390x_operations.specs.State.{CodeImage, IsLoaded, Memory, State, number_at, wrapping_add64}

@@ -2,7 +2,7 @@
 use Rattle.std.specs.Prelude.{◌≡◌, ℕ, ◌+◌, ◌*◌, Some, None, slice_get, if◌then◌else◌}
 use Rattle.s390x_base.specs.declared.ir.MachLabel.{MachLabel}
 use Rattle.s390x_inst.specs.declared.inst.Inst.TheVariants.{Jump, CondBr, JTSequence}
-use Rattle.s390x_lanes.specs.declared.operation.Signedness.TheVariants.{Signed}
+use Rattle.s390x_lanes.specs.declared.operators.Signedness.TheVariants.{Signed}
 use Rattle.s390x_operations.specs.Bits.{extended}
 use Rattle.s390x_operations.specs.Effects.{is_selected}
 use Rattle.s390x_operations.specs.State.{CodeImage, IsLoaded, Memory, State, number_at, wrapping_add64}

@@ -6,11 +6,11 @@ mod conditional;
 mod lanes;
 mod memory;
 mod opcodes;
-mod vector;
+mod single_vector;
 
 pub use codes::{
     compared_vectors, shifted_vector, three_vectors, two_vectors, vector as real_vector,
 };
 pub use conditional::{MoveUnder, find_move_under};
 pub use memory::find_vector_memory;
-pub use vector::{find_vector, stop_of};
+pub use single_vector::{find_vector, stop_of};

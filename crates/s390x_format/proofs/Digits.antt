@@ -5,7 +5,7 @@ use Rattle.std.proofs.Math.Pow.{pow_pos, mod-pow-add}
 use Rattle.std.proofs.Math.Nat.{div-one, mod-eq_of_lt, mod-one, zero-div, zero-mod, zero-mul}
 use Rattle.std.proofs.lemmas.Nat.{mod_below, shr_high, mod_low}
 use Rattle.std.proofs.lemmas.Bool.{and_parts, or_cases, cases_lt, ltb-true, or_left, or_right, lt-ltb}
-use Rattle.s390x_format.specs.declared.layout.Part.{Part}
+use Rattle.s390x_format.specs.declared.layouts.Part.{Part}
 use Rattle.s390x_format.specs.Layout.{bits, piece, number, field, parts_of, is_whole, width_of_part, zero_bits}
 use Rattle.s390x_format.proofs.Packing.{digit_lt, regroup, number_lt, piece_lt}
 

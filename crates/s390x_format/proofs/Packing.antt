@@ -5,7 +5,7 @@ use Rattle.std.proofs.Math.Nat.{add-mul, mul_assoc, le-mul_of_pos_right, div-one
 use Rattle.std.proofs.lemmas.Nat.{mod_below, mul-add-lt, shr_high, mod_low}
 use Rattle.std.proofs.lemmas.Bool.{and_parts, or_cases, cases_eq}
 use Rattle.std.proofs.Math.Nat.{mod-eq_of_lt}
-use Rattle.s390x_format.specs.declared.layout.Part.{Part}
+use Rattle.s390x_format.specs.declared.layouts.Part.{Part}
 use Rattle.s390x_format.specs.Layout.{bits, piece, number, field, parts_of, is_whole, width_of_part, is_layout, is_narrow, slots_ok}
 
 pub piece_lt : (v : ℕ) (p : Part) → piece v p < 2 ^ p.width

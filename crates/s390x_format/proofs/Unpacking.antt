@@ -2,7 +2,7 @@
 use Rattle.std.proofs.Common.{◌≡◌, ℕ, zero, suc, ◌+◌, ◌*◌, ◌/◌, ◌%◌, ◌^◌, ◌<◌, ◌≤◌, Bool, true, false, ◌&&◌, ◌||◌, nat_lt, ◌==◌, List, [], ◌∷◌, length, get_or, drop, refl, sym, ap, subst, ◌∙◌, arith, if◌then◌else◌, drop-cons, drop_of_length-le, add-one, eq-eqb}
 use Rattle.std.proofs.Math.Pow.{pow_pos, pow_mono}
 use Rattle.std.proofs.lemmas.Nat.{mod_below}
-use Rattle.s390x_format.specs.declared.layout.Part.{Part}
+use Rattle.s390x_format.specs.declared.layouts.Part.{Part}
 use Rattle.s390x_format.specs.Layout.{bits, field, width_of_part, is_layout, zero_bits}
 use Rattle.s390x_format.proofs.Packing.{layout_bits, layout_slot}
 use Rattle.s390x_format.proofs.Digits.{field_lt}

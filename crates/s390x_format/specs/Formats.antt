@@ -1,6 +1,6 @@
 -- Each format's layout, its length, and where its opcode stands (Principles of Operation, chapter 5, "Instruction formats").
 use Rattle.std.specs.Prelude.{ℕ, List}
-use Rattle.s390x_format.specs.declared.layout.Part.{Part}
+use Rattle.s390x_format.specs.declared.layouts.Part.{Part}
 use Rattle.s390x_format.specs.declared.kind.FormatKind.{FormatKind}
 use Rattle.s390x_format.specs.declared.kind.FormatKind.TheVariants.{E, RiA, RiB, RiC, RieA, RieD, RieF, RieG, RilA, RilB, RilC, Rr, Rre, RrfAb, RrfCde, Rs, Rsy, Rx, Rxy, Si, Sil, Siy, VriA, VriB, VriC, VriK, VrrA, VrrB, VrrC, VrrD, VrrE, VrrF, VrsA, VrsB, VrsC, Vrx}
 use Rattle.s390x_format.specs.declared.kind.TheConstants.{E_PARTS, RI_A_PARTS, RI_B_PARTS, RI_C_PARTS, RIE_A_PARTS, RIE_D_PARTS, RIE_F_PARTS, RIE_G_PARTS, RIL_A_PARTS, RIL_B_PARTS, RIL_C_PARTS, RR_PARTS, RRE_PARTS, RRF_AB_PARTS, RRF_CDE_PARTS, RS_PARTS, RSY_PARTS, RX_PARTS, RXY_PARTS, SI_PARTS}

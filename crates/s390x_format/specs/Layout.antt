@@ -1,6 +1,6 @@
 -- A format's layout: a list of parts, from the most significant bit down (Principles of Operation, chapter 5, "Instruction formats").
 use Rattle.std.specs.Prelude.{◌≡◌, ℕ, zero, suc, ◌+◌, ◌*◌, ◌/◌, ◌%◌, ◌^◌, ◌<◌, Bool, true, false, ◌&&◌, ◌||◌, ◌==◌, nat_le, nat_lt, List, [], ◌∷◌, length, slice_index, if◌then◌else◌}
-use Rattle.s390x_format.specs.declared.layout.Part.{Part}
+use Rattle.s390x_format.specs.declared.layouts.Part.{Part}
 
 -- how many bits the parts have
 unfoldable pub bits : List Part → ℕ

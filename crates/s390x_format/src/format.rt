@@ -10,7 +10,7 @@ ghost use Rattle.s390x_format.specs.Encoded.{IsEncoded};
 ghost use Rattle.s390x_format.specs.Fetch.{machine_rows};
 
 use crate::kind::{FormatKind, layout, length};
-use crate::layout::{pack, unpack};
+use crate::layouts::{pack, unpack};
 use crate::reading::number_of;
 use s390x_base::Code;
 

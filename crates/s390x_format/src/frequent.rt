@@ -4,7 +4,7 @@ ghost use Rattle.s390x_format.specs.Layout.{field, zero_bits};
 ghost use Rattle.s390x_format.specs.Formats.{layout_of};
 
 use crate::kind::{FormatKind, layout, length};
-use crate::layout::{Unpacked, unpack};
+use crate::layouts::{Unpacked, unpack};
 
 /// What a number has in a format's slots. The formats of the most frequent instructions are read at once, without their
 /// lists of parts.

@@ -9,7 +9,7 @@
 ghost use Rattle.std.specs.Prelude.{◌≡◌};
 ghost use Rattle.s390x_format.specs.Formats.{layout_of, length_of};
 
-use crate::layout::{
+use crate::layouts::{
     DISPLACEMENT, IMMEDIATE, MASK_1, MASK_2, MASK_3, OPCODE, Part, REG_1, REG_2, REG_3, REG_4, ZERO,
 };
 

@@ -9,7 +9,7 @@ ghost use Rattle.s390x_format.specs.declared.reading.LeadingBytes.{LeadingBytes}
 use crate::frequent::unpack_as;
 use crate::index::{FirstByte, RestPlace, row_place, search};
 use crate::kind::length;
-use crate::layout::Unpacked;
+use crate::layouts::Unpacked;
 use crate::row::{MachineRow, Row, allows};
 use crate::steps::Steps;
 use std::sync::ledger::Ledger;

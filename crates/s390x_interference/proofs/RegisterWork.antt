@@ -15,8 +15,8 @@ use Rattle.s390x_inst.specs.declared.vec_ops.VecIntCmpOp.{VecIntCmpOp}
 use Rattle.s390x_inst.specs.declared.vec_ops.VecIntCmpOp.TheVariants as C
 use Rattle.s390x_inst.specs.declared.vec_ops.VecIntEltCmpOp.{VecIntEltCmpOp}
 use Rattle.s390x_inst.specs.declared.vec_ops.VecIntEltCmpOp.TheVariants as E
-use Rattle.s390x_lanes.specs.declared.operation.VectorOperation.{VectorOperation}
-use Rattle.s390x_lanes.specs.declared.operation.VectorOperation.TheVariants as O
+use Rattle.s390x_lanes.specs.declared.operators.VectorOperation.{VectorOperation}
+use Rattle.s390x_lanes.specs.declared.operators.VectorOperation.TheVariants as O
 use Rattle.s390x_typed_steps.specs.VectorOpcodes.{is_division}
 use Rattle.s390x_operations.specs.Access.{Untouched}
 use Rattle.s390x_operations.specs.Effects.{access, refused, MayRefuse, is_selected}

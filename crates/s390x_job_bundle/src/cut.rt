@@ -5,7 +5,7 @@ ghost use Rattle.s390x_job.specs.Jobs.{IsJob, text_of_job};
 ghost use Rattle.s390x_job_bundle.specs.Cut.{IsCutAt};
 ghost use Rattle.s390x_job_bundle.specs.Errors.{HasNoJob};
 
-use crate::complete::ends_job;
+use crate::completeness::ends_job;
 use s390x_job::{Job, LineError, read_lines};
 use s390x_job_fields::marks::{after, before};
 use std::alloc::{AllocError, Global};

@@ -5,7 +5,7 @@ ghost use Rattle.s390x_job_fields.specs.Atoms.{name_of};
 ghost use Rattle.s390x_job_bundle.specs.Errors.{IsHead};
 ghost use Rattle.s390x_job_bundle.specs.Text.{head_line};
 
-use crate::complete::closes_text;
+use crate::completeness::closes_text;
 use s390x_base::ExternalName;
 use s390x_job_fields::atoms;
 use s390x_job_fields::number::tail;

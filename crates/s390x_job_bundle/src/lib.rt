@@ -1,7 +1,7 @@
 //! The text of several functions in one image: its exact reader.
 #![tactic(auto)]
 
-mod complete;
+mod completeness;
 mod cut;
 mod error;
 mod find;
@@ -9,7 +9,7 @@ mod head;
 mod named_job;
 mod reader;
 
-pub use complete::complete;
+pub use completeness::complete;
 pub use cut::{count_lines, job_size, read_job};
 pub use error::BundleTextError;
 pub use find::find_functions;

@@ -4,7 +4,7 @@ ghost use Rattle.s390x_job_bundle.specs.Completions.{IsBundleText, bundle_comple
 ghost use Rattle.s390x_job_bundle.specs.Errors.{HasNoFunctions};
 ghost use Rattle.s390x_job_bundle.specs.Text.{AreFunctionsOf};
 
-use crate::complete::complete;
+use crate::completeness::complete;
 use crate::error::BundleTextError;
 use crate::find::{Found, find_functions};
 use crate::named_job::NamedJob;

@@ -3,7 +3,7 @@ ghost use Rattle.std.specs.Prelude.{◌≡◌, ◌<◌, Decides, IfOk, length, m
 ghost use Rattle.s390x_job.specs.Completions.{joined};
 ghost use Rattle.s390x_job_plan.specs.Errors.{IsFound, IsPlanFound};
 
-use crate::complete::join;
+use crate::completeness::join;
 use crate::line::read_line;
 use crate::planned_job::PlannedJob;
 use crate::progress::{Progress, follow};

@@ -2,7 +2,7 @@
 #![tactic(auto)]
 
 mod allocated_jobs;
-mod complete;
+mod completeness;
 mod error;
 mod find;
 mod law;
@@ -12,7 +12,7 @@ mod progress;
 mod reader;
 
 pub use allocated_jobs::{answered_jobs_are_jobs, answered_jobs_are_read_back};
-pub use complete::complete;
+pub use completeness::complete;
 pub use error::PlanTextError;
 pub use find::{find_plan, find_planned};
 pub use law::{no_blocks_are_text, some_lines_are_text};

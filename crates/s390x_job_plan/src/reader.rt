@@ -4,7 +4,7 @@ ghost use Rattle.s390x_job_plan.specs.Completions.{IsPlannedText, plan_completio
 ghost use Rattle.s390x_job_plan.specs.Errors.{HasNoPlan};
 ghost use Rattle.s390x_job_plan.specs.Text.{IsPlannedOf};
 
-use crate::complete::complete;
+use crate::completeness::complete;
 use crate::error::PlanTextError;
 use crate::find::{Found, find_planned};
 use crate::planned_job::PlannedJob;

@@ -5,7 +5,7 @@ use Rattle.std.proofs.lemmas.Nat.{mod_below, mod_low, or_shifted, shr_high, shr_
 use Rattle.s390x_lanes.specs.Elements.{element_shifted}
 use Rattle.s390x_lanes.specs.Lanes.{lane, from_lanes}
 use Rattle.s390x_lanes.specs.Places.{chosen_doubleword}
-use Rattle.s390x_lanes.specs.declared.operation.ShiftOperator.TheVariants.{RotateLeft}
+use Rattle.s390x_lanes.specs.declared.operators.ShiftOperator.TheVariants.{RotateLeft}
 use Rattle.s390x_lanes.proofs.Building.{build_lt, lane_lt, lane-from_lanes}
 use Rattle.s390x_lanes.proofs.Powers.{high_lt, twice}
 use Rattle.s390x_lanes.proofs.Splitting.{lane_left, lane_right, same_lanes}

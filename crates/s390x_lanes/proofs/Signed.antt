@@ -10,9 +10,9 @@ use Rattle.std.proofs.lemmas.Nat.{pow_pos, shr_le}
 use Rattle.std.proofs.lemmas.Int.{int_rem_euclid_is, ints}
 use Rattle.std.proofs.lemmas.Bool.{cases_lt}
 use Rattle.std.proofs.lemmas.Bool.Decides.{nat_tests}
-use Rattle.s390x_lanes.specs.declared.operation.Signedness.TheVariants.{Unsigned, Signed}
-use Rattle.s390x_lanes.specs.declared.operation.ShiftOperator.TheVariants.{ShiftRightArithmetic}
-use Rattle.s390x_lanes.specs.declared.operation.Division.TheVariants.{Quotient, Remainder}
+use Rattle.s390x_lanes.specs.declared.operators.Signedness.TheVariants.{Unsigned, Signed}
+use Rattle.s390x_lanes.specs.declared.operators.ShiftOperator.TheVariants.{ShiftRightArithmetic}
+use Rattle.s390x_lanes.specs.declared.operators.Division.TheVariants.{Quotient, Remainder}
 use Rattle.s390x_lanes.specs.Numbers.{element_number, wrapped, saturated}
 use Rattle.s390x_lanes.specs.Encoding.{biased, sign_extended, negated, magnitude, rounded_mean, shifted_right, saturated_bits, quotient_bits, remainder_bits}
 use Rattle.s390x_lanes.specs.Elements.{is_lower, average, element_shifted, divided, immediate}

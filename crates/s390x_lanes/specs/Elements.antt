@@ -5,20 +5,20 @@ use Rattle.std.specs.Int.{int_div_euclid}
 use Rattle.std.specs.Int.RustNames.{unsigned_abs, int_div, int_rem}
 use lib.Count.{count_leading_zeros, count_trailing_zeros}
 use Rattle.s390x_lanes.specs.Numbers.{element_number, wrapped, saturated, greatest}
-use Rattle.s390x_lanes.specs.declared.operation.Signedness.{Signedness}
-use Rattle.s390x_lanes.specs.declared.operation.Signedness.TheVariants.{Signed}
-use Rattle.s390x_lanes.specs.declared.operation.BinaryOperator.{BinaryOperator}
-use Rattle.s390x_lanes.specs.declared.operation.BinaryOperator.TheVariants.{Add, Sub, Mul, AddCarryOut, SubBorrowOut, Max, Min, Average, And, Or, Xor, NotAnd, NotOr, NotXor, AndNot, OrNot}
-use Rattle.s390x_lanes.specs.declared.operation.UnaryOperator.{UnaryOperator}
-use Rattle.s390x_lanes.specs.declared.operation.UnaryOperator.TheVariants.{Abs, Neg, LeadingZeros, TrailingZeros, PopulationCount}
-use Rattle.s390x_lanes.specs.declared.operation.ShiftOperator.{ShiftOperator}
-use Rattle.s390x_lanes.specs.declared.operation.ShiftOperator.TheVariants.{RotateLeft, ShiftLeft, ShiftRightLogical, ShiftRightArithmetic}
-use Rattle.s390x_lanes.specs.declared.operation.Comparison.{Comparison}
-use Rattle.s390x_lanes.specs.declared.operation.Comparison.TheVariants.{Equal, High}
-use Rattle.s390x_lanes.specs.declared.operation.Division.{Division}
-use Rattle.s390x_lanes.specs.declared.operation.Division.TheVariants.{Quotient, Remainder}
-use Rattle.s390x_lanes.specs.declared.operation.Narrowing.{Narrowing}
-use Rattle.s390x_lanes.specs.declared.operation.Narrowing.TheVariants.{Modulo, Saturate}
+use Rattle.s390x_lanes.specs.declared.operators.Signedness.{Signedness}
+use Rattle.s390x_lanes.specs.declared.operators.Signedness.TheVariants.{Signed}
+use Rattle.s390x_lanes.specs.declared.operators.BinaryOperator.{BinaryOperator}
+use Rattle.s390x_lanes.specs.declared.operators.BinaryOperator.TheVariants.{Add, Sub, Mul, AddCarryOut, SubBorrowOut, Max, Min, Average, And, Or, Xor, NotAnd, NotOr, NotXor, AndNot, OrNot}
+use Rattle.s390x_lanes.specs.declared.operators.UnaryOperator.{UnaryOperator}
+use Rattle.s390x_lanes.specs.declared.operators.UnaryOperator.TheVariants.{Abs, Neg, LeadingZeros, TrailingZeros, PopulationCount}
+use Rattle.s390x_lanes.specs.declared.operators.ShiftOperator.{ShiftOperator}
+use Rattle.s390x_lanes.specs.declared.operators.ShiftOperator.TheVariants.{RotateLeft, ShiftLeft, ShiftRightLogical, ShiftRightArithmetic}
+use Rattle.s390x_lanes.specs.declared.operators.Comparison.{Comparison}
+use Rattle.s390x_lanes.specs.declared.operators.Comparison.TheVariants.{Equal, High}
+use Rattle.s390x_lanes.specs.declared.operators.Division.{Division}
+use Rattle.s390x_lanes.specs.declared.operators.Division.TheVariants.{Quotient, Remainder}
+use Rattle.s390x_lanes.specs.declared.operators.Narrowing.{Narrowing}
+use Rattle.s390x_lanes.specs.declared.operators.Narrowing.TheVariants.{Modulo, Saturate}
 
 -- every bit inverted
 abbrev pub element_complement : ℕ → ℕ → ℕ

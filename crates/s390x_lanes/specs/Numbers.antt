@@ -3,8 +3,8 @@
 use Rattle.std.specs.Prelude.{ℕ, ◌-◌, ◌^◌, ℤ, pos, negsuc, nat_lt, if◌then◌else◌}
 use Rattle.std.specs.Int.{int_rem_euclid, int_max, int_min}
 use Rattle.std.specs.Int.RustNames.{unsigned_abs}
-use Rattle.s390x_lanes.specs.declared.operation.Signedness.{Signedness}
-use Rattle.s390x_lanes.specs.declared.operation.Signedness.TheVariants.{Unsigned, Signed}
+use Rattle.s390x_lanes.specs.declared.operators.Signedness.{Signedness}
+use Rattle.s390x_lanes.specs.declared.operators.Signedness.TheVariants.{Unsigned, Signed}
 
 -- the number that an element of w bits holds
 abbrev pub element_number : Signedness → ℕ → ℕ → ℤ

@@ -3,9 +3,9 @@
 use Rattle.std.specs.Prelude.{ℕ, ◌/◌, ◌%◌, ◌^◌, Bool, true, false, nat_lt, nat_le, ◌==◌, ◌&&◌, List, [], ◌∷◌, slice_index, Option, None, Some, ℤ, pos, negsuc, if◌then◌else◌}
 use Rattle.s390x_lanes.specs.Size.{element_bits, lane_count, size_of_code, narrower_of_code}
 use Rattle.s390x_lanes.specs.declared.size.ElementSize.TheVariants.{Quadword}
-use Rattle.s390x_lanes.specs.declared.operation.VectorOperation.{VectorOperation}
-use Rattle.s390x_lanes.specs.declared.operation.VectorOperation.TheVariants as O
-use Rattle.s390x_lanes.specs.declared.operation.BinaryOperator.TheVariants.{Add}
+use Rattle.s390x_lanes.specs.declared.operators.VectorOperation.{VectorOperation}
+use Rattle.s390x_lanes.specs.declared.operators.VectorOperation.TheVariants as O
+use Rattle.s390x_lanes.specs.declared.operators.BinaryOperator.TheVariants.{Add}
 use Rattle.s390x_lanes.specs.declared.opcodes.OpcodeRow.{OpcodeRow}
 use Rattle.s390x_lanes.specs.declared.opcodes.RowKind.{RowKind}
 use Rattle.s390x_lanes.specs.declared.opcodes.RowKind.TheVariants.{Binary, Whole, Compare, MultiplyHigh, MultiplyPairs, Divide, Unary, ShiftElements, Pack, Merge, Unpack, Replicate, ByteMask, BitMask, Select, Permute, PermuteDoublewords, ShiftByBits, ShiftByBytes, Move, InsertImmediate, ReplicateImmediate, BitPermute, CompareElement, Blend, Evaluate}

@@ -3,13 +3,13 @@
 use Rattle.std.specs.Prelude.{ℕ, ◌+◌, ◌-◌, ◌*◌, ◌/◌, ◌%◌, ◌^◌, nat_lt, nat_le, ◌==◌, bit_and, bit_or, if◌then◌else◌}
 use Rattle.s390x_lanes.specs.Lanes.{lane, from_lanes}
 use Rattle.s390x_lanes.specs.Elements.{product, narrowed, element_widened, element_shifted, element_complement}
-use Rattle.s390x_lanes.specs.declared.operation.Signedness.{Signedness}
-use Rattle.s390x_lanes.specs.declared.operation.ShiftOperator.{ShiftOperator}
-use Rattle.s390x_lanes.specs.declared.operation.Narrowing.{Narrowing}
-use Rattle.s390x_lanes.specs.declared.operation.Parity.{Parity}
-use Rattle.s390x_lanes.specs.declared.operation.Parity.TheVariants.{Even, Odd}
-use Rattle.s390x_lanes.specs.declared.operation.Half.{Half}
-use Rattle.s390x_lanes.specs.declared.operation.Half.TheVariants.{High, Low}
+use Rattle.s390x_lanes.specs.declared.operators.Signedness.{Signedness}
+use Rattle.s390x_lanes.specs.declared.operators.ShiftOperator.{ShiftOperator}
+use Rattle.s390x_lanes.specs.declared.operators.Narrowing.{Narrowing}
+use Rattle.s390x_lanes.specs.declared.operators.Parity.{Parity}
+use Rattle.s390x_lanes.specs.declared.operators.Parity.TheVariants.{Even, Odd}
+use Rattle.s390x_lanes.specs.declared.operators.Half.{Half}
+use Rattle.s390x_lanes.specs.declared.operators.Half.TheVariants.{High, Low}
 
 -- the even or the odd lane of pair i
 abbrev pub lane_of_pair : Parity → ℕ → ℕ

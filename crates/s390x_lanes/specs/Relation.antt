@@ -5,10 +5,10 @@ use Rattle.s390x_lanes.specs.Size.{element_bits, lane_count}
 use Rattle.s390x_lanes.specs.Lanes.{lane, some_lane, every_lane}
 use Rattle.s390x_lanes.specs.Elements.{is_lower, elements_compare, quotient_overflows}
 use Rattle.s390x_lanes.specs.Results.{vector_result}
-use Rattle.s390x_lanes.specs.declared.operation.Signedness.{Signedness}
-use Rattle.s390x_lanes.specs.declared.operation.Comparison.{Comparison}
-use Rattle.s390x_lanes.specs.declared.operation.VectorOperation.{VectorOperation}
-use Rattle.s390x_lanes.specs.declared.operation.VectorOperation.TheVariants.{Compare, Divide, ShiftByBits, CompareElement, Blend, Evaluate}
+use Rattle.s390x_lanes.specs.declared.operators.Signedness.{Signedness}
+use Rattle.s390x_lanes.specs.declared.operators.Comparison.{Comparison}
+use Rattle.s390x_lanes.specs.declared.operators.VectorOperation.{VectorOperation}
+use Rattle.s390x_lanes.specs.declared.operators.VectorOperation.TheVariants.{Compare, Divide, ShiftByBits, CompareElement, Blend, Evaluate}
 
 -- ---- condition codes
 -- the comparison holds in lane i of two registers

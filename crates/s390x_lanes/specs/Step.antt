@@ -1,7 +1,7 @@
 -- How a step of a vector row may end.
 use Rattle.std.specs.Prelude.{◌≡◌, ℕ, List, slice_index, Option, None, Some}
 use Rattle.s390x_lanes.specs.Relation.{Gives, MayStop}
-use Rattle.s390x_lanes.specs.declared.operation.VectorOperation.{VectorOperation}
+use Rattle.s390x_lanes.specs.declared.operators.VectorOperation.{VectorOperation}
 use Rattle.s390x_lanes.specs.declared.step.LaneEnd.{LaneEnd}
 use Rattle.s390x_lanes.specs.declared.step.LaneEnd.TheVariants.{Value, Divide, NoRow}
 

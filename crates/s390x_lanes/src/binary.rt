@@ -8,7 +8,7 @@ ghost use Rattle.s390x_lanes.specs.Elements.{binary_result, average as average_o
 
 use crate::lane::ones;
 use crate::number::{bias, lower};
-use crate::operation::{BinaryOperator, Comparison, Signedness};
+use crate::operators::{BinaryOperator, Comparison, Signedness};
 
 /// `x - y`, wrapping.
 pub(crate) fn subtract(w: u32, x: u128, y: u128) -> u128

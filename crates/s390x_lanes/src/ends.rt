@@ -9,7 +9,7 @@ ghost use Rattle.s390x_lanes.specs.Relation.{lane_compares, lanes_code as lanes_
 use crate::binary::compare;
 use crate::lane::element;
 use crate::number::lower;
-use crate::operation::{Comparison, Signedness, VectorOperation};
+use crate::operators::{Comparison, Signedness, VectorOperation};
 use crate::products::overflows;
 use crate::size::ElementSize;
 

@@ -6,7 +6,7 @@ ghost use Rattle.s390x_lanes.specs.Size.{size_of_code, narrower_of_code};
 ghost use Rattle.s390x_lanes.specs.Opcodes.{row_in, operation_from, is_mask_within, kind_allows, is_operation, is_computed, where_operation, row_operation, immediate_bits as immediate_bits_of, operation_in, operation_of};
 
 use crate::opcodes::{OPCODES, OpcodeRow, RowKind};
-use crate::operation::VectorOperation;
+use crate::operators::VectorOperation;
 use crate::size::ElementSize;
 
 /// The first row with the opcode.

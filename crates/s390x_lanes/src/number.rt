@@ -7,7 +7,7 @@ ghost use Rattle.s390x_lanes.specs.Encoding.{biased, sign_extended, negated, mag
 ghost use Rattle.s390x_lanes.specs.Elements.{is_lower};
 
 use crate::lane::ones;
-use crate::operation::Signedness;
+use crate::operators::Signedness;
 
 /// The sign bit.
 pub(crate) fn sign_bit(w: u32) -> u128

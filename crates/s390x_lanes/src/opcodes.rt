@@ -1,7 +1,7 @@
 // The opcodes of the vector rows on registers and immediates.
 #![tactic(auto)]
 
-use crate::operation::{
+use crate::operators::{
     BinaryOperator, Comparison, Division, Half, Narrowing, Parity, ShiftOperator, Signedness,
     UnaryOperator,
 };

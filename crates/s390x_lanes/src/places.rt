@@ -7,7 +7,7 @@ ghost use Rattle.s390x_lanes.specs.Places.{lane_of_pair, first_of_half, pair_pro
 
 use crate::lane::{append, element, lane, ones};
 use crate::number::sign_bit;
-use crate::operation::{Half, Narrowing, Parity, ShiftOperator, Signedness};
+use crate::operators::{Half, Narrowing, Parity, ShiftOperator, Signedness};
 use crate::products::multiply;
 use crate::size::ElementSize;
 use crate::unary::{narrow, shift, widen};

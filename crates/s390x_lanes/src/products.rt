@@ -7,7 +7,7 @@ ghost use Rattle.s390x_lanes.specs.Elements.{product, high_product, divided, quo
 
 use crate::lane::ones;
 use crate::number::{absolute, negate, sign_bit, sign_extend};
-use crate::operation::{Division, Signedness};
+use crate::operators::{Division, Signedness};
 
 /// The whole product, of `2 * w` bits.
 pub(crate) fn multiply(sign: Signedness, w: u32, x: u128, y: u128) -> u128

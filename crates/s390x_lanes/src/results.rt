@@ -10,7 +10,7 @@ ghost use Rattle.s390x_lanes.specs.Opcodes.{is_operation, is_computed};
 
 use crate::binary::{binary, compare};
 use crate::lane::{append, element, ones};
-use crate::operation::{Comparison, VectorOperation};
+use crate::operators::{Comparison, VectorOperation};
 use crate::places::{
     byte_count, choose_bits, mask_bits, mask_byte, merge, multiply_pair, pack, permute,
     permute_doubleword, select, shift_element, unpack,

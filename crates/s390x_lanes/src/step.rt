@@ -7,7 +7,7 @@ ghost use Rattle.s390x_lanes.specs.Step.{MayEnd, StepEnds, ValueIsGiven, StopIsA
 
 use crate::ends::{code, divides_by_zero, division_overflows};
 use crate::lookup::{computes, operation};
-use crate::operation::VectorOperation;
+use crate::operators::VectorOperation;
 use crate::results;
 
 /// How a step of a vector row ends.

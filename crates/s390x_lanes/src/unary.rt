@@ -9,7 +9,7 @@ ghost use Rattle.s390x_lanes.specs.Elements.{unary_result, element_shifted, narr
 
 use crate::lane::ones;
 use crate::number::{absolute, negate, sign_bit, sign_extend};
-use crate::operation::{Narrowing, ShiftOperator, Signedness, UnaryOperator};
+use crate::operators::{Narrowing, ShiftOperator, Signedness, UnaryOperator};
 
 /// The zeros at the left.
 pub(crate) fn leading_zeros(w: u32, x: u128) -> u128

@@ -4,7 +4,7 @@ use Rattle.std.proofs.Math.Pow.{pow_pos}
 use Rattle.s390x_format.specs.declared.fields.Fields.{Fields}
 use Rattle.s390x_lanes.specs.declared.size.ElementSize.{ElementSize}
 use Rattle.s390x_lanes.specs.declared.size.ElementSize.TheVariants.{Doubleword as LongElement}
-use Rattle.s390x_lanes.specs.declared.operation.VectorOperation.{VectorOperation}
+use Rattle.s390x_lanes.specs.declared.operators.VectorOperation.{VectorOperation}
 use Rattle.s390x_lanes.specs.Size.{lane_count, element_bits}
 use Rattle.s390x_lanes.specs.Opcodes.{operation_of}
 use Rattle.s390x_operations.specs.State.{Registers, State, set_general, wrapping_add64}

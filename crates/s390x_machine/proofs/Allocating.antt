@@ -11,7 +11,7 @@ use Rattle.s390x_operations.specs.State.{Registers, with_code}
 use Rattle.s390x_operations.specs.Effects.{Refines, set_sized}
 use Rattle.s390x_operations.specs.declared.size.Size.TheVariants.{Doubleword}
 use Rattle.s390x_operations.specs.declared.size.Width.TheVariants.{Bits16, Bits32}
-use Rattle.s390x_lanes.specs.declared.operation.Signedness.TheVariants.{Signed, Unsigned}
+use Rattle.s390x_lanes.specs.declared.operators.Signedness.TheVariants.{Signed, Unsigned}
 use Rattle.s390x_operations.specs.declared.operator.Operator.TheVariants as O
 use Rattle.s390x_operations.specs.declared.operator.SignedOperator.TheVariants.{Add}
 use Rattle.s390x_operations.specs.declared.operator.LogicalOperator.TheVariants.{Subtract}

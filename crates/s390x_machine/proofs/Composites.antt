@@ -1,7 +1,7 @@
 -- Steps of several rows, and steps that end a run.
 use Rattle.std.proofs.Common.{◌≡◌, ℕ, suc, ◌≤◌, inl, inr, List, [], ◌∷◌, ◌++◌, length, Option, Some, None, Bool, true, false, cond, not, IsTrue, refl, sym, ap, ◌∙◌, subst, arith, length-append}
 use Rattle.s390x_base.specs.declared.trap.TrapKind.{TrapKind}
-use Rattle.s390x_lanes.specs.declared.operation.Signedness.{Signedness}
+use Rattle.s390x_lanes.specs.declared.operators.Signedness.{Signedness}
 use Rattle.s390x_operations.specs.State.{Registers, Memory, Core, State, CodeImage, with_code, set_general, Write, written, wrapping_add64, IsLoaded, is_within, after_store}
 use Rattle.s390x_operations.specs.Access.{Untouched, fault, store_event}
 use Rattle.s390x_operations.specs.Values.{value, taken}

@@ -20,7 +20,7 @@ use Rattle.s390x_typed_steps.specs.Causes.{is_helped}
 use Rattle.s390x_typed_steps.specs.declared.mem_inst_type.MemInstType.{MemInstType}
 use Rattle.s390x_typed_steps.specs.General.{low_word}
 use Rattle.s390x_typed_steps.specs.Operands.{widened}
-use Rattle.s390x_lanes.specs.declared.operation.Signedness.TheVariants.{Signed, Unsigned}
+use Rattle.s390x_lanes.specs.declared.operators.Signedness.TheVariants.{Signed, Unsigned}
 use Rattle.s390x_operations.specs.State.{Registers, Core, State, set_general, wrapping_add64}
 use Rattle.s390x_operations.specs.Bits.{extended}
 use Rattle.s390x_operations.specs.Effects.{MayExecute}

@@ -8,18 +8,18 @@ use Rattle.std.proofs.Math.Pow.{pow_pos, pow-add}
 use Rattle.std.proofs.lemmas.Nat.{mod_below, shr_below, shr_le, or_lt, xor_lt, and_le_l, leading_le, trailing_le, ones_le_self}
 use Rattle.std.proofs.lemmas.Bool.{cases_lt}
 use Rattle.std.proofs.lemmas.Bool.Decides.{nat_tests}
-use Rattle.s390x_lanes.specs.declared.operation.Signedness.{Signedness}
-use Rattle.s390x_lanes.specs.declared.operation.Signedness.TheVariants.{Signed}
-use Rattle.s390x_lanes.specs.declared.operation.BinaryOperator.{BinaryOperator}
-use Rattle.s390x_lanes.specs.declared.operation.BinaryOperator.TheVariants.{Add, Sub, Mul, AddCarryOut, SubBorrowOut, Max, Min, Average, And, Or, Xor, NotAnd, NotOr, NotXor, AndNot, OrNot}
-use Rattle.s390x_lanes.specs.declared.operation.UnaryOperator.{UnaryOperator}
-use Rattle.s390x_lanes.specs.declared.operation.UnaryOperator.TheVariants.{Abs, Neg, LeadingZeros, TrailingZeros, PopulationCount}
-use Rattle.s390x_lanes.specs.declared.operation.ShiftOperator.{ShiftOperator}
-use Rattle.s390x_lanes.specs.declared.operation.ShiftOperator.TheVariants.{RotateLeft, ShiftLeft, ShiftRightLogical, ShiftRightArithmetic}
-use Rattle.s390x_lanes.specs.declared.operation.Division.{Division}
-use Rattle.s390x_lanes.specs.declared.operation.Division.TheVariants.{Quotient, Remainder}
-use Rattle.s390x_lanes.specs.declared.operation.Narrowing.{Narrowing}
-use Rattle.s390x_lanes.specs.declared.operation.Narrowing.TheVariants.{Modulo, Saturate}
+use Rattle.s390x_lanes.specs.declared.operators.Signedness.{Signedness}
+use Rattle.s390x_lanes.specs.declared.operators.Signedness.TheVariants.{Signed}
+use Rattle.s390x_lanes.specs.declared.operators.BinaryOperator.{BinaryOperator}
+use Rattle.s390x_lanes.specs.declared.operators.BinaryOperator.TheVariants.{Add, Sub, Mul, AddCarryOut, SubBorrowOut, Max, Min, Average, And, Or, Xor, NotAnd, NotOr, NotXor, AndNot, OrNot}
+use Rattle.s390x_lanes.specs.declared.operators.UnaryOperator.{UnaryOperator}
+use Rattle.s390x_lanes.specs.declared.operators.UnaryOperator.TheVariants.{Abs, Neg, LeadingZeros, TrailingZeros, PopulationCount}
+use Rattle.s390x_lanes.specs.declared.operators.ShiftOperator.{ShiftOperator}
+use Rattle.s390x_lanes.specs.declared.operators.ShiftOperator.TheVariants.{RotateLeft, ShiftLeft, ShiftRightLogical, ShiftRightArithmetic}
+use Rattle.s390x_lanes.specs.declared.operators.Division.{Division}
+use Rattle.s390x_lanes.specs.declared.operators.Division.TheVariants.{Quotient, Remainder}
+use Rattle.s390x_lanes.specs.declared.operators.Narrowing.{Narrowing}
+use Rattle.s390x_lanes.specs.declared.operators.Narrowing.TheVariants.{Modulo, Saturate}
 use Rattle.s390x_lanes.specs.Numbers.{element_number, wrapped, saturated}
 use Rattle.s390x_lanes.specs.Elements.{element_complement, is_lower, binary_result, unary_result, element_shifted, product, high_product, divided, narrowed}
 use Rattle.s390x_lanes.specs.Places.{bit_mask, selected}

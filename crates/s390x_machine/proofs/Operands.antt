@@ -14,7 +14,7 @@ use Rattle.s390x_base.specs.declared.regs.Reg.TheVariants.{Real, Virtual}
 use Rattle.s390x_format.specs.View.{disp_of}
 use Rattle.s390x_typed_steps.specs.General.{is_general, low_word, low_displacement, low_12, low_halfword}
 use Rattle.s390x_typed_steps.specs.Operands.{is_numbered, fits_12, fits_20, fits_32}
-use Rattle.s390x_lanes.specs.declared.operation.Signedness.TheVariants.{Signed}
+use Rattle.s390x_lanes.specs.declared.operators.Signedness.TheVariants.{Signed}
 use Rattle.s390x_operations.specs.Bits.{extended}
 use Rattle.s390x_operations.specs.Numbers.{low}
 use Rattle.s390x_operations.specs.State.{Registers, set_general}

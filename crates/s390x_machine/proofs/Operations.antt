@@ -1,6 +1,6 @@
 -- What an opcode, masks and an immediate tell is an operation with its sizes and numbers in range.
 use Rattle.std.proofs.Common.{◌≡◌, ℕ, Bool, true, false, cond, List, Option, None, Some, IsTrue, refl, ℤ, slice_index}
-use Rattle.s390x_lanes.specs.declared.operation.VectorOperation.{VectorOperation}
+use Rattle.s390x_lanes.specs.declared.operators.VectorOperation.{VectorOperation}
 use Rattle.s390x_lanes.specs.declared.opcodes.OpcodeRow.{OpcodeRow}
 use Rattle.s390x_lanes.specs.declared.opcodes.TheConstants.{OPCODES}
 use Rattle.s390x_lanes.specs.Opcodes.{row_in, operation_from, kind_allows, is_operation, where_operation, immediate_bits, with_immediate, operation_of}

@@ -9,10 +9,10 @@ use Rattle.s390x_lanes.specs.Relation.{code_of, divides_by_zero, division_overfl
 use Rattle.s390x_lanes.specs.Results.{vector_result}
 use Rattle.s390x_lanes.specs.Opcodes.{operation_of}
 use Rattle.s390x_lanes.specs.Size.{element_bits, lane_count}
-use Rattle.s390x_lanes.specs.declared.operation.ShiftOperator.{ShiftOperator}
-use Rattle.s390x_lanes.specs.declared.operation.ShiftOperator.TheVariants.{RotateLeft}
-use Rattle.s390x_lanes.specs.declared.operation.VectorOperation.{VectorOperation}
-use Rattle.s390x_lanes.specs.declared.operation.VectorOperation.TheVariants.{PermuteDoublewords, ShiftElements}
+use Rattle.s390x_lanes.specs.declared.operators.ShiftOperator.{ShiftOperator}
+use Rattle.s390x_lanes.specs.declared.operators.ShiftOperator.TheVariants.{RotateLeft}
+use Rattle.s390x_lanes.specs.declared.operators.VectorOperation.{VectorOperation}
+use Rattle.s390x_lanes.specs.declared.operators.VectorOperation.TheVariants.{PermuteDoublewords, ShiftElements}
 use Rattle.s390x_lanes.specs.declared.size.ElementSize.{ElementSize}
 use Rattle.s390x_lanes.specs.declared.size.ElementSize.TheVariants.{Byte, Halfword, Word, Doubleword}
 use Rattle.s390x_lanes.proofs.Building.{build_lt, lane_lt, whole}

@@ -21,7 +21,7 @@ use Rattle.s390x_operations.specs.declared.size.Size.TheVariants.{Doubleword}
 use Rattle.s390x_operations.specs.declared.size.Width.{Width}
 use Rattle.s390x_operations.specs.declared.size.Width.TheVariants.{Bits16}
 use Rattle.s390x_operations.specs.declared.stop.StopKind.{StopKind}
-use Rattle.s390x_lanes.specs.declared.operation.Signedness.TheVariants.{Signed}
+use Rattle.s390x_lanes.specs.declared.operators.Signedness.TheVariants.{Signed}
 use Rattle.s390x_machine.specs.declared.semantics.RowSemantics.{RowSemantics}
 use Rattle.s390x_machine.specs.declared.semantics.RowSemantics.TheVariants.{CompareAndTrap, CompareImmediateAndTrap}
 use Rattle.s390x_machine.specs.declared.semantics.Action.TheVariants.{Perform}

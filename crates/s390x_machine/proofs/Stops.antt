@@ -2,7 +2,7 @@
 use Rattle.std.proofs.Common.{◌≡◌, ℕ, ◌+◌, ◌*◌, inl, inr, Option, Some, None, Bool, true, false, cond, refl}
 use Rattle.s390x_base.specs.declared.trap.TrapKind.{TrapKind}
 use Rattle.s390x_base.specs.declared.trap.TrapKind.TheVariants.{IntegerDivisionByZero}
-use Rattle.s390x_lanes.specs.declared.operation.Signedness.{Signedness}
+use Rattle.s390x_lanes.specs.declared.operators.Signedness.{Signedness}
 use Rattle.s390x_operations.specs.Numbers.{whole, signed}
 use Rattle.s390x_operations.specs.Unsigned.{compared, signed_division, unsigned_division}
 use Rattle.s390x_operations.specs.Effects.{refused, MayRefuse, divide_stop, is_selected}

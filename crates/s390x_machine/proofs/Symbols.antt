@@ -2,7 +2,7 @@
 use Rattle.std.proofs.Common.{◌≡◌, ℕ, suc, ◌+◌, ◌*◌, ◌/◌, ◌%◌, ◌^◌, ◌<◌, ◌≤◌, inl, inr, List, [], ◌∷◌, length, Some, None, true, false, cond, refl, sym, ap, ◌∙◌, subst, arith}
 use Rattle.std.specs.Prelude.{pos, ◌+ℤ◌}
 use Rattle.std.specs.Int.{w64, to_be_bytes}
-use Rattle.s390x_lanes.specs.declared.operation.Signedness.TheVariants.{Unsigned}
+use Rattle.s390x_lanes.specs.declared.operators.Signedness.TheVariants.{Unsigned}
 use Rattle.s390x_operations.specs.State.{Registers, Memory, Core, CodeImage, set_general, with_code, written, wrapping_add64, number_at, IsLoaded}
 use Rattle.s390x_operations.specs.Access.{Reads, fault}
 use Rattle.s390x_operations.specs.Numbers.{low}

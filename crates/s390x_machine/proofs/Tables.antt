@@ -5,7 +5,7 @@ use Rattle.std.proofs.Math.Path.{fun_ext}
 use Rattle.std.proofs.lemmas.Bool.{ltb-true, lt-ltb}
 use Rattle.std.proofs.lemmas.Int.{ints, int_rem_euclid_is}
 use Rattle.s390x_base.specs.declared.ir.MachLabel.{MachLabel}
-use Rattle.s390x_lanes.specs.declared.operation.Signedness.TheVariants.{Signed, Unsigned}
+use Rattle.s390x_lanes.specs.declared.operators.Signedness.TheVariants.{Signed, Unsigned}
 use Rattle.s390x_operations.specs.State.{Registers, Memory, Core, CodeImage, set_general, with_code, written, wrapping_add64, number_at, IsLoaded}
 use Rattle.s390x_operations.specs.Access.{Reads, fault}
 use Rattle.s390x_operations.specs.Numbers.{low, signed}

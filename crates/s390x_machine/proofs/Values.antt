@@ -5,10 +5,10 @@ use Rattle.std.specs.Int.{int_shr, leading_zeros, w64}
 use Rattle.std.proofs.Math.Pow.{pow_pos}
 use Rattle.std.proofs.Math.Nat.{pow-succ'}
 use Rattle.std.proofs.lemmas.Nat.{mod_below, shr_below, shr_le, or_lt, leading_le, trailing_le, ones_le_self}
-use Rattle.s390x_lanes.specs.declared.operation.Signedness.{Signedness}
-use Rattle.s390x_lanes.specs.declared.operation.Signedness.TheVariants.{Signed, Unsigned}
-use Rattle.s390x_lanes.specs.declared.operation.ShiftOperator.{ShiftOperator}
-use Rattle.s390x_lanes.specs.declared.operation.ShiftOperator.TheVariants.{RotateLeft, ShiftLeft, ShiftRightLogical, ShiftRightArithmetic}
+use Rattle.s390x_lanes.specs.declared.operators.Signedness.{Signedness}
+use Rattle.s390x_lanes.specs.declared.operators.Signedness.TheVariants.{Signed, Unsigned}
+use Rattle.s390x_lanes.specs.declared.operators.ShiftOperator.{ShiftOperator}
+use Rattle.s390x_lanes.specs.declared.operators.ShiftOperator.TheVariants.{RotateLeft, ShiftLeft, ShiftRightLogical, ShiftRightArithmetic}
 use Rattle.s390x_lanes.proofs.Powers.{product_lt}
 use Rattle.s390x_operations.specs.Numbers.{whole, signed, fits, low}
 use Rattle.s390x_operations.specs.Signed.{exact}

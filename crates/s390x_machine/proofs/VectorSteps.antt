@@ -30,8 +30,8 @@ use Rattle.s390x_lanes.specs.declared.size.ElementSize.TheVariants.{Byte, Halfwo
 use Rattle.s390x_lanes.specs.Relation.{code_of, divides_by_zero, division_overflows, is_determined}
 use Rattle.s390x_lanes.specs.Opcodes.{operation_of}
 use Rattle.s390x_lanes.specs.Results.{vector_result}
-use Rattle.s390x_lanes.specs.declared.operation.VectorOperation.{VectorOperation}
-use Rattle.s390x_lanes.specs.declared.operation.VectorOperation.TheVariants as O
+use Rattle.s390x_lanes.specs.declared.operators.VectorOperation.{VectorOperation}
+use Rattle.s390x_lanes.specs.declared.operators.VectorOperation.TheVariants as O
 use Rattle.s390x_operations.specs.State.{Registers}
 use Rattle.s390x_operations.specs.Effects.{Refines, vector_code}
 use Rattle.s390x_operations.specs.declared.effect.CodeRule.TheVariants.{Kept, Set}

@@ -8,10 +8,10 @@ use Rattle.s390x_lanes.specs.Elements.{is_lower}
 use Rattle.s390x_lanes.specs.Lanes.{every_lane, from_lanes, lane, some_lane}
 use Rattle.s390x_lanes.specs.Relation.{lanes_code, order_code}
 use Rattle.s390x_lanes.specs.Results.{vector_result}
-use Rattle.s390x_lanes.specs.declared.operation.Comparison.TheVariants.{High}
-use Rattle.s390x_lanes.specs.declared.operation.Signedness.{Signedness}
-use Rattle.s390x_lanes.specs.declared.operation.Signedness.TheVariants.{Signed, Unsigned}
-use Rattle.s390x_lanes.specs.declared.operation.VectorOperation.TheVariants.{Compare, CompareElement}
+use Rattle.s390x_lanes.specs.declared.operators.Comparison.TheVariants.{High}
+use Rattle.s390x_lanes.specs.declared.operators.Signedness.{Signedness}
+use Rattle.s390x_lanes.specs.declared.operators.Signedness.TheVariants.{Signed, Unsigned}
+use Rattle.s390x_lanes.specs.declared.operators.VectorOperation.TheVariants.{Compare, CompareElement}
 use Rattle.s390x_lanes.specs.declared.size.ElementSize.TheVariants.{Doubleword}
 use Rattle.s390x_lanes.proofs.Building.{lane_lt}
 use Rattle.s390x_operations.specs.Effects.{code_numbered, is_selected}

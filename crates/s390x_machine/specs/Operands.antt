@@ -1,6 +1,6 @@
 -- Values of registers, as operands (Principles of Operation, chapter 7, "General instructions").
 use Rattle.std.specs.Prelude.{ℕ, zero, suc, ◌+◌, ℤ, pos, ◌+ℤ◌, ◌%◌, ◌^◌, ◌==◌, List, [], ◌∷◌, Bool, true, false, if◌then◌else◌}
-use Rattle.s390x_lanes.specs.declared.operation.Signedness.TheVariants.{Unsigned}
+use Rattle.s390x_lanes.specs.declared.operators.Signedness.TheVariants.{Unsigned}
 use Rattle.s390x_operations.specs.Numbers.{low}
 use Rattle.s390x_operations.specs.Bits.{rotated}
 use Rattle.s390x_operations.specs.declared.size.Width.TheVariants.{Bits64}

@@ -4,7 +4,7 @@ use Rattle.s390x_format.specs.declared.fields.Fields.{Fields}
 use Rattle.s390x_lanes.specs.Size.{element_bits, lane_count, size_of_code}
 use Rattle.s390x_lanes.specs.Lanes.{lane}
 use Rattle.s390x_lanes.specs.Opcodes.{operation_of}
-use Rattle.s390x_lanes.specs.declared.operation.VectorOperation.{VectorOperation}
+use Rattle.s390x_lanes.specs.declared.operators.VectorOperation.{VectorOperation}
 use Rattle.s390x_lanes.specs.declared.size.ElementSize.{ElementSize}
 use Rattle.s390x_operations.specs.Numbers.{low}
 use Rattle.s390x_operations.specs.Vectors.{loaded}
@@ -15,7 +15,7 @@ use Rattle.s390x_machine.specs.Operands.{value_in, indexed, based, values_from, 
 use Rattle.s390x_operations.specs.declared.operand.Source.{Source}
 use Rattle.s390x_operations.specs.declared.operand.Source.TheVariants.{Value, Memory as InMemory, AlignedMemory}
 use Rattle.s390x_operations.specs.declared.operand.Operand.{Operand}
-use Rattle.s390x_lanes.specs.declared.operation.Signedness.TheVariants.{Signed, Unsigned}
+use Rattle.s390x_lanes.specs.declared.operators.Signedness.TheVariants.{Signed, Unsigned}
 use Rattle.s390x_operations.specs.Bits.{selection, extended}
 use Rattle.s390x_operations.specs.Values.{ordered}
 use Rattle.s390x_operations.specs.Effects.{is_selected}

@@ -16,7 +16,7 @@ use Rattle.s390x_operations.specs.Effects.{results}
 use Rattle.s390x_operations.specs.Vectors.{layout_bytes, loaded}
 use Rattle.s390x_lanes.specs.Results.{vector_result}
 use Rattle.s390x_lanes.specs.Opcodes.{is_operation, is_computed, operation_of}
-use Rattle.s390x_lanes.specs.declared.operation.VectorOperation.{VectorOperation}
+use Rattle.s390x_lanes.specs.declared.operators.VectorOperation.{VectorOperation}
 use Rattle.s390x_format.specs.declared.row.Allowed.{Allowed}
 use Rattle.s390x_format.specs.declared.row.Allowed.TheVariants.{FirstMask}
 use Rattle.s390x_machine.specs.Operands.{based}

@@ -5,7 +5,7 @@ use Rattle.s390x_base.specs.declared.trap.TrapKind.{TrapKind}
 use Rattle.s390x_typed_steps.specs.Steps.{Step}
 use Rattle.s390x_lanes.specs.Elements.{is_lower}
 use Rattle.s390x_lanes.specs.Lanes.{lane}
-use Rattle.s390x_lanes.specs.declared.operation.Signedness.{Signedness}
+use Rattle.s390x_lanes.specs.declared.operators.Signedness.{Signedness}
 use Rattle.s390x_operations.specs.State.{Registers, Core, set_general, set_vector, with_code, CodeImage, StoreEvent}
 use Rattle.s390x_operations.specs.Access.{store_event, fault, stores_into}
 use Rattle.s390x_operations.specs.Effects.{access, is_selected, MayExecute, MayInterrupt}

@@ -12,19 +12,19 @@ use Rattle.s390x_inst.specs.declared.vec_ops.VecIntEltCmpOp.{VecIntEltCmpOp}
 use Rattle.s390x_inst.specs.declared.vec_ops.VecIntEltCmpOp.TheVariants as E
 use Rattle.s390x_lanes.specs.declared.size.ElementSize.{ElementSize}
 use Rattle.s390x_lanes.specs.declared.size.ElementSize.TheVariants.{Byte, Halfword, Word, Doubleword, Quadword}
-use Rattle.s390x_lanes.specs.declared.operation.VectorOperation.{VectorOperation}
-use Rattle.s390x_lanes.specs.declared.operation.VectorOperation.TheVariants.{Binary, Compare, CompareElement, MultiplyHigh, MultiplyPairs, Divide, Unary, Pack, Merge, Unpack, BitPermute, ShiftByBits, ShiftByBytes}
-use Rattle.s390x_lanes.specs.declared.operation.BinaryOperator.TheVariants as Two
-use Rattle.s390x_lanes.specs.declared.operation.UnaryOperator.TheVariants as One
-use Rattle.s390x_lanes.specs.declared.operation.Comparison.TheVariants.{Equal}
-use Rattle.s390x_lanes.specs.declared.operation.Comparison.TheVariants as Order
-use Rattle.s390x_lanes.specs.declared.operation.Signedness.TheVariants.{Signed, Unsigned}
-use Rattle.s390x_lanes.specs.declared.operation.Parity.TheVariants.{Even, Odd}
-use Rattle.s390x_lanes.specs.declared.operation.Division.TheVariants.{Quotient, Remainder}
-use Rattle.s390x_lanes.specs.declared.operation.Half.TheVariants.{High, Low}
-use Rattle.s390x_lanes.specs.declared.operation.Narrowing.TheVariants.{Modulo, Saturate}
-use Rattle.s390x_lanes.specs.declared.operation.ShiftOperator.{ShiftOperator}
-use Rattle.s390x_lanes.specs.declared.operation.ShiftOperator.TheVariants.{RotateLeft, ShiftLeft, ShiftRightLogical, ShiftRightArithmetic}
+use Rattle.s390x_lanes.specs.declared.operators.VectorOperation.{VectorOperation}
+use Rattle.s390x_lanes.specs.declared.operators.VectorOperation.TheVariants.{Binary, Compare, CompareElement, MultiplyHigh, MultiplyPairs, Divide, Unary, Pack, Merge, Unpack, BitPermute, ShiftByBits, ShiftByBytes}
+use Rattle.s390x_lanes.specs.declared.operators.BinaryOperator.TheVariants as Two
+use Rattle.s390x_lanes.specs.declared.operators.UnaryOperator.TheVariants as One
+use Rattle.s390x_lanes.specs.declared.operators.Comparison.TheVariants.{Equal}
+use Rattle.s390x_lanes.specs.declared.operators.Comparison.TheVariants as Order
+use Rattle.s390x_lanes.specs.declared.operators.Signedness.TheVariants.{Signed, Unsigned}
+use Rattle.s390x_lanes.specs.declared.operators.Parity.TheVariants.{Even, Odd}
+use Rattle.s390x_lanes.specs.declared.operators.Division.TheVariants.{Quotient, Remainder}
+use Rattle.s390x_lanes.specs.declared.operators.Half.TheVariants.{High, Low}
+use Rattle.s390x_lanes.specs.declared.operators.Narrowing.TheVariants.{Modulo, Saturate}
+use Rattle.s390x_lanes.specs.declared.operators.ShiftOperator.{ShiftOperator}
+use Rattle.s390x_lanes.specs.declared.operators.ShiftOperator.TheVariants.{RotateLeft, ShiftLeft, ShiftRightLogical, ShiftRightArithmetic}
 
 -- an operator on two vectors
 abbrev pub binary_operation : VecBinaryOp → VectorOperation

@@ -5,9 +5,9 @@ use Rattle.s390x_base.specs.Regs.{number_of}
 use Rattle.s390x_inst.specs.declared.vec_inst.VecInst.{VecInst}
 use Rattle.s390x_inst.specs.declared.vec_inst.VecInst.TheVariants.{VecRRR, VecRR, VecSelect, VecPermute, VecBlend, VecIntCmp, VecIntCmpS, VecIntEltCmp, VecMov, VecShiftRR, VecEvaluate, VecPermuteDWImm, MovToVec128, VecImmByteMask, VecImmReplicate, VecImmBitMask, VecReplicateLane, VecInsertLaneImm, VecInsertLaneImmUndef, VecInsertLane, VecInsertLaneUndef, VecExtractLane, FpuMove32, FpuMove64}
 use Rattle.s390x_inst.specs.declared.vec_inst.VecInst.TheVariants.{FpuCMov32, FpuCMov64, VecCMov, VecEltRev}
-use Rattle.s390x_lanes.specs.declared.operation.ShiftOperator.{ShiftOperator}
-use Rattle.s390x_lanes.specs.declared.operation.VectorOperation.{VectorOperation}
-use Rattle.s390x_lanes.specs.declared.operation.VectorOperation.TheVariants.{Select, Permute, Blend, Move, ShiftElements, Evaluate, PermuteDoublewords, ByteMask, ReplicateImmediate, BitMask, Replicate, InsertImmediate}
+use Rattle.s390x_lanes.specs.declared.operators.ShiftOperator.{ShiftOperator}
+use Rattle.s390x_lanes.specs.declared.operators.VectorOperation.{VectorOperation}
+use Rattle.s390x_lanes.specs.declared.operators.VectorOperation.TheVariants.{Select, Permute, Blend, Move, ShiftElements, Evaluate, PermuteDoublewords, ByteMask, ReplicateImmediate, BitMask, Replicate, InsertImmediate}
 use Rattle.s390x_lanes.specs.Lanes.{lane}
 use Rattle.s390x_lanes.specs.Results.{vector_result}
 use Rattle.s390x_lanes.specs.Size.{element_bits, lane_count}

@@ -2,9 +2,9 @@
 #![tactic(auto)]
 
 mod access;
-mod action;
+mod actions;
 mod codes;
-mod fetch;
+mod fetching;
 mod field_values;
 mod flat;
 mod law;
@@ -20,9 +20,9 @@ mod storage_action;
 mod value_step;
 mod vector_action;
 
-pub use action::action;
+pub use actions::action;
 pub use codes::code_at;
-pub use fetch::{fetch, fetch_row};
+pub use fetching::{fetch, fetch_row};
 pub use flat::FlatMemory;
 pub use law::{
     a_constant_is_loaded, a_loop_runs, access_takes_its_operand, checked_steps_are_valid,

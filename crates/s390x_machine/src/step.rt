@@ -10,8 +10,8 @@ ghost use Rattle.s390x_machine.specs.State.{memory_of, registers_of, state_of};
 ghost use Rattle.s390x_machine.specs.Sound.{HasRegisters, IsSoundAction, is_free, is_uncomputed};
 ghost use Rattle.s390x_machine.specs.Step.{Executes, Steps};
 
-use crate::action::action;
-use crate::fetch::{FetchedRow, fetch_row};
+use crate::actions::action;
+use crate::fetching::{FetchedRow, fetch_row};
 use crate::field_values::{relative_address, source};
 use crate::machine::Machine;
 use crate::memory::Memory;

@@ -8,8 +8,8 @@ use Rattle.s390x_operations.specs.declared.stop.ConditionCode.{ConditionCode}
 use Rattle.s390x_operations.specs.declared.stop.ConditionCode.TheVariants.{Code0, Code1, Code2, Code3}
 use Rattle.s390x_operations.specs.declared.operator.LogicalOperator.{LogicalOperator}
 use Rattle.s390x_operations.specs.declared.operator.LogicalOperator.TheVariants.{Add, Subtract}
-use Rattle.s390x_lanes.specs.declared.operation.Signedness.{Signedness}
-use Rattle.s390x_lanes.specs.declared.operation.Signedness.TheVariants.{Signed, Unsigned}
+use Rattle.s390x_lanes.specs.declared.operators.Signedness.{Signedness}
+use Rattle.s390x_lanes.specs.declared.operators.Signedness.TheVariants.{Signed, Unsigned}
 use Rattle.s390x_operations.specs.declared.operand.Pair.{Pair}
 
 -- code A, of a logical sum (Principles of Operation, chapter 7, "Unsigned binary arithmetic"): 0 zero and 1 nonzero without a carry, 2 zero and 3 nonzero with one

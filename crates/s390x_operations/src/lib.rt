@@ -2,24 +2,24 @@
 #![tactic(auto)]
 
 mod bits;
-mod bytes;
+mod byte_values;
 mod effect;
 mod operand;
-mod operate;
+mod operating;
 mod operator;
-mod signed;
+mod signed_values;
 mod size;
 mod stop;
 mod unsigned;
 mod vectors;
 
 pub use bits::{leftmost, rotated, selection};
-pub use bytes::{bytes, extended};
+pub use byte_values::{bytes, extended};
 pub use effect::{CodeRule, Effect, Operation, VectorLayout};
 pub use operand::{Operand, Pair, Source};
-pub use operate::{operate, ordered, width_of};
+pub use operating::{operate, ordered, width_of};
 pub use operator::{BitOperator, LogicalOperator, Operator, SelectedBitsOperator, SignedOperator};
-pub use signed::{code_s, fits, low, signed, signed_op};
+pub use signed_values::{code_s, fits, low, signed, signed_op};
 pub use size::{Size, Width};
 pub use stop::{ConditionCode, StopKind};
 pub use unsigned::{compared, read, signed_division, unsigned_division, whole, wide_product};

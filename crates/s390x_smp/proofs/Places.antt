@@ -13,7 +13,7 @@ use Rattle.s390x_operations.specs.State.{Core, Memory, Registers, State, StoreEv
 use Rattle.s390x_operations.specs.declared.effect.CodeRule.TheVariants.{Set}
 use Rattle.s390x_operations.specs.declared.effect.Effect.TheVariants.{Compute, CompareAndSwap, LoadAndOperate}
 use Rattle.s390x_operations.specs.declared.operand.Source.TheVariants.{Value}
-use Rattle.s390x_lanes.specs.declared.operation.Signedness.TheVariants.{Unsigned}
+use Rattle.s390x_lanes.specs.declared.operators.Signedness.TheVariants.{Unsigned}
 use Rattle.s390x_operations.specs.declared.size.Width.TheVariants.{Bits32}
 use Rattle.s390x_operations.specs.declared.effect.Operation.{Operation}
 use Rattle.s390x_operations.specs.declared.operator.Operator.TheVariants.{Signed as SignedOperation, Logical as LogicalOperation}

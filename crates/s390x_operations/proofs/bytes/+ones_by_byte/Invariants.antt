@@ -1,4 +1,0 @@
-use Rattle.s390x_operations.proofs.bytes.+ones_by_byte.Given as goal
-
-abbrev pub decreases-ones_by_byte : goal.decreases-ones_by_byte
-decreases-ones_by_byte l = l.n
