@@ -19,7 +19,7 @@ use Rattle.s390x_typed_steps.specs.Folding.{folded_trees}
 use Rattle.s390x_typed_steps.specs.MachineInstruction.{MachineInstruction, bytes_of, ril_b, ril_c, rxy}
 use Rattle.s390x_operations.specs.State.{State, IsLoaded, wrapping_add64}
 use Rattle.s390x_machine.specs.Fetch.{IsFound}
-use Rattle.s390x_machine.specs.declared.fetching.Fetched.TheVariants.{Found}
+use Rattle.s390x_machine.specs.declared.instruction_fetch.Fetched.TheVariants.{Found}
 use Rattle.s390x_machine.specs.Machine.{Event, Executed, FetchedStep, MachineStep, Run}
 use Rattle.s390x_machine.specs.Semantics.{semantics_in, semantics_of}
 use Rattle.s390x_machine.proofs.Fetching.{StandsAt, found_at}

@@ -4,8 +4,8 @@ use Rattle.s390x_format.specs.Formats.{length_of}
 use Rattle.s390x_format.specs.declared.fields.Fields.{Fields}
 use Rattle.s390x_operations.specs.State.{State, Memory, Core, StoreEvent}
 use Rattle.s390x_operations.specs.declared.stop.StopKind.{StopKind}
-use Rattle.s390x_machine.specs.declared.fetching.Fetched.{Fetched}
-use Rattle.s390x_machine.specs.declared.fetching.Fetched.TheVariants.{Misplaced, Missing, Unknown, Found}
+use Rattle.s390x_machine.specs.declared.instruction_fetch.Fetched.{Fetched}
+use Rattle.s390x_machine.specs.declared.instruction_fetch.Fetched.TheVariants.{Misplaced, Missing, Unknown, Found}
 use Rattle.s390x_machine.specs.Machine.{Executed, Interrupted, ActionStep, OddPairStep, RowStep, FetchedStep}
 use Rattle.s390x_machine.specs.Semantics.{action, is_odd_pair, semantics_of}
 use Rattle.s390x_machine.specs.Step.{Steps}

@@ -16,7 +16,7 @@ use Rattle.s390x_typed_steps.specs.Folding.{folded_trees}
 use Rattle.s390x_typed_steps.specs.Ranges.{BlocksInRange}
 use Rattle.s390x_typed_steps.specs.Steps.{Step, Break}
 use Rattle.s390x_operations.specs.State.{IsLoaded, is_within}
-use Rattle.s390x_machine.specs.declared.fetching.Fetched.TheVariants.{Found}
+use Rattle.s390x_machine.specs.declared.instruction_fetch.Fetched.TheVariants.{Found}
 use Rattle.s390x_machine.specs.Machine.{Executed, MachineStep}
 use Rattle.s390x_machine.specs.Semantics.{semantics_in, semantics_of}
 use Rattle.s390x_machine.proofs.Fetching.{StandsAt, found_at}

@@ -20,7 +20,7 @@ use Rattle.s390x_typed_steps.specs.Ranges.{BlocksInRange}
 use Rattle.s390x_typed_steps.specs.Steps.{Step, Plain}
 use Rattle.s390x_operations.specs.State.{State, IsLoaded, is_within, wrapping_add64}
 use Rattle.s390x_machine.specs.Fetch.{IsFound}
-use Rattle.s390x_machine.specs.declared.fetching.Fetched.TheVariants.{Found}
+use Rattle.s390x_machine.specs.declared.instruction_fetch.Fetched.TheVariants.{Found}
 use Rattle.s390x_machine.specs.Machine.{Event, Executed, FetchedStep, MachineStep}
 use Rattle.s390x_machine.specs.Semantics.{semantics_in, semantics_of}
 use Rattle.s390x_machine.proofs.Fetching.{StandsAt, found_at}

@@ -14,8 +14,8 @@ use Rattle.s390x_operations.specs.Effects.{access, is_selected, MayExecute}
 use Rattle.s390x_operations.specs.declared.size.Size.{Size}
 use Rattle.s390x_operations.specs.declared.size.Size.TheVariants.{Halfword, Word, Doubleword}
 use Rattle.s390x_operations.specs.declared.effect.Operation.{Operation}
-use Rattle.s390x_machine.specs.declared.fetching.Fetched.{Fetched}
-use Rattle.s390x_machine.specs.declared.fetching.Fetched.TheVariants.{Misplaced, Missing, Unknown, Found}
+use Rattle.s390x_machine.specs.declared.instruction_fetch.Fetched.{Fetched}
+use Rattle.s390x_machine.specs.declared.instruction_fetch.Fetched.TheVariants.{Misplaced, Missing, Unknown, Found}
 use Rattle.s390x_machine.specs.Fetch.{Fetches}
 use Rattle.s390x_machine.specs.Operands.{value_in, based, performed_where}
 use Rattle.s390x_machine.specs.Semantics.{register_field, mask_field, vector_field, element_size, relative_address, first_register, is_odd_pair, action, on_elements, semantics_of}

@@ -5,7 +5,7 @@ use Rattle.s390x_format.specs.declared.decoder.Decoded.{Decoded}
 use Rattle.s390x_format.specs.declared.fields.Fields.{Fields}
 use Rattle.s390x_operations.specs.State.{State, IsState, CodeImage, Write, MayWrite, written, write_get, update, reaches}
 use Rattle.s390x_operations.specs.declared.stop.StopKind.TheVariants as Stop
-use Rattle.s390x_machine.specs.declared.fetching.Fetched.TheVariants.{Misplaced, Missing, Unknown, Found}
+use Rattle.s390x_machine.specs.declared.instruction_fetch.Fetched.TheVariants.{Misplaced, Missing, Unknown, Found}
 use Rattle.s390x_machine.specs.Fetch.{IsReached, IsFound, length_at, instruction_bytes}
 use Rattle.s390x_machine.specs.Semantics.{action, is_odd_pair, semantics_of, register_field}
 use Rattle.s390x_machine.specs.Sound.{CanPerform, register_bound, is_vector_field}

@@ -4,9 +4,9 @@ use Rattle.s390x_format.specs.declared.decoder.Decoded.{Decoded}
 use Rattle.s390x_format.specs.Fetch.{IsFetch, machine_rows}
 use Rattle.s390x_format.specs.Reading.{HasOpcode}
 use Rattle.s390x_format.specs.Rows.{fetch_length_of}
-pub use Rattle.s390x_machine.specs.declared.fetching.Fetched.{Fetched}
-pub use Rattle.s390x_machine.specs.declared.fetching.Fetched.TheVariants.{Misplaced, Missing, Unknown, Found}
-use Rattle.s390x_machine.specs.declared.fetching.FetchedRow.{FetchedRow}
+pub use Rattle.s390x_machine.specs.declared.instruction_fetch.Fetched.{Fetched}
+pub use Rattle.s390x_machine.specs.declared.instruction_fetch.Fetched.TheVariants.{Misplaced, Missing, Unknown, Found}
+use Rattle.s390x_machine.specs.declared.instruction_fetch.FetchedRow.{FetchedRow}
 use Rattle.s390x_operations.specs.State.{Memory, bytes_at, reaches}
 
 -- how many bytes the first one tells

@@ -2,11 +2,10 @@
 #![tactic(auto)]
 
 mod access;
-mod actions;
 mod codes;
-mod fetching;
 mod field_values;
 mod flat;
+mod instruction_fetch;
 mod law;
 mod machine;
 mod memory;
@@ -14,16 +13,16 @@ mod perform;
 mod progress;
 mod register_action;
 mod registers;
+mod row_action;
 mod semantics;
 mod step;
 mod storage_action;
 mod value_step;
 mod vector_action;
 
-pub use actions::action;
 pub use codes::code_at;
-pub use fetching::{fetch, fetch_row};
 pub use flat::FlatMemory;
+pub use instruction_fetch::{fetch, fetch_row};
 pub use law::{
     a_constant_is_loaded, a_loop_runs, access_takes_its_operand, checked_steps_are_valid,
     code_is_placed, each_row_has_semantics, each_step, each_step_anywhere, each_step_tells,
@@ -37,5 +36,6 @@ pub use progress::{
     a_state_is_in_range, all_writes_have_a_run, every_run_goes_on, every_state_has_a_step,
     every_write_leaves_a_step, runs_keep_ranges, steps_keep_ranges,
 };
+pub use row_action::action;
 pub use semantics::ROW_SEMANTICS;
 pub use step::StepEnd;

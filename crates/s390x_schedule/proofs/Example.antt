@@ -22,7 +22,7 @@ use Rattle.s390x_typed_steps.specs.Steps.{Step, Plain, CallingStep, function_ste
 use Rattle.s390x_operations.specs.State.{State, IsLoaded, wrapping_add64}
 use Rattle.s390x_machine.specs.CodeAt.{PartsReach}
 use Rattle.s390x_machine.specs.Fetch.{IsFound}
-use Rattle.s390x_machine.specs.declared.fetching.Fetched.TheVariants.{Found}
+use Rattle.s390x_machine.specs.declared.instruction_fetch.Fetched.TheVariants.{Found}
 use Rattle.s390x_machine.specs.Functions.{StandsAsCode}
 use Rattle.s390x_machine.specs.Layout.{Layout}
 use Rattle.s390x_machine.specs.Machine.{Executed, FetchedStep, MachineStep, Run}

@@ -8,8 +8,8 @@ use Rattle.s390x_operations.specs.Access.{Access, Untouched, Reads, Stores, Lock
 use Rattle.s390x_operations.specs.Effects.{access}
 use Rattle.s390x_operations.specs.State.{State, Memory, CodeImage, MayWrite, IsDisjoint, after_store, bytes_to, overlaps, reaches, wrapping_add64, writes_of, write_get}
 use Rattle.s390x_operations.specs.declared.stop.StopKind.{StopKind}
-use Rattle.s390x_machine.specs.declared.fetching.Fetched.{Fetched}
-use Rattle.s390x_machine.specs.declared.fetching.Fetched.TheVariants.{Misplaced, Missing, Unknown, Found}
+use Rattle.s390x_machine.specs.declared.instruction_fetch.Fetched.{Fetched}
+use Rattle.s390x_machine.specs.declared.instruction_fetch.Fetched.TheVariants.{Misplaced, Missing, Unknown, Found}
 use Rattle.s390x_machine.specs.Machine.{Event, Executed, Interrupted, MachineStep, FetchedStep, RowStep, OddPairStep, ActionStep}
 use Rattle.s390x_machine.specs.Semantics.{action, is_odd_pair, semantics_of}
 use Rattle.s390x_machine.specs.declared.semantics.RowSemantics.{RowSemantics}

@@ -11,8 +11,8 @@ use Rattle.s390x_format.specs.Encoded.{IsEncoded, decoded_of}
 use Rattle.s390x_format.proofs.Encoding.{listed}
 use Rattle.s390x_typed_steps.specs.MachineInstruction.{MachineInstruction, bytes_of, rr, rrf_ab, ril_c, rs, rsy}
 use Rattle.s390x_operations.specs.State.{Memory, State, IsLoaded, wrapping_add64}
-use Rattle.s390x_machine.specs.declared.fetching.Fetched.{Fetched}
-use Rattle.s390x_machine.specs.declared.fetching.Fetched.TheVariants.{Misplaced, Missing, Unknown, Found}
+use Rattle.s390x_machine.specs.declared.instruction_fetch.Fetched.{Fetched}
+use Rattle.s390x_machine.specs.declared.instruction_fetch.Fetched.TheVariants.{Misplaced, Missing, Unknown, Found}
 use Rattle.s390x_machine.specs.Fetch.{IsFound}
 use Rattle.s390x_machine.specs.Machine.{Event, FetchedStep, MachineStep}
 use Rattle.s390x_machine.specs.Semantics.{semantics_of}

@@ -22,7 +22,7 @@ use Rattle.s390x_text.specs.Instructions.{after, inst_text, insts_after, insts_t
 use Rattle.s390x_text_rows.specs.Texts.{first}
 use Rattle.s390x_text_rows.specs.declared.error.TextError.{TextError}
 use Rattle.s390x_text_rows.specs.declared.error.TextError.TheVariants.{NoRow}
-use Rattle.s390x_text.proofs.Calls.{call_fine, first_fine, tail_fine, takes_all}
+use Rattle.s390x_text.proofs.CallTexts.{call_fine, first_fine, tail_fine, takes_all}
 use Rattle.s390x_text.proofs.Leaves.{leaf_fine}
 use Rattle.s390x_text.proofs.Mapless.{mapped, same_resolved}
 use Rattle.s390x_text.specs.Laws.{AllHaveTexts, HasText, HasTextsInOrder, states_after, tree_of_block}

@@ -1,6 +1,6 @@
 pub mod Agreement
 pub mod Blocks
-pub mod Calls
+pub mod CallTexts
 pub mod Elements
 pub mod Leaves
 pub mod Loops

@@ -1,6 +1,6 @@
 use Rattle.std.proofs.Common.{refl, subst}
 use Rattle.s390x_machine.specs.Fetch.{Unknown, Fetches, fetched_in}
-use Rattle.s390x_machine.specs.declared.fetching.FetchedRow.{FetchedRow}
+use Rattle.s390x_machine.specs.declared.instruction_fetch.FetchedRow.{FetchedRow}
 use Rattle.s390x_machine.specs.State.{state_of}
 use Rattle.s390x_machine.proofs.Stepping.{not_found, no_unknown}
 use Rattle.s390x_machine.proofs.machine.Machine.step.Goals as goal

@@ -3,7 +3,7 @@ use Rattle.s390x_format.specs.Fetch.{IsFetch}
 use Rattle.s390x_format.specs.Rows.{fetch_length_of}
 use Rattle.s390x_operations.specs.State.{bytes_at, reaches}
 use Rattle.s390x_machine.proofs.Reading.{length_few, taken_bytes}
-use Rattle.s390x_machine.proofs.fetching.fetch_row.Goals as goal
+use Rattle.s390x_machine.proofs.instruction_fetch.fetch_row.Goals as goal
 
 pub returns-in-Some-locate-clause-fetches : goal.returns-in-Some-locate-clause-fetches
 returns-in-Some-locate-clause-fetches g c =
