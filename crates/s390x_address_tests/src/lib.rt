@@ -2,4 +2,6 @@
 #![tactic(auto)]
 
 #[cfg(test)]
-mod emitters;
+mod accesses;
+#[cfg(test)]
+mod codes;

@@ -3,7 +3,7 @@
 #![tactic(auto)]
 
 #[cfg(test)]
-mod adding;
+mod adder;
 #[cfg(test)]
 mod emit;
 #[cfg(test)]

@@ -6,8 +6,8 @@ mod addresses;
 #[cfg(test)]
 mod conditions;
 #[cfg(test)]
+mod epilogues;
+#[cfg(test)]
 mod moves;
 #[cfg(test)]
 mod queries;
-#[cfg(test)]
-mod results;
