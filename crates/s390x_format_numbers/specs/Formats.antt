@@ -1,4 +1,4 @@
--- The numbers by which C knows the formats.
+-- The numbers of formats, by which callers in C and the page know them.
 use Rattle.std.specs.Prelude.{ℕ}
 use Rattle.s390x_format.specs.declared.kind.FormatKind.{FormatKind}
 use Rattle.s390x_format.specs.declared.kind.FormatKind.TheVariants as kind
