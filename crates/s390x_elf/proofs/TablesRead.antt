@@ -155,7 +155,7 @@ IsShort s = length s.name < 256
 kinds_short : (all : List MachBufferFinalized) (kinds : List TableKind) → All IsShort (flat_map (table_sections all) kinds)
 kinds_short all [] = All-nil IsShort
 kinds_short all (k ∷ ks) =
-    All-cons IsShort (table_section k (wides (parts k all))) _ (name_short k)
+    All-cons IsShort (table_section k (wides (parts k all))) (table_relocation_section k (part_entries k 0 1 all) ∷ flat_map (table_sections all) ks) (name_short k)
     (All-cons IsShort (table_relocation_section k (part_entries k 0 1 all)) (flat_map (table_sections all) ks) (relocations_name_short k) (kinds_short all ks))
 
 count_of_sections : (all : List MachBufferFinalized) → length (flat_map (table_sections all) all_kinds) ≡ 12
@@ -182,10 +182,10 @@ base_few : (alignment : ℕ) (entries relas text names : List ℕ) → AreFew (s
 base_few alignment entries relas text names = record {
   count = omega arith;
   names =
-      All-cons IsShort (symbol_section entries) _ (omega arith)
-      (All-cons IsShort (relocation_section relas) _ (omega arith)
-      (All-cons IsShort (text_section alignment text) _ (omega arith)
-      (All-cons IsShort (string_section (codes ".strtab") names) _ (omega arith)
+      All-cons IsShort (symbol_section entries) (relocation_section relas ∷ text_section alignment text ∷ string_section (codes ".strtab") names ∷ stack_note ∷ []) (omega arith)
+      (All-cons IsShort (relocation_section relas) (text_section alignment text ∷ string_section (codes ".strtab") names ∷ stack_note ∷ []) (omega arith)
+      (All-cons IsShort (text_section alignment text) (string_section (codes ".strtab") names ∷ stack_note ∷ []) (omega arith)
+      (All-cons IsShort (string_section (codes ".strtab") names) (stack_note ∷ []) (omega arith)
       (All-cons IsShort stack_note [] (omega arith) (All-nil IsShort)))));
 }
 

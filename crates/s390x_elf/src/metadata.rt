@@ -411,7 +411,8 @@ pub fn put_tables(
     ensures fits { IfOk result (λ _. MetadataFits (codes_of codes.now)) }
 {
     if have_entries(codes) {
-        return put_kinds(alloc, sections, &KINDS, codes);
+        put_kinds(alloc, sections, &KINDS, codes)?;
+        return Ok(());
     }
     Ok(())
 }
