@@ -10,4 +10,3 @@ pub mod Operands
 pub mod Start
 pub mod Bare
 pub mod Assembly
-pub mod Fitted

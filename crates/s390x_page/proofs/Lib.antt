@@ -1,3 +1,6 @@
+mod Fitting
+mod Numbers
+mod SameTable
 mod SmallStorage
 mod TwoHalves
 mod Ends
