@@ -3,7 +3,6 @@
 #![tactic(auto)]
 
 mod digits;
-mod format_number;
 mod halves;
 mod instruction;
 mod letters;
