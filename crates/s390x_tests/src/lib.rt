@@ -8,8 +8,6 @@ mod adder;
 #[cfg(test)]
 mod addresses;
 #[cfg(test)]
-mod calls;
-#[cfg(test)]
 mod codes;
 #[cfg(test)]
 mod conditions;
@@ -21,8 +19,6 @@ mod emit;
 mod epilogues;
 #[cfg(test)]
 mod faults;
-#[cfg(test)]
-mod formats;
 #[cfg(test)]
 mod lines;
 #[cfg(test)]
@@ -37,8 +33,6 @@ mod registers;
 mod rows;
 #[cfg(test)]
 mod runs;
-#[cfg(test)]
-mod samples;
 #[cfg(test)]
 mod statuses;
 #[cfg(test)]
