@@ -1,9 +1,9 @@
-//! The loads of a call's results, and the epilogue of a tail call.
+//! The loads of a call's results.
 
-use s390x_base::{ExternalName, MachMemFlags, PRegSet, Reg, ValueType, gpr, vr, writable_gpr};
+use s390x_base::{ExternalName, MachMemFlags, PRegSet, Reg, ValueType, gpr, writable_gpr};
 use s390x_inst::{
-    CallConv, CallInfo, CallInstDest, CallRetPair, FrameLayout, Inst, MemArg, RetLocation, VecInst,
-    gen_retval_loads, gen_tail_epilogue,
+    CallConv, CallInfo, CallInstDest, CallRetPair, Inst, MemArg, RetLocation, VecInst,
+    gen_retval_loads,
 };
 use std::alloc::{AllocError, Global};
 use std::test::Fail;
@@ -107,47 +107,5 @@ fn results_on_the_stack_are_loaded(rt: HostRuntime) -> Result<(), Fail> {
         steps_of(alloc, &loads)?,
         vec![in alloc; Step::Load(gpr(2), 8), Step::Load(gpr(4), 16)]?
     );
-    Ok(())
-}
-
-#[test]
-fn epilogues_restore_what_was_saved(rt: HostRuntime) -> Result<(), Fail> {
-    let alloc = rt.alloc();
-    let direct = CallInstDest::Direct {
-        name: ExternalName(1),
-    };
-    let Ok((insts, copied)) = gen_tail_epilogue(alloc, &FrameLayout::default(), 0, &direct) else {
-        return Err(Fail::from("no memory"));
-    };
-    assert_eq!(rt;
-        steps_of(alloc, &insts)?,
-        vec![in alloc; Step::SetStack(0)]?
-    );
-    assert_eq!(rt; copied, None);
-    let layout = FrameLayout {
-        incoming_args_size: 24,
-        tail_args_size: 32,
-        clobber_size: 16,
-        fixed_frame_storage_size: 40,
-        stackslots_size: 40,
-        outgoing_args_size: 160,
-        first_saved_gpr: Some(6),
-        saved_fprs: 0x0900,
-    };
-    let indirect = CallInstDest::Indirect { reg: gpr(6) };
-    let Ok((insts, copied)) = gen_tail_epilogue(alloc, &layout, 300, &indirect) else {
-        return Err(Fail::from("no memory"));
-    };
-    assert_eq!(rt;
-        steps_of(alloc, &insts)?,
-        vec![in alloc;
-            Step::Copy(gpr(1), gpr(6)),
-            Step::LoadFloat(vr(8), 200),
-            Step::LoadFloat(vr(11), 208),
-            Step::LoadMultiple(gpr(6), gpr(14), 264),
-            Step::SetStack(-52)
-        ]?
-    );
-    assert_eq!(rt; copied, Some(gpr(1)));
     Ok(())
 }

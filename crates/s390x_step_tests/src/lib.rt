@@ -1,14 +1,6 @@
-//! Tests of the machine's step: each row, each kind of stop, and the order of the stops.
+//! Tests of the machine's step: each kind of stop, the order of the stops, and what no stored line tells.
 #![tactic(auto)]
 
-#[cfg(test)]
-mod adder;
-#[cfg(test)]
-mod lanes;
-#[cfg(test)]
-mod rows;
-#[cfg(test)]
-mod schedules;
 #[cfg(test)]
 mod step;
 #[cfg(test)]

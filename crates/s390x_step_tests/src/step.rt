@@ -1,7 +1,7 @@
 //! One step of a machine with known registers and memory.
 
 use s390x_base::NoMemory;
-use s390x_machine::{FlatMemory, Machine, Memory, StepEnd};
+use s390x_machine::{FlatMemory, Machine, Memory};
 use s390x_operations::ConditionCode;
 use std::alloc::Global;
 
@@ -26,21 +26,6 @@ pub fn codes(code: Code) -> [(ConditionCode, u8); 2] {
         Code::Set(after) => [(ConditionCode::Code1, after), (ConditionCode::Code2, after)],
         Code::Read => [(ConditionCode::Code1, 1), (ConditionCode::Code1, 1)],
     }
-}
-
-/// An instruction, left-justified in eight bytes, and the step that it makes. Before it %r1, %r2 and %r3 have the first three values, and the
-/// doubleword at 0x2008 has the second; %r5 is 0x2000 and %r6 is 8. After it the target register has the result, every other register what it
-/// had, and that doubleword is what is stored.
-#[derive(Clone, Copy)]
-pub struct Step {
-    pub code: u64,
-    pub first: u64,
-    pub second: u64,
-    pub third: u64,
-    pub cc: Code,
-    pub target: u8,
-    pub result: u64,
-    pub stored: u64,
 }
 
 /// The place of the instruction.
@@ -90,40 +75,4 @@ pub fn length(code: u64) -> u64 {
     } else {
         6
     }
-}
-
-// Whether a step is as it is told, from one code to another.
-fn holds_from(alloc: Global, step: &Step, from: ConditionCode, to: u8) -> Result<bool, NoMemory> {
-    let mut memory = memory_with(alloc, step.code, step.second)?;
-    let mut machine = machine_with(step.first, step.second, step.third);
-    machine.set_condition_code(from);
-    let mut regs = machine.regs;
-    regs[(step.target % 16) as usize] = step.result;
-    let end = machine.step(&mut memory);
-    Ok(
-        end == StepEnd::Went
-            && machine.regs == regs
-            && machine.cc == to
-            && machine.place == PLACE.wrapping_add(length(step.code))
-            && doubleword(&memory, OPERAND) == step.stored,
-    )
-}
-
-// Whether a step is as it is told.
-fn holds(alloc: Global, step: &Step) -> Result<bool, NoMemory> {
-    let [(first, after_first), (second, after_second)] = codes(step.cc);
-    Ok(
-        holds_from(alloc, step, first, after_first)?
-            && holds_from(alloc, step, second, after_second)?,
-    )
-}
-
-/// The number of the first step that isn't as it is told.
-pub fn wrong(alloc: Global, steps: &[Step]) -> Result<Option<usize>, NoMemory> {
-    for i in 0..steps.len() {
-        if !holds(alloc, &steps[i])? {
-            return Ok(Some(i));
-        }
-    }
-    Ok(None)
 }

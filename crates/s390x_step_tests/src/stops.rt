@@ -1,180 +1,16 @@
-//! Even-odd pairs, branches, and each kind of stop.
+//! Each kind of stop, the order of the stops, and the codes of stops.
 
-use crate::step::Code::{Kept, Set};
-use crate::step::{Code, OPERAND, PLACE, codes, doubleword, machine_with, memory_with};
+use crate::step::{OPERAND, PLACE, doubleword, machine_with, memory_with};
 use s390x_base::{NoMemory, TrapCode};
 use s390x_buffer::{MachBufferFinalized, TrapEntry};
 use s390x_machine::{Machine, StepEnd, code_at};
-use s390x_operations::{ConditionCode, StopKind};
+use s390x_operations::StopKind;
 use std::alloc::{AllocError, Global};
 use std::test::Fail;
-
-/// A row of the pair %r8 and %r9, which have two values before it and two after it; %r1 has the second one too, %r2 the operand.
-#[derive(Clone, Copy)]
-struct PairStep {
-    code: u64,
-    high: u64,
-    low: u64,
-    operand: u64,
-    result_high: u64,
-    result_low: u64,
-    cc: Code,
-}
 
 const MOST: u64 = 0xffff_ffff_ffff_ffff;
 
 const LEAST: u64 = 0x8000_0000_0000_0000;
-
-#[rattlefmt::skip]
-const PAIRS: [PairStep; 11] = [
-    PairStep { code: 0xb9ec2081, high: 7, low: 0xffff_ffff_ffff_fffd, operand: 5, result_high: MOST, result_low: 0xffff_ffff_ffff_fff1, cc: Kept }, // mgrk
-    PairStep { code: 0xb9ec2081, high: 7, low: LEAST, operand: LEAST, result_high: 0x4000_0000_0000_0000, result_low: 0, cc: Kept }, // mgrk
-    PairStep { code: 0xb9860082, high: 7, low: MOST, operand: MOST, result_high: 0xffff_ffff_ffff_fffe, result_low: 1, cc: Kept }, // mlgr
-    PairStep { code: 0xb90d0082, high: 7, low: 0xffff_ffff_ffff_fff9, operand: 2, result_high: MOST, result_low: 0xffff_ffff_ffff_fffd, cc: Kept }, // dsgr
-    PairStep { code: 0xb90d0082, high: 7, low: 7, operand: 0xffff_ffff_ffff_fffe, result_high: 1, result_low: 0xffff_ffff_ffff_fffd, cc: Kept }, // dsgr
-    PairStep { code: 0xb91d0082, high: 7, low: 0xffff_ffff_ffff_fff9, operand: 0x1_0000_0002, result_high: MOST, result_low: 0xffff_ffff_ffff_fffd, cc: Kept }, // dsgfr
-    PairStep { code: 0xb9870082, high: 0xffff_ffff_ffff_fffe, low: MOST, operand: MOST, result_high: 0xffff_ffff_ffff_fffe, result_low: MOST, cc: Kept }, // dlgr
-    PairStep { code: 0xb9970082, high: 0x55_0000_0001, low: 0x77_0000_0000, operand: 0x99_0000_0002, result_high: 0x55_0000_0000, result_low: 0x77_8000_0000, cc: Kept }, // dlr
-    PairStep { code: 0xb9970082, high: 0xffff_fffe, low: 0xffff_ffff, operand: 0xffff_ffff, result_high: 0xffff_fffe, result_low: 0xffff_ffff, cc: Kept }, // dlr
-    PairStep { code: 0xb9830082, high: 7, low: 7, operand: 0x0010_0000_0000_0001, result_high: 11, result_low: 1, cc: Set(2) }, // flogr
-    PairStep { code: 0xb9830082, high: 7, low: 7, operand: 0, result_high: 64, result_low: 0, cc: Set(0) }, // flogr
-];
-
-// Whether a step is as it is told, from one code to another.
-fn pair_holds(
-    alloc: Global,
-    step: &PairStep,
-    from: ConditionCode,
-    to: u8,
-) -> Result<bool, NoMemory> {
-    let mut memory = memory_with(alloc, step.code << 32, step.operand)?;
-    let mut machine = machine_with(step.low, step.operand, 0);
-    machine.set_condition_code(from);
-    machine.regs[8] = step.high;
-    machine.regs[9] = step.low;
-    let mut regs = machine.regs;
-    regs[8] = step.result_high;
-    regs[9] = step.result_low;
-    let went = machine.step(&mut memory) == StepEnd::Went;
-    Ok(went && machine.regs == regs && machine.cc == to)
-}
-
-/// The number of the first step that isn't as it is told.
-fn wrong_pair(alloc: Global, steps: &[PairStep]) -> Result<Option<usize>, NoMemory> {
-    for i in 0..steps.len() {
-        let step = steps[i];
-        let [(first, after_first), (second, after_second)] = codes(step.cc);
-        let holds = pair_holds(alloc, &step, first, after_first)?
-            && pair_holds(alloc, &step, second, after_second)?;
-        if !holds {
-            return Ok(Some(i));
-        }
-    }
-    Ok(None)
-}
-
-#[test]
-fn pairs(rt: HostRuntime) -> Result<(), Fail> {
-    assert_eq!(rt; wrong_pair(rt.alloc(), &PAIRS)?, None);
-    Ok(())
-}
-
-/// A branch from 0x1000 at the condition code 1, with the address 0x5002 in %r2: where it leads, and what %r14 has after it.
-#[derive(Clone, Copy)]
-struct BranchStep {
-    code: u64,
-    place: u64,
-    link: u64,
-}
-
-#[rattlefmt::skip]
-const BRANCHES: [BranchStep; 16] = [
-    BranchStep { code: 0x0742_0000_0000_0000, place: 0x5002, link: 0 }, // bcr 4
-    BranchStep { code: 0x0782_0000_0000_0000, place: 0x1002, link: 0 }, // bcr 8
-    BranchStep { code: 0x07f0_0000_0000_0000, place: 0x1002, link: 0 }, // bcr 15, %r0
-    BranchStep { code: 0xc044_0000_0010_0000, place: 0x1020, link: 0 }, // brcl 4
-    BranchStep { code: 0xc0f4_ffff_fffe_0000, place: 0xffc, link: 0 }, // brcl 15, backwards
-    BranchStep { code: 0xc0b4_0000_0010_0000, place: 0x1006, link: 0 }, // brcl 11
-    BranchStep { code: 0x0de2_0000_0000_0000, place: 0x5002, link: 0x1002 }, // basr
-    BranchStep { code: 0x0de0_0000_0000_0000, place: 0x1002, link: 0x1002 }, // basr %r14, %r0
-    BranchStep { code: 0xc0e5_0000_0010_0000, place: 0x1020, link: 0x1006 }, // brasl
-    BranchStep { code: 0xa744_0010_0000_0000, place: 0x1020, link: 0 }, // brc 4
-    BranchStep { code: 0xa7f4_fffe_0000_0000, place: 0xffc, link: 0 }, // brc 15, backwards
-    BranchStep { code: 0xa7b4_0010_0000_0000, place: 0x1004, link: 0 }, // brc 11
-    BranchStep { code: 0xa704_0010_0000_0000, place: 0x1004, link: 0 }, // brc 0
-    BranchStep { code: 0xa7f4_7fff_0000_0000, place: 0x10ffe, link: 0 }, // brc 15, as far as it goes
-    BranchStep { code: 0xa7f4_8000_0000_0000, place: 0xffff_ffff_ffff_1000, link: 0 }, // brc 15, as far backwards
-    BranchStep { code: 0xa7e5_0010_0000_0000, place: 0x1020, link: 0x1004 }, // bras
-];
-
-/// The number of the first branch that isn't as it is told.
-fn wrong_branch(alloc: Global, steps: &[BranchStep]) -> Result<Option<usize>, NoMemory> {
-    for i in 0..steps.len() {
-        let step = steps[i];
-        let mut memory = memory_with(alloc, step.code, 0)?;
-        let mut machine = machine_with(0, 0x5002, 0);
-        let mut regs = machine.regs;
-        regs[14] = step.link;
-        let went = machine.step(&mut memory) == StepEnd::Went;
-        if !went || machine.regs != regs || machine.cc != 1 || machine.place != step.place {
-            return Ok(Some(i));
-        }
-    }
-    Ok(None)
-}
-
-#[test]
-fn branches(rt: HostRuntime) -> Result<(), Fail> {
-    assert_eq!(rt; wrong_branch(rt.alloc(), &BRANCHES)?, None);
-    Ok(())
-}
-
-/// BRC, BRCL and BCR under the mask 0, and the two places that they lead to: 0x5002 is in %r2.
-#[rattlefmt::skip]
-const CONDITIONAL: [(u64, u64, u64); 3] = [
-    (0xa704_0010_0000_0000, 0x1020, 0x1004), // brc
-    (0xc004_0000_0010_0000, 0x1020, 0x1006), // brcl
-    (0x0702_0000_0000_0000, 0x5002, 0x1002), // bcr
-];
-
-/// The condition codes, and the bit of the mask for each.
-const CODES: [(ConditionCode, u64); 4] = [
-    (ConditionCode::Code0, 8),
-    (ConditionCode::Code1, 4),
-    (ConditionCode::Code2, 2),
-    (ConditionCode::Code3, 1),
-];
-
-/// Where a branch leads from a condition code.
-fn place_after(alloc: Global, code: u64, from: ConditionCode) -> Result<u64, NoMemory> {
-    let mut memory = memory_with(alloc, code, 0)?;
-    let mut machine = machine_with(0, 0x5002, 0);
-    machine.set_condition_code(from);
-    let went = machine.step(&mut memory) == StepEnd::Went;
-    Ok(if went { machine.place } else { 0 })
-}
-
-/// The first mask under which a branch isn't taken exactly at the condition codes of its bits.
-fn wrong_mask(alloc: Global, branch: (u64, u64, u64)) -> Result<Option<u64>, NoMemory> {
-    for mask in 0..16u64 {
-        for i in 0..CODES.len() {
-            let (from, bit) = CODES[i];
-            let place = if mask & bit != 0 { branch.1 } else { branch.2 };
-            if place_after(alloc, branch.0 | mask << 52, from)? != place {
-                return Ok(Some(mask));
-            }
-        }
-    }
-    Ok(None)
-}
-
-#[test]
-fn masks(rt: HostRuntime) -> Result<(), Fail> {
-    for i in 0..CONDITIONAL.len() {
-        assert_eq!(rt; wrong_mask(rt.alloc(), CONDITIONAL[i])?, None);
-    }
-    Ok(())
-}
 
 /// How a step ends that leaves everything as it was: %r1 and %r2 have two values, the pair %r8 and %r9 has 2 and the first, and the doubleword
 /// at 0x2008 has the second. Bytes 0x1000 to 0x1007 and 0x2008 to 0x200f are accessible.
@@ -259,40 +95,6 @@ fn wrong_stop(alloc: Global, stops: &[Stop]) -> Result<Option<usize>, NoMemory> 
 #[test]
 fn stops(rt: HostRuntime) -> Result<(), Fail> {
     assert_eq!(rt; wrong_stop(rt.alloc(), &STOPS)?, None);
-    Ok(())
-}
-
-/// Comparisons that don't trap: the same rows where the mask doesn't select the outcome.
-#[rattlefmt::skip]
-const PASSES: [Stop; 8] = [
-    Stop { code: 0xb961_4012_0000_0000, first: MOST, second: 1, end: StepEnd::Went }, // clgrt low
-    Stop { code: 0xb960_8012_0000_0000, first: 0x1_0000_0005, second: 5, end: StepEnd::Went }, // cgrt equal
-    Stop { code: 0xb972_6012_0000_0000, first: 0x1_0000_0005, second: 5, end: StepEnd::Went }, // crt unequal
-    Stop { code: 0xb973_c012_0000_0000, first: 0xffff_ffff, second: 1, end: StepEnd::Went }, // clrt not high
-    Stop { code: 0xec10_ffff_8070_0000, first: 0xffff_ffff, second: 0, end: StepEnd::Went }, // cgit equal to -1
-    Stop { code: 0xec10_ffff_6071_0000, first: 0xffff, second: 0, end: StepEnd::Went }, // clgit unequal to 65535
-    Stop { code: 0xec10_ffff_6072_0000, first: 0xffff_ffff, second: 0, end: StepEnd::Went }, // cit unequal to -1
-    Stop { code: 0xec10_ffff_8073_0000, first: 0xffff_ffff, second: 0, end: StepEnd::Went }, // clfit equal to 65535
-];
-
-/// The number of the first comparison that traps, or that changes a register or the condition code.
-fn trapped(alloc: Global, passes: &[Stop]) -> Result<Option<usize>, NoMemory> {
-    for i in 0..passes.len() {
-        let pass = passes[i];
-        let mut memory = memory_with(alloc, pass.code, 0)?;
-        let mut machine = machine_with(pass.first, pass.second, 0);
-        let regs = machine.regs;
-        let ends = machine.step(&mut memory) == pass.end;
-        if !ends || machine.regs != regs || machine.cc != 1 || machine.place == PLACE {
-            return Ok(Some(i));
-        }
-    }
-    Ok(None)
-}
-
-#[test]
-fn comparisons_pass(rt: HostRuntime) -> Result<(), Fail> {
-    assert_eq!(rt; trapped(rt.alloc(), &PASSES)?, None);
     Ok(())
 }
 

@@ -2,7 +2,7 @@
 //! program, from the definitions of the Principles of Operation, chapters 9, 20 and 21.
 
 use crate::step::{Code, PLACE};
-use crate::vector_step::{ALL, FIRST, SECOND, VectorStep, ends, ends_with, holds};
+use crate::vector_step::{ALL, SECOND, VectorStep, ends, ends_with, holds};
 use s390x_base::NoMemory;
 use s390x_machine::StepEnd;
 use s390x_operations::StopKind;
@@ -22,20 +22,6 @@ struct LoadStep {
     target: u8,
     known: u128,
     result: u128,
-}
-
-/// A step after which the 16 bytes are what is stored, and all else is as it was.
-#[derive(Clone, Copy)]
-struct StoreStep {
-    code: u64,
-    stored: u128,
-}
-
-/// A step after which %r1 has the general value, and all else is as it was.
-#[derive(Clone, Copy)]
-struct ExtractStep {
-    code: u64,
-    general: u64,
 }
 
 /// Loads, moves to a vector register, and elements from a general register.
@@ -87,51 +73,6 @@ const LOADS: [LoadStep; 46] = [
     LoadStep { code: 0xe712000220220000, target: 1, known: ALL, result: 0x1020304050607556677880c0d0e0f }, // vlvgf 2
     LoadStep { code: 0xe712000130220000, target: 1, known: ALL, result: 0x10203040506071122334455667788 }, // vlvgg 1
     LoadStep { code: 0xe712600308220000, target: 17, known: ALL, result: 0xfffefdfcfbfaf9f8f7f6f588f3f2f1f0 }, // vlvgb 3(%r6) of %v17
-];
-
-/// Stores.
-#[rattlefmt::skip]
-const STORES: [StoreStep; 28] = [
-    StoreStep { code: 0xe7105010000e0000, stored: 0x102030405060708090a0b0c0d0e0f }, // vst
-    StoreStep { code: 0xe7465008080e0000, stored: 0xff21fe42fd63fc84fba5fac6f9e7f8 }, // vst of %v20, with an index
-    StoreStep { code: 0xe6105010100e0000, stored: 0x10003020504070609080b0a0d0c0f0e }, // vstbrh
-    StoreStep { code: 0xe6105010200e0000, stored: 0x3020100070605040b0a09080f0e0d0c }, // vstbrf
-    StoreStep { code: 0xe6105010300e0000, stored: 0x7060504030201000f0e0d0c0b0a0908 }, // vstbrg
-    StoreStep { code: 0xe6105010400e0000, stored: 0xf0e0d0c0b0a09080706050403020100 }, // vstbrq
-    StoreStep { code: 0xe6105010100f0000, stored: 0xe0f0c0d0a0b08090607040502030001 }, // vsterh
-    StoreStep { code: 0xe6105010200f0000, stored: 0xc0d0e0f08090a0b0405060700010203 }, // vsterf
-    StoreStep { code: 0xe6105010300f0000, stored: 0x8090a0b0c0d0e0f0001020304050607 }, // vsterg
-    StoreStep { code: 0xe710501fd0080000, stored: 0xf0e1d2c3b4a5968778695a4b3c2d1e0d }, // vsteb 13
-    StoreStep { code: 0xe710501e30090000, stored: 0xf0e1d2c3b4a5968778695a4b3c2d0607 }, // vsteh 3
-    StoreStep { code: 0xe7105018100a0000, stored: 0xf0e1d2c3b4a5968708090a0b0c0d0e0f }, // vsteg 1
-    StoreStep { code: 0xe710501c200b0000, stored: 0xf0e1d2c3b4a5968778695a4b08090a0b }, // vstef 2
-    StoreStep { code: 0xe710501010080000, stored: 0x1e1d2c3b4a5968778695a4b3c2d1e0f }, // vsteb 1
-    StoreStep { code: 0xe710501000090000, stored: 0x1d2c3b4a5968778695a4b3c2d1e0f }, // vsteh 0
-    StoreStep { code: 0xe7105010000a0000, stored: 0x102030405060778695a4b3c2d1e0f }, // vsteg 0
-    StoreStep { code: 0xe7105010000b0000, stored: 0x10203b4a5968778695a4b3c2d1e0f }, // vstef 0
-    StoreStep { code: 0xe610501e70090000, stored: 0xf0e1d2c3b4a5968778695a4b3c2d0f0e }, // vstebrh 7
-    StoreStep { code: 0xe6105018000a0000, stored: 0xf0e1d2c3b4a596870706050403020100 }, // vstebrg 0
-    StoreStep { code: 0xe610501c300b0000, stored: 0xf0e1d2c3b4a5968778695a4b0f0e0d0c }, // vstebrf 3
-    StoreStep { code: 0xe6105018100a0000, stored: 0xf0e1d2c3b4a596870f0e0d0c0b0a0908 }, // vstebrg 1
-    StoreStep { code: 0xe7465010180b0000, stored: 0xf0e1d2c3b4a5968742fd63fc3c2d1e0f }, // vstef 1 of %v20
-    StoreStep { code: 0xe7105011300b0000, stored: 0xf00c0d0e0fa5968778695a4b3c2d1e0f }, // vstef 3 to an odd address
-    StoreStep { code: 0x6010501500000000, stored: 0xf0e1d2c3b400010203040506072d1e0f }, // std to an odd address
-    StoreStep { code: 0x7010501c00000000, stored: 0xf0e1d2c3b4a5968778695a4b00010203 }, // ste
-    StoreStep { code: 0xed107f1cff660000, stored: 0xf0e1d2c3b4a5968778695a4b00010203 }, // stey
-    StoreStep { code: 0x6010501800000000, stored: 0xf0e1d2c3b4a596870001020304050607 }, // std
-    StoreStep { code: 0xed167f10ff670000, stored: 0xf0e1d2c3b4a596870001020304050607 }, // stdy, with an index
-];
-
-/// Elements to a general register.
-#[rattlefmt::skip]
-const EXTRACTS: [ExtractStep; 7] = [
-    ExtractStep { code: 0xe712000400210000, general: 0xb4 }, // vlgvb 4
-    ExtractStep { code: 0xe712000510210000, general: 0x5a4b }, // vlgvh 5
-    ExtractStep { code: 0xe712000120210000, general: 0xb4a59687 }, // vlgvf 1
-    ExtractStep { code: 0xe712000130210000, general: 0x78695a4b3c2d1e0f }, // vlgvg 1
-    ExtractStep { code: 0xe712600700210000, general: 0xf }, // vlgvb 7(%r6)
-    ExtractStep { code: 0xe712000314210000, general: 0x6978 }, // vlgvh 3 of %v18
-    ExtractStep { code: 0xb3cd001200000000, general: 0xf0e1d2c3b4a59687 }, // lgdr
 ];
 
 /// Divisions with a divisor of zero in one lane.
@@ -292,42 +233,6 @@ fn wrong_load(alloc: Global, steps: &[LoadStep]) -> Result<Option<usize>, NoMemo
     Ok(None)
 }
 
-/// The step of a row that changes no vector register.
-fn step_without_result(code: u64, stored: u128, general: u64) -> VectorStep {
-    VectorStep {
-        code,
-        third: 0,
-        target: 1,
-        known: ALL,
-        result: FIRST,
-        stored,
-        general,
-        cc: Code::Kept,
-    }
-}
-
-/// The number of the first store that isn't as it is told.
-fn wrong_store(alloc: Global, steps: &[StoreStep]) -> Result<Option<usize>, NoMemory> {
-    for i in 0..steps.len() {
-        let step = step_without_result(steps[i].code, steps[i].stored, 0);
-        if !holds(alloc, &step)? {
-            return Ok(Some(i));
-        }
-    }
-    Ok(None)
-}
-
-/// The number of the first extraction that isn't as it is told.
-fn wrong_extract(alloc: Global, steps: &[ExtractStep]) -> Result<Option<usize>, NoMemory> {
-    for i in 0..steps.len() {
-        let step = step_without_result(steps[i].code, SECOND, steps[i].general);
-        if !holds(alloc, &step)? {
-            return Ok(Some(i));
-        }
-    }
-    Ok(None)
-}
-
 /// The number of the first instruction that doesn't end so, or that changes something.
 fn wrong_end(alloc: Global, codes: &[u64], end: StepEnd) -> Result<Option<usize>, NoMemory> {
     for i in 0..codes.len() {
@@ -352,8 +257,6 @@ fn wrong_division(alloc: Global, divisions: &[(u64, u128)]) -> Result<Option<usi
 #[test]
 fn transfers(rt: HostRuntime) -> Result<(), Fail> {
     assert_eq!(rt; wrong_load(rt.alloc(), &LOADS)?, None);
-    assert_eq!(rt; wrong_store(rt.alloc(), &STORES)?, None);
-    assert_eq!(rt; wrong_extract(rt.alloc(), &EXTRACTS)?, None);
     Ok(())
 }
 

@@ -1,0 +1,7 @@
+//! Tests of the emitters of operands.
+#![tactic(auto)]
+
+#[cfg(test)]
+mod accesses;
+#[cfg(test)]
+mod codes;
