@@ -1,3 +1,2 @@
-mod Showing
 mod Answering
-mod Completing
+mod Showing

@@ -1,2 +1,2 @@
 mod Reporting
-pub mod Answering
+mod Answering

@@ -1,5 +1,4 @@
 pub mod Status
-pub mod Ends
 pub mod Places
 pub mod Input
 pub mod Put

@@ -1,14 +1,18 @@
 -- How tables of metadata grow, a function at a time.
-use Rattle.std.proofs.Common.{◌≡◌, ℕ, ◌+◌, ◌^◌, ◌<◌, Bool, true, false, ◌||◌, List, [], ◌∷◌, ◌++◌, length, refl, sym, ap, subst, ◌∙◌, arith, append_assoc, append-nil, length-append, All}
+use Rattle.std.proofs.Common.{◌≡◌, ℕ, ◌+◌, ◌^◌, ◌<◌, Bool, true, false, ◌||◌, List, [], ◌∷◌, ◌++◌, length, map, sym, ap, subst, ◌∙◌, arith, append_assoc, append-nil, length-append, All}
 use Rattle.std.specs.Prelude.{Vec}
 use Rattle.std.specs.declared.alloc.Global.{Global}
 use Rattle.std.specs.Int.{w64, to_be_bytes}
+use Rattle.std.proofs.lemmas.List.{map_push}
 use Rattle.std.proofs.lemmas.List.Concat.{flat_map-append}
 use Rattle.std.proofs.lemmas.List.Elements.{All-append}
 use Rattle.s390x_buffer.specs.declared.entries.MachBufferFinalized.{MachBufferFinalized}
 use Rattle.s390x_elf.specs.declared.metadata.Table.{Table}
 use Rattle.s390x_elf.specs.declared.metadata.TableKind.{TableKind}
+use Rattle.s390x_elf.specs.declared.file.SectionParts.{SectionParts}
+use Rattle.s390x_elf.specs.File.{Section}
 use Rattle.s390x_elf.specs.Metadata.{part, parts}
+use Rattle.s390x_elf.specs.Writing.{section_of}
 use Rattle.s390x_elf.specs.TableBytes.{IsTable, IsWide, part_entry, part_entries, wides}
 
 -- the bytes of a vector are fewer than 2 ^ 64
@@ -62,3 +66,14 @@ any_on true r all h e = cc
 pub any_here : (b r all : Bool) → (b || r) ≡ all → b ≡ true → all ≡ true
 any_here true r all h e = sym h
 any_here false r all h e = cc
+
+-- two sections behind others
+pub two_more : (p0 p1 p2 : List SectionParts) (a b : SectionParts) (x y : Section) → p1 ≡ p0 ++ a ∷ [] → p2 ≡ p1 ++ b ∷ [] → section_of a ≡ x → section_of b ≡ y → map section_of p2 ≡ map section_of p0 ++ (x ∷ y ∷ [])
+two_more p0 p1 p2 a b x y first second ea eb =
+    ap (map section_of) second
+    ∙ map_push section_of p1 b
+    ∙ ap (λ (ps : List SectionParts). map section_of ps ++ section_of b ∷ []) first
+    ∙ ap (λ (ss : List Section). ss ++ section_of b ∷ []) (map_push section_of p0 a)
+    ∙ append_assoc (map section_of p0) (section_of a ∷ []) (section_of b ∷ [])
+    ∙ ap (λ (s : Section). map section_of p0 ++ (s ∷ section_of b ∷ [])) ea
+    ∙ ap (λ (s : Section). map section_of p0 ++ (x ∷ s ∷ [])) eb

@@ -1,7 +1,7 @@
 -- Tables of metadata are read from their bytes.
-use Rattle.std.proofs.Common.{◌≡◌, ℕ, zero, suc, ◌+◌, ◌*◌, ◌/◌, ◌%◌, ◌^◌, ◌<◌, ◌≤◌, pos, Bool, true, false, cond, is_some, List, [], ◌∷◌, ◌++◌, length, drop, map, codes, get_or, refl, sym, ap, subst, ◌∙◌, arith, append_assoc, append-nil, length-append, All}
+use Rattle.std.proofs.Common.{◌≡◌, ℕ, ◌+◌, ◌*◌, ◌/◌, ◌%◌, ◌^◌, ◌<◌, ◌≤◌, pos, Bool, true, false, cond, is_some, List, [], ◌∷◌, ◌++◌, length, drop, map, codes, get_or, refl, sym, ap, subst, ◌∙◌, arith, append_assoc, append-nil, length-append, All}
 use Rattle.std.specs.List.{flat_map, list_any}
-use Rattle.std.specs.Int.{w64, to_be_bytes, cast_signed}
+use Rattle.std.specs.Int.{w64, to_be_bytes}
 use Rattle.std.proofs.lemmas.List.{drop-drop, get_or-drop, length-map}
 use Rattle.std.proofs.lemmas.List.Elements.{All-nil, All-cons, All-head, All-tail, All-append}
 use Rattle.std.proofs.lemmas.Nat.{from_be_bytes-to_be_bytes_8}
@@ -11,7 +11,7 @@ use Rattle.s390x_elf.specs.declared.metadata.TableKind.TheVariants.{Traps, Calls
 use Rattle.s390x_buffer.specs.declared.entries.RelocEntry.{RelocEntry}
 use Rattle.s390x_elf.specs.Reading.{IsText, wide, pieces}
 use Rattle.s390x_elf.specs.File.{Section, sections, null_section}
-use Rattle.s390x_elf.specs.Symbols.{Symbol, symbol, null_symbol, Relocation, relocation, named_section, relocations_for}
+use Rattle.s390x_elf.specs.Symbols.{Symbol, symbol, null_symbol, relocation, named_section, relocations_for}
 use Rattle.s390x_elf.specs.Names.{Naming}
 use Rattle.s390x_elf.specs.Object.{Function, function_symbol, undefined_symbol, global_symbols, place, stack_note, string_table, text_section, with_name, with_used_names}
 use Rattle.s390x_elf.specs.Metadata.{HasTable, HasTables, has_entries, part, parts, doublewords, part_relocations, table_name}

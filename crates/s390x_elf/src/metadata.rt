@@ -350,10 +350,11 @@ fn put_kind(
     ensures sections { IfOk result (λ _. AddsSections sections.old sections.new (table_sections (codes_of codes.now) kind)) }
     ensures fits { IfOk result (λ _. TableFits (codes_of codes.now) kind) }
 {
+    let table = table_of(alloc, kind, codes)?;
     let Table {
         content,
         relocations,
-    } = table_of(alloc, kind, codes)?;
+    } = table;
     sections.push(table_section(kind, content))?;
     sections.push(relocation_section(kind, relocations))?;
     Ok(())

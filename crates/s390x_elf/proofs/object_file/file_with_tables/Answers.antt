@@ -1,6 +1,6 @@
-use Rattle.std.proofs.Common.{◌≡◌, ◌+◌, ◌<◌, List, ◌++◌, length, map, sym, ap, subst, ◌∙◌, All}
+use Rattle.std.proofs.Common.{◌<◌, List, length, map, sym, ap, subst, ◌∙◌, All}
 use Rattle.s390x_elf.specs.declared.file.SectionParts.{SectionParts}
-use Rattle.s390x_elf.specs.TableBytes.{code_of, metadata_sections}
+use Rattle.s390x_elf.specs.TableBytes.{code_of}
 use Rattle.s390x_elf.specs.Writing.{file_bytes, section_of}
 use Rattle.s390x_elf.proofs.TableSteps.{vec_small}
 use Rattle.s390x_elf.proofs.TablesRead.{parts_count, parts_short}

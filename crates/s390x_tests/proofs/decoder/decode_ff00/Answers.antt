@@ -3,7 +3,7 @@ use Rattle.std.proofs.lemmas.Nat.{pow_pos}
 use Rattle.s390x_format.specs.Fetch.{machine_rows}
 use Rattle.s390x_format.specs.Formats.{place_of}
 use Rattle.s390x_format.specs.Rows.{rows_with}
-use Rattle.s390x_encoding_tests.proofs.decoder.decode_ff00.Goals as goal
+use Rattle.s390x_tests.proofs.decoder.decode_ff00.Goals as goal
 
 no_rows : rows_with 255 machine_rows ≡ 0
 unfolding rows_with machine_rows place_of
