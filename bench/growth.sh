@@ -1,8 +1,8 @@
 #!/usr/bin/env bash
 # Grows each dimension of the input of each command by ten, and prints by which factor the executed instructions grow (valgrind's callgrind, which is
 # repeatable): at most 13 where the time is linear or its logarithm times that, 100 where it is the square. The rows beyond 13 are marked, and then the
-# status is 1. Words that are given choose the commands (all if none is). Needs valgrind and the built program (rt run s390x, or rt ci; an unproved
-# build does too): PROGRAM names another one.
+# status is 1. Words that are given choose the commands (all if none is). Needs valgrind and the built program (rt run s390x, or rt ci). PROGRAM names
+# another one; one whose name ends with _cases is taken for s390x_tool_cases, which gets each input as a case. bench/unproved.sh makes either without a proof.
 set -eu
 cd "$(dirname "$0")/.."
 program=${PROGRAM:-crates/s390x/out/s390x}
@@ -39,7 +39,11 @@ list() {
 
 # The instructions that the program executes with these words and the job as its input.
 executed() {
-    valgrind --tool=callgrind --callgrind-out-file=/dev/null "$program" $1 < "$work/job" > "$work/text" 2> "$work/log" || true
+    case "$program" in
+    *_cases) { echo "> $1"; cat "$work/job"; echo "< 0"; } > "$work/case"; set -- "" "$work/case" ;;
+    *) set -- "$1" "$work/job" ;;
+    esac
+    valgrind --tool=callgrind --callgrind-out-file=/dev/null "$program" $1 < "$2" > "$work/text" 2> "$work/log" || true
     sed -n 's/.*Collected : //p' "$work/log"
 }
 
