@@ -4,10 +4,10 @@
 
 use s390x_emit_int::emit_function;
 use s390x_job::{Job, read_lines};
-use s390x_tool::{Source, StdSource, read_input};
 use std::alloc::Global;
+use std::env;
+use std::io::{self, Read};
 use std::process::ExitCode;
-use std::{env, io};
 
 /// Why nothing is printed.
 #[derive(Clone, Copy, PartialEq, Eq, Debug)]
@@ -22,8 +22,7 @@ enum Failure {
 
 fn main(rt: HostRuntime) -> ExitCode {
     let alloc = rt.alloc();
-    let mut source = StdSource::new(rt.stdin());
-    match count_bytes(&rt, alloc, &mut source) {
+    match count_bytes(&rt, alloc, rt.stdin()) {
         Ok(bytes) => match println!(rt; "bytes {bytes}") {
             Ok(()) => ExitCode::SUCCESS,
             Err(_) => ExitCode::FAILURE,
@@ -33,10 +32,10 @@ fn main(rt: HostRuntime) -> ExitCode {
 }
 
 // How many bytes the turns give in all.
-fn count_bytes<S: Source>(
+fn count_bytes<R: Read + Drop>(
     rt: &(impl env::Env + AllocGlobal),
     alloc: Global,
-    source: &mut S,
+    source: R,
 ) -> Result<u64, Failure> {
     let turns = turns(rt)?;
     let job = read_job(alloc, source)?;
@@ -57,8 +56,11 @@ fn turns(rt: &(impl env::Env + AllocGlobal)) -> Result<u32, Failure> {
     }
 }
 
-fn read_job<S: Source>(alloc: Global, source: &mut S) -> Result<Job, Failure> {
-    let input = read_input(alloc, source).map_err(|_| Failure::Input)?;
+fn read_job<R: Read + Drop>(alloc: Global, mut source: R) -> Result<Job, Failure> {
+    let mut input = Vec::new(alloc);
+    source
+        .read_to_end(&mut input)
+        .map_err(|_: io::Error| Failure::Input)?;
     if input.len() as u64 >= 4294967295 {
         return Err(Failure::Input);
     }

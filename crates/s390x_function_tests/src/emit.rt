@@ -1,11 +1,8 @@
 //! Instructions and bytes that are emitted into a buffer of the caller's.
-use s390x_base::{
-    Cond, ConstantData, EmitError, MachLabel, TrapCode, VCodeConstant, gpr, vr, writable_gpr,
-    writable_vr,
-};
+use s390x_base::{Cond, EmitError, TrapCode, gpr, vr, writable_gpr, writable_vr};
 use s390x_buffer::{MachBuffer, TrapEntry};
 use s390x_emit_int::{MachInstEmit, emit_vector, put, put_with_trap};
-use s390x_inst::{ALUOp, EmitInfo, EmitState, Inst, IsaFlags, MachInstEmitState, MemArg, VecInst};
+use s390x_inst::{ALUOp, EmitInfo, EmitState, Inst, IsaFlags, MachInstEmitState, VecInst};
 use std::alloc::Global;
 use std::test::Fail;
 
@@ -38,24 +35,6 @@ fn a_loop_is_emitted_alone(rt: HostRuntime) -> Result<(), Fail> {
         [0xb9, 0xf8, 0x30, 0x42, 0xc0, 0x44, 0xff, 0xff, 0xff, 0xfe].as_slice()
     );
     assert_eq!(rt; code.starts.as_slice(), [0, 4].as_slice());
-    Ok(())
-}
-
-#[test]
-fn a_cause_marks_the_buffer(rt: HostRuntime) -> Result<(), Fail> {
-    let alloc = rt.alloc();
-    let mut sink = MachBuffer::new(alloc, 0, &[])?;
-    let mut state = EmitState::default();
-    state.pre_safepoint(Some(7));
-    let info = EmitInfo::new(IsaFlags::default());
-    let refused = Inst::Ret { link: gpr(0) }.emit(alloc, &mut sink, &info, &mut state);
-    assert_eq!(rt; refused.err(), Some(EmitError::BadRegister));
-    assert!(rt; sink.is_failed());
-    assert_eq!(rt; state.take_stack_map(), Some(7));
-    assert_eq!(rt; sink.put1(7).err(), Some(EmitError::Failed));
-    let again = Inst::Nop2.emit(alloc, &mut sink, &info, &mut state);
-    assert_eq!(rt; again.err(), Some(EmitError::Failed));
-    assert_eq!(rt; put(&mut sink, &[7, 7]).err(), Some(EmitError::Failed));
     Ok(())
 }
 
@@ -105,57 +84,5 @@ fn a_trap_is_recorded_at_the_last_byte(rt: HostRuntime) -> Result<(), Fail> {
         }]
         .as_slice()
     );
-    Ok(())
-}
-
-#[test]
-fn arguments_lie_below_the_frame(rt: HostRuntime) -> Result<(), Fail> {
-    let alloc = rt.alloc();
-    let mut sink = MachBuffer::new(alloc, 0, &[])?;
-    let mut state = EmitState::default();
-    state.pre_safepoint(Some(7));
-    let info = EmitInfo::new(IsaFlags::default());
-    Inst::AllocateArgs { size: 32 }.emit(alloc, &mut sink, &info, &mut state)?;
-    assert_eq!(rt; state.nominal(), 32);
-    assert_eq!(rt; state.take_stack_map(), None);
-    Inst::Load64 {
-        rd: writable_gpr(2),
-        mem: MemArg::SpillOffset { off: 8 },
-    }
-    .emit(alloc, &mut sink, &info, &mut state)?;
-    assert_eq!(rt; state.nominal(), 32);
-    let again = Inst::AllocateArgs { size: 0 }.emit(alloc, &mut sink, &info, &mut state);
-    assert_eq!(rt; again.err(), Some(EmitError::BadStackState));
-    assert_eq!(rt; state.nominal(), 32);
-    assert!(rt; sink.is_failed());
-    Ok(())
-}
-
-// What refuses an instruction in a buffer of one block and a constant on a boundary of two.
-fn cause(alloc: Global, inst: Inst) -> Result<Option<EmitError>, Fail> {
-    let bytes = [1, 2].to_vec(alloc)?;
-    let mut sink = MachBuffer::new(alloc, 1, &[ConstantData { bytes, align: 2 }])?;
-    let info = EmitInfo::new(IsaFlags::default());
-    let mut state = EmitState::default();
-    Ok(inst.emit(alloc, &mut sink, &info, &mut state).err())
-}
-
-#[test]
-fn blocks_and_constants_of_a_buffer_are_operands(rt: HostRuntime) -> Result<(), Fail> {
-    let rd = writable_gpr(2);
-    let block = Inst::Load64SExt16 {
-        rd,
-        mem: MemArg::Label {
-            target: MachLabel(0),
-        },
-    };
-    assert_eq!(rt; cause(rt.alloc(), block)?, None);
-    let constant = Inst::Load64 {
-        rd,
-        mem: MemArg::Constant {
-            constant: VCodeConstant(0),
-        },
-    };
-    assert_eq!(rt; cause(rt.alloc(), constant)?, Some(EmitError::BadAlignment));
     Ok(())
 }

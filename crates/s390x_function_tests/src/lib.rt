@@ -1,11 +1,12 @@
-//! Tests of emission: of the calls that emit, and of what no text of the program shows.
+//! Tests of public calls that no program makes: single instructions and bytes that are emitted, an image with the promise under others' writes, loops with their
+//! registers, and the texts of operands by themselves.
 #![tactic(auto)]
 
 #[cfg(test)]
-mod calls;
-#[cfg(test)]
-mod constructors;
+mod adding;
 #[cfg(test)]
 mod emit;
 #[cfg(test)]
-mod functions;
+mod loops;
+#[cfg(test)]
+mod registers;

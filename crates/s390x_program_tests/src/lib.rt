@@ -2,10 +2,6 @@
 #![tactic(auto)]
 
 #[cfg(test)]
-mod bundles;
-#[cfg(test)]
-mod entries;
-#[cfg(test)]
 mod faults;
 #[cfg(test)]
 mod lines;

@@ -1,7 +1,7 @@
 -- Tables of mnemonics with a column for each form of operands; an empty name stands for none.
 use Rattle.std.specs.Prelude.{◌≡◌, ℕ, zero, suc, ◌+◌, List, [], ◌∷◌, Option, Some, None, map, get_or, length}
 use Rattle.std.specs.Borrow.{Bor}
-use denote.Enum.Declared.{Declared, tag_of}
+use denote.Enum.Declared.{Declared, tag_of, variants}
 
 -- the rows of a table that is a constant
 abbrev pub rows : {A : Type 0} → List (A × record { now : List (record { now : List ℕ }) }) → List (List (List ℕ))
@@ -29,6 +29,6 @@ abbrev pub places : (n count : ℕ) → List ℕ
 places n zero = []
 places n (suc count) = n ∷ places (n + 1) count
 
--- each row stands at the place of its operator in the declaration
+-- each operator has a row, at the operator's place in the declaration, and there are no others
 abbrev pub IsInOrder : (T : Declared) {X : Type 0} → List (T.D × X) → Type 0
-IsInOrder T table = map (λ row. tag_of T row.0) table ≡ places 0 (length table)
+IsInOrder T table = map (λ row. tag_of T row.0) table ≡ places 0 (length (variants T))

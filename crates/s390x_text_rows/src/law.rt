@@ -14,7 +14,7 @@ ghost use Rattle.s390x_inst.specs.contracts.vec_ops.VecShiftOp as the_vec_shift;
 ghost use Rattle.s390x_inst.specs.contracts.vec_ops.VecIntCmpOp as the_vec_compare;
 ghost use Rattle.s390x_inst.specs.contracts.vec_ops.VecIntEltCmpOp as the_vec_element_compare;
 
-/// Each row of a table stands at the place that its operator has in the declaration, which is where it is looked up.
+/// Each operator has a row in its table, at the place that the operator has in the declaration, which is where it is looked up; there are no other rows.
 pub fn rows_in_order()
     ensures alu { IsInOrder the_alu.the_type ALU_MNEMONICS.now }
     ensures cmp { IsInOrder the_cmp.the_type CMP_MNEMONICS.now }

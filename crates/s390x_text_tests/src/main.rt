@@ -2,10 +2,6 @@
 //! Before that it prints the numbers of the first ten lines that do.
 #![tactic(auto)]
 
-#[cfg(test)]
-mod registers;
-#[cfg(test)]
-mod states;
 mod texts;
 
 use crate::texts::is_line_met;

@@ -1,9 +1,8 @@
-//! Retry loops with their registers.
+//! Retry loops with their registers, which no plan has.
 
-use s390x_assign::{AssignError, assign};
+use s390x_assign::assign;
 use s390x_base::{Cond, MachMemFlags, Reg, RegClass, Writable, gpr, writable_gpr};
 use s390x_inst::{ALUOp, Inst, MemArg};
-use s390x_operands::OperandError;
 use std::alloc::{AllocError, Global};
 use std::test::Fail;
 
@@ -103,21 +102,5 @@ fn members_of_a_loop_have_their_registers(rt: HostRuntime) -> Result<(), Fail> {
         return Err(Fail::from("no loop"));
     };
     assert!(rt; is_retry(&assigned, &gpr(6), &gpr(7), &gpr(8)));
-    Ok(())
-}
-
-#[test]
-fn reuse_in_a_loop_is_refused(rt: HostRuntime) -> Result<(), Fail> {
-    let reuse = Inst::AluRR {
-        alu_op: ALUOp::Add64,
-        rd: Writable::from_reg(int(2)),
-        ri: int(2),
-        rm: int(4),
-    };
-    let inst = looped(rt.alloc(), reuse, Inst::Nop0)?;
-    let Err(error) = assign(rt.alloc(), &inst, &[gpr(2), gpr(2), gpr(4)]) else {
-        return Err(Fail::from("a reuse in a loop"));
-    };
-    assert_eq!(rt; error, AssignError::Operands(OperandError::ReuseInLoop));
     Ok(())
 }

@@ -1,0 +1,5 @@
+//! Tests of the emitters of operands.
+#![tactic(auto)]
+
+#[cfg(test)]
+mod emitters;
