@@ -53,7 +53,7 @@ def cases(lines):
         elif case is None:
             yield row(head, line)
         elif line.startswith("< "):
-            case[2] = int(line[2:])
+            case[2] = int(line[2:].split(" ")[0])
         elif case[2] is None:
             case[1].append(line)
         else:

@@ -264,9 +264,10 @@ def run_many(base, size, runs, regions, folder):
     each region, whose addresses and lengths `regions` tells. Yields what `run` answers of each: None where it doesn't end, and "broken" where the emulator breaks
     down."""
     path, given, taken = (os.path.join(folder, name) for name in ("many.elf", "many.in", "many.out"))
-    segments = [(STUB, looping_stub(base, size, regions)), (START, bytes(PAGE)), (RESULT, bytes(PAGE)), (STACK, bytes(STACK_SIZE)), (base, bytes(size))]
+    segments = [(STUB, looping_stub(base, size, regions)), (START, bytes(PAGE)), (RESULT, bytes(PAGE)), (STACK, bytes(STACK_SIZE))]
+    pages = {page for address, length in [(base, size)] + regions for page in range(address & -PAGE, address + length, PAGE)}
     with open(path, "wb") as file:
-        file.write(elf(segments + [(address, bytes(length)) for address, length in regions]))
+        file.write(elf(segments + [(page, bytes(PAGE)) for page in sorted(pages)]))
     os.chmod(path, 0o700)
     length = RESULT_SIZE + sum(length for _, length in regions)
     while runs:

@@ -112,14 +112,15 @@ class Bundle:
 
 
 def read_object(path):
-    """What readelf tells of an object: the header without places and counts, relocations and global symbols by name."""
+    """What readelf tells of an object: the header without places and counts, relocations of the text and global symbols by name."""
     header = tool(["readelf", "-Wh", path]).decode()
     wanted = ["Magic", "Class", "Data", "Version", "OS/ABI", "ABI Version", "Type", "Machine", "Entry point address", "Flags", "Size of this header",
               "Size of section headers"]
     head = [line.strip() for line in header.splitlines() if line.split(":")[0].strip() in wanted]
+    tables = re.split(r"^(?=Relocation section )", tool(["readelf", "-Wr", path]).decode(), flags=re.M)
+    of_text = "".join(table for table in tables if table.startswith("Relocation section '.rela.text'"))
     relocations = [(int(offset, 16), kind, name, sign + addend) for offset, kind, name, sign, addend in
-                   re.findall(r"^([0-9a-f]{16})\s+[0-9a-f]{16}\s+(R_390_\w+)\s+[0-9a-f]{16}\s+(\S+) ([+-]) ([0-9a-f]+)$",
-                              tool(["readelf", "-Wr", path]).decode(), re.M)]
+                   re.findall(r"^([0-9a-f]{16})\s+[0-9a-f]{16}\s+(R_390_\w+)\s+[0-9a-f]{16}\s+(\S+) ([+-]) ([0-9a-f]+)$", of_text, re.M)]
     symbols = set()
     for line in tool(["readelf", "-Ws", path]).decode().splitlines():
         words = line.split()

@@ -3,7 +3,7 @@
 
 A page is a Markdown file of the repository. Looked at are words in backquotes and links:
 
-- `s390x_NAME` is a crate of crates.txt or an exported function.
+- `s390x_NAME` is a crate of crates.txt, an exported function, or a name that a program writes.
 - A file (`.rt`, `.antt`, `.py`, `.sh` and their like) stands at that path from the top, in `crates/`, in the page's crate, or in a crate that its line names.
 - `CRATE/WORD` is a folder or file of a crate, or one of its wrong bodies.
 - A link's file is there, and has the heading.
@@ -33,7 +33,7 @@ EXPORTED |= {
     name
     for file in FILES
     if file.endswith(".rt") and "/src/" in file
-    for name in re.findall(r'extern "C" fn (s390x_\w+)', (TOP / file).read_text())
+    for name in re.findall(r'(?:extern "C" fn |")(s390x_\w+)', (TOP / file).read_text())
 }
 
 

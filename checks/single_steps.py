@@ -1,7 +1,8 @@
 #!/usr/bin/env python3
 """Writes single steps of the machine for every machine row, as others' emulators can try them; run by hand, from anywhere:
 
-    checks/single_steps.py --out FOLDER [--count 1000] [--rows ark,vl] [--emulate 20] [--try]
+    checks/single_steps.py --out FOLDER [--count 1000] [--rows ark,vl] [--emulate 20]
+    checks/single_steps.py --emulate 20
 
 For each row a file OPCODE-MNEMONIC.json: a list of steps with `name` (the instruction in hex), `initial` and `final`. A state has `pc`, `cc`, `gpr` (16
 numbers), `vr` (32) and `ram`, a list of an address and the bytes from there on; all but `cc` in hex. `final` has in place of these `stop` (`Access`,
@@ -9,9 +10,9 @@ numbers), `vr` (32) and `ram`, a list of an address and the bytes from there on;
 `free` in it names a vector register and how many bits on its right the row leaves free.
 Masks, registers, immediates and the state are drawn. Rows, formats and what a row allows are read from the tables of `s390x_format`.
 
-Each step is one run of the program `s390x run`, which is proved to take a step of the machine; with --try an unproved build is taken. That is 401,000 runs
-for a thousand a row, some 20 minutes. --emulate N runs the first N steps of each row on qemu-s390x too. It ends with 0 where all that the emulator has agrees,
-with 1 where one differs.
+The steps are taken by `s390x_page_step` of the module in page/index.html, which is built of proved code, in one process of node (from 20 on); a thousand a row
+take some minutes, most of them for writing 2 GB. --emulate N runs N steps of each row on qemu-s390x too, and tells of each row how many agree, differ, or are none
+of the emulator's. It ends with 0 where all that the emulator has agrees, with 1 where one differs.
 """
 import argparse
 import collections
@@ -19,30 +20,36 @@ import json
 import os
 import random
 import re
+import struct
+import subprocess
 import sys
 import tempfile
 
 import emulator
-import program
 from random_functions import LACKING, LACKING_SIZES
 from random_jobs import interesting
 
-SOURCES = os.path.join(program.ROOT, "crates", "s390x_format", "src")
-# Where the instruction stands, where its operand does, and where the job begins that leads there.
-PLACE, DATA, STUB = 0x4000000, 0x4100000, 0x100000
-DATA_SIZE = 0x200
+ROOT = os.path.dirname(os.path.dirname(os.path.abspath(__file__)))
+SOURCES = os.path.join(ROOT, "crates", "s390x_format", "src")
+# The page's machine has 1024 bytes of storage: the instruction and zeros, and behind them its operands, up to the end of an emulator's page.
+PLACE, DATA, SIZE = 0x4001c00, 0x4001e00, 0x200
 NOWHERE = 0x7000000000
-# So many bytes from there on are the instruction's and zeros.
-ROOM = bytes(16)
-
-# Where branches go by a register: zeros behind the operand's bytes, which are no instruction.
-ZEROS = DATA + 0x800
+# Where branches go by a register: zeros, which are no instruction.
+ZEROS = 0x4001400
 
 # How many bits on the right of the vector register that they write these rows leave free.
 FREE_BITS = {"ldr": 64, "ld": 64, "ldy": 64, "ldgr": 64, "ler": 96, "le": 96, "ley": 96}
 
 Row = collections.namedtuple("Row", "kind opcode name parts allowed")
-Step = collections.namedtuple("Step", "row code general vector data cc job steps")
+Step = collections.namedtuple("Step", "row code general vector data cc")
+End = collections.namedtuple("End", "kind place code general vector bytes")
+
+# How a step ends, by the number that the page's machine answers.
+KINDS = ["Went", "NoRow", "Access", "Specification", "Operation", "Divide", "CompareTrap"]
+
+# Registers and storage as `s390x_page` lays them out: general, access, left and right halves of vector registers, place, condition code; where the storage
+# begins, and its bytes.
+LAYOUT = struct.Struct("<16Q16I32Q32QQB7xQ1024s")
 
 
 def read(name):
@@ -153,35 +160,30 @@ def lead(drawn, row, slots, general, vector):
         general[slots["REG_2"]] = ZEROS + 2 * drawn.randrange(16)
 
 
-def prefix(drawn, general, vector):
-    """The instruction before the step that sets the condition code, and that code."""
-    code = drawn.randrange(4)
-    low, high = min(range(16), key=lambda i: general[i]), max(range(16), key=lambda i: general[i])
-    if code == 3:
-        vector[30], vector[31] = 0, int.from_bytes(b"\1" * 16, "big")
-        return "VecIntCmpS CmpEq8x16 %v31 %v30 %v31", 3
-    if code == 0 or general[low] == general[high]:
-        return "CmpRR CmpL64 %r5 %r5", 0
-    return (f"CmpRR CmpL64 %r{low} %r{high}", 1) if code == 1 else (f"CmpRR CmpL64 %r{high} %r{low}", 2)
-
-
 def step(drawn, row):
-    """A drawn step: a job that sets the code and jumps to the instruction, and takes it."""
+    """A drawn step."""
     slots = drawn_slots(drawn, row)
     general = [interesting(drawn, 64) for _ in range(16)]
     vector = [drawn.choice([0, interesting(drawn, 128), drawn.getrandbits(128)]) for _ in range(32)]
-    data = b"".join(interesting(drawn, 64).to_bytes(8, "big") for _ in range(DATA_SIZE // 8))
+    data = b"".join(interesting(drawn, 64).to_bytes(8, "big") for _ in range(SIZE // 8))
     lead(drawn, row, slots, general, vector)
-    before, cc = prefix(drawn, general, vector)
-    code = packed(row.parts, slots)
-    lines = [f"symbol u1 {PLACE}"]
-    lines += [f"reg %r{i} {value}" for i, value in enumerate(general) if value]
-    lines += [f"reg %v{i} {value:032x}" for i, value in enumerate(vector) if value]
-    lines += [f"mem {PLACE} {code.ljust(16, bytes(1)).hex()}", f"mem {DATA} {data.hex()}", "block", before, "ReturnCall u1 [] 0", "end", ""]
-    if cc == 3:
-        vector[31] = 0
-    # the comparison, LA %r15,0(%r15), BRCL, and the step
-    return Step(row, code, general, vector, data, cc, "\n".join(lines), 4)
+    return Step(row, packed(row.parts, slots), general, vector, data, drawn.randrange(4))
+
+
+def taken(steps):
+    """What the machine makes of steps."""
+    half = (1 << 64) - 1
+    given = b"".join(LAYOUT.pack(*each.general, *[0] * 16, *(v >> 64 for v in each.vector), *(v & half for v in each.vector), PLACE, each.cc, PLACE,
+                                 each.code.ljust(SIZE, b"\0") + each.data) for each in steps)
+    words = ["node", "--experimental-wasm-memory64", os.path.join(ROOT, "checks", "single_steps.mjs"), os.path.join(ROOT, "page", "index.html")]
+    answer = subprocess.run(words, input=given, stdout=subprocess.PIPE, stderr=subprocess.DEVNULL, check=True).stdout
+    size = LAYOUT.size + 8
+    if len(answer) != size * len(steps):
+        raise SystemExit(f"the module answered {len(answer) // size} of {len(steps)} steps")
+    for at in range(0, len(answer), size):
+        fields = LAYOUT.unpack_from(answer, at)
+        vector = [high << 64 | low for high, low in zip(fields[32:64], fields[64:96])]
+        yield End(KINDS[answer[at + LAYOUT.size]], fields[96], fields[97], list(fields[:16]), vector, fields[99])
 
 
 def state(place, cc, general, vector, code, data):
@@ -201,9 +203,8 @@ def written(each, told):
     final = {"stop": told.kind}
     if told.kind == "NoRow":
         final = None
-    elif told.kind == "Limit":
-        place = told.memory[PLACE][:len(each.code)]
-        final = state(told.place, told.code, told.general, told.vector, place, told.memory[DATA])
+    elif told.kind == "Went":
+        final = state(told.place, told.code, told.general, told.vector, told.bytes[:len(each.code)], told.bytes[SIZE:])
         if free_part(each):
             final["free"] = free_part(each)
     return {"name": each.code.hex(), "initial": initial, "final": final}
@@ -211,7 +212,7 @@ def written(each, told):
 
 def emulated(steps, folder):
     """What the emulator makes of steps."""
-    return emulator.run_many(PLACE, len(ROOM), [(each.code, each.general, each.vector, each.cc, [each.data]) for each in steps], [(DATA, DATA_SIZE)], folder)
+    return emulator.run_many(PLACE, SIZE, [(each.code, each.general, each.vector, each.cc, [each.data]) for each in steps], [(DATA, SIZE)], folder)
 
 
 def difference(each, told, ended):
@@ -222,56 +223,78 @@ def difference(each, told, ended):
     size = each.code[4] >> 4 if len(each.code) > 4 else 0
     if ended is None or stopped and ended.kind in ("Operation", "Specification") and (each.row.name in LACKING or size in LACKING_SIZES.get(each.row.name, ())):
         return None
-    if told.kind != "Limit":
-        return "" if stopped and ended.kind == told.kind or not stopped and told.place != PLACE else f"{told.kind}, emulated {ended.kind} at {ended.place:x}"
+    if told.kind != "Went":
+        return "" if stopped and ended.kind == told.kind else f"{told.kind}, emulated {ended.kind} at {ended.place:x}"
     found = [f"pc {told.place:x}, emulated {ended.place:x}"] if ended.place != told.place else []
     found += [f"cc {told.code}, emulated {ended.code}"] if ended.code != told.code else []
     found += [f"%r{i} {a:x}, emulated {b:x}" for i, (a, b) in enumerate(zip(told.general, ended.general)) if a != b]
     register, bits = free_part(each) or (0, 0)
     free = [bits if i == register else 0 for i in range(32)]
     found += [f"%v{i} {a:x}, emulated {b:x}" for i, (a, b) in enumerate(zip(told.vector, ended.vector)) if a >> free[i] != b >> free[i]]
-    found += ["memory"] if told.memory[DATA] != ended.memory[DATA] else []
+    found += ["memory"] if told.bytes[SIZE:] != ended.memory[DATA] else []
     return "; ".join(found[:4])
+
+
+def compared(row, steps, ends, folder):
+    """How many steps agree with the emulator, differ, are none of its, and aren't compared, since their result is free or they lead to themselves."""
+    counts = collections.Counter()
+    tried = [(each, end) for each, end in zip(steps, ends) if end.kind != "NoRow" and (end.kind != "Went" or end.place != PLACE)]
+    counts["free"] = len(steps) - len(tried)
+    for (each, end), ended in zip(tried, emulated([each for each, _ in tried], folder)):
+        found = difference(each, end, ended)
+        counts["lacking" if found is None else "differing" if found else "agreeing"] += 1
+        if found:
+            print(f"{row.name} {each.code.hex()}: {found}", flush=True)
+    return counts
+
+
+def told_rows(rows_of):
+    """How many rows differ, agree, are lacking in the emulator, or are free: each by the first of these words that one of its steps has."""
+    words = ("differing", "agreeing", "lacking", "free")
+    found = {word: [name for name, counts in rows_of.items() if next(w for w in words if counts[w]) == word] for word in words}
+    for word, names in found.items():
+        print(f"{len(names)} rows {word}" + (": " + " ".join(names) if names and word != "agreeing" else ""))
+
+
+def write(folder, row, steps, ends):
+    """Writes the file of a row."""
+    os.makedirs(folder, exist_ok=True)
+    with open(os.path.join(folder, f"{row.opcode:x}-{row.name}.json"), "w") as file:
+        json.dump([written(each, end) for each, end in zip(steps, ends)], file)
 
 
 def main():
     parser = argparse.ArgumentParser(description=__doc__.split("\n")[0])
-    parser.add_argument("--out", required=True, help="the folder that the files are written to")
-    parser.add_argument("--count", type=int, default=1000, help="how many steps a row (1000)")
+    parser.add_argument("--out", help="the folder that the files are written to; none by default")
+    parser.add_argument("--count", type=int, default=1000, help="how many steps a row are written (1000)")
     parser.add_argument("--seed", type=int, default=1)
     parser.add_argument("--rows", default="", help="the mnemonics of the rows, with commas between; all by default")
     parser.add_argument("--emulate", type=int, default=0, help="how many of each row are run on the emulator too (0)")
-    parser.add_argument("--try", dest="unproved", action="store_true", help="take an unproved build of the program")
     chosen = parser.parse_args()
     if chosen.emulate and emulator.missing():
         raise SystemExit(emulator.missing())
     wanted = set(filter(None, chosen.rows.split(",")))
-    taken = [row for row in rows() if not wanted or row.name in wanted]
-    steps = {row: [step(random.Random(f"{chosen.seed} {row.opcode} {number}"), row) for number in range(chosen.count)] for row in taken}
-    asked = [(["run", str(STUB), str(each.steps)], each.job) for row in taken for each in steps[row]]
-    with tempfile.TemporaryDirectory() as cases, tempfile.TemporaryDirectory() as folder:
-        answers = iter(program.run_unproved(asked, cases) if chosen.unproved else program.run_proved(asked))
-        counts = collections.Counter()
-        os.makedirs(chosen.out, exist_ok=True)
-        for row in taken:
-            told = [next(answers) for _ in steps[row]]
-            refused = [text for status, text in told if status != 0]
-            if refused:
-                raise SystemExit(f"{row.name}: {refused[0].strip()}")
-            ends = [program.Told(text) for _, text in told]
-            with open(os.path.join(chosen.out, f"{row.opcode:x}-{row.name}.json"), "w") as file:
-                json.dump([written(each, end) for each, end in zip(steps[row], ends)], file)
+    counts, rows_of = collections.Counter(), {}
+    many = max(chosen.count if chosen.out else 0, chosen.emulate)
+    asked = [row for row in rows() if not wanted or row.name in wanted]
+    batch = max(1, 20000 // max(1, many))
+    with tempfile.TemporaryDirectory() as folder:
+        for first in range(0, len(asked), batch):
+            steps = [step(random.Random(f"{chosen.seed} {row.opcode} {number}"), row) for row in asked[first:first + batch] for number in range(many)]
+            ends = list(taken(steps))
             counts["steps"] += len(ends)
             counts["steps of a free result"] += sum(end.kind == "NoRow" for end in ends)
-            tried = [(each, end) for each, end in list(zip(steps[row], ends))[:chosen.emulate] if end.kind != "NoRow" and (end.kind != "Limit" or end.place != PLACE)]
-            for (each, end), ended in zip(tried, emulated([each for each, _ in tried], folder)):
-                found = difference(each, end, ended)
-                counts["not on the emulator" if found is None else "that differ on the emulator" if found else "that agree with the emulator"] += 1
-                if found:
-                    print(f"{row.name} {each.code.hex()}: {found}", flush=True)
+            for at, row in zip(range(0, len(steps), many), asked[first:]):
+                if chosen.out:
+                    write(chosen.out, row, steps[at:at + chosen.count], ends[at:at + chosen.count])
+                if chosen.emulate:
+                    rows_of[f"{row.opcode:x}-{row.name}"] = found = compared(row, steps[at:at + chosen.emulate], ends[at:at + chosen.emulate], folder)
+                    counts.update({f"steps {word}": count for word, count in found.items()})
     for word, count in counts.items():
         print(f"{count} {word}")
-    return 1 if counts["that differ on the emulator"] else 0
+    if chosen.emulate:
+        told_rows(rows_of)
+    return 1 if counts["steps differing"] else 0
 
 
 if __name__ == "__main__":

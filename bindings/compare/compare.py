@@ -242,7 +242,7 @@ def code_of(demo, job):
     return done.stdout.split("\n")[0].removeprefix("code ").upper() if done.returncode == 0 else f"status {done.returncode}"
 
 
-def text_of(demo, job):
+def shown(demo, job):
     """The text of a job's instruction, or how it ended."""
     done = subprocess.run([demo, "show"], input=job, capture_output=True, text=True)
     return done.stdout.split("\n")[1] if done.returncode == 0 else f"status {done.returncode}"
@@ -270,7 +270,7 @@ def main():
             if words.printing:
                 print(job, end="")
                 continue
-            told = [("code", parts[1].upper(), code_of(words.demo, job)), ("text", parts[2], text_of(words.demo, job))]
+            told = [("code", parts[1].upper(), code_of(words.demo, job)), ("text", parts[2], shown(words.demo, job))]
             for what, wanted, got in told:
                 if wanted != got:
                     print(f"{file}:{number}: {what}: {wanted} there, {got} here: {job.splitlines()[2]}")

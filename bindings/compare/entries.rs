@@ -50,7 +50,7 @@ insns.push((Inst::LoadAddr { rd: writable_gpr(1), mem: MemArg::reg_plus_reg(gpr(
 insns.push((Inst::AtomicRmw { alu_op: ALUOp::Add64, rd: writable_gpr(1), rn: gpr(2), mem: MemArg::BXD20 { base: gpr(3), index: zero_reg(), disp: SImm20::maybe_from_i64(-524288).unwrap(), flags: MemFlags::trusted() } }, "EB12300080E8", "laag %r1, %r2, -524288(%r3)"));
 insns.push((Inst::AtomicCas64 { rd: writable_gpr(4), ri: gpr(4), rn: gpr(5), mem: MemArg::BXD20 { base: gpr(6), index: zero_reg(), disp: SImm20::maybe_from_i64(0).unwrap(), flags: MemFlags::trusted() } }, "EB4560000030", "csg %r4, %r5, 0(%r6)"));
 insns.push((Inst::Fence, "07E0", "bcr 14, 0"));
-insns.push((Inst::Nop2, "0707", "nopr"));
+insns.push((Inst::Nop2, "0707", "nop"));
 insns.push((Inst::Debugtrap, "0001", ".word 0x0001 # debugtrap"));
 insns.push((Inst::Ret { link: gpr(14) }, "07FE", "br %r14"));
 insns.push((Inst::VecRRR { op: VecBinaryOp::Add32x4, rd: writable_vr(20), rn: vr(8), rm: vr(12) }, "E748C00028F3", "vaf %v20, %v8, %v12"));

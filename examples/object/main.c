@@ -40,6 +40,25 @@ static void check(const char *what, s64 got, s64 want) {
     wrong += got != want;
 }
 
+/* The functions' parts of the table of traps: how far the function is off, how many rows there are, and the rows: an offset and a code. */
+extern const s64 __start_s390x_traps[], __stop_s390x_traps[];
+
+/* How many traps with this code a function has; -1 where it has no part in the table, or a trap isn't within so many bytes. */
+static s64 traps_of(const void *function, s64 size, s64 code) {
+    for (const s64 *part = __start_s390x_traps; part < __stop_s390x_traps; part += 2 + 2 * part[1]) {
+        if ((const char *)part + part[0] != function)
+            continue;
+        s64 found = 0;
+        for (s64 i = 0; i < part[1]; i++) {
+            if (part[2 + 2 * i] >= size)
+                return -1;
+            found += part[3 + 2 * i] == code;
+        }
+        return found;
+    }
+    return -1;
+}
+
 static s64 numbers[1000];
 static char heap[65536] __attribute__((aligned(8)));
 
@@ -58,6 +77,8 @@ int c_main(void) {
     check("its word", word, 42);
     *(int *)(heap + 65528) = -4242;
     check("checked_load", checked_load(heap, 65528), -4242);
+    check("its traps", traps_of(checked_load, 20, 253), 2);
+    check("no traps", traps_of(apply_twice, 4096, 253), 0);
     check("chosen 0", chosen(0), 11);
     check("chosen 1", chosen(1), 300);
     check("chosen 2", chosen(2), -1);

@@ -29,7 +29,8 @@ pub extern "C" fn s390x_bundle(
     count: &mut usize,
     reason: &mut Reason,
 ) -> u32
-    ensures { IsBundleCall base input.now out.old out.new count.old count.new reason.old reason.new result }
+    ensures { IsBundleCall base input.now out.old out.new count.old count.new
+        reason.old reason.new result }
 {
     bundled(alloc, input, base, out, count, reason).number()
 }
@@ -43,7 +44,8 @@ fn bundled(
     count: &mut usize,
     reason: &mut Reason,
 ) -> Status
-    ensures { BundlesTo base input.now out.old out.new count.old count.new reason.old reason.new result }
+    ensures { BundlesTo base input.now out.old out.new count.old count.new
+        reason.old reason.new result }
 {
     if input.len() > MOST_BYTES {
         return Status::TooLong;
@@ -68,7 +70,8 @@ fn image_of_functions(
     count: &mut usize,
     reason: &mut Reason,
 ) -> Status
-    ensures { BundlesFunctionsTo base functions.items out.old out.new count.old count.new reason.old reason.new result }
+    ensures { BundlesFunctionsTo base functions.items out.old out.new count.old count.new
+        reason.old reason.new result }
 {
     let Ok(members) = members_of(alloc, functions) else {
         return Status::NoMemory;

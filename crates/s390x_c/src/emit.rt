@@ -28,7 +28,8 @@ pub extern "C" fn s390x_emit(
     sizes: &mut Sizes,
     reason: &mut Reason,
 ) -> u32
-    ensures answer { IsEmitCall input.now out.old out.new sizes.old sizes.new reason.old reason.new result }
+    ensures answer { IsEmitCall input.now out.old out.new sizes.old sizes.new
+        reason.old reason.new result }
     ensures places { LieInPlace out.old out.new }
 {
     emit(alloc, input, out, sizes, reason).number()
@@ -42,7 +43,8 @@ fn emit(
     sizes: &mut Sizes,
     reason: &mut Reason,
 ) -> Status
-    ensures answer { EmitsTo input.now out.old out.new sizes.old sizes.new reason.old reason.new result }
+    ensures answer { EmitsTo input.now out.old out.new sizes.old sizes.new
+        reason.old reason.new result }
     ensures places { LieInPlace out.old out.new }
 {
     if input.len() > MOST_BYTES {
@@ -67,7 +69,8 @@ fn emit_job(
     sizes: &mut Sizes,
     reason: &mut Reason,
 ) -> Status
-    ensures answer { EmitsJobTo job.now out.old out.new sizes.old sizes.new reason.old reason.new result }
+    ensures answer { EmitsJobTo job.now out.old out.new sizes.old sizes.new
+        reason.old reason.new result }
     ensures places { LieInPlace out.old out.new }
 {
     match emit_function(alloc, &job.function, &job.info, job.state) {

@@ -34,7 +34,8 @@ pub extern "C" fn s390x_image(
     count: &mut usize,
     reason: &mut Reason,
 ) -> u32
-    ensures { IsImageCall base input.now out.old out.new count.old count.new reason.old reason.new result }
+    ensures { IsImageCall base input.now out.old out.new count.old count.new
+        reason.old reason.new result }
 {
     image(alloc, input, base, out, count, reason).number()
 }
@@ -48,7 +49,8 @@ fn image(
     count: &mut usize,
     reason: &mut Reason,
 ) -> Status
-    ensures { LinksTo base input.now out.old out.new count.old count.new reason.old reason.new result }
+    ensures { LinksTo base input.now out.old out.new count.old count.new
+        reason.old reason.new result }
 {
     if input.len() > MOST_BYTES {
         return Status::TooLong;
@@ -73,7 +75,8 @@ fn image_of_job(
     count: &mut usize,
     reason: &mut Reason,
 ) -> Status
-    ensures { LinksJobTo base job.now out.old out.new count.old count.new reason.old reason.new result }
+    ensures { LinksJobTo base job.now out.old out.new count.old count.new
+        reason.old reason.new result }
 {
     let Ok(symbols) = symbol_table(alloc, &job.symbols) else {
         return Status::NoMemory;

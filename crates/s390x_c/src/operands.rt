@@ -25,7 +25,8 @@ pub extern "C" fn s390x_operands(
     count: &mut usize,
     reason: &mut Reason,
 ) -> u32
-    ensures { IsOperandsCall input.now out.old out.new count.old count.new reason.old reason.new result }
+    ensures { IsOperandsCall input.now out.old out.new count.old count.new
+        reason.old reason.new result }
 {
     operands(alloc, input, out, count, reason).number()
 }

@@ -31,7 +31,8 @@ pub extern "C" fn s390x_show(
     count: &mut usize,
     reason: &mut Reason,
 ) -> u32
-    ensures { IsShowCall input.now out.old out.new count.old count.new reason.old reason.new result }
+    ensures { IsShowCall input.now out.old out.new count.old count.new
+        reason.old reason.new result }
 {
     show(alloc, input, out, count, reason).number()
 }

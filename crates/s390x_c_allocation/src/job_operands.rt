@@ -41,7 +41,8 @@ fn operands_of_job(
     count: &mut usize,
     reason: &mut Reason,
 ) -> Status
-    ensures { ReportsJobTo job.now out.old out.new count.old count.new reason.old reason.new result }
+    ensures { ReportsJobTo job.now out.old out.new count.old count.new
+        reason.old reason.new result }
 {
     match reported(alloc, &job.function.blocks) {
         Ok(entries) => put_entries(&entries, out, count),

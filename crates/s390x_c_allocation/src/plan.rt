@@ -93,7 +93,14 @@ fn at_line(line: u32) -> PlanReason
 
 // A fault with its numbers.
 fn told(fault: u32, block: u32, index: u32, operand: u32) -> PlanReason
-    ensures { result ≡ record { line = 0; fault = fault; block = block; index = index; operand = operand; cause = 0 } }
+    ensures { result ≡ record {
+      line = 0;
+      fault = fault;
+      block = block;
+      index = index;
+      operand = operand;
+      cause = 0;
+    } }
 {
     PlanReason {
         line: 0,

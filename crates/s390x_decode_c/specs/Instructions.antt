@@ -3,7 +3,7 @@ use Rattle.std.specs.Prelude.{◌≡◌, ℕ, List}
 use Rattle.s390x_format.specs.Fetch.{IsFetch}
 use Rattle.s390x_format.specs.Formats.{length_of}
 use Rattle.s390x_format.specs.declared.decoder.Decoded.{Decoded}
-use Rattle.s390x_decode_c.specs.Formats.{number_of_format}
+use Rattle.s390x_format_numbers.specs.Formats.{number_of_format}
 use Rattle.s390x_decode_c.specs.declared.instruction.Instruction.{Instruction}
 
 -- each field is the instruction's

@@ -1,10 +1,9 @@
 //! An instruction as C sees it.
 ghost use Rattle.std.specs.Prelude.{◌≡◌};
-ghost use Rattle.s390x_format.specs.Formats.{length_of};
 ghost use Rattle.s390x_decode_c.specs.Instructions.{Describes};
 
-use crate::format_number::format_number;
-use s390x_format::{Decoded, FormatKind, length};
+use s390x_format::Decoded;
+use s390x_format_numbers::{format_number, short_length};
 
 /// An instruction as C sees it. What its format lacks is 0.
 #[repr(C)]
@@ -41,11 +40,4 @@ pub fn described(decoded: Decoded) -> Instruction
         displacement: decoded.fields.disp,
         immediate: decoded.fields.imm,
     }
-}
-
-// How many bytes an instruction in the format has.
-fn short_length(kind: FormatKind) -> u8
-    ensures { result ≡ length_of kind }
-{
-    length(kind) as u8
 }

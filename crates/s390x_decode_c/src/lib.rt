@@ -6,7 +6,6 @@ ghost use Rattle.s390x_format.specs.Fetch.{IsFetch};
 ghost use Rattle.s390x_format.specs.declared.decoder.Decoded.{Decoded};
 ghost use Rattle.s390x_decode_c.specs.Instructions.{Begins};
 
-mod format_number;
 mod instruction;
 
 use crate::instruction::described;

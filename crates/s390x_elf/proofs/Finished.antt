@@ -15,9 +15,13 @@ use Rattle.s390x_elf.specs.declared.names.GivenName.{GivenName}
 use Rattle.s390x_elf.specs.Names.{Naming, name_in}
 use Rattle.s390x_elf.specs.Object.{Function, function_symbol, place, global_symbols, string_table, relocation_of, whole_function, IsObjectOf, IsLinkedAsFilled, IsLinkedAsNamed}
 use Rattle.s390x_elf.specs.Causes.{first_cause, name_cause, function_cause, functions_cause, given_cause, names_cause, text_cause}
-use Rattle.s390x_elf.specs.Tables.{SymbolFits, RelocFits, FunctionFits, object_sections}
+use Rattle.s390x_elf.specs.Tables.{AreObjectSections, SymbolFits, RelocFits, FunctionFits, object_sections}
 use Rattle.s390x_elf.specs.Writing.{file_bytes}
-use Rattle.s390x_elf.proofs.ReadObject.{NamesTexts, name_text, text_from_test, function_fits, used_fit, object_read}
+use Rattle.s390x_elf.specs.Answers.{IsFileWithTables}
+use Rattle.s390x_elf.specs.Metadata.{HasTables}
+use Rattle.s390x_elf.specs.TableBytes.{metadata_sections}
+use Rattle.s390x_elf.proofs.TablesRead.{metadata_follows, tables_from_sections}
+use Rattle.s390x_elf.proofs.ReadObject.{MayFollow, NamesTexts, name_text, text_from_test, function_fits, used_fit, object_read}
 use Rattle.s390x_elf.proofs.Linked.{linked_as_filled, linked_fields_fit, no_link_cause}
 
 second_test : (a b : Bool) → cond a (Some EmptyName) (cond b (Some ZeroByte) None) ≡ None → b ≡ false
@@ -53,18 +57,26 @@ given_texts (g ∷ gs) h =
     let both = no_first (name_cause (string_bytes g.name)) (given_cause gs) h in
     λ symbol small. one_text (nat_eq g.symbol.0 symbol.0) (string_bytes g.name) (name_in gs symbol) (name_is_text (string_bytes g.name) both.0) (given_texts gs both.1 symbol small)
 
--- the bytes that the program writes are read as the object
-pub object_from_bytes : (names : List GivenName) (fs : List Function) (alignment : ℕ) (bytes : List ℕ) (rs : List RelocEntry) (ss : List Symbol) (file : List ℕ) → functions_cause [] fs ≡ None → given_cause names ≡ None → All FunctionFits fs →
-    alignment < 2 ^ 64 → ss ≡ global_symbols (name_in names) fs rs → length (0 ∷ string_table ss) < 2 ^ 32 → All RelocFits rs → length file < 2 ^ 64 →
-    file ≡ file_bytes (object_sections (name_in names) ss alignment bytes rs) → IsObjectOf (name_in names) fs alignment bytes rs file
-object_from_bytes names fs alignment bytes rs ss file none given sized aligned e small fit file_small written =
-    let globals : List Symbol = global_symbols (name_in names) fs rs in
-    let fits : All SymbolFits globals = used_fit (name_in names) (given_texts names given) (map function_symbol fs) rs (functions_fit [] fs none sized) fit in
-    let whole : file ≡ file_bytes (object_sections (name_in names) globals alignment bytes rs) =
-    written ∙ ap (λ (symbols : List Symbol). file_bytes (object_sections (name_in names) symbols alignment bytes rs)) e in
-    let names_small : length (0 ∷ string_table globals) < 2 ^ 32 = subst (λ (symbols : List Symbol). length (0 ∷ string_table symbols) < 2 ^ 32) e small in
-    let bytes_small : length (file_bytes (object_sections (name_in names) globals alignment bytes rs)) < 2 ^ 64 = subst (λ (b : List ℕ). length b < 2 ^ 64) whole file_small in
-    subst (λ (b : List ℕ). IsObjectOf (name_in names) fs alignment bytes rs b) (sym whole) (object_read (name_in names) fs alignment bytes rs aligned fits fit names_small bytes_small)
+-- the global symbols of functions and given names without a cause fit their entries
+pub globals_fit : (names : List GivenName) (fs : List Function) (rs : List RelocEntry) → functions_cause [] fs ≡ None → given_cause names ≡ None → All FunctionFits fs → All RelocFits rs → All SymbolFits (global_symbols (name_in names) fs rs)
+globals_fit names fs rs none given sized fit = used_fit (name_in names) (given_texts names given) (map function_symbol fs) rs (functions_fit [] fs none sized) fit
+
+-- a file of an object's sections is read as the object, whatever follows them
+pub object_from_sections : (named : Naming) (fs : List Function) (alignment : ℕ) (bytes : List ℕ) (rs : List RelocEntry) (ss extra : List Section) (file : List ℕ) → AreObjectSections named fs alignment bytes rs ss → MayFollow extra →
+    file ≡ file_bytes (ss ++ extra) → length file < 2 ^ 64 → IsObjectOf named fs alignment bytes rs file
+object_from_sections named fs alignment bytes rs ss extra file are follow written small =
+    let whole : file ≡ file_bytes (object_sections named (global_symbols named fs rs) alignment bytes rs ++ extra) = written ∙ ap (λ (parts : List Section). file_bytes (parts ++ extra)) are.sections in
+    subst (λ (b : List ℕ). IsObjectOf named fs alignment bytes rs b) (sym whole)
+    (object_read named fs alignment bytes rs extra follow are.alignment_fits are.symbols_fit are.relocations_fit are.names_fit (subst (λ (b : List ℕ). length b < 2 ^ 64) whole small))
+
+-- the same of a file with tables behind them
+pub object_from_file : (named : Naming) (fs : List Function) (alignment : ℕ) (bytes : List ℕ) (rs : List RelocEntry) (ss : List Section) (all : List MachBufferFinalized) (file : List ℕ) → AreObjectSections named fs alignment bytes rs ss →
+    IsFileWithTables ss all file → IsObjectOf named fs alignment bytes rs file
+object_from_file named fs alignment bytes rs ss all file are is = object_from_sections named fs alignment bytes rs ss (metadata_sections all) file are (metadata_follows all) is.bytes is.size
+
+pub tables_from_file : (named : Naming) (fs : List Function) (alignment : ℕ) (bytes : List ℕ) (rs : List RelocEntry) (ss : List Section) (all : List MachBufferFinalized) (file : List ℕ) → AreObjectSections named fs alignment bytes rs ss →
+    IsFileWithTables ss all file → length fs ≡ length all → HasTables fs all file
+tables_from_file named fs alignment bytes rs ss all file are is same = tables_from_sections named fs alignment bytes rs ss all file are is.bytes is.size same is.fits
 
 -- what is read as the object is linked as its relocations fill it
 pub object_is_filled : (named : Naming) (fs : List Function) (alignment : ℕ) (bytes : List ℕ) (rs : List RelocEntry) (file : List ℕ) → IsObjectOf named fs alignment bytes rs file → IsLinkedAsFilled named fs bytes rs file

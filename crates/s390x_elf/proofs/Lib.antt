@@ -8,3 +8,6 @@ pub mod Finished
 pub mod Joined
 pub mod Texts
 pub mod Steps
+pub mod TableSteps
+pub mod TablesRead
+pub mod MemberTables

@@ -12,7 +12,7 @@ use Rattle.s390x_elf.specs.Symbols.{Symbol, symbol, null_symbol, relocation, nam
 use Rattle.s390x_elf.specs.Names.{Naming, symbol_name}
 use Rattle.s390x_elf.specs.Object.{text_section, stack_note, Function, function_symbol, undefined_symbol, place, with_name, with_used_names, global_symbols, string_table, relocation_of, IsObjectOf}
 use Rattle.s390x_elf.specs.Tables.{symbol_entry, symbol_entries, SymbolFits, relocation_entries, RelocFits, sections_with, object_sections}
-use Rattle.s390x_elf.specs.Writing.{file_bytes, names_section, FieldsFit, string_section}
+use Rattle.s390x_elf.specs.Writing.{file_bytes, names_name, names_of, names_section, FieldsFit, string_section}
 use Rattle.s390x_elf.proofs.Files.{file_header_read, file_read}
 use Rattle.s390x_elf.proofs.Tables.{symbols_read, symbol_entries_length, relocations_read, relocation_entries_length}
 
@@ -87,13 +87,14 @@ sections_fit alignment entries relas text names h =
     All-cons FieldsFit _ behind_symbols symtab (All-cons FieldsFit _ behind_relas rela (All-cons FieldsFit _ behind_text code (All-cons FieldsFit _ (stack_note ∷ []) strtab (All-cons FieldsFit _ [] note (All-nil FieldsFit)))))
 
 -- the sections of an object, the first and the last with them
-abbrev all_sections : (alignment : ℕ) (entries relas text names : List ℕ) → List Section
-all_sections alignment entries relas text names = null_section ∷ (sections_with alignment entries relas text names ++ names_section (sections_with alignment entries relas text names) ∷ [])
+abbrev pub all_sections : (alignment : ℕ) (entries relas text names : List ℕ) (extra : List Section) → List Section
+all_sections alignment entries relas text names extra =
+    null_section ∷ ((sections_with alignment entries relas text names ++ extra) ++ names_section (sections_with alignment entries relas text names ++ extra) ∷ [])
 
-count_of : (bytes n : ℕ) → bytes ≡ 24 * n → bytes / 24 ≡ n
+pub count_of : (bytes n : ℕ) → bytes ≡ 24 * n → bytes / 24 ≡ n
 count_of bytes n h = omega arith
 
-table_read : (ss : List Symbol) → length (0 ∷ string_table ss) < 2 ^ 32 → All SymbolFits ss → (entries : List ℕ) → entries ≡ symbol_entry 0 null_symbol ++ symbol_entries 1 ss →
+pub table_read : (ss : List Symbol) → length (0 ∷ string_table ss) < 2 ^ 32 → All SymbolFits ss → (entries : List ℕ) → entries ≡ symbol_entry 0 null_symbol ++ symbol_entries 1 ss →
     map (symbol (0 ∷ string_table ss)) (pieces 24 (length entries / 24) entries) ≡ null_symbol ∷ ss
 table_read ss small fit entries e =
     let front : length (symbol_entry 0 null_symbol) ≡ 24 = refl in
@@ -110,29 +111,29 @@ entries_read named ss few rs fit =
     ap (λ (n : ℕ). map (relocation (null_symbol ∷ ss)) (pieces 24 n (relocation_entries named ss rs))) (count_of (length (relocation_entries named ss rs)) (length rs) (relocation_entries_length named ss rs))
     ∙ relocations_read named ss few rs fit
 
-symbols_of_sections : (alignment : ℕ) (entries relas text names : List ℕ) → symbols_of (all_sections alignment entries relas text names) ≡ map (symbol names) (pieces 24 (length entries / 24) entries)
+symbols_of_sections : (alignment : ℕ) (entries relas text names : List ℕ) (extra : List Section) → symbols_of (all_sections alignment entries relas text names extra) ≡ map (symbol names) (pieces 24 (length entries / 24) entries)
 unfolding symbols_of
-symbols_of_sections alignment entries relas text names = refl
+symbols_of_sections alignment entries relas text names extra = refl
 
-relocations_of_sections : (alignment : ℕ) (entries relas text names : List ℕ) →
-    relocations_for (all_sections alignment entries relas text names) (codes ".text") ≡ map (relocation (map (symbol names) (pieces 24 (length entries / 24) entries))) (pieces 24 (length relas / 24) relas)
+relocations_of_sections : (alignment : ℕ) (entries relas text names : List ℕ) (extra : List Section) →
+    relocations_for (all_sections alignment entries relas text names extra) (codes ".text") ≡ map (relocation (map (symbol names) (pieces 24 (length entries / 24) entries))) (pieces 24 (length relas / 24) relas)
 unfolding relocations_for
-relocations_of_sections alignment entries relas text names = refl
+relocations_of_sections alignment entries relas text names extra = refl
 
-text_of_sections : (alignment : ℕ) (entries relas text names : List ℕ) → named_section (all_sections alignment entries relas text names) (codes ".text") ≡ text_section alignment text
-text_of_sections alignment entries relas text names = refl
+text_of_sections : (alignment : ℕ) (entries relas text names : List ℕ) (extra : List Section) → named_section (all_sections alignment entries relas text names extra) (codes ".text") ≡ text_section alignment text
+text_of_sections alignment entries relas text names extra = refl
 
-note_of_sections : (alignment : ℕ) (entries relas text names : List ℕ) → named_section (all_sections alignment entries relas text names) (codes ".note.GNU-stack") ≡ stack_note
-note_of_sections alignment entries relas text names = refl
+note_of_sections : (alignment : ℕ) (entries relas text names : List ℕ) (extra : List Section) → named_section (all_sections alignment entries relas text names extra) (codes ".note.GNU-stack") ≡ stack_note
+note_of_sections alignment entries relas text names extra = refl
 
-locals_of_sections : (alignment : ℕ) (entries relas text names : List ℕ) → (symbol_table (all_sections alignment entries relas text names)).sh_info ≡ 1
-locals_of_sections alignment entries relas text names = refl
+locals_of_sections : (alignment : ℕ) (entries relas text names : List ℕ) (extra : List Section) → (symbol_table (all_sections alignment entries relas text names extra)).sh_info ≡ 1
+locals_of_sections alignment entries relas text names extra = refl
 
-few_sections : (alignment : ℕ) (entries relas text names : List ℕ) → length (sections_with alignment entries relas text names) + 2 < 2 ^ 16
-few_sections alignment entries relas text names = omega arith
+few_sections : (alignment : ℕ) (entries relas text names : List ℕ) (extra : List Section) → length extra < 1000 → length (sections_with alignment entries relas text names ++ extra) + 2 < 2 ^ 16
+few_sections alignment entries relas text names extra few = omega arith
 
-short_names : (alignment : ℕ) (entries relas text names : List ℕ) → length (names_section (sections_with alignment entries relas text names)).content < 2 ^ 32
-short_names alignment entries relas text names = omega arith
+short_names : (alignment : ℕ) (entries relas text names : List ℕ) (extra : List Section) → length (names_of extra) < 100000 → length (names_section (sections_with alignment entries relas text names ++ extra)).content < 2 ^ 32
+short_names alignment entries relas text names extra short = omega (arith, short, length-append (names_of extra) (names_name ++ 0 ∷ []))
 
 pub few_symbols : (ss : List Symbol) → length ss ≤ length (string_table ss)
 few_symbols [] = omega arith
@@ -140,21 +141,33 @@ few_symbols (s ∷ ss) =
     let next = few_symbols ss in
     omega (arith, length-append (s.name ++ 0 ∷ []) (string_table ss), length-append s.name (0 ∷ []))
 
-pub object_read : (named : Naming) (fs : List Function) (alignment : ℕ) (bytes : List ℕ) (rs : List RelocEntry) → alignment < 2 ^ 64 →
+-- sections behind those of an object
+pub record MayFollow (extra : List Section) : Type 0 where
+  pub few : length extra < 1000
+  pub short : length (names_of extra) < 100000
+  pub fit : All FieldsFit extra
+
+-- the sections of a file of an object's sections and such others
+pub sections_read : (alignment : ℕ) (entries relas text names : List ℕ) (extra : List Section) → MayFollow extra → alignment < 2 ^ 64 → length (file_bytes (sections_with alignment entries relas text names ++ extra)) < 2 ^ 64 →
+    sections (file_bytes (sections_with alignment entries relas text names ++ extra)) ≡ all_sections alignment entries relas text names extra
+sections_read alignment entries relas text names extra follow aligned file_small =
+    file_read (sections_with alignment entries relas text names ++ extra) (few_sections alignment entries relas text names extra follow.few) file_small (short_names alignment entries relas text names extra follow.short)
+    (All-append FieldsFit (sections_with alignment entries relas text names) extra (sections_fit alignment entries relas text names aligned) follow.fit)
+
+pub object_read : (named : Naming) (fs : List Function) (alignment : ℕ) (bytes : List ℕ) (rs : List RelocEntry) (extra : List Section) → MayFollow extra → alignment < 2 ^ 64 →
     All SymbolFits (global_symbols named fs rs) → All RelocFits rs → length (0 ∷ string_table (global_symbols named fs rs)) < 2 ^ 32 →
-    length (file_bytes (object_sections named (global_symbols named fs rs) alignment bytes rs)) < 2 ^ 64 →
-    IsObjectOf named fs alignment bytes rs (file_bytes (object_sections named (global_symbols named fs rs) alignment bytes rs))
-object_read named fs alignment bytes rs aligned fit rels small file_small =
+    length (file_bytes (object_sections named (global_symbols named fs rs) alignment bytes rs ++ extra)) < 2 ^ 64 →
+    IsObjectOf named fs alignment bytes rs (file_bytes (object_sections named (global_symbols named fs rs) alignment bytes rs ++ extra))
+object_read named fs alignment bytes rs extra follow aligned fit rels small file_small =
     let ss : List Symbol = global_symbols named fs rs in
     let entries : List ℕ = symbol_entry 0 null_symbol ++ symbol_entries 1 ss in
     let relas : List ℕ = relocation_entries named ss rs in
     let names : List ℕ = 0 ∷ string_table ss in
-    let parts : List Section = sections_with alignment entries relas bytes names in
+    let parts : List Section = sections_with alignment entries relas bytes names ++ extra in
     let few = few_symbols ss in
     let few_enough : length ss < 2 ^ 32 = omega arith in
-    let header : file_header (file_bytes parts) ≡ _ = file_header_read parts (few_sections alignment entries relas bytes names) in
-    let read : sections (file_bytes parts) ≡ all_sections alignment entries relas bytes names =
-    file_read parts (few_sections alignment entries relas bytes names) file_small (short_names alignment entries relas bytes names) (sections_fit alignment entries relas bytes names aligned) in
+    let header : file_header (file_bytes parts) ≡ _ = file_header_read parts (few_sections alignment entries relas bytes names extra follow.few) in
+    let read : sections (file_bytes parts) ≡ all_sections alignment entries relas bytes names extra = sections_read alignment entries relas bytes names extra follow aligned file_small in
     record {
       header = record {
         ident = ap (λ (h : FileHeader). h.e_ident) header;
@@ -167,12 +180,12 @@ object_read named fs alignment bytes rs aligned fit rels small file_small =
         segments = ap (λ (h : FileHeader). h.e_phnum) header;
         section_header_size = ap (λ (h : FileHeader). h.e_shentsize) header;
       };
-      text = ap (λ (all : List Section). named_section all (codes ".text")) read ∙ text_of_sections alignment entries relas bytes names;
-      symbols = ap symbols_of read ∙ symbols_of_sections alignment entries relas bytes names ∙ table_read ss small fit entries refl;
-      locals = ap (λ (all : List Section). (symbol_table all).sh_info) read ∙ locals_of_sections alignment entries relas bytes names;
+      text = ap (λ (all : List Section). named_section all (codes ".text")) read ∙ text_of_sections alignment entries relas bytes names extra;
+      symbols = ap symbols_of read ∙ symbols_of_sections alignment entries relas bytes names extra ∙ table_read ss small fit entries refl;
+      locals = ap (λ (all : List Section). (symbol_table all).sh_info) read ∙ locals_of_sections alignment entries relas bytes names extra;
       relocations = ap (λ (all : List Section). relocations_for all (codes ".text")) read
-          ∙ relocations_of_sections alignment entries relas bytes names
+          ∙ relocations_of_sections alignment entries relas bytes names extra
           ∙ ap (λ (all : List Symbol). map (relocation all) (pieces 24 (length relas / 24) relas)) (table_read ss small fit entries refl)
           ∙ entries_read named ss few_enough rs rels;
-      note = ap (λ (all : List Section). named_section all (codes ".note.GNU-stack")) read ∙ note_of_sections alignment entries relas bytes names;
+      note = ap (λ (all : List Section). named_section all (codes ".note.GNU-stack")) read ∙ note_of_sections alignment entries relas bytes names extra;
     }

@@ -99,8 +99,8 @@ whole_file count all before headers names contents headers' contents' file same 
     (f ∙ ap (λ (n : ℕ). (file_header_bytes (count + 2) n ++ headers') ++ contents') less ∙ ap (λ (n : ℕ). (file_header_bytes (n + 2) (n + 1) ++ headers') ++ contents') same)
 
 -- one more piece behind others
-pub flat_on : {X : Type 0} (f : X → List ℕ) (bytes bytes' : List ℕ) (x : X) (left : List X) (all : List ℕ) → bytes ++ flat_map f (x ∷ left) ≡ all → bytes' ≡ bytes ++ f x → bytes' ++ flat_map f left ≡ all
-flat_on f bytes bytes' x left all h e = ap (λ (b : List ℕ). b ++ flat_map f left) e ∙ append_assoc bytes (f x) (flat_map f left) ∙ h
+pub flat_on : {X Y : Type 0} (f : X → List Y) (bytes bytes' : List Y) (x : X) (left : List X) (all : List Y) → bytes ++ flat_map f (x ∷ left) ≡ all → bytes' ≡ bytes ++ f x → bytes' ++ flat_map f left ≡ all
+flat_on {X} {Y} f bytes bytes' x left all h e = ap (λ (b : List Y). b ++ flat_map f left) e ∙ append_assoc bytes (f x) (flat_map f left) ∙ h
 
 -- one more symbol behind others
 pub entry_on : (bytes bytes' : List ℕ) (n n' : ℕ) (s : Symbol) (left before : List Symbol) (all : List ℕ) → bytes ++ symbol_entries n before ≡ all → before ≡ s ∷ left →
@@ -117,9 +117,9 @@ name_on n n' total s left before h e k =
     let front : n + length (string_table (s ∷ left)) ≡ total = ap (λ (ss : List Symbol). n + length (string_table ss)) (sym e) ∙ h in
     omega (arith, length-append (s.name ++ 0 ∷ []) (string_table left), length-append s.name (0 ∷ []))
 
--- the file of five sections
-pub five_sections : (a b c d e a' b' c' d' e' : Section) → a ≡ a' → b ≡ b' → c ≡ c' → d ≡ d' → e ≡ e' → file_bytes (a ∷ b ∷ c ∷ d ∷ e ∷ []) ≡ file_bytes (a' ∷ b' ∷ c' ∷ d' ∷ e' ∷ [])
-five_sections a b c d e a' b' c' d' e' h1 h2 h3 h4 h5 = λ i. file_bytes (h1 i ∷ h2 i ∷ h3 i ∷ h4 i ∷ h5 i ∷ [])
+-- five sections
+pub five_sections : (a b c d e a' b' c' d' e' : Section) → a ≡ a' → b ≡ b' → c ≡ c' → d ≡ d' → e ≡ e' → a ∷ b ∷ c ∷ d ∷ e ∷ [] ≡ a' ∷ b' ∷ c' ∷ d' ∷ e' ∷ []
+five_sections a b c d e a' b' c' d' e' h1 h2 h3 h4 h5 = λ i. h1 i ∷ h2 i ∷ h3 i ∷ h4 i ∷ h5 i ∷ []
 
 -- five that were put behind one another
 pub five : {X : Type 0} (p0 p1 p2 p3 p4 p5 : List X) (a b c d e : X) → p0 ≡ [] → p1 ≡ p0 ++ a ∷ [] → p2 ≡ p1 ++ b ∷ [] → p3 ≡ p2 ++ c ∷ [] → p4 ≡ p3 ++ d ∷ [] → p5 ≡ p4 ++ e ∷ [] →

@@ -67,13 +67,13 @@ type_small S390xPCRel32Dbl = omega arith
 type_small S390xPLTRel32Dbl = omega arith
 type_small Abs8 = omega arith
 
-info_small : (n t : ℕ) → n < 2 ^ 32 → t < 256 → n * 4294967296 + t < 2 ^ 64
+pub info_small : (n t : ℕ) → n < 2 ^ 32 → t < 256 → n * 4294967296 + t < 2 ^ 64
 info_small n t h k = omega arith
 
-type_read : (n t : ℕ) → t < 256 → (n * 4294967296 + t) % 2 ^ 32 ≡ t
+pub type_read : (n t : ℕ) → t < 256 → (n * 4294967296 + t) % 2 ^ 32 ≡ t
 type_read n t h = omega arith
 
-number_read : (n t : ℕ) → t < 256 → (n * 4294967296 + t) / 2 ^ 32 ≡ n
+pub number_read : (n t : ℕ) → t < 256 → (n * 4294967296 + t) / 2 ^ 32 ≡ n
 number_read n t h = omega arith
 
 unsigned_small : (z : ℤ) → FitsSigned w64 z → cast_unsigned w64 z < 2 ^ 64

@@ -1,9 +1,12 @@
 -- What the public calls answer.
-use Rattle.std.specs.Prelude.{◌≡◌, ℕ, List, [], Option, None, map, Result, MatchResult, Vec}
+use Rattle.std.specs.Prelude.{◌≡◌, ℕ, ◌<◌, ◌^◌, List, [], ◌++◌, Option, None, length, map, Result, MatchResult, Vec}
 use Rattle.std.specs.declared.alloc.Global.{Global}
 use Rattle.s390x_buffer.specs.declared.entries.RelocEntry.{RelocEntry}
 use Rattle.s390x_buffer.specs.declared.entries.MachBufferFinalized.{MachBufferFinalized}
 use Rattle.s390x_elf.specs.declared.error.ObjectError.{ObjectError}
+use Rattle.s390x_elf.specs.declared.file.SectionParts.{SectionParts}
+use Rattle.s390x_elf.specs.declared.metadata.Coded.{Coded}
+use Rattle.s390x_elf.specs.File.{Section}
 use Rattle.s390x_elf.specs.declared.names.GivenName.{GivenName}
 use Rattle.s390x_elf.specs.declared.symbols.GlobalSymbols.{GlobalSymbols}
 use Rattle.s390x_elf.specs.declared.members.Text.{Text}
@@ -13,7 +16,9 @@ use Rattle.s390x_elf.specs.Members.{HasMember, IsObjectOfMembers, IsTextOfMember
 use Rattle.s390x_elf.specs.Names.{name_in}
 use Rattle.s390x_elf.specs.Object.{Function, IsNamedObject, IsObjectOf, IsLinkedAsFilled, function_of, function_symbol}
 use Rattle.s390x_elf.specs.Causes.{IsCause, functions_cause, named_object_cause, text_cause}
-use Rattle.s390x_elf.specs.Tables.{symbol_of}
+use Rattle.s390x_elf.specs.TableBytes.{MetadataFits, codes_of, metadata_sections}
+use Rattle.s390x_elf.specs.Tables.{AreObjectSections, symbol_of}
+use Rattle.s390x_elf.specs.Writing.{file_bytes, section_of}
 
 -- Ok exactly where there is no cause, and then the file is so; Err exactly with the cause, or for want of memory
 abbrev pub FileAnswer : (cause : Option ObjectError) (IsFile : List ℕ → Type 0) → Result (Vec ℕ Global) ObjectError → Type 0
@@ -27,6 +32,22 @@ ObjectAnswer names name code result = FileAnswer (named_object_cause names name 
 abbrev pub TextAnswer : List GivenName → List TextFunction → (alignment : ℕ) (text : List ℕ) → List RelocEntry → Result (Vec ℕ Global) ObjectError → Type 0
 TextAnswer names functions alignment text rs result =
     let fs = map function_of functions in FileAnswer (text_cause names fs rs) (IsObjectOf (name_in names) fs alignment text rs) result
+
+-- the sections of that object
+abbrev pub SectionsAnswer : List GivenName → List TextFunction → (alignment : ℕ) (text : List ℕ) → List RelocEntry → Result (Vec SectionParts Global) ObjectError → Type 0
+SectionsAnswer names functions alignment text rs result =
+    let fs = map function_of functions in
+    let cause = text_cause names fs rs in
+    MatchResult result (λ ss. (cause ≡ None) × AreObjectSections (name_in names) fs alignment text rs (map section_of ss.items)) (IsCause cause)
+
+-- a file of sections with the tables of code behind them
+pub record IsFileWithTables (ss : List Section) (all : List MachBufferFinalized) (file : List ℕ) : Type 0 where
+  pub bytes : file ≡ file_bytes (ss ++ metadata_sections all)
+  pub size : length file < 2 ^ 64
+  pub fits : MetadataFits all
+
+abbrev pub IsFileOf : Vec SectionParts Global → List Coded → (file : List ℕ) → Type 0
+IsFileOf sections codes file = IsFileWithTables (map section_of sections.items) (codes_of codes) file
 
 -- it is linked as the relocations fill it
 abbrev pub IsTextLinked : List GivenName → List TextFunction → (text : List ℕ) → List RelocEntry → (file : List ℕ) → Type 0

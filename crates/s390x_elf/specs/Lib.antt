@@ -8,4 +8,7 @@ pub mod Object
 pub mod Causes
 pub mod Tables
 pub mod Members
+pub mod Metadata
+pub mod TableBytes
 pub mod Answers
+pub mod Laws

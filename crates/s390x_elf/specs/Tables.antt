@@ -1,6 +1,6 @@
 -- The bytes of tables of symbols and of relocations.
 use Rattle.std.specs.Prelude.{◌≡◌, ℕ, suc, ◌+◌, ◌*◌, ◌^◌, ◌<◌, Option, Some, None, List, [], ◌∷◌, ◌++◌, length, codes, String, string_bytes, FitsSigned}
-use Rattle.std.specs.List.{flat_map}
+use Rattle.std.specs.List.{All, flat_map}
 use Rattle.std.specs.Int.{w64, cast_unsigned}
 use Rattle.std.specs.BTreeMap.{BTreeMap, get_by_text}
 use Rattle.s390x_buffer.specs.declared.entries.RelocEntry.{RelocEntry}
@@ -11,7 +11,7 @@ use Rattle.s390x_elf.specs.Reading.{IsText}
 use Rattle.s390x_elf.specs.File.{Section}
 use Rattle.s390x_elf.specs.Symbols.{Symbol, null_symbol}
 use Rattle.s390x_elf.specs.Names.{Naming}
-use Rattle.s390x_elf.specs.Object.{Function, function_symbol, undefined_symbol, place, type_of, string_table, text_section, stack_note}
+use Rattle.s390x_elf.specs.Object.{Function, function_symbol, undefined_symbol, place, type_of, global_symbols, string_table, text_section, stack_note}
 use Rattle.s390x_elf.specs.Writing.{fields_bytes, string_section}
 
 -- a global symbol as the program has it
@@ -93,3 +93,11 @@ sections_by ss alignment relocations text = sections_with alignment (symbol_entr
 -- the same with the entries of these relocations
 abbrev pub object_sections : Naming → List Symbol → (alignment : ℕ) (text : List ℕ) → List RelocEntry → List Section
 object_sections named ss alignment text rs = sections_by ss alignment (relocation_entries named ss rs) text
+
+-- sections are those of an object of functions in a text with relocations, and its numbers fit their fields
+pub record AreObjectSections (named : Naming) (fs : List Function) (alignment : ℕ) (bytes : List ℕ) (rs : List RelocEntry) (ss : List Section) : Type 0 where
+  pub sections : ss ≡ object_sections named (global_symbols named fs rs) alignment bytes rs
+  pub symbols_fit : All SymbolFits (global_symbols named fs rs)
+  pub relocations_fit : All RelocFits rs
+  pub names_fit : length (0 ∷ string_table (global_symbols named fs rs)) < 2 ^ 32
+  pub alignment_fits : alignment < 2 ^ 64

@@ -1,6 +1,6 @@
 -- The bytes of a file of given sections: the header, the sections' headers, their contents.
 use Rattle.std.specs.Prelude.{ℕ, ◌+◌, ◌*◌, ◌^◌, ◌<◌, List, [], ◌∷◌, ◌++◌, length}
-use Rattle.std.specs.List.{flat_map}
+use Rattle.std.specs.List.{All, flat_map}
 use Rattle.std.specs.Int.{w16, w32, w64, to_be_bytes}
 use Rattle.s390x_elf.specs.declared.fields.Field.{Field}
 use Rattle.s390x_elf.specs.declared.fields.Field.TheVariants.{Half, Word, Wide}
@@ -80,3 +80,8 @@ pub record FieldsFit (s : Section) : Type 0 where
   pub sh_info : s.sh_info < 2 ^ 32
   pub sh_addralign : s.sh_addralign < 2 ^ 64
   pub sh_entsize : s.sh_entsize < 2 ^ 64
+
+-- few sections, with short names
+pub record AreFew (ss : List Section) : Type 0 where
+  pub count : length ss < 100
+  pub names : All (λ (s : Section). length s.name < 256) ss

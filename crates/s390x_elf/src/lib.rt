@@ -6,6 +6,7 @@ mod fields;
 mod file;
 mod law;
 mod members;
+mod metadata;
 mod names;
 mod object_file;
 mod relocations;

@@ -3,11 +3,13 @@ ghost use Rattle.std.specs.Prelude.{◌≡◌, ◌+◌, ◌-◌, ◌<◌, ◌≤
 ghost use Rattle.s390x_elf.specs.Answers.{MembersAnswer, MemberAnswer, TextOfMembersAnswer};
 ghost use Rattle.s390x_elf.specs.Causes.{IsCause};
 ghost use Rattle.s390x_elf.specs.Members.{IsLinkedAsMembers, end_or_zero, function_at, limit_cause, moved, offsets_cause, start_behind, zeros};
+ghost use Rattle.s390x_elf.specs.Metadata.{HasTablesOfMembers};
 ghost use Rattle.s390x_elf.specs.Object.{function_of};
 
 use crate::error::ObjectError;
+use crate::metadata::member_codes;
 use crate::names::GivenName;
-use crate::object_file::text_object;
+use crate::object_file::{file_with_tables, text_sections};
 use crate::symbols::TextFunction;
 use s390x_buffer::{MachBufferFinalized, RelocEntry};
 use std::alloc::{AllocError, Global};
@@ -161,7 +163,8 @@ fn text_of_members(alloc: Global, members: &[ObjectMember]) -> Result<Text, Obje
 
 /// An object of several functions, some of whose symbols are given names; `text_object` says how.
 /// The first one starts at 0, each later one at the least multiple of its alignment that is at
-/// least 2 behind the end of the one before, with zeros between.
+/// least 2 behind the end of the one before, with zeros between. Where some code has an entry of any
+/// kind, the tables of all stand in sections, as `object_with_names` has one function's.
 ///
 /// Refused by the first cause. Of the members in order: one ends at 2^31 or above, or a relocation
 /// of it has an offset of 2^32 or above (`TooLong`). Then what `text_object` says of their
@@ -173,9 +176,10 @@ pub fn objects_with_names(
 ) -> Result<Vec<u8>, ObjectError>
     ensures answer { MembersAnswer names.now members.now result }
     ensures linked { IfOk result (λ file. IsLinkedAsMembers names.now members.now file.items) }
+    ensures tables { IfOk result (λ file. HasTablesOfMembers members.now file.items) }
 {
     let text = text_of_members(alloc, members)?;
-    let file = text_object(
+    let sections = text_sections(
         alloc,
         names,
         &text.functions,
@@ -183,6 +187,12 @@ pub fn objects_with_names(
         &text.bytes,
         &text.relocs,
     )?;
+    let Ok(codes) = member_codes(alloc, members) else {
+        return Err(ObjectError::NoMemory);
+    };
+    let Ok(file) = file_with_tables(alloc, sections, &codes) else {
+        return Err(ObjectError::NoMemory);
+    };
     Ok(file)
 }
 
@@ -191,6 +201,7 @@ pub fn objects_with_names(
 pub fn objects(alloc: Global, members: &[ObjectMember]) -> Result<Vec<u8>, ObjectError>
     ensures answer { MembersAnswer [] members.now result }
     ensures linked { IfOk result (λ file. IsLinkedAsMembers [] members.now file.items) }
+    ensures tables { IfOk result (λ file. HasTablesOfMembers members.now file.items) }
 {
     objects_with_names(alloc, &[], members)
 }

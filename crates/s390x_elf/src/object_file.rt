@@ -2,13 +2,15 @@
 ghost use Rattle.std.specs.Prelude.{◌≡◌, ◌+◌, ◌<◌, ◌^◌, ◌∷◌, [], Some, None, IfOk, MatchResult, codes, length, map, nat_eq};
 ghost use Rattle.std.specs.List.{All, list_any};
 ghost use Rattle.s390x_elf.specs.Causes.{IsCause, function_cause, functions_cause, given_cause, name_cause};
-ghost use Rattle.s390x_elf.specs.Answers.{FunctionsAnswer, IsTextLinked, ObjectAnswer, TextAnswer};
+ghost use Rattle.s390x_elf.specs.Answers.{FunctionsAnswer, IsFileOf, IsTextLinked, ObjectAnswer, SectionsAnswer, TextAnswer};
+ghost use Rattle.s390x_elf.specs.Metadata.{HasTablesOfCode};
 ghost use Rattle.s390x_elf.specs.Object.{IsLinkedAsImage, IsLinkedAsNamed, function_of, function_symbol, stack_note, string_table, text_section};
 ghost use Rattle.s390x_elf.specs.Tables.{FunctionFits, Indexes, relocation_section, sections_by, symbol_of, symbol_section};
-ghost use Rattle.s390x_elf.specs.Writing.{file_bytes, section_of, string_section};
+ghost use Rattle.s390x_elf.specs.Writing.{AreFew, section_of, string_section};
 
 use crate::error::ObjectError;
 use crate::file::{SHT_PROGBITS, SHT_RELA, SHT_STRTAB, SHT_SYMTAB, SectionParts, write_file};
+use crate::metadata::{Coded, put_tables};
 use crate::names::GivenName;
 use crate::relocations::{add_used_names, relocation_entries};
 use crate::symbols::{GlobalSymbols, TEXT, TextFunction, string_table, symbol_entries};
@@ -167,19 +169,19 @@ fn stack_note(alloc: Global) -> SectionParts
     }
 }
 
-// The file of a text with global symbols, whose names stand in a string table, and with entries of
-// relocations.
-fn write_object(
+// The sections of a text with global symbols, whose names stand in a string table, and with entries
+// of relocations.
+fn object_sections(
     alloc: Global,
     symbols: &GlobalSymbols,
     strings: Vec<u8>,
     relocations: Vec<u8>,
     alignment: u32,
     text: &[u8],
-) -> Result<Vec<u8>, AllocError>
+) -> Result<Vec<SectionParts>, AllocError>
     requires strings { strings.items ≡ 0 ∷ string_table (map symbol_of symbols.now.symbols.items) }
     requires small { length strings.items < 2 ^ 32 }
-    ensures { IfOk result (λ file. file.items ≡ file_bytes (sections_by (map symbol_of symbols.now.symbols.items) alignment relocations.items text.now)) }
+    ensures { IfOk result (λ sections. map section_of sections.items ≡ sections_by (map symbol_of symbols.now.symbols.items) alignment relocations.items text.now) }
 {
     let entries = symbol_entries(alloc, &symbols.symbols)?;
     let text = Vec::from_slice(alloc, text)?;
@@ -189,6 +191,54 @@ fn write_object(
     sections.push(text_section(text, alignment))?;
     sections.push(name_section(strings))?;
     sections.push(stack_note(alloc))?;
+    Ok(sections)
+}
+
+/// The sections of an object of functions in a text with relocations; `text_object` says how, and
+/// what is refused.
+pub fn text_sections(
+    alloc: Global,
+    names: &[GivenName],
+    functions: &[TextFunction],
+    alignment: u32,
+    text: &[u8],
+    relocs: &[RelocEntry],
+) -> Result<Vec<SectionParts>, ObjectError>
+    ensures answer { SectionsAnswer names.now functions.now alignment text.now relocs.now result }
+    ensures few { IfOk result (λ sections. AreFew (map section_of sections.items)) }
+    ensures count { IfOk result (λ _. length functions.now < 4294967295) }
+{
+    let mut symbols = function_symbols(alloc, functions)?;
+    check_given(names)?;
+    let Ok(()) = add_used_names(alloc, names, &mut symbols, relocs) else {
+        return Err(ObjectError::NoMemory);
+    };
+    let Ok(strings) = string_table(alloc, &symbols.symbols) else {
+        return Err(ObjectError::NoMemory);
+    };
+    if strings.len() > 0xffff_ffff {
+        return Err(ObjectError::TooLong);
+    }
+    let Ok(entries) = relocation_entries(alloc, names, &symbols, relocs) else {
+        return Err(ObjectError::NoMemory);
+    };
+    let Ok(sections) = object_sections(alloc, &symbols, strings, entries, alignment, text) else {
+        return Err(ObjectError::NoMemory);
+    };
+    Ok(sections)
+}
+
+/// The file of an object's sections, with the tables of its functions' code behind them.
+pub fn file_with_tables(
+    alloc: Global,
+    mut sections: Vec<SectionParts>,
+    codes: &[Coded],
+) -> Result<Vec<u8>, AllocError>
+    requires few { AreFew (map section_of sections.items) }
+    requires count { length codes.now < 4294967295 }
+    ensures { IfOk result (λ file. IsFileOf sections codes.now file.items) }
+{
+    put_tables(alloc, &mut sections, codes)?;
     let file = write_file(alloc, &sections)?;
     Ok(file)
 }
@@ -213,28 +263,17 @@ pub fn text_object(
     ensures answer { TextAnswer names.now functions.now alignment text.now relocs.now result }
     ensures linked { IfOk result (λ file. IsTextLinked names.now functions.now text.now relocs.now file.items) }
 {
-    let mut symbols = function_symbols(alloc, functions)?;
-    check_given(names)?;
-    let Ok(()) = add_used_names(alloc, names, &mut symbols, relocs) else {
-        return Err(ObjectError::NoMemory);
-    };
-    let Ok(strings) = string_table(alloc, &symbols.symbols) else {
-        return Err(ObjectError::NoMemory);
-    };
-    if strings.len() > 0xffff_ffff {
-        return Err(ObjectError::TooLong);
-    }
-    let Ok(entries) = relocation_entries(alloc, names, &symbols, relocs) else {
-        return Err(ObjectError::NoMemory);
-    };
-    let Ok(file) = write_object(alloc, &symbols, strings, entries, alignment, text) else {
+    let sections = text_sections(alloc, names, functions, alignment, text, relocs)?;
+    let Ok(file) = file_with_tables(alloc, sections, &[]) else {
         return Err(ObjectError::NoMemory);
     };
     Ok(file)
 }
 
 /// An object with one global function of this name, the finished code, some of whose symbols are
-/// given names; `text_object` says how.
+/// given names; `text_object` says how. Where the code has an entry of any kind, its traps, calls,
+/// tries, handlers, patchable calls and stack maps stand in sections `s390x_traps`, `s390x_calls`,
+/// `s390x_tries`, `s390x_handlers`, `s390x_patches` and `s390x_stack_maps`.
 ///
 /// Refused by the first cause: the name is empty (`EmptyName`) or has a zero byte (`ZeroByte`), the
 /// code has no bytes (`EmptyMember`), a given name is empty (`EmptyName`) or has a zero byte
@@ -247,6 +286,7 @@ pub fn object_with_names(
 ) -> Result<Vec<u8>, ObjectError>
     ensures answer { ObjectAnswer names.now name.now code.now result }
     ensures linked { IfOk result (λ file. IsLinkedAsNamed names.now name.now code.now file.items) }
+    ensures tables { IfOk result (λ file. HasTablesOfCode name.now code.now file.items) }
 {
     let Ok(name) = String::from_str(alloc, name) else {
         return Err(ObjectError::NoMemory);
@@ -256,7 +296,7 @@ pub fn object_with_names(
         start: 0,
         size: code.bytes.len() as u64,
     };
-    let file = text_object(
+    let sections = text_sections(
         alloc,
         names,
         &[function],
@@ -264,6 +304,9 @@ pub fn object_with_names(
         &code.bytes,
         &code.relocs,
     )?;
+    let Ok(file) = file_with_tables(alloc, sections, &[Coded { code }]) else {
+        return Err(ObjectError::NoMemory);
+    };
     Ok(file)
 }
 
@@ -276,6 +319,7 @@ pub fn object_with_names(
 pub fn object(alloc: Global, name: &str, code: &MachBufferFinalized) -> Result<Vec<u8>, ObjectError>
     ensures answer { ObjectAnswer [] name.now code.now result }
     ensures linked { IfOk result (λ file. IsLinkedAsImage name.now code.now file.items) }
+    ensures tables { IfOk result (λ file. HasTablesOfCode name.now code.now file.items) }
 {
     object_with_names(alloc, name, &[], code)
 }

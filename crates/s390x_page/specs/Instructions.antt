@@ -5,7 +5,7 @@ use Rattle.s390x_format.specs.Formats.{length_of, layout_of}
 use Rattle.s390x_format.specs.declared.decoder.Decoded.{Decoded}
 use Rattle.s390x_format.specs.declared.decoder.Located.{Located}
 use Rattle.s390x_format.specs.declared.layouts.Part.{Part}
-use Rattle.s390x_page.specs.Formats.{number_of_format}
+use Rattle.s390x_format_numbers.specs.Formats.{number_of_format}
 use Rattle.s390x_page.specs.declared.instruction.Instruction.{Instruction}
 use Rattle.s390x_page.specs.declared.parts.FormatPart.{FormatPart}
 

@@ -1,4 +1,3 @@
-pub mod Formats
 pub mod Instructions
 pub mod Texts
 pub mod Stepping

@@ -1,12 +1,11 @@
 //! The instruction with which some bytes begin, as the page sees it.
 ghost use Rattle.std.specs.Prelude.{◌≡◌, true, false};
 ghost use Rattle.s390x_format.specs.Fetch.{IsFetch};
-ghost use Rattle.s390x_format.specs.Formats.{length_of};
 ghost use Rattle.s390x_format.specs.declared.decoder.Decoded.{Decoded};
 ghost use Rattle.s390x_page.specs.Instructions.{Begins, Describes};
 
-use crate::format_number::format_number;
-use s390x_format::{FormatKind, Located, length, locate};
+use s390x_format::{Located, locate};
+use s390x_format_numbers::{format_number, short_length};
 
 /// An instruction as the page sees it. What its format lacks is 0.
 #[repr(C)]
@@ -66,11 +65,4 @@ fn described(located: Located) -> Instruction
         displacement: decoded.fields.disp,
         immediate: decoded.fields.imm,
     }
-}
-
-// How many bytes an instruction in the format has.
-fn short_length(kind: FormatKind) -> u8
-    ensures { result ≡ length_of kind }
-{
-    length(kind) as u8
 }

@@ -1,5 +1,0 @@
-//! Tests of the emitters of operands.
-#![tactic(auto)]
-
-#[cfg(test)]
-mod emitters;
