@@ -5,7 +5,7 @@
 #
 #     checks/page.sh [--shown] [PICTURE.png]    --shown: not built anew; PICTURE.png: a picture of the page is written there
 #
-# Needs chromium (from 133 on) and node (from 18 on). The first build takes as long as the proofs of the libraries below that aren't kept.
+# Needs chromium (from 133 on) and node (from 18 on). The first build takes as long as the proofs of the libraries below that this checkout hasn't built.
 set -eu
 top=$(cd "$(dirname "$0")/.." && pwd)
 folder=$(mktemp -d "${TMPDIR:-/tmp}/shown.XXXXXX")

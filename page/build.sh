@@ -28,9 +28,11 @@ for name in $(cat "$folder/names"); do
     for part in src specs proofs; do
         if [ -d "$top/crates/$name/$part" ]; then cp -r "$top/crates/$name/$part" "$folder/crates/$name/"; fi
     done
+    if [ -d "$top/crates/$name/out/rlib" ]; then mkdir "$folder/crates/$name/out" && cp -r "$top/crates/$name/out/rlib" "$folder/crates/$name/out/"; fi
 done
 rm "$folder/names"
-# Libraries that this machine has kept of the same text needn't be proved again.
+# Libraries that this checkout has built of the same text needn't be proved again, nor those that `rt ci` has kept on this machine
+# (rattle-kit-13f keeps them, 13b keeps nothing).
 "${TAKE_LIBS:-$top/checks/take_libs.py}" "$folder" > "$folder/libraries" || true
 (cd "$folder/crates/s390x_page" && rt lib) > "$folder/log" 2>&1 || { tail -20 "$folder/log"; exit 1; }
 python3 "$top/page/sentences.py" > "$folder/sentences"
