@@ -11,3 +11,4 @@ pub mod Steps
 pub mod TableSteps
 pub mod TablesRead
 pub mod MemberTables
+pub mod Example

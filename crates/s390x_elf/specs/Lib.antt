@@ -12,3 +12,4 @@ pub mod Metadata
 pub mod TableBytes
 pub mod Answers
 pub mod Laws
+pub mod Example

@@ -1,4 +1,5 @@
 //! Facts about files.
+ghost use Rattle.s390x_elf.specs.Example.{TablesAreRead};
 ghost use Rattle.s390x_elf.specs.Laws.{FilesReadBack, MembersLinkAsImages, ObjectsLinkAsFilled, RelocationsReadBack, SymbolsReadBack};
 
 /// A file of sections is read as these sections, with the one with the number 0 before them and
@@ -27,4 +28,10 @@ pub fn objects_link_as_filled()
 /// cause at its start, each value fits its field, and each member's bytes are as `link` fills them.
 pub fn members_link_as_images()
     ensures { MembersLinkAsImages }
+{}
+
+/// Some code with entries is made an object, which is read as its object, is linked as its image,
+/// and has its tables.
+pub fn some_object_has_tables()
+    ensures { TablesAreRead }
 {}
