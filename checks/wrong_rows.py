@@ -1,6 +1,6 @@
 #!/usr/bin/env python3
 """Changes lines of the machine's table ROW_SEMANTICS, one at a time, each to another meaning of its kind, and tells which of the changes the known
-steps of `crates/s390x_step_vectors` report, or else the tests of `crates/s390x_tests`; run by hand, from anywhere: checks/wrong_rows.py [COUNT [SEED]].
+steps of `crates/s390x_step_vectors` report; run by hand, from anywhere: checks/wrong_rows.py [COUNT [SEED]].
 
 The table is read by the machine and by its definition alike, so that no proof refuses a line that is wrong there. Each change is tried on an unproved
 build in a copy of the repository, which takes about two minutes. Ends with 1 if a change isn't reported.
@@ -93,14 +93,6 @@ def tried(copy):
     return told[-1] if told else (ran.stdout + ran.stderr).strip().splitlines()[-1]
 
 
-def tested(copy):
-    """What the tests of steps say on the copy: the first that fails, or none."""
-    crate = copy / "crates" / "s390x_tests"
-    ran = subprocess.run(["rt", "try", "--test"], cwd=crate, capture_output=True, text=True, check=False)
-    failed = [line for line in ran.stdout.splitlines() if "FAILED" in line or "failed" in line]
-    return None if ran.returncode == 0 else (failed or ["a test fails"])[0]
-
-
 def main():
     count = int(sys.argv[1]) if len(sys.argv) > 1 else 20
     drawn = random.Random(int(sys.argv[2]) if len(sys.argv) > 2 else 20)
@@ -126,9 +118,6 @@ def main():
             told = tried(copy)
             # a build that stops by a fault tells the change too
             is_reported = "run=fault" in told or "differ" in told and told != wanted
-            if not is_reported and "differ" in told:
-                failed = tested(copy)
-                is_reported, told = failed is not None, failed or told
             missed += not is_reported
             count -= 1
             print(f"{'reported' if is_reported else 'MISSED'} {mnemonic}: {semantics} -> {other}: {told}", flush=True)

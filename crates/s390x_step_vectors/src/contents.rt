@@ -5,10 +5,18 @@ use s390x_base::NoMemory;
 use s390x_machine::{FlatMemory, Machine, Memory};
 use std::alloc::{AllocError, Global};
 
+/// Bits of a vector register that may be any.
+#[derive(Clone, Copy)]
+pub struct FreeBits {
+    pub register: usize,
+    pub bits: u128,
+}
+
 /// What registers and memory hold. A byte of several regions is that of the last one.
 #[derive(Drop)]
 pub struct Contents {
     pub machine: Machine,
+    pub free: FreeBits,
     pub regions: Vec<Region>,
 }
 
@@ -32,7 +40,12 @@ impl Contents {
             let bytes = region.bytes.clone()?;
             regions.push(Region { address, bytes })?;
         }
-        Ok(Contents { machine, regions })
+        let free = self.free;
+        Ok(Contents {
+            machine,
+            free,
+            regions,
+        })
     }
 
     /// A memory of the regions.
@@ -44,10 +57,14 @@ impl Contents {
         Ok(memory)
     }
 
-    /// Whether the machine's registers and its place are these.
+    /// Whether the machine's registers, but for the free bits, and its place are these.
     pub fn are_registers_of(&self, machine: &Machine) -> bool {
+        let FreeBits { register, bits } = self.free;
+        let register = register % 32;
+        let mut vregs = machine.vregs;
+        vregs[register] = vregs[register] & !bits | self.machine.vregs[register] & bits;
         machine.regs == self.machine.regs
-            && machine.vregs == self.machine.vregs
+            && vregs == self.machine.vregs
             && machine.aregs == self.machine.aregs
             && machine.cc == self.machine.cc
             && machine.place == self.machine.place

@@ -1,16 +1,17 @@
 //! Reading a line: `BYTES HOW c=CODE rN=HEX vN=HEX mADDRESS=HEX .. > c=CODE ..`. It has an instruction's bytes, from where its step is known, what
 //! registers and memory hold before it, and what of that is another after it, `p=HEX` where the next address isn't the one behind the instruction.
-//! Registers that aren't named are zero before it.
+//! Registers that aren't named are zero before it. Behind `>` stands the name of a stop, or `norow`, where the step doesn't go.
 ghost use Rattle.std.specs.Prelude.{◌<◌, ◌≤◌, length, IfOk};
 
-use crate::contents::Contents;
+use crate::contents::{Contents, FreeBits};
 use crate::known_step::KnownStep;
 use crate::region::Region;
 use s390x_case_runner::LineError;
 use s390x_job_fields::bytes::{bytes, hex_number};
 use s390x_job_fields::marks::{after_word, back, front, word};
 use s390x_job_fields::number::{first, natural, tail};
-use s390x_machine::Machine;
+use s390x_machine::{Machine, StepEnd};
+use s390x_operations::StopKind;
 use std::alloc::Global;
 
 /// The address of the instruction.
@@ -26,16 +27,65 @@ pub fn read_line(alloc: Global, line: &[u8]) -> Result<KnownStep, LineError> {
     let behind = PLACE.wrapping_add(code.len() as u64);
     let mut before = Contents {
         machine: Machine::new(PLACE),
+        free: FreeBits {
+            register: 0,
+            bits: 0,
+        },
         regions: Vec::new(alloc),
     };
     put_region(&mut before, PLACE, code)?;
     let rest = read_words(alloc, &mut before, after_word(source))?;
+    if first(rest) != b' ' {
+        return Err(LineError::Unreadable);
+    }
+    read_end(alloc, before, behind, after_word(rest))
+}
+
+// Reads what stands behind `>`: how the step ends, where it doesn't go to the place behind it, and what is another then.
+fn read_end(
+    alloc: Global,
+    before: Contents,
+    behind: u64,
+    told: &[u8],
+) -> Result<KnownStep, LineError> {
     let mut after = before.copied(alloc)?;
-    after.machine.place = behind;
-    if first(rest) == b' ' && read_words(alloc, &mut after, after_word(rest))?.is_empty() {
-        Ok(KnownStep { before, after })
+    let stop = stop_of(word(told), before.machine.place);
+    let told = match stop {
+        Some(_) => after_word(told),
+        None => told,
+    };
+    if stop.is_none() {
+        after.machine.place = behind;
+    }
+    if !read_words(alloc, &mut after, told)?.is_empty() {
+        return Err(LineError::Unreadable);
+    }
+    let end = stop.unwrap_or(StepEnd::Went);
+    Ok(KnownStep { before, end, after })
+}
+
+// How a step at a place ends by the name of a stop, or without a row.
+fn stop_of(name: &[u8], place: u64) -> Option<StepEnd> {
+    if name == b"norow".as_slice() {
+        return Some(StepEnd::NoRow);
+    }
+    Some(StepEnd::Stopped(kind_of(name)?, place))
+}
+
+// The kind of a stop by its name.
+fn kind_of(name: &[u8]) -> Option<StopKind> {
+    if name == b"Operation".as_slice() {
+        Some(StopKind::Operation)
+    } else if name == b"Access".as_slice() {
+        Some(StopKind::Access)
+    } else if name == b"Specification".as_slice() {
+        Some(StopKind::Specification)
+    } else if name == b"Divide".as_slice() {
+        Some(StopKind::Divide)
+    } else if name == b"CompareTrap".as_slice() {
+        Some(StopKind::CompareTrap)
     } else {
-        Err(LineError::Unreadable)
+        None
     }
 }
 
@@ -88,6 +138,11 @@ fn put_word(
             let register = below(number, 32)?;
             contents.machine.vregs[register] = hex(value)?;
         }
+        b'f' => {
+            let register = below(number, 32)?;
+            let bits = hex(value)?;
+            contents.free = FreeBits { register, bits };
+        }
         b'p' => {
             contents.machine.place = doubleword(value)?;
         }
@@ -103,7 +158,8 @@ fn put_word(
 
 // Memory has bytes from an address on.
 fn put_region(contents: &mut Contents, address: u64, bytes: Vec<u8>) -> Result<(), LineError> {
-    if u64::MAX - address < bytes.len() as u64 {
+    let behind_first = (bytes.len() as u64).saturating_sub(1);
+    if u64::MAX - address < behind_first {
         return Err(LineError::Unreadable);
     }
     match contents.regions.push(Region { address, bytes }) {
