@@ -1,0 +1,7 @@
+//! Tests of the buffer.
+#![tactic(auto)]
+
+#[cfg(test)]
+mod tables;
+#[cfg(test)]
+mod uses;
