@@ -9,6 +9,7 @@ DEMO is bindings/c/emit_demo as it was built. Causes, faults and places are comp
 import argparse
 import os
 import random
+import re
 import subprocess
 import sys
 import tempfile
@@ -76,11 +77,10 @@ def entries(answer):
         if line.startswith("block "):
             block, inst = int(line[6:]), 0
             continue
-        for item in [] if line == "none" else line.replace(", clobber", ",\nclobber").split("\n"):
-            kind = "clobber " if item.startswith("clobber ") else ""
-            for part in (item[9:-1].split(",") if kind else item.rstrip(",").split(", ")):
-                if part:
-                    lines.append(f"{block} {inst} {kind}{part}")
+        for item in [] if line == "none" else re.split(r", (?![^\[]*\])", line):
+            lost = item[9:-1] if item.startswith("clobber ") else None
+            parts = [item] if lost is None else [f"clobber {reg}" for reg in lost.split(",") if reg]
+            lines += [f"{block} {inst} {part}" for part in parts]
         inst += 1
     return lines
 

@@ -29,16 +29,16 @@ extern "C" {
 
 /* How a call ends. The numbers are those with which the program ends too, and one more. */
 enum s390x_status {
-    S390X_DONE = 0,
+    S390X_DONE = 0,             /* so, or with S390X_NO_MEMORY, ends each call whose input nothing refuses and whose buffers have room */
     S390X_SYNTAX = 3,           /* the input is no such text; reason.line is its first wrong line */
     S390X_REFUSED = 4,          /* emission refuses a function; reason.cause is one of s390x_cause. s390x_operands: the operands of an
                                    instruction can't be reported; reason.cause is one of s390x_operand_cause */
     S390X_LINK_REFUSED = 5,     /* linking refuses its code; reason.cause is one of s390x_link_cause */
     S390X_TOO_LONG = 8,         /* the input has more than S390X_MOST_BYTES bytes */
-    S390X_NO_MEMORY = 9,        /* there was no memory; it may come in place of any other */
+    S390X_NO_MEMORY = 9,        /* there was no memory; it may come in place of any other but S390X_TOO_LONG */
     S390X_PLAN_REFUSED = 11,    /* s390x_check_plan: the plan has a fault; reason.fault is one of s390x_plan_fault */
     S390X_BUNDLE_REFUSED = 12,  /* s390x_bundle: a function has no place in the image; reason.cause is one of s390x_bundle_cause */
-    S390X_TOO_SMALL = 13        /* a buffer is too small; none is written, and the sizes that are wanted are */
+    S390X_TOO_SMALL = 13        /* a buffer is too small; none is written, and the sizes that are needed are */
 };
 
 /* What stands at a place. */

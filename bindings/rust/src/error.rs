@@ -216,7 +216,7 @@ pub enum Error {
     Plan(PlanFault),
     /// The input has more than 16777216 bytes.
     TooLong,
-    /// There was no memory; it may come in place of any other.
+    /// There was no memory; it may come in place of any other but `TooLong`.
     NoMemory,
 }
 

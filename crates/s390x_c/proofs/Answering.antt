@@ -1,4 +1,4 @@
--- How a call ends on an input, from how it ends on the job whose text that is.
+-- How a call ends on a job or on functions.
 use Rattle.std.proofs.Common.{◌≡◌, ℕ, List, Bool, false, ◌⊎◌, inl, inr, map, refl, sym, ◌∙◌}
 use Rattle.std.specs.Prelude.{◌≢◌, IsTrue, Option, Some, None}
 use Rattle.std.proofs.lemmas.Bool.{true≢false}
@@ -8,78 +8,28 @@ use Rattle.s390x_base.specs.declared.error.EmitError.TheVariants as emit
 use Rattle.s390x_job.specs.declared.job.Job.{Job}
 use Rattle.s390x_tables.specs.declared.buffers.Buffers.{Buffers}
 use Rattle.s390x_tables.specs.declared.sizes.Sizes.{Sizes}
-use Rattle.s390x_c.specs.Emit.{EmitsJobTo, EmitsTo, NothingIsWritten}
+use Rattle.s390x_c.specs.Emit.{EmitsJobTo, NothingIsWritten}
 use Rattle.s390x_bundle.specs.Bundled as bundled
 use Rattle.s390x_bundle.specs.declared.error.BundleError.{BundleError}
 use Rattle.s390x_bundle.specs.declared.joining.Bundle.{Bundle}
-use Rattle.s390x_job_bundle.specs.Text.{AreFunctionsOf}
 use Rattle.s390x_job_bundle.specs.declared.named_job.NamedJob.{NamedJob}
-use Rattle.s390x_c.specs.Bundle.{BundlesFunctionsTo, BundlesTo, IsBundleRefusal, member_of}
+use Rattle.s390x_c.specs.Bundle.{BundlesFunctionsTo, IsBundleRefusal, member_of}
 use Rattle.s390x_emit_int.specs.FunctionImage.{HasNoImage}
 use Rattle.s390x_emit_int.specs.declared.image.ImageError.{ImageError}
 use Rattle.s390x_emit_int.specs.declared.image.ImageError.TheVariants.{Refused, Link}
-use Rattle.s390x_c.specs.Image.{IsRefusalOf, LinksJobTo, LinksTo, MayRefuse, symbols_of}
+use Rattle.s390x_c.specs.Image.{IsRefusalOf, LinksJobTo, MayRefuse, symbols_of}
 use Rattle.s390x_c.specs.Refused.{IsRefusalTold, IsRefused, job_cause, reason_of}
 use Rattle.s390x_refusal.specs.Refusal.{IsFirstRefusal}
 use Rattle.s390x_refusal.specs.declared.position.Refusal.{Refusal}
 use Rattle.s390x_calls.specs.Put.{PutsEntries}
-use Rattle.s390x_c.specs.Show.{PutsTexts, ShowsJobTo, ShowsTo, texts_of}
-use Rattle.s390x_calls.specs.Input.{IsTextOf}
+use Rattle.s390x_c.specs.Show.{PutsTexts, ShowsJobTo, texts_of}
 use Rattle.s390x_calls.specs.declared.reason.Reason.{Reason}
 use Rattle.s390x_calls.specs.declared.status.Status.{Status}
 use Rattle.s390x_calls.specs.declared.status.Status.TheVariants as status
 
-pub emitted : (input : List ℕ) (j : Job) (out out' : Buffers) (sizes sizes' : Sizes) (reason reason' : Reason) (s : Status)
-    → IsTextOf j input → EmitsJobTo j out out' sizes sizes' reason reason' s → EmitsTo input out out' sizes sizes' reason reason' s
-emitted input j out out' sizes sizes' reason reason' status.Done text ends = record { job = j; text = text; ends = ends }
-emitted input j out out' sizes sizes' reason reason' status.Syntax text ends = absurd ends
-emitted input j out out' sizes sizes' reason reason' status.Refused text ends = record { job = j; text = text; ends = ends }
-emitted input j out out' sizes sizes' reason reason' status.LinkRefused text ends = absurd ends
-emitted input j out out' sizes sizes' reason reason' status.TooLong text ends = absurd ends
-emitted input j out out' sizes sizes' reason reason' status.NoMemory text ends = ends
-emitted input j out out' sizes sizes' reason reason' status.PlanRefused text ends = absurd ends
-emitted input j out out' sizes sizes' reason reason' status.BundleRefused text ends = absurd ends
-emitted input j out out' sizes sizes' reason reason' status.TooSmall text ends = record { job = j; text = text; ends = ends }
-
-pub linked : (base : ℕ) (input : List ℕ) (j : Job) (out out' : List ℕ) (count count' : ℕ) (reason reason' : Reason) (s : Status)
-    → IsTextOf j input → LinksJobTo base j out out' count count' reason reason' s → LinksTo base input out out' count count' reason reason' s
-linked base input j out out' count count' reason reason' status.Done text ends = record { job = j; text = text; ends = ends }
-linked base input j out out' count count' reason reason' status.Syntax text ends = absurd ends
-linked base input j out out' count count' reason reason' status.Refused text ends = record { job = j; text = text; ends = ends }
-linked base input j out out' count count' reason reason' status.LinkRefused text ends = record { job = j; text = text; ends = ends }
-linked base input j out out' count count' reason reason' status.TooLong text ends = absurd ends
-linked base input j out out' count count' reason reason' status.NoMemory text ends = ends
-linked base input j out out' count count' reason reason' status.PlanRefused text ends = absurd ends
-linked base input j out out' count count' reason reason' status.BundleRefused text ends = absurd ends
-linked base input j out out' count count' reason reason' status.TooSmall text ends = record { job = j; text = text; ends = ends }
-
 -- a table's room is tested
 pub no_room : (b : Bool) → b ≡ false → IsTrue b → ⊥
 no_room b fails holds = true≢false (sym holds ∙ fails)
-
-pub shown : (input : List ℕ) (j : Job) (out out' : List ℕ) (count count' : ℕ) (reason reason' : Reason) (s : Status)
-    → IsTextOf j input → ShowsJobTo j out out' count count' reason reason' s → ShowsTo input out out' count count' reason reason' s
-shown input j out out' count count' reason reason' status.Done text ends = record { job = j; text = text; ends = ends }
-shown input j out out' count count' reason reason' status.Syntax text ends = absurd ends
-shown input j out out' count count' reason reason' status.Refused text ends = record { job = j; text = text; ends = ends }
-shown input j out out' count count' reason reason' status.LinkRefused text ends = absurd ends
-shown input j out out' count count' reason reason' status.TooLong text ends = absurd ends
-shown input j out out' count count' reason reason' status.NoMemory text ends = ends
-shown input j out out' count count' reason reason' status.PlanRefused text ends = absurd ends
-shown input j out out' count count' reason reason' status.BundleRefused text ends = absurd ends
-shown input j out out' count count' reason reason' status.TooSmall text ends = record { job = j; text = text; ends = ends }
-
-pub joined : (base : ℕ) (input : List ℕ) (fs : List NamedJob) (out out' : List ℕ) (count count' : ℕ) (reason reason' : Reason) (s : Status)
-    → AreFunctionsOf input fs → BundlesFunctionsTo base fs out out' count count' reason reason' s → BundlesTo base input out out' count count' reason reason' s
-joined base input fs out out' count count' reason reason' status.Done text ends = record { functions = fs; text = text; ends = ends }
-joined base input fs out out' count count' reason reason' status.Syntax text ends = absurd ends
-joined base input fs out out' count count' reason reason' status.Refused text ends = record { functions = fs; text = text; ends = ends }
-joined base input fs out out' count count' reason reason' status.LinkRefused text ends = record { functions = fs; text = text; ends = ends }
-joined base input fs out out' count count' reason reason' status.TooLong text ends = absurd ends
-joined base input fs out out' count count' reason reason' status.NoMemory text ends = ends
-joined base input fs out out' count count' reason reason' status.PlanRefused text ends = absurd ends
-joined base input fs out out' count count' reason reason' status.BundleRefused text ends = record { functions = fs; text = text; ends = ends }
-joined base input fs out out' count count' reason reason' status.TooSmall text ends = record { functions = fs; text = text; ends = ends }
 
 -- ---- refusals
 
@@ -89,7 +39,7 @@ refusable e cause (inl short) named = absurd (named short)
 refusable e cause (inr is) named = λ none. none-some e (sym none ∙ is)
 
 pub emission_refused : (j : Job) (out : Buffers) (sizes : Sizes) (reason reason' : Reason) (s : Status)
-    → IsRefusalTold j reason reason' s → NothingIsWritten out out sizes sizes → EmitsJobTo j out out sizes sizes reason reason' s
+    → IsRefusalTold j reason reason' s → NothingIsWritten out out sizes sizes → EmitsJobTo out out sizes sizes reason reason' j s
 emission_refused j out sizes reason reason' status.Done told kept = absurd told
 emission_refused j out sizes reason reason' status.Syntax told kept = absurd told
 emission_refused j out sizes reason reason' status.Refused told kept = (told, kept)
@@ -101,7 +51,7 @@ emission_refused j out sizes reason reason' status.BundleRefused told kept = abs
 emission_refused j out sizes reason reason' status.TooSmall told kept = absurd told
 
 pub listing_refused : (j : Job) (out : List ℕ) (count : ℕ) (reason reason' : Reason) (s : Status)
-    → IsRefusalTold j reason reason' s → ShowsJobTo j out out count count reason reason' s
+    → IsRefusalTold j reason reason' s → ShowsJobTo out out count count reason reason' j s
 listing_refused j out count reason reason' status.Done told = absurd told
 listing_refused j out count reason reason' status.Syntax told = absurd told
 listing_refused j out count reason reason' status.Refused told = (told, record { buffer = refl; count_kept = refl })
@@ -118,7 +68,7 @@ may_refuse base j (Link error) none = tt
 
 pub image_refused : (base : ℕ) (j : Job) (e : ImageError) (out : List ℕ) (count : ℕ) (reason reason' : Reason) (s : Status)
     → HasNoImage j.info.isa_flags j.state j.function base (symbols_of j) e → IsRefusalOf j e reason reason' s
-    → LinksJobTo base j out out count count reason reason' s
+    → LinksJobTo base out out count count reason reason' j s
 image_refused base j (Refused error) out count reason reason' status.Done none told = absurd told
 image_refused base j (Refused error) out count reason reason' status.Syntax none told = absurd told
 image_refused base j (Refused error) out count reason reason' status.Refused none told = (told, record { buffer = refl; count_kept = refl })
@@ -141,7 +91,7 @@ image_refused base j (Link error) out count reason reason' status.BundleRefused 
 image_refused base j (Link error) out count reason reason' status.TooSmall none told = absurd told
 
 pub bundle_refused : (base : ℕ) (fs : List NamedJob) (e : BundleError) (out : List ℕ) (count : ℕ) (reason reason' : Reason) (s : Status)
-    → bundled.HasNoImage base (map member_of fs) e → IsBundleRefusal e reason reason' s → BundlesFunctionsTo base fs out out count count reason reason' s
+    → bundled.HasNoImage base (map member_of fs) e → IsBundleRefusal e reason reason' s → BundlesFunctionsTo base out out count count reason reason' fs s
 bundle_refused base fs e out count reason reason' status.Done none told = absurd told
 bundle_refused base fs e out count reason reason' status.Syntax none told = absurd told
 bundle_refused base fs e out count reason reason' status.Refused none told =
@@ -174,7 +124,7 @@ texts_put j out out' count count' status.BundleRefused told put = absurd put
 texts_put j out out' count count' status.TooSmall told put = record { told = told; small = put }
 
 pub texts_shown : (j : Job) (out out' : List ℕ) (count count' : ℕ) (reason : Reason) (s : Status) → job_cause j ≡ None → PutsTexts j out out' count count' s
-    → ShowsJobTo j out out' count count' reason reason s
+    → ShowsJobTo out out' count count' reason reason j s
 texts_shown j out out' count count' reason status.Done valid put = (valid, put, refl)
 texts_shown j out out' count count' reason status.Syntax valid put = absurd put
 texts_shown j out out' count count' reason status.Refused valid put = absurd put
@@ -187,7 +137,7 @@ texts_shown j out out' count count' reason status.TooSmall valid put = (valid, p
 
 pub bundle_put : (base : ℕ) (fs : List NamedJob) (b : Bundle) (out out' : List ℕ) (count count' : ℕ) (reason : Reason) (s : Status)
     → bundled.IsImageOfMembers base (map member_of fs) b → PutsEntries b.image.bytes.items out out' count' s
-    → BundlesFunctionsTo base fs out out' count count' reason reason s
+    → BundlesFunctionsTo base out out' count count' reason reason fs s
 bundle_put base fs b out out' count count' reason status.Done image put = (record { bundle = b; image = image; held = put }, refl)
 bundle_put base fs b out out' count count' reason status.Syntax image put = absurd put
 bundle_put base fs b out out' count count' reason status.Refused image put = absurd put

@@ -1,2 +1,3 @@
-mod Answering
 mod Showing
+mod Answering
+mod Completing

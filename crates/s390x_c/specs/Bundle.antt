@@ -1,5 +1,5 @@
 -- What `s390x_bundle` answers. A name with a prime is of what a call leaves.
-use Rattle.std.specs.Prelude.{◌≡◌, ◌≢◌, ℕ, List, map}
+use Rattle.std.specs.Prelude.{◌≡◌, ◌≢◌, ◌≤◌, ℕ, List, length, map}
 use Rattle.s390x_base.specs.Errors.{number_of_error}
 use Rattle.s390x_bundle.specs.Bundled.{HasNoImage, IsImageOfMembers}
 use Rattle.s390x_bundle.specs.declared.error.BundleError.{BundleError}
@@ -10,10 +10,9 @@ use Rattle.s390x_job_bundle.specs.Completions.{IsBundleText, IsFirstWrongOfBundl
 use Rattle.s390x_job_bundle.specs.Text.{AreFunctionsOf}
 use Rattle.s390x_job_bundle.specs.declared.named_job.NamedJob.{NamedJob}
 use Rattle.s390x_image.specs.Errors.{number_of_link_error}
-use Rattle.s390x_job.specs.Completions.{pieces}
-use Rattle.s390x_calls.specs.Input.{IsTooLong, at_line, by_member}
+use Rattle.s390x_calls.specs.Ends.{EndsTo, EndsWithNumber, IsNoText, IsTextSuchThat}
+use Rattle.s390x_calls.specs.Input.{at_line, by_member}
 use Rattle.s390x_calls.specs.Put.{HasNoRoom, HoldsEntries, NoEntryIsWritten}
-use Rattle.s390x_calls.specs.Status.{number_of_status}
 use Rattle.s390x_calls.specs.declared.reason.Reason.{Reason}
 use Rattle.s390x_calls.specs.declared.status.Status.{Status}
 use Rattle.s390x_calls.specs.declared.status.Status.TheVariants as status
@@ -64,40 +63,38 @@ pub record IsUnbundled (base : ℕ) (functions : List NamedJob) (reason' : Reaso
   pub by : s ≡ status_of_bundle error
 
 -- how the joining of functions ends
-abbrev pub BundlesFunctionsTo : (base : ℕ) → List NamedJob → (out out' : List ℕ) → (count count' : ℕ) → (reason reason' : Reason) → Status → Type 0
-BundlesFunctionsTo base fs out out' count count' reason reason' status.Done = HoldsBundle base fs out out' count' × (reason' ≡ reason)
-BundlesFunctionsTo base fs out out' count count' reason reason' status.NoMemory = NoEntryIsWritten out out' count count' × (reason' ≡ reason)
-BundlesFunctionsTo base fs out out' count count' reason reason' status.TooSmall = HasNoRoomForBundle base fs out out' count' × (reason' ≡ reason)
-BundlesFunctionsTo base fs out out' count count' reason reason' status.Refused = IsUnbundled base fs reason' status.Refused × NoEntryIsWritten out out' count count'
-BundlesFunctionsTo base fs out out' count count' reason reason' status.LinkRefused = IsUnbundled base fs reason' status.LinkRefused × NoEntryIsWritten out out' count count'
-BundlesFunctionsTo base fs out out' count count' reason reason' status.BundleRefused = IsUnbundled base fs reason' status.BundleRefused × NoEntryIsWritten out out' count count'
-BundlesFunctionsTo base fs out out' count count' reason reason' s = ⊥
-
--- the input is the text of functions, the only ones, and their joining ends so
-pub record BundlesTextTo (base : ℕ) (input out out' : List ℕ) (count count' : ℕ) (reason reason' : Reason) (s : Status) : Type 0 where
-  pub functions : List NamedJob
-  pub text : AreFunctionsOf input functions
-  pub ends : BundlesFunctionsTo base functions out out' count count' reason reason' s
+abbrev pub BundlesFunctionsTo : (base : ℕ) → (out out' : List ℕ) → (count count' : ℕ) → (reason reason' : Reason) → List NamedJob → Status → Type 0
+BundlesFunctionsTo base out out' count count' reason reason' fs status.Done = HoldsBundle base fs out out' count' × (reason' ≡ reason)
+BundlesFunctionsTo base out out' count count' reason reason' fs status.NoMemory = NoEntryIsWritten out out' count count' × (reason' ≡ reason)
+BundlesFunctionsTo base out out' count count' reason reason' fs status.TooSmall = HasNoRoomForBundle base fs out out' count' × (reason' ≡ reason)
+BundlesFunctionsTo base out out' count count' reason reason' fs status.Refused = IsUnbundled base fs reason' status.Refused × NoEntryIsWritten out out' count count'
+BundlesFunctionsTo base out out' count count' reason reason' fs status.LinkRefused = IsUnbundled base fs reason' status.LinkRefused × NoEntryIsWritten out out' count count'
+BundlesFunctionsTo base out out' count count' reason reason' fs status.BundleRefused = IsUnbundled base fs reason' status.BundleRefused × NoEntryIsWritten out out' count count'
+BundlesFunctionsTo base out out' count count' reason reason' fs s = ⊥
 
 -- the input is the text of no functions, and the reason is its first wrong line
-pub record IsBundleSyntax (input : List ℕ) (reason' : Reason) : Type 0 where
-  pub none : IsBundleText input → ⊥
-  pub line : ℕ
-  pub first : IsFirstWrongOfBundle (pieces input) line
-  pub told : reason' ≡ at_line line
+abbrev pub IsBundleSyntax : (input : List ℕ) → (reason' : Reason) → Type 0
+IsBundleSyntax input reason' = IsNoText IsBundleText IsFirstWrongOfBundle at_line input reason'
 
 -- how the joining of an input ends
 abbrev pub BundlesTo : (base : ℕ) → (input out out' : List ℕ) → (count count' : ℕ) → (reason reason' : Reason) → Status → Type 0
-BundlesTo base input out out' count count' reason reason' status.Syntax = IsBundleSyntax input reason' × NoEntryIsWritten out out' count count'
-BundlesTo base input out out' count count' reason reason' status.TooLong = IsTooLong input × NoEntryIsWritten out out' count count' × (reason' ≡ reason)
-BundlesTo base input out out' count count' reason reason' status.NoMemory = NoEntryIsWritten out out' count count' × (reason' ≡ reason)
-BundlesTo base input out out' count count' reason reason' s = BundlesTextTo base input out out' count count' reason reason' s
+BundlesTo base input out out' count count' reason reason' s =
+    EndsTo input (AreFunctionsOf input) (IsBundleSyntax input reason') (NoEntryIsWritten out out' count count') (reason' ≡ reason)
+    (BundlesFunctionsTo base out out' count count' reason reason') s
 
 -- the number is that of how the joining of the input ends
-pub record IsBundleCall (base : ℕ) (input out out' : List ℕ) (count count' : ℕ) (reason reason' : Reason) (number : ℕ) : Type 0 where
-  pub ended : Status
-  pub numbered : number ≡ number_of_status ended
-  pub so : BundlesTo base input out out' count count' reason reason' ended
+abbrev pub IsBundleCall : (base : ℕ) → (input out out' : List ℕ) → (count count' : ℕ) → (reason reason' : Reason) → (number : ℕ) → Type 0
+IsBundleCall base input out out' count count' reason reason' number =
+    EndsWithNumber (BundlesTo base input out out' count count' reason reason') number
+
+-- nothing but want of memory keeps the functions from an image, and the buffer has room for it
+pub record CanBeBundled (base : ℕ) (out : List ℕ) (functions : List NamedJob) : Type 0 where
+  pub valid : (error : BundleError) → HasNoImage base (map member_of functions) error → error ≡ cause.NoMemory
+  pub room : (bundle : Bundle) → IsImageOfMembers base (map member_of functions) bundle → length bundle.image.bytes.items ≤ length out
+
+-- the input is the text of such functions
+abbrev pub IsBundled : (base : ℕ) → (input out : List ℕ) → Type 0
+IsBundled base input out = IsTextSuchThat IsBundleText (AreFunctionsOf input) (CanBeBundled base out) input
 
 -- how a call ends for functions without an image, which want of memory is too
 abbrev pub IsBundleRefusal : BundleError → (reason reason' : Reason) → Status → Type 0

@@ -2,14 +2,15 @@
 use Rattle.std.specs.Prelude.{◌≡◌, ℕ, List, None}
 use Rattle.s390x_buffer.specs.declared.entries.MachBufferFinalized.{MachBufferFinalized}
 use Rattle.s390x_emit_int.specs.Function.{IsFinishedCode, constants_of, folded_trees_of, trees_of}
+use Rattle.s390x_job.specs.Completions.{IsText}
 use Rattle.s390x_job.specs.declared.job.Job.{Job}
 use Rattle.s390x_tables.specs.Buffers.{AreUntouched, HasRoom, HoldTables}
 use Rattle.s390x_tables.specs.Sizes.{sizes_of}
 use Rattle.s390x_tables.specs.declared.buffers.Buffers.{Buffers}
 use Rattle.s390x_tables.specs.declared.sizes.Sizes.{Sizes}
 use Rattle.s390x_typed_steps.specs.Ranges.{BlocksInRange}
-use Rattle.s390x_calls.specs.Input.{IsSyntax, IsTextOf, IsTooLong}
-use Rattle.s390x_calls.specs.Status.{number_of_status}
+use Rattle.s390x_calls.specs.Ends.{EndsWithNumber, IsTextSuchThat}
+use Rattle.s390x_calls.specs.Input.{EndsToOfJob, IsJobOf}
 use Rattle.s390x_calls.specs.declared.reason.Reason.{Reason}
 use Rattle.s390x_calls.specs.declared.status.Status.{Status}
 use Rattle.s390x_calls.specs.declared.status.Status.TheVariants as status
@@ -42,28 +43,27 @@ pub record NothingIsWritten (out out' : Buffers) (sizes sizes' : Sizes) : Type 0
   pub sizes_kept : sizes' ≡ sizes
 
 -- how the emission of a job ends
-abbrev pub EmitsJobTo : Job → (out out' : Buffers) → (sizes sizes' : Sizes) → (reason reason' : Reason) → Status → Type 0
-EmitsJobTo j out out' sizes sizes' reason reason' status.Done = HoldCode j out out' sizes' × (reason' ≡ reason)
-EmitsJobTo j out out' sizes sizes' reason reason' status.Refused = IsRefused j reason' × NothingIsWritten out out' sizes sizes'
-EmitsJobTo j out out' sizes sizes' reason reason' status.NoMemory = NothingIsWritten out out' sizes sizes' × (reason' ≡ reason)
-EmitsJobTo j out out' sizes sizes' reason reason' status.TooSmall = HaveNoRoom j out out' sizes' × (reason' ≡ reason)
-EmitsJobTo j out out' sizes sizes' reason reason' s = ⊥
-
--- the input is the text of a job, the only one, and its emission ends so
-pub record EmitsTextTo (input : List ℕ) (out out' : Buffers) (sizes sizes' : Sizes) (reason reason' : Reason) (s : Status) : Type 0 where
-  pub job : Job
-  pub text : IsTextOf job input
-  pub ends : EmitsJobTo job out out' sizes sizes' reason reason' s
+abbrev pub EmitsJobTo : (out out' : Buffers) → (sizes sizes' : Sizes) → (reason reason' : Reason) → Job → Status → Type 0
+EmitsJobTo out out' sizes sizes' reason reason' j status.Done = HoldCode j out out' sizes' × (reason' ≡ reason)
+EmitsJobTo out out' sizes sizes' reason reason' j status.Refused = IsRefused j reason' × NothingIsWritten out out' sizes sizes'
+EmitsJobTo out out' sizes sizes' reason reason' j status.NoMemory = NothingIsWritten out out' sizes sizes' × (reason' ≡ reason)
+EmitsJobTo out out' sizes sizes' reason reason' j status.TooSmall = HaveNoRoom j out out' sizes' × (reason' ≡ reason)
+EmitsJobTo out out' sizes sizes' reason reason' j s = ⊥
 
 -- how the emission of an input ends
 abbrev pub EmitsTo : (input : List ℕ) → (out out' : Buffers) → (sizes sizes' : Sizes) → (reason reason' : Reason) → Status → Type 0
-EmitsTo input out out' sizes sizes' reason reason' status.Syntax = IsSyntax input reason' × NothingIsWritten out out' sizes sizes'
-EmitsTo input out out' sizes sizes' reason reason' status.TooLong = IsTooLong input × NothingIsWritten out out' sizes sizes' × (reason' ≡ reason)
-EmitsTo input out out' sizes sizes' reason reason' status.NoMemory = NothingIsWritten out out' sizes sizes' × (reason' ≡ reason)
-EmitsTo input out out' sizes sizes' reason reason' s = EmitsTextTo input out out' sizes sizes' reason reason' s
+EmitsTo input out out' sizes sizes' reason reason' s =
+    EndsToOfJob input reason reason' (NothingIsWritten out out' sizes sizes') (EmitsJobTo out out' sizes sizes' reason reason') s
 
 -- the number is that of how the emission of the input ends
-pub record IsEmitCall (input : List ℕ) (out out' : Buffers) (sizes sizes' : Sizes) (reason reason' : Reason) (number : ℕ) : Type 0 where
-  pub ended : Status
-  pub numbered : number ≡ number_of_status ended
-  pub so : EmitsTo input out out' sizes sizes' reason reason' ended
+abbrev pub IsEmitCall : (input : List ℕ) → (out out' : Buffers) → (sizes sizes' : Sizes) → (reason reason' : Reason) → (number : ℕ) → Type 0
+IsEmitCall input out out' sizes sizes' reason reason' number = EndsWithNumber (EmitsTo input out out' sizes sizes' reason reason') number
+
+-- emission has no cause to refuse the job, and the buffers have room for the tables of its code
+pub record CanBeEmitted (out : Buffers) (j : Job) : Type 0 where
+  pub valid : job_cause j ≡ None
+  pub room : (code : MachBufferFinalized) → IsCodeOf j code → HasRoom code out
+
+-- the input is the text of such a job
+abbrev pub IsEmitted : (input : List ℕ) → (out : Buffers) → Type 0
+IsEmitted input out = IsTextSuchThat IsText (IsJobOf input) (CanBeEmitted out) input

@@ -1,5 +1,5 @@
 -- What `s390x_image` answers. A name with a prime is of what a call leaves.
-use Rattle.std.specs.Prelude.{◌≡◌, ◌≢◌, ◌⊎◌, ℕ, List, [], ◌∷◌, Some}
+use Rattle.std.specs.Prelude.{◌≡◌, ◌≢◌, ◌≤◌, ◌⊎◌, ℕ, List, [], ◌∷◌, Some, None, length}
 use Rattle.s390x_base.specs.declared.error.EmitError.TheVariants as emit
 use Rattle.s390x_emit_int.specs.FunctionImage.{IsImageOf}
 use Rattle.s390x_emit_int.specs.FunctionImage as function
@@ -9,12 +9,13 @@ use Rattle.s390x_image.specs.Errors.{number_of_link_error}
 use Rattle.s390x_image.specs.Symbols.{Symbols, no_symbols, with_address}
 use Rattle.s390x_image.specs.declared.error.LinkError.{LinkError}
 use Rattle.s390x_image.specs.declared.error.LinkError.TheVariants as link
+use Rattle.s390x_job.specs.Completions.{IsText}
 use Rattle.s390x_job.specs.declared.job.Job.{Job}
 use Rattle.s390x_job.specs.declared.job.SymbolLine.{SymbolLine}
-use Rattle.s390x_calls.specs.Input.{IsSyntax, IsTextOf, IsTooLong, by_cause}
+use Rattle.s390x_calls.specs.Ends.{EndsWithNumber, IsTextSuchThat}
+use Rattle.s390x_calls.specs.Input.{EndsToOfJob, IsJobOf, by_cause}
 use Rattle.s390x_calls.specs.Places.{no_place}
 use Rattle.s390x_calls.specs.Put.{HasNoRoom, HoldsEntries, NoEntryIsWritten}
-use Rattle.s390x_calls.specs.Status.{number_of_status}
 use Rattle.s390x_calls.specs.declared.reason.Reason.{Reason}
 use Rattle.s390x_calls.specs.declared.status.Status.{Status}
 use Rattle.s390x_calls.specs.declared.status.Status.TheVariants as status
@@ -52,32 +53,33 @@ pub record IsLinkRefused (base : ℕ) (j : Job) (reason' : Reason) : Type 0 wher
   pub told : reason' ≡ by_cause (number_of_link_error error) no_place
 
 -- how the linking of a job ends
-abbrev pub LinksJobTo : (base : ℕ) → Job → (out out' : List ℕ) → (count count' : ℕ) → (reason reason' : Reason) → Status → Type 0
-LinksJobTo base j out out' count count' reason reason' status.Done = HoldsImage base j out out' count' × (reason' ≡ reason)
-LinksJobTo base j out out' count count' reason reason' status.Refused = IsRefused j reason' × NoEntryIsWritten out out' count count'
-LinksJobTo base j out out' count count' reason reason' status.LinkRefused = IsLinkRefused base j reason' × NoEntryIsWritten out out' count count'
-LinksJobTo base j out out' count count' reason reason' status.NoMemory = NoEntryIsWritten out out' count count' × (reason' ≡ reason)
-LinksJobTo base j out out' count count' reason reason' status.TooSmall = HasNoRoomForImage base j out out' count' × (reason' ≡ reason)
-LinksJobTo base j out out' count count' reason reason' s = ⊥
-
--- the input is the text of a job, the only one, and its linking ends so
-pub record LinksTextTo (base : ℕ) (input out out' : List ℕ) (count count' : ℕ) (reason reason' : Reason) (s : Status) : Type 0 where
-  pub job : Job
-  pub text : IsTextOf job input
-  pub ends : LinksJobTo base job out out' count count' reason reason' s
+abbrev pub LinksJobTo : (base : ℕ) → (out out' : List ℕ) → (count count' : ℕ) → (reason reason' : Reason) → Job → Status → Type 0
+LinksJobTo base out out' count count' reason reason' j status.Done = HoldsImage base j out out' count' × (reason' ≡ reason)
+LinksJobTo base out out' count count' reason reason' j status.Refused = IsRefused j reason' × NoEntryIsWritten out out' count count'
+LinksJobTo base out out' count count' reason reason' j status.LinkRefused = IsLinkRefused base j reason' × NoEntryIsWritten out out' count count'
+LinksJobTo base out out' count count' reason reason' j status.NoMemory = NoEntryIsWritten out out' count count' × (reason' ≡ reason)
+LinksJobTo base out out' count count' reason reason' j status.TooSmall = HasNoRoomForImage base j out out' count' × (reason' ≡ reason)
+LinksJobTo base out out' count count' reason reason' j s = ⊥
 
 -- how the linking of an input ends
 abbrev pub LinksTo : (base : ℕ) → (input out out' : List ℕ) → (count count' : ℕ) → (reason reason' : Reason) → Status → Type 0
-LinksTo base input out out' count count' reason reason' status.Syntax = IsSyntax input reason' × NoEntryIsWritten out out' count count'
-LinksTo base input out out' count count' reason reason' status.TooLong = IsTooLong input × NoEntryIsWritten out out' count count' × (reason' ≡ reason)
-LinksTo base input out out' count count' reason reason' status.NoMemory = NoEntryIsWritten out out' count count' × (reason' ≡ reason)
-LinksTo base input out out' count count' reason reason' s = LinksTextTo base input out out' count count' reason reason' s
+LinksTo base input out out' count count' reason reason' s =
+    EndsToOfJob input reason reason' (NoEntryIsWritten out out' count count') (LinksJobTo base out out' count count' reason reason') s
 
 -- the number is that of how the linking of the input ends
-pub record IsImageCall (base : ℕ) (input out out' : List ℕ) (count count' : ℕ) (reason reason' : Reason) (number : ℕ) : Type 0 where
-  pub ended : Status
-  pub numbered : number ≡ number_of_status ended
-  pub so : LinksTo base input out out' count count' reason reason' ended
+abbrev pub IsImageCall : (base : ℕ) → (input out out' : List ℕ) → (count count' : ℕ) → (reason reason' : Reason) → (number : ℕ) → Type 0
+IsImageCall base input out out' count count' reason reason' number =
+    EndsWithNumber (LinksTo base input out out' count count' reason reason') number
+
+-- neither emission nor linking has a cause to refuse the job, and the buffer has room for its image
+pub record CanBeLinked (base : ℕ) (out : List ℕ) (j : Job) : Type 0 where
+  pub valid : job_cause j ≡ None
+  pub links : (error : LinkError) → function.IsLinkRefused j.info.isa_flags j.state j.function base (symbols_of j) error → ⊥
+  pub room : (bytes : List ℕ) → IsImageOfJob base j bytes → length bytes ≤ length out
+
+-- the input is the text of such a job
+abbrev pub IsLinked : (base : ℕ) → (input out : List ℕ) → Type 0
+IsLinked base input out = IsTextSuchThat IsText (IsJobOf input) (CanBeLinked base out) input
 
 -- an error of emission is the job's first cause, or want of memory
 abbrev pub MayRefuse : Job → ImageError → Type 0

@@ -1,11 +1,12 @@
 -- What `s390x_show` answers. A name with a prime is of what a call leaves.
-use Rattle.std.specs.Prelude.{◌≡◌, ℕ, List, None}
+use Rattle.std.specs.Prelude.{◌≡◌, ◌≤◌, ℕ, List, None, length}
+use Rattle.s390x_job.specs.Completions.{IsText}
 use Rattle.s390x_job.specs.declared.job.Job.{Job}
 use Rattle.s390x_listing.specs.Texts.{texts_listing}
 use Rattle.s390x_text_rows.specs.Texts.{Text}
-use Rattle.s390x_calls.specs.Input.{IsSyntax, IsTextOf, IsTooLong}
+use Rattle.s390x_calls.specs.Ends.{EndsWithNumber, IsTextSuchThat}
+use Rattle.s390x_calls.specs.Input.{EndsToOfJob, IsJobOf}
 use Rattle.s390x_calls.specs.Put.{HasNoRoom, HoldsEntries, NoEntryIsWritten}
-use Rattle.s390x_calls.specs.Status.{number_of_status}
 use Rattle.s390x_calls.specs.declared.reason.Reason.{Reason}
 use Rattle.s390x_calls.specs.declared.status.Status.{Status}
 use Rattle.s390x_calls.specs.declared.status.Status.TheVariants as status
@@ -33,28 +34,27 @@ PutsTexts j out out' count count' status.TooSmall = HasNoRoomForTexts j out out'
 PutsTexts j out out' count count' s = ⊥
 
 -- how the listing of a job ends; one without a code has none
-abbrev pub ShowsJobTo : Job → (out out' : List ℕ) → (count count' : ℕ) → (reason reason' : Reason) → Status → Type 0
-ShowsJobTo j out out' count count' reason reason' status.Done = (job_cause j ≡ None) × HoldsTexts j out out' count' × (reason' ≡ reason)
-ShowsJobTo j out out' count count' reason reason' status.Refused = IsRefused j reason' × NoEntryIsWritten out out' count count'
-ShowsJobTo j out out' count count' reason reason' status.NoMemory = NoEntryIsWritten out out' count count' × (reason' ≡ reason)
-ShowsJobTo j out out' count count' reason reason' status.TooSmall = (job_cause j ≡ None) × HasNoRoomForTexts j out out' count' × (reason' ≡ reason)
-ShowsJobTo j out out' count count' reason reason' s = ⊥
-
--- the input is the text of a job, the only one, and its listing ends so
-pub record ShowsTextTo (input out out' : List ℕ) (count count' : ℕ) (reason reason' : Reason) (s : Status) : Type 0 where
-  pub job : Job
-  pub text : IsTextOf job input
-  pub ends : ShowsJobTo job out out' count count' reason reason' s
+abbrev pub ShowsJobTo : (out out' : List ℕ) → (count count' : ℕ) → (reason reason' : Reason) → Job → Status → Type 0
+ShowsJobTo out out' count count' reason reason' j status.Done = (job_cause j ≡ None) × HoldsTexts j out out' count' × (reason' ≡ reason)
+ShowsJobTo out out' count count' reason reason' j status.Refused = IsRefused j reason' × NoEntryIsWritten out out' count count'
+ShowsJobTo out out' count count' reason reason' j status.NoMemory = NoEntryIsWritten out out' count count' × (reason' ≡ reason)
+ShowsJobTo out out' count count' reason reason' j status.TooSmall = (job_cause j ≡ None) × HasNoRoomForTexts j out out' count' × (reason' ≡ reason)
+ShowsJobTo out out' count count' reason reason' j s = ⊥
 
 -- how the listing of an input ends
 abbrev pub ShowsTo : (input out out' : List ℕ) → (count count' : ℕ) → (reason reason' : Reason) → Status → Type 0
-ShowsTo input out out' count count' reason reason' status.Syntax = IsSyntax input reason' × NoEntryIsWritten out out' count count'
-ShowsTo input out out' count count' reason reason' status.TooLong = IsTooLong input × NoEntryIsWritten out out' count count' × (reason' ≡ reason)
-ShowsTo input out out' count count' reason reason' status.NoMemory = NoEntryIsWritten out out' count count' × (reason' ≡ reason)
-ShowsTo input out out' count count' reason reason' s = ShowsTextTo input out out' count count' reason reason' s
+ShowsTo input out out' count count' reason reason' s =
+    EndsToOfJob input reason reason' (NoEntryIsWritten out out' count count') (ShowsJobTo out out' count count' reason reason') s
 
 -- the number is that of how the listing of the input ends
-pub record IsShowCall (input out out' : List ℕ) (count count' : ℕ) (reason reason' : Reason) (number : ℕ) : Type 0 where
-  pub ended : Status
-  pub numbered : number ≡ number_of_status ended
-  pub so : ShowsTo input out out' count count' reason reason' ended
+abbrev pub IsShowCall : (input out out' : List ℕ) → (count count' : ℕ) → (reason reason' : Reason) → (number : ℕ) → Type 0
+IsShowCall input out out' count count' reason reason' number = EndsWithNumber (ShowsTo input out out' count count' reason reason') number
+
+-- emission has no cause to refuse the job, and the buffer has room for its instructions' texts
+pub record CanBeShown (out : List ℕ) (j : Job) : Type 0 where
+  pub valid : job_cause j ≡ None
+  pub room : length (texts_of j).bytes ≤ length out
+
+-- the input is the text of such a job
+abbrev pub IsShown : (input out : List ℕ) → Type 0
+IsShown input out = IsTextSuchThat IsText (IsJobOf input) (CanBeShown out) input

@@ -1,6 +1,6 @@
 //! The image of several functions that call each other by name.
-ghost use Rattle.std.specs.Prelude.{◌≡◌, IfOk, map};
-ghost use Rattle.s390x_c.specs.Bundle.{BundlesFunctionsTo, BundlesTo, IsBundleCall, IsBundleRefusal, member_of, reason_of_bundle};
+ghost use Rattle.std.specs.Prelude.{◌≡◌, ◌⊎◌, IfOk, map};
+ghost use Rattle.s390x_c.specs.Bundle.{BundlesFunctionsTo, BundlesTo, IsBundleCall, IsBundleRefusal, IsBundled, member_of, reason_of_bundle};
 
 use s390x_bundle::{BundleError, Member, bundle};
 use s390x_calls::{MOST_BYTES, Reason, Status, put_entries};
@@ -29,8 +29,10 @@ pub extern "C" fn s390x_bundle(
     count: &mut usize,
     reason: &mut Reason,
 ) -> u32
-    ensures { IsBundleCall base input.now out.old out.new count.old count.new
+    ensures answer { IsBundleCall base input.now out.old out.new count.old count.new
         reason.old reason.new result }
+    // Functions that nothing keeps from an image are done, where the buffer has room.
+    ensures complete { IsBundled base input.now out.old → (result ≡ 0) ⊎ (result ≡ 9) }
 {
     bundled(alloc, input, base, out, count, reason).number()
 }
@@ -70,8 +72,8 @@ fn image_of_functions(
     count: &mut usize,
     reason: &mut Reason,
 ) -> Status
-    ensures { BundlesFunctionsTo base functions.items out.old out.new count.old count.new
-        reason.old reason.new result }
+    ensures { BundlesFunctionsTo base out.old out.new count.old count.new
+        reason.old reason.new functions.items result }
 {
     let Ok(members) = members_of(alloc, functions) else {
         return Status::NoMemory;

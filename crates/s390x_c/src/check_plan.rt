@@ -1,5 +1,6 @@
 //! The check of a plan of registers.
-ghost use Rattle.s390x_c_allocation.specs.Plans.{IsCheckPlanCall};
+ghost use Rattle.std.specs.Prelude.{◌≡◌, ◌⊎◌};
+ghost use Rattle.s390x_c_allocation.specs.Plans.{IsCheckPlanCall, IsChecked};
 
 use s390x_c_allocation::{PlanReason, checked_plan};
 use std::alloc::Global;
@@ -16,7 +17,9 @@ use std::alloc::Global;
 /// `reason` isn't written but with `Syntax` and `PlanRefused`.
 #[unsafe(no_mangle)]
 pub extern "C" fn s390x_check_plan(alloc: Global, input: &[u8], reason: &mut PlanReason) -> u32
-    ensures { IsCheckPlanCall input.now reason.old reason.new result }
+    ensures answer { IsCheckPlanCall input.now reason.old reason.new result }
+    // A plan without a fault is done.
+    ensures complete { IsChecked input.now → (result ≡ 0) ⊎ (result ≡ 9) }
 {
     checked_plan(alloc, input, reason).number()
 }

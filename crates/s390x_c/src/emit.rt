@@ -1,6 +1,7 @@
 //! The code of a job's function, with its tables.
+ghost use Rattle.std.specs.Prelude.{◌≡◌, ◌⊎◌};
 ghost use Rattle.s390x_tables.specs.Buffers.{LieInPlace};
-ghost use Rattle.s390x_c.specs.Emit.{EmitsTo, EmitsJobTo, IsEmitCall};
+ghost use Rattle.s390x_c.specs.Emit.{EmitsTo, EmitsJobTo, IsEmitCall, IsEmitted};
 
 use crate::refused::refused;
 use s390x_base::EmitError;
@@ -30,12 +31,15 @@ pub extern "C" fn s390x_emit(
 ) -> u32
     ensures answer { IsEmitCall input.now out.old out.new sizes.old sizes.new
         reason.old reason.new result }
+    // A job that emission has no cause to refuse is done, where the buffers have room.
+    ensures complete { IsEmitted input.now out.old → (result ≡ 0) ⊎ (result ≡ 9) }
     ensures places { LieInPlace out.old out.new }
 {
     emit(alloc, input, out, sizes, reason).number()
 }
 
 // The code of the function of the job whose text the input is.
+#[tactic(auto, using(s390x_calls::proofs::Ending::no_job))]
 fn emit(
     alloc: Global,
     input: &[u8],
@@ -69,8 +73,8 @@ fn emit_job(
     sizes: &mut Sizes,
     reason: &mut Reason,
 ) -> Status
-    ensures answer { EmitsJobTo job.now out.old out.new sizes.old sizes.new
-        reason.old reason.new result }
+    ensures answer { EmitsJobTo out.old out.new sizes.old sizes.new
+        reason.old reason.new job.now result }
     ensures places { LieInPlace out.old out.new }
 {
     match emit_function(alloc, &job.function, &job.info, job.state) {

@@ -1,7 +1,7 @@
 //! The image of a job's function at a base.
-ghost use Rattle.std.specs.Prelude.{◌≡◌, IfOk};
+ghost use Rattle.std.specs.Prelude.{◌≡◌, ◌⊎◌, IfOk};
 ghost use Rattle.s390x_image.specs.Symbols.{no_symbols};
-ghost use Rattle.s390x_c.specs.Image.{IsImageCall, IsRefusalOf, LinksJobTo, LinksTo, MayRefuse, with_lines};
+ghost use Rattle.s390x_c.specs.Image.{IsImageCall, IsLinked, IsRefusalOf, LinksJobTo, LinksTo, MayRefuse, with_lines};
 
 use crate::refused::refused;
 use s390x_base::{EmitError, NoMemory};
@@ -34,13 +34,17 @@ pub extern "C" fn s390x_image(
     count: &mut usize,
     reason: &mut Reason,
 ) -> u32
-    ensures { IsImageCall base input.now out.old out.new count.old count.new
+    ensures answer { IsImageCall base input.now out.old out.new count.old count.new
         reason.old reason.new result }
+    // A job that neither emission nor linking has a cause to refuse is done, where the buffer has
+    // room.
+    ensures complete { IsLinked base input.now out.old → (result ≡ 0) ⊎ (result ≡ 9) }
 {
     image(alloc, input, base, out, count, reason).number()
 }
 
 // The image of the function of the job whose text the input is.
+#[tactic(auto, using(s390x_calls::proofs::Ending::no_job))]
 fn image(
     alloc: Global,
     input: &[u8],
@@ -75,8 +79,8 @@ fn image_of_job(
     count: &mut usize,
     reason: &mut Reason,
 ) -> Status
-    ensures { LinksJobTo base job.now out.old out.new count.old count.new
-        reason.old reason.new result }
+    ensures { LinksJobTo base out.old out.new count.old count.new
+        reason.old reason.new job.now result }
 {
     let Ok(symbols) = symbol_table(alloc, &job.symbols) else {
         return Status::NoMemory;

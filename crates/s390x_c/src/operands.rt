@@ -1,5 +1,6 @@
 //! What a job's instructions report.
-ghost use Rattle.s390x_c_allocation.specs.Operands.{IsOperandsCall};
+ghost use Rattle.std.specs.Prelude.{◌≡◌, ◌⊎◌};
+ghost use Rattle.s390x_c_allocation.specs.Operands.{IsOperandsCall, IsReported};
 
 use s390x_c_allocation::{OperandEntry, operands};
 use s390x_calls::Reason;
@@ -25,8 +26,10 @@ pub extern "C" fn s390x_operands(
     count: &mut usize,
     reason: &mut Reason,
 ) -> u32
-    ensures { IsOperandsCall input.now out.old out.new count.old count.new
+    ensures answer { IsOperandsCall input.now out.old out.new count.old count.new
         reason.old reason.new result }
+    // A job whose instructions can all be reported is done, where the buffer has room.
+    ensures complete { IsReported input.now out.old → (result ≡ 0) ⊎ (result ≡ 9) }
 {
     operands(alloc, input, out, count, reason).number()
 }

@@ -1,7 +1,7 @@
 //! The texts of a job's instructions.
-ghost use Rattle.std.specs.Prelude.{◌≡◌, None};
+ghost use Rattle.std.specs.Prelude.{◌≡◌, ◌⊎◌, None};
 ghost use Rattle.s390x_c.specs.Refused.{job_cause};
-ghost use Rattle.s390x_c.specs.Show.{IsShowCall, PutsTexts, ShowsJobTo, ShowsTo, texts_of};
+ghost use Rattle.s390x_c.specs.Show.{IsShowCall, IsShown, PutsTexts, ShowsJobTo, ShowsTo, texts_of};
 
 use crate::refused::refused;
 use s390x_base::EmitError;
@@ -31,13 +31,16 @@ pub extern "C" fn s390x_show(
     count: &mut usize,
     reason: &mut Reason,
 ) -> u32
-    ensures { IsShowCall input.now out.old out.new count.old count.new
+    ensures answer { IsShowCall input.now out.old out.new count.old count.new
         reason.old reason.new result }
+    // A job that emission has no cause to refuse is done, where the buffer has room.
+    ensures complete { IsShown input.now out.old → (result ≡ 0) ⊎ (result ≡ 9) }
 {
     show(alloc, input, out, count, reason).number()
 }
 
 // The texts of the instructions of the job whose text the input is.
+#[tactic(auto, using(s390x_calls::proofs::Ending::no_job))]
 fn show(
     alloc: Global,
     input: &[u8],
@@ -45,7 +48,8 @@ fn show(
     count: &mut usize,
     reason: &mut Reason,
 ) -> Status
-    ensures { ShowsTo input.now out.old out.new count.old count.new reason.old reason.new result }
+    ensures { ShowsTo input.now out.old out.new count.old count.new
+        reason.old reason.new result }
 {
     if input.len() > MOST_BYTES {
         return Status::TooLong;
@@ -69,7 +73,8 @@ fn show_job(
     count: &mut usize,
     reason: &mut Reason,
 ) -> Status
-    ensures { ShowsJobTo job.now out.old out.new count.old count.new reason.old reason.new result }
+    ensures { ShowsJobTo out.old out.new count.old count.new
+        reason.old reason.new job.now result }
 {
     match emit_function(alloc, &job.function, &job.info, job.state) {
         Ok(_) => {

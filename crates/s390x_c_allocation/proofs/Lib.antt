@@ -1,2 +1,2 @@
 mod Reporting
-mod Answering
+pub mod Answering

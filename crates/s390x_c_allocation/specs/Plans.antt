@@ -1,17 +1,16 @@
 -- What `s390x_check_plan` answers. A name with a prime is of what a call leaves.
-use Rattle.std.specs.Prelude.{◌≡◌, ◌≢◌, ℕ, List, Err, IsOk}
+use Rattle.std.specs.Prelude.{◌≡◌, ◌≢◌, ℕ, List, Result, Err, IsOk}
 use Rattle.s390x_alloc.specs.Checked.{checked}
 use Rattle.s390x_alloc.specs.Walks.{EveryWalkReadsAlike}
 use Rattle.s390x_alloc.specs.declared.fault.PlanFault.{PlanFault}
 use Rattle.s390x_alloc.specs.declared.fault.PlanFault.TheVariants as fault
-use Rattle.s390x_job.specs.Completions.{pieces}
+use Rattle.s390x_alloc.specs.declared.plan.EntryPair.{EntryPair}
 use Rattle.s390x_operands.specs.declared.constraint.OperandError.{OperandError}
 use Rattle.s390x_operands.specs.declared.constraint.OperandError.TheVariants.{ReuseInLoop, NotReal, NoMemory}
 use Rattle.s390x_job_plan.specs.Completions.{IsFirstWrongOfPlanned, IsPlannedText}
 use Rattle.s390x_job_plan.specs.Text.{IsPlannedOf}
 use Rattle.s390x_job_plan.specs.declared.planned_job.PlannedJob.{PlannedJob}
-use Rattle.s390x_calls.specs.Input.{IsTooLong}
-use Rattle.s390x_calls.specs.Status.{number_of_status}
+use Rattle.s390x_calls.specs.Ends.{EndsTo, EndsWithNumber, IsNoText, IsTextSuchThat}
 use Rattle.s390x_c_allocation.specs.declared.plan.PlanReason.{PlanReason}
 use Rattle.s390x_calls.specs.declared.status.Status.{Status}
 use Rattle.s390x_calls.specs.declared.status.Status.TheVariants as status
@@ -49,41 +48,47 @@ IsFaultTold f reason reason' status.PlanRefused = (f ≢ fault.NoMemory) × (rea
 IsFaultTold f reason reason' status.NoMemory = (f ≡ fault.NoMemory) × (reason' ≡ reason)
 IsFaultTold f reason reason' s = ⊥
 
--- The input is the text of a job with a plan, the only one. The plan has no fault, and on every walk from the first block, and whatever the values are, each
--- instruction reads by its registers the values of its virtual registers
-pub record IsFaultless (input : List ℕ) : Type 0 where
-  pub planned : PlannedJob
-  pub is : IsPlannedOf input planned
-  pub faultless : IsOk (checked planned.job.state.layout planned.job.function.blocks.items planned.plan.blocks.items)
-  pub walks : EveryWalkReadsAlike planned.job.function.blocks.items planned.plan.blocks.items
+-- the check of a plan
+abbrev pub check_of : PlannedJob → Result (List (List EntryPair)) PlanFault
+check_of p = checked p.job.state.layout p.job.function.blocks.items p.plan.blocks.items
 
--- the input is the text of a job with a plan, which has this first fault
-pub record IsFaulty (input : List ℕ) (reason' : PlanReason) : Type 0 where
-  pub planned : PlannedJob
-  pub is : IsPlannedOf input planned
+-- the plan has no fault, and on every walk from the first block, and whatever the values are, each instruction reads by its registers the values of its virtual
+-- registers
+pub record IsFaultless (p : PlannedJob) : Type 0 where
+  pub faultless : IsOk (check_of p)
+  pub walks : EveryWalkReadsAlike p.job.function.blocks.items p.plan.blocks.items
+
+-- the plan has this first fault
+pub record IsFaulty (p : PlannedJob) (reason' : PlanReason) : Type 0 where
   pub first : PlanFault
   pub named : first ≢ fault.NoMemory
-  pub cause : checked planned.job.state.layout planned.job.function.blocks.items planned.plan.blocks.items ≡ Err first
+  pub cause : check_of p ≡ Err first
   pub told : reason' ≡ reason_of_fault first
 
--- the input is the text of no job with a plan, and the reason is its first wrong line
-pub record IsPlanSyntax (input : List ℕ) (reason' : PlanReason) : Type 0 where
-  pub none : IsPlannedText input → ⊥
-  pub line : ℕ
-  pub first : IsFirstWrongOfPlanned (pieces input) line
-  pub told : reason' ≡ at_plan_line line
+-- how the check of a job with a plan ends
+abbrev pub ChecksPlanTo : (reason reason' : PlanReason) → PlannedJob → Status → Type 0
+ChecksPlanTo reason reason' p status.Done = IsFaultless p × (reason' ≡ reason)
+ChecksPlanTo reason reason' p status.PlanRefused = IsFaulty p reason'
+ChecksPlanTo reason reason' p status.NoMemory = reason' ≡ reason
+ChecksPlanTo reason reason' p s = ⊥
 
--- how the check of an input ends
+-- the input is the text of no job with a plan, and the reason is its first wrong line
+abbrev pub IsPlanSyntax : (input : List ℕ) → (reason' : PlanReason) → Type 0
+IsPlanSyntax input reason' = IsNoText IsPlannedText IsFirstWrongOfPlanned at_plan_line input reason'
+
+-- how the check of an input ends; it writes nothing but the reason
 abbrev pub ChecksTo : (input : List ℕ) → (reason reason' : PlanReason) → Status → Type 0
-ChecksTo input reason reason' status.Done = IsFaultless input × (reason' ≡ reason)
-ChecksTo input reason reason' status.Syntax = IsPlanSyntax input reason'
-ChecksTo input reason reason' status.PlanRefused = IsFaulty input reason'
-ChecksTo input reason reason' status.TooLong = IsTooLong input × (reason' ≡ reason)
-ChecksTo input reason reason' status.NoMemory = reason' ≡ reason
-ChecksTo input reason reason' s = ⊥
+ChecksTo input reason reason' s =
+    EndsTo input (IsPlannedOf input) (IsPlanSyntax input reason') (Unit {0}) (reason' ≡ reason) (ChecksPlanTo reason reason') s
 
 -- the number is that of how the check of the input ends
-pub record IsCheckPlanCall (input : List ℕ) (reason reason' : PlanReason) (number : ℕ) : Type 0 where
-  pub ended : Status
-  pub numbered : number ≡ number_of_status ended
-  pub so : ChecksTo input reason reason' ended
+abbrev pub IsCheckPlanCall : (input : List ℕ) → (reason reason' : PlanReason) → (number : ℕ) → Type 0
+IsCheckPlanCall input reason reason' number = EndsWithNumber (ChecksTo input reason reason') number
+
+-- the plan has no fault
+abbrev pub HasNoFault : PlannedJob → Type 0
+HasNoFault p = IsOk (check_of p)
+
+-- the input is the text of a job with such a plan
+abbrev pub IsChecked : (input : List ℕ) → Type 0
+IsChecked input = IsTextSuchThat IsPlannedText (IsPlannedOf input) HasNoFault input

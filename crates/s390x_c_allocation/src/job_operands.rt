@@ -10,6 +10,7 @@ use s390x_job::{Job, LineError, read_lines};
 use std::alloc::Global;
 
 /// What each instruction of a job reports to a register allocator. The input is the job's text.
+#[tactic(auto, using(s390x_calls::proofs::Ending::no_job))]
 pub fn operands(
     alloc: Global,
     input: &[u8],
@@ -17,7 +18,8 @@ pub fn operands(
     count: &mut usize,
     reason: &mut Reason,
 ) -> Status
-    ensures { ReportsTo input.now out.old out.new count.old count.new reason.old reason.new result }
+    ensures { ReportsTo input.now out.old out.new count.old count.new
+        reason.old reason.new result }
 {
     if input.len() > MOST_BYTES {
         return Status::TooLong;
@@ -41,8 +43,8 @@ fn operands_of_job(
     count: &mut usize,
     reason: &mut Reason,
 ) -> Status
-    ensures { ReportsJobTo job.now out.old out.new count.old count.new
-        reason.old reason.new result }
+    ensures { ReportsJobTo out.old out.new count.old count.new
+        reason.old reason.new job.now result }
 {
     match reported(alloc, &job.function.blocks) {
         Ok(entries) => put_entries(&entries, out, count),

@@ -1,7 +1,6 @@
 //! The check of a plan of registers.
 ghost use Rattle.std.specs.Prelude.{◌≡◌};
-ghost use Rattle.s390x_job_plan.specs.Text.{IsPlannedOf};
-ghost use Rattle.s390x_c_allocation.specs.Plans.{ChecksTo, IsFaultTold, at_plan_line, number_of_operand_error, reason_of_fault};
+ghost use Rattle.s390x_c_allocation.specs.Plans.{ChecksPlanTo, ChecksTo, IsFaultTold, at_plan_line, reason_of_fault, told_fault};
 
 use crate::numbers::operand_error_number;
 use s390x_alloc::{PlanFault, check_plan};
@@ -36,7 +35,7 @@ pub fn checked_plan(alloc: Global, input: &[u8], reason: &mut PlanReason) -> Sta
         return Status::TooLong;
     }
     match read_plan(alloc, input) {
-        Ok(planned) => check_planned(alloc, input, &planned, reason),
+        Ok(planned) => check_planned(alloc, &planned, reason),
         Err(PlanTextError::Syntax { line }) => {
             *reason = at_line(line);
             Status::Syntax
@@ -47,14 +46,8 @@ pub fn checked_plan(alloc: Global, input: &[u8], reason: &mut PlanReason) -> Sta
 
 // Whether the plan has a fault.
 #[tactic(auto, using(crate::proofs::Answering::faultless, crate::proofs::Answering::faulty))]
-fn check_planned(
-    alloc: Global,
-    input: &[u8],
-    planned: &PlannedJob,
-    reason: &mut PlanReason,
-) -> Status
-    requires { IsPlannedOf input.now planned.now }
-    ensures { ChecksTo input.now reason.old reason.new result }
+fn check_planned(alloc: Global, planned: &PlannedJob, reason: &mut PlanReason) -> Status
+    ensures { ChecksPlanTo reason.old reason.new planned.now result }
 {
     let job = &planned.job;
     match check_plan(
@@ -93,14 +86,7 @@ fn at_line(line: u32) -> PlanReason
 
 // A fault with its numbers.
 fn told(fault: u32, block: u32, index: u32, operand: u32) -> PlanReason
-    ensures { result ≡ record {
-      line = 0;
-      fault = fault;
-      block = block;
-      index = index;
-      operand = operand;
-      cause = 0;
-    } }
+    ensures { result ≡ told_fault fault block index operand }
 {
     PlanReason {
         line: 0,

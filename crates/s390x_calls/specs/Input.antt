@@ -1,12 +1,14 @@
 -- What a call says of its input.
-use Rattle.std.specs.Prelude.{◌≡◌, ◌<◌, ℕ, List, length}
-use Rattle.s390x_job.specs.Completions.{pieces, IsFirstWrong}
+use Rattle.std.specs.Prelude.{◌≡◌, ℕ, List}
+use Rattle.s390x_job.specs.Completions.{IsFirstWrong, IsText}
 use Rattle.s390x_job.specs.Jobs.{text_of_job, IsJob}
 use Rattle.s390x_job.specs.Same.{SameJob}
 use Rattle.s390x_job.specs.declared.job.Job.{Job}
+use Rattle.s390x_calls.specs.Ends.{EndsTo, IsNoText}
 use Rattle.s390x_calls.specs.Places.{no_place}
 use Rattle.s390x_calls.specs.declared.place.Place.{Place}
 use Rattle.s390x_calls.specs.declared.reason.Reason.{Reason}
+use Rattle.s390x_calls.specs.declared.status.Status.{Status}
 
 -- a line, and nothing else
 abbrev pub at_line : ℕ → Reason
@@ -21,18 +23,15 @@ abbrev pub by_member : (number member : ℕ) → Reason
 by_member number member = record { line = 0; cause = number; member = member; place = no_place }
 
 -- the input is the text of this job, the only one
-pub record IsTextOf (j : Job) (input : List ℕ) : Type 0 where
+pub record IsJobOf (input : List ℕ) (j : Job) : Type 0 where
   pub is : IsJob j
   pub spelled : text_of_job j ≡ input
   pub one : (other : Job) → IsJob other → text_of_job other ≡ input → SameJob j other
 
 -- the input is the text of no job, and the reason is its first wrong line
-pub record IsSyntax (input : List ℕ) (r : Reason) : Type 0 where
-  pub none : (j : Job) → IsJob j → text_of_job j ≡ input → ⊥
-  pub line : ℕ
-  pub first : IsFirstWrong (pieces input) line
-  pub told : r ≡ at_line line
+abbrev pub IsSyntax : (input : List ℕ) → (reason' : Reason) → Type 0
+IsSyntax input reason' = IsNoText IsText IsFirstWrong at_line input reason'
 
--- the input has too many bytes
-abbrev pub IsTooLong : List ℕ → Type 0
-IsTooLong input = 16777216 < length input
+-- how a call ends on an input that has to be the text of a job
+abbrev pub EndsToOfJob : (input : List ℕ) → (reason reason' : Reason) → (Unwritten : Type 0) → (Ends : Job → Status → Type 0) → Status → Type 0
+EndsToOfJob input reason reason' Unwritten Ends s = EndsTo input (IsJobOf input) (IsSyntax input reason') Unwritten (reason' ≡ reason) Ends s

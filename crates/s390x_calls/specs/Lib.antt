@@ -1,4 +1,5 @@
 pub mod Status
+pub mod Ends
 pub mod Places
 pub mod Input
 pub mod Put

@@ -1,8 +1,12 @@
-use Rattle.s390x_c.proofs.Answering.{linked}
+use Rattle.std.proofs.Common.{arith}
+use Rattle.s390x_calls.proofs.Ending.{on_job}
+use Rattle.s390x_calls.specs.Put.{NoEntryIsWritten}
+use Rattle.s390x_c.specs.Image.{LinksJobTo}
 use Rattle.s390x_c.proofs.image.image.Goals as goal
 
 pub returns-in-Ok : goal.returns-in-Ok
 returns-in-Ok c =
-    linked c.args.base c.args.input.now c.in-Ok.job c.args.out.now c.image_of_job.new.out c.args.count.now c.image_of_job.new.count
-    c.args.reason.now c.image_of_job.new.reason c.image_of_job.result
-    (record { is = c.in-Ok.ensures.job.0; spelled = c.in-Ok.ensures.job.1; one = c.in-Ok.ensures.one }) c.image_of_job.ensures
+    on_job c.args.input.now c.args.reason.now c.image_of_job.new.reason
+    (NoEntryIsWritten c.args.out.now c.image_of_job.new.out c.args.count.now c.image_of_job.new.count)
+    (LinksJobTo c.args.base c.args.out.now c.image_of_job.new.out c.args.count.now c.image_of_job.new.count c.args.reason.now c.image_of_job.new.reason)
+    c.in-Ok.job c.image_of_job.result (omega arith) c.in-Ok.ensures.job.0 c.in-Ok.ensures.job.1 c.in-Ok.ensures.one (λ e. e) (λ e. e) (λ e. e) c.image_of_job.ensures
