@@ -3,10 +3,13 @@
 #![tactic(auto)]
 
 mod case;
+mod ends;
+mod exact;
 mod reading;
 
-use crate::case::{Case, is_met};
-use crate::reading::Reader;
+use crate::case::is_met;
+use crate::exact::is_as_told;
+use crate::reading::{Asked, Reader};
 use s390x_case_runner::{Judge, LineError, Verdict, judge_input};
 use std::alloc::Global;
 use std::process::ExitCode;
@@ -19,23 +22,28 @@ impl Judge for Reader {
         line: &str,
     ) -> Result<Option<Verdict>, LineError> {
         match self.take_line(alloc, number, line)? {
-            Some(case) => judged(alloc, case),
+            Some(asked) => judged(alloc, asked),
             None => Ok(None),
         }
     }
 
     fn end(&mut self, alloc: Global) -> Result<Option<Verdict>, LineError> {
         match self.take_end(alloc)? {
-            Some(case) => judged(alloc, case),
+            Some(asked) => judged(alloc, asked),
             None => Ok(None),
         }
     }
 }
 
-// Runs the program on a case.
-fn judged(alloc: Global, case: Case) -> Result<Option<Verdict>, LineError> {
-    let line = case.line;
-    let is_met = is_met(alloc, case).map_err(|_| LineError::NoMemory)?;
+// Runs the program on a case, or reads a line.
+fn judged(alloc: Global, asked: Asked) -> Result<Option<Verdict>, LineError> {
+    let (line, is_met) = match asked {
+        Asked::Run(case) => (
+            case.line,
+            is_met(alloc, case).map_err(|_| LineError::NoMemory)?,
+        ),
+        Asked::Exact(exact) => (exact.line, is_as_told(&exact)),
+    };
     Ok(Some(Verdict { line, is_met }))
 }
 

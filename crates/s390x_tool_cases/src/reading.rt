@@ -1,10 +1,19 @@
 //! Reading the cases: a line begins one, belongs to its input or to what it must write, or is a case by itself.
 
-use crate::case::Case;
+use crate::case::{Case, Wanted};
+use crate::ends::Ends;
+use crate::exact::ExactLine;
 use s390x_case_runner::LineError;
 use s390x_tool::Status;
 use std::alloc::{AllocError, Global};
 use std::mem;
+
+/// What a line asks, or the end of the lines.
+#[derive(Drop)]
+pub enum Asked {
+    Run(Case),
+    Exact(ExactLine),
+}
 
 /// What the next line belongs to.
 #[derive(Clone, Copy)]
@@ -25,6 +34,8 @@ pub struct Reader {
     part: Part,
     // The first line of the jobs of rows with its line feed, or nothing.
     head: String,
+    // What the next case reads from and writes to.
+    ends: Ends,
     // What was read of the case that isn't ended.
     case: Case,
 }
@@ -36,7 +47,8 @@ impl Reader {
             number: 0,
             part: Part::Outside,
             head: String::new(alloc),
-            case: empty_case(alloc, 0),
+            ends: Ends::new(),
+            case: empty_case(alloc, 0, Ends::new()),
         }
     }
 
@@ -46,7 +58,7 @@ impl Reader {
         alloc: Global,
         number: u64,
         line: &str,
-    ) -> Result<Option<Case>, LineError> {
+    ) -> Result<Option<Asked>, LineError> {
         self.number = number;
         match self.part {
             Part::Outside => self.take_outside(alloc, line),
@@ -56,21 +68,22 @@ impl Reader {
     }
 
     /// Gives the case that the end of the lines ends. `Unreadable` where it lacks what must be written.
-    pub fn take_end(&mut self, alloc: Global) -> Result<Option<Case>, LineError> {
+    pub fn take_end(&mut self, alloc: Global) -> Result<Option<Asked>, LineError> {
         match self.part {
             Part::Outside => Ok(None),
             Part::Input => Err(LineError::Unreadable),
-            Part::Text => Ok(Some(self.end_case(alloc))),
+            Part::Text => Ok(Some(Asked::Run(self.end_case(alloc)))),
         }
     }
 
     // A line that isn't within a case.
-    fn take_outside(&mut self, alloc: Global, line: &str) -> Result<Option<Case>, LineError> {
+    fn take_outside(&mut self, alloc: Global, line: &str) -> Result<Option<Asked>, LineError> {
         if line.starts_with("#") {
             return Ok(None);
         }
         if let Some(words) = marked(line, ">") {
-            self.case = empty_case(alloc, self.number);
+            let ends = mem::replace(&mut self.ends, Ends::new());
+            self.case = empty_case(alloc, self.number, ends);
             self.case.words.push_str(words)?;
             self.part = Part::Input;
             return Ok(None);
@@ -79,41 +92,74 @@ impl Reader {
             self.head = line_of(alloc, head)?;
             return Ok(None);
         }
-        let case = self.row(alloc, line)?;
-        Ok(Some(case))
+        if let Some(ends) = marked(line, "!") {
+            self.ends = Ends::read(ends)?;
+            return Ok(None);
+        }
+        self.take_alone(alloc, line)
+    }
+
+    // A line that is a case by itself.
+    fn take_alone(&mut self, alloc: Global, line: &str) -> Result<Option<Asked>, LineError> {
+        if let Some(taken) = marked(line, "+") {
+            return Ok(Some(Asked::Exact(self.exact(alloc, taken, true)?)));
+        }
+        if let Some(left) = marked(line, "-") {
+            return Ok(Some(Asked::Exact(self.exact(alloc, left, false)?)));
+        }
+        Ok(Some(Asked::Run(self.row(alloc, line)?)))
+    }
+
+    // The case of a line that the exact readers take or leave.
+    fn exact(&self, alloc: Global, text: &str, is_taken: bool) -> Result<ExactLine, AllocError> {
+        let text = String::from_str(alloc, text)?;
+        Ok(ExactLine {
+            line: self.number,
+            text,
+            is_taken,
+        })
     }
 
     // A line of a case's input, or the one behind it with the status.
-    fn take_input(&mut self, line: &str) -> Result<Option<Case>, LineError> {
-        match marked(line, "<") {
-            Some(status) => {
-                self.case.status = status.parse::<u8>().map_err(|_| LineError::Unreadable)?;
-                self.part = Part::Text;
-            }
-            None => {
-                self.case.input.push_str(line)?;
-                self.case.input.push_str("\n")?;
-            }
+    fn take_input(&mut self, line: &str) -> Result<Option<Asked>, LineError> {
+        if let Some(status) = marked(line, "<") {
+            return self.take_status(status);
         }
+        if let Some(status) = marked(line, "|") {
+            self.case.input.pop();
+            return self.take_status(status);
+        }
+        self.case.input.push_str(line)?;
+        self.case.input.push_str("\n")?;
+        Ok(None)
+    }
+
+    // The status with which a case must end.
+    fn take_status(&mut self, status: &str) -> Result<Option<Asked>, LineError> {
+        self.case.wanted.status = status.parse::<u8>().map_err(|_| LineError::Unreadable)?;
+        self.part = Part::Text;
         Ok(None)
     }
 
     // A line that a case must write, or one that ends the case.
-    fn take_text(&mut self, alloc: Global, line: &str) -> Result<Option<Case>, LineError> {
+    fn take_text(&mut self, alloc: Global, line: &str) -> Result<Option<Asked>, LineError> {
         if ends_text(line) {
             let ended = self.end_case(alloc);
             self.take_outside(alloc, line)?;
-            return Ok(Some(ended));
+            return Ok(Some(Asked::Run(ended)));
         }
-        self.case.text.push_str(line)?;
-        self.case.text.push_str("\n")?;
+        self.case.wanted.text.push_str(line)?;
+        self.case.wanted.text.push_str("\n")?;
         Ok(None)
     }
 
-    // The case that was read, whose end this is.
+    // The case that was read, whose end this is. Where a write fails, the last line that is told has no line feed.
     fn end_case(&mut self, alloc: Global) -> Case {
         self.part = Part::Outside;
-        mem::replace(&mut self.case, empty_case(alloc, 0))
+        if self.case.wanted.status == Status::WriteFault.number() {
+            self.case.wanted.text.pop();
+        }
+        mem::replace(&mut self.case, empty_case(alloc, 0, Ends::new()))
     }
 
     // The case of an instruction and its code, or of why it is refused.
@@ -133,10 +179,13 @@ impl Reader {
         let head = self.head.as_str();
         Ok(Case {
             line: self.number,
+            ends: Ends::new(),
             words: String::from_str(alloc, "image 4096")?,
             input: format!(in alloc; "{head}block\n{instruction}\nend\n")?,
-            status: status.number(),
-            text: line_of(alloc, wanted)?,
+            wanted: Wanted {
+                status: status.number(),
+                text: line_of(alloc, wanted)?,
+            },
         })
     }
 }
@@ -150,9 +199,10 @@ fn marked<'a>(line: &'a str, mark: &str) -> Option<&'a str> {
     }
 }
 
-// Whether a line ends the text of a case: it is a comment, begins a case or tells how jobs begin.
+// Whether a line ends the text of a case: it is a comment, begins a case, or tells how jobs begin or what the next case reads from.
 fn ends_text(line: &str) -> bool {
-    line.starts_with("#") || marked(line, ">").is_some() || marked(line, "*").is_some()
+    let begins = line.starts_with("#") || marked(line, ">").is_some();
+    begins || marked(line, "*").is_some() || marked(line, "!").is_some()
 }
 
 // A text with its line feed, or nothing.
@@ -165,12 +215,15 @@ fn line_of(alloc: Global, text: &str) -> Result<String, AllocError> {
 }
 
 // A case of which nothing was read.
-fn empty_case(alloc: Global, line: u64) -> Case {
+fn empty_case(alloc: Global, line: u64, ends: Ends) -> Case {
     Case {
         line,
+        ends,
         words: String::new(alloc),
         input: String::new(alloc),
-        status: 0,
-        text: String::new(alloc),
+        wanted: Wanted {
+            status: 0,
+            text: String::new(alloc),
+        },
     }
 }
