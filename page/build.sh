@@ -31,8 +31,7 @@ for name in $(cat "$folder/names"); do
     if [ -d "$top/crates/$name/out/rlib" ]; then mkdir "$folder/crates/$name/out" && cp -r "$top/crates/$name/out/rlib" "$folder/crates/$name/out/"; fi
 done
 rm "$folder/names"
-# Libraries that this checkout has built of the same text needn't be proved again, nor those that `rt ci` has kept on this machine
-# (rattle-kit-13f keeps them, 13b keeps nothing).
+# Libraries that this checkout has built of the same text needn't be proved again, nor those that `rt ci` has kept on this machine.
 "${TAKE_LIBS:-$top/checks/take_libs.py}" "$folder" > "$folder/libraries" || true
 (cd "$folder/crates/s390x_page" && rt lib) > "$folder/log" 2>&1 || { tail -20 "$folder/log"; exit 1; }
 python3 "$top/page/sentences.py" > "$folder/sentences"
