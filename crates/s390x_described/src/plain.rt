@@ -1,6 +1,8 @@
 //! The types of such values.
 ghost use Rattle.std.specs.Prelude.{◌≡◌};
 ghost use Rattle.s390x_described.specs.Values.{ValueKind, value_of_kind, KVecBinary, KVecUnary, KVecShift, KVecCompare, KVecElementCompare, KNatural8, KNatural16, KNatural32, KNatural64, KInteger16, KCond};
+ghost use Rattle.s390x_described.specs.declared.value.Value.{Value};
+ghost use Rattle.s390x_described.specs.declared.value.Value.TheVariants.{VecBinary, VecUnary, VecShift, VecCompare, VecElementCompare, Natural8, Natural16, Natural32, Natural64, Integer16, Cond};
 
 use crate::value::Value;
 use s390x_base::Cond;
@@ -26,7 +28,7 @@ pub trait Plain: Copy {
 impl Plain for VecBinaryOp {
     ghost kind = { KVecBinary };
 
-    ghost plain = { Value.VecBinary };
+    ghost plain = { VecBinary };
 
     fn value(self) -> Value {
         Value::VecBinary(self)
@@ -43,7 +45,7 @@ impl Plain for VecBinaryOp {
 impl Plain for VecUnaryOp {
     ghost kind = { KVecUnary };
 
-    ghost plain = { Value.VecUnary };
+    ghost plain = { VecUnary };
 
     fn value(self) -> Value {
         Value::VecUnary(self)
@@ -60,7 +62,7 @@ impl Plain for VecUnaryOp {
 impl Plain for VecShiftOp {
     ghost kind = { KVecShift };
 
-    ghost plain = { Value.VecShift };
+    ghost plain = { VecShift };
 
     fn value(self) -> Value {
         Value::VecShift(self)
@@ -77,7 +79,7 @@ impl Plain for VecShiftOp {
 impl Plain for VecIntCmpOp {
     ghost kind = { KVecCompare };
 
-    ghost plain = { Value.VecCompare };
+    ghost plain = { VecCompare };
 
     fn value(self) -> Value {
         Value::VecCompare(self)
@@ -94,7 +96,7 @@ impl Plain for VecIntCmpOp {
 impl Plain for VecIntEltCmpOp {
     ghost kind = { KVecElementCompare };
 
-    ghost plain = { Value.VecElementCompare };
+    ghost plain = { VecElementCompare };
 
     fn value(self) -> Value {
         Value::VecElementCompare(self)
@@ -111,7 +113,7 @@ impl Plain for VecIntEltCmpOp {
 impl Plain for u8 {
     ghost kind = { KNatural8 };
 
-    ghost plain = { Value.Natural8 };
+    ghost plain = { Natural8 };
 
     fn value(self) -> Value {
         Value::Natural8(self)
@@ -128,7 +130,7 @@ impl Plain for u8 {
 impl Plain for u16 {
     ghost kind = { KNatural16 };
 
-    ghost plain = { Value.Natural16 };
+    ghost plain = { Natural16 };
 
     fn value(self) -> Value {
         Value::Natural16(self)
@@ -145,7 +147,7 @@ impl Plain for u16 {
 impl Plain for u32 {
     ghost kind = { KNatural32 };
 
-    ghost plain = { Value.Natural32 };
+    ghost plain = { Natural32 };
 
     fn value(self) -> Value {
         Value::Natural32(self)
@@ -162,7 +164,7 @@ impl Plain for u32 {
 impl Plain for u64 {
     ghost kind = { KNatural64 };
 
-    ghost plain = { Value.Natural64 };
+    ghost plain = { Natural64 };
 
     fn value(self) -> Value {
         Value::Natural64(self)
@@ -179,7 +181,7 @@ impl Plain for u64 {
 impl Plain for i16 {
     ghost kind = { KInteger16 };
 
-    ghost plain = { Value.Integer16 };
+    ghost plain = { Integer16 };
 
     fn value(self) -> Value {
         Value::Integer16(self)
@@ -196,7 +198,7 @@ impl Plain for i16 {
 impl Plain for Cond {
     ghost kind = { KCond };
 
-    ghost plain = { Value.Cond };
+    ghost plain = { Cond };
 
     fn value(self) -> Value {
         Value::Cond(self)
