@@ -85,7 +85,6 @@ impl<'a> Visitor for Assigner<'a> {
 }
 
 /// A vector instruction with its registers.
-#[tactic(auto, using(crate::proofs::Described::given_vector))]
 pub fn assign_vector<'a>(registers: &mut AssignedRegisters<'a>, inst: &VecInst) -> VecInst
     ensures { IsGiven (assigned_vector inst.now registers.old.left.now) result
         registers.new.left.now }
