@@ -1,5 +1,5 @@
 pub mod Counting
 pub mod Defaults
+pub mod Described
 pub mod Members
-pub mod Registers
 pub mod Replaced

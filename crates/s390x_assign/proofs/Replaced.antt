@@ -30,17 +30,18 @@ use Rattle.s390x_inst.specs.declared.inst.Inst.TheVariants.{CmpRX, CmpRSImm16, C
 use Rattle.s390x_inst.specs.declared.load.Load.{Load}
 use Rattle.s390x_inst.specs.Loads.{as_load, by_load}
 use Rattle.s390x_inst.specs.declared.vec_inst.VecInst.{VecInst}
-use Rattle.s390x_inst.specs.declared.vec_inst.VecInst.TheVariants.{VecRRR, VecRR, VecShiftRR, VecSelect, VecPermute, VecBlend, VecEvaluate, VecPermuteDWImm, VecIntCmp, VecIntCmpS, VecIntEltCmp, VecInt128SCmpHi, VecInt128UCmpHi, VecMov}
-use Rattle.s390x_inst.specs.declared.vec_inst.VecInst.TheVariants.{FpuMove32, FpuMove64, FpuCMov32, FpuCMov64, VecCMov, MovToVec128, VecImmByteMask, VecImmBitMask, VecImmReplicate, VecInsertLane, VecInsertLaneUndef, VecExtractLane, VecInsertLaneImm, VecInsertLaneImmUndef}
-use Rattle.s390x_inst.specs.declared.vec_inst.VecInst.TheVariants.{VecReplicateLane, VecEltRev, VecLoad, VecLoadRev, VecLoadByte16Rev, VecLoadByte32Rev, VecLoadByte64Rev, VecLoadElt16Rev, VecLoadElt32Rev, VecLoadElt64Rev, VecStore, VecStoreRev, VecStoreByte16Rev, VecStoreByte32Rev}
-use Rattle.s390x_inst.specs.declared.vec_inst.VecInst.TheVariants.{VecStoreByte64Rev, VecStoreElt16Rev, VecStoreElt32Rev, VecStoreElt64Rev, VecLoadReplicate, VecLoadReplicateRev, VecLoadLane, VecLoadLaneRev, VecLoadLaneUndef, VecLoadLaneRevUndef, VecStoreLane, VecStoreLaneRev}
+use Rattle.s390x_inst.specs.declared.vec_inst.VecInst.TheVariants.{VecMov}
 use Rattle.s390x_inst.specs.Portions.{Portion, plain, indirect_branch, jump_table, calling, tail_calling, arguments, results, opening, closing, first_portion, portions, row_portions}
+use Rattle.s390x_described.specs.Description.{described}
+use Rattle.s390x_described.specs.Fields.{Field, FPlain, FDef, FReuse, FUse, FMemory}
 use Rattle.s390x_operands.specs.declared.constraint.Reported.{Reported}
 use Rattle.s390x_operands.specs.declared.constraint.Reported.TheVariants.{Operand, Fixed, Clobbers}
 use Rattle.s390x_operands.specs.Calls.{placed_use, placed_def, destination_requests, argument, result_in, call_result, incoming, outgoing, clobbered}
 use Rattle.s390x_operands.specs.Operands.{leaf_requests, vector_requests, requests, row_requests, operands}
 use Rattle.s390x_operands.specs.Requests.{items_of, used, defined, reused, fixed_use, fixed_def, scratch_request, memory_requests, fixed_general, range_requests}
 use Rattle.s390x_assign.specs.Assignments.{operand_at, register_at, after, placed_at, after_placed, pair_at, dividend_at, memory_at, each_at, assigned_vector, destination_at, argument_at, result_at, call_result_at, incoming_at, outgoing_at, portion_at, assigned, reported_again, replaced, operand_count}
+use Rattle.s390x_assign.specs.VectorFields.{field_at}
+use Rattle.s390x_assign.proofs.Described.{described_at, left_at}
 
 -- requests become others, whose operands are replaced by the next registers of a list; so much is left of it
 record Follows (xs ys : List (Option Reported)) (s t : List Reg) : Type 0 where
@@ -126,9 +127,6 @@ two f F a b s = next (F a s) (used_one b (after a s))
 
 three : (f : Reg → Option Reported) → IsOne f → (a b c : Reg) (s : List Reg) → Follows (f a ∷ used b ∷ used c ∷ []) (f (register_at a s) ∷ used (register_at b (after a s)) ∷ used (register_at c (after b (after a s))) ∷ []) s (after c (after b (after a s)))
 three f F a b c s = next (F a s) (two used used_one b c (after a s))
-
-four : (f : Reg → Option Reported) → IsOne f → (a b c d : Reg) (s : List Reg) → Follows (f a ∷ used b ∷ used c ∷ used d ∷ []) (f (register_at a s) ∷ used (register_at b (after a s)) ∷ used (register_at c (after b (after a s))) ∷ used (register_at d (after c (after b (after a s)))) ∷ []) s (after d (after c (after b (after a s))))
-four f F a b c d s = next (F a s) (three used used_one b c d (after a s))
 
 -- memory, and registers before it
 with_memory : (m : MemArg) (s : List Reg) → Follows (memory_requests m) (memory_requests (memory_at m s).0) s (memory_at m s).1
@@ -225,62 +223,49 @@ called link info s =
     let s₃ : List Reg = (each_at call_result_at info.defs.items s₂).1 in
     both (target info.dest s) (both (each argument argument_at argument_one info.uses.items s₁) (both (each call_result call_result_at call_result_one info.defs.items s₂) (clobbers info.clobbers link s₃)))
 
--- vector instructions
+-- one list and another one behind it, which adds nothing where it is empty
+abbrev followed_by : (xs ys : List (Option Reported)) → List (Option Reported)
+followed_by xs [] = xs
+followed_by xs (y ∷ ys) = xs ++ y ∷ ys
+
+followed_append : (xs ys : List (Option Reported)) → followed_by xs ys ≡ xs ++ ys
+followed_append xs [] = sym (append-nil xs)
+followed_append xs (y ∷ ys) = refl
+
+-- what the fields of a vector instruction report
+abbrev fields_requests : List Field → List (Option Reported)
+fields_requests [] = []
+fields_requests (FDef r ∷ fs) = defined r ∷ fields_requests fs
+fields_requests (FReuse r ∷ fs) = reused r ∷ fields_requests fs
+fields_requests (FUse r ∷ fs) = used r ∷ fields_requests fs
+fields_requests (FMemory m ∷ fs) = followed_by (memory_requests m) (fields_requests fs)
+fields_requests (FPlain x ∷ fs) = fields_requests fs
+
+-- requests that are equal to others follow as these do
+as_equal : {xs ys xs' ys' : List (Option Reported)} {s t t' : List Reg} → xs ≡ xs' → ys ≡ ys' → t ≡ t' → Follows xs' ys' s t' → Follows xs ys s t
+as_equal {s = s} p q r h = record {
+  items = ap items_of q ∙ h.items ∙ ap (λ zs. replaced (items_of zs) s) (sym p);
+  left = r ∙ h.left ∙ ap (λ zs. drop (operand_count (items_of zs)) s) (sym p);
+}
+
+fields_follow : (fs : List Field) (s : List Reg) → Follows (fields_requests fs) (fields_requests (each_at field_at fs s).0) s (each_at field_at fs s).1
+fields_follow [] s = none s
+fields_follow (FDef r ∷ fs) s = next (defined_one r s) (fields_follow fs (after r s))
+fields_follow (FReuse r ∷ fs) s = next (reused_one r s) (fields_follow fs (after r s))
+fields_follow (FUse r ∷ fs) s = next (used_one r s) (fields_follow fs (after r s))
+fields_follow (FMemory m ∷ fs) s =
+    as_equal (followed_append (memory_requests m) (fields_requests fs)) (followed_append (memory_requests (memory_at m s).0) (fields_requests (each_at field_at fs (memory_at m s).1).0)) refl
+    (both (with_memory m s) (fields_follow fs (memory_at m s).1))
+fields_follow (FPlain x ∷ fs) s = fields_follow fs s
+
+-- one clause stands for every vector instruction
+vector_report : (v : VecInst) → vector_requests v ≡ fields_requests (described v).fields
+vector_report (VecMov rd rn) = refl
+vector_report v = refl
+
 vector_follows : (v : VecInst) (s : List Reg) → Follows (vector_requests v) (vector_requests (assigned_vector v s).0) s (assigned_vector v s).1
-vector_follows (VecRRR op rd rn rm) s = three defined defined_one rd rn rm s
-vector_follows (VecRR op rd rn) s = two defined defined_one rd rn s
-vector_follows (VecShiftRR shift_op rd rn shift_imm shift_reg) s = three defined defined_one rd rn shift_reg s
-vector_follows (VecSelect rd rn rm ra) s = four defined defined_one rd rn rm ra s
-vector_follows (VecPermute rd rn rm ra) s = four defined defined_one rd rn rm ra s
-vector_follows (VecBlend rd rn rm ra) s = four defined defined_one rd rn rm ra s
-vector_follows (VecEvaluate imm rd rn rm ra) s = four defined defined_one rd rn rm ra s
-vector_follows (VecPermuteDWImm rd rn rm idx1 idx2) s = three defined defined_one rd rn rm s
-vector_follows (VecIntCmp op rd rn rm) s = three defined defined_one rd rn rm s
-vector_follows (VecIntCmpS op rd rn rm) s = three defined defined_one rd rn rm s
-vector_follows (VecIntEltCmp op rn rm) s = two used used_one rn rm s
-vector_follows (VecInt128SCmpHi tmp rn rm) s = three defined defined_one tmp rn rm s
-vector_follows (VecInt128UCmpHi tmp rn rm) s = three defined defined_one tmp rn rm s
-vector_follows (VecMov rd rn) s = two defined defined_one rd rn s
-vector_follows (FpuMove32 rd rn) s = two defined defined_one rd rn s
-vector_follows (FpuMove64 rd rn) s = two defined defined_one rd rn s
-vector_follows (FpuCMov32 rd cond ri rm) s = three reused reused_one rd ri rm s
-vector_follows (FpuCMov64 rd cond ri rm) s = three reused reused_one rd ri rm s
-vector_follows (VecCMov rd cond ri rm) s = three reused reused_one rd ri rm s
-vector_follows (MovToVec128 rd rn rm) s = three defined defined_one rd rn rm s
-vector_follows (VecImmByteMask rd mask) s = one defined defined_one rd s
-vector_follows (VecImmBitMask size rd start_bit end_bit) s = one defined defined_one rd s
-vector_follows (VecImmReplicate size rd imm) s = one defined defined_one rd s
-vector_follows (VecInsertLane size rd ri rn lane_imm lane_reg) s = four reused reused_one rd ri rn lane_reg s
-vector_follows (VecInsertLaneUndef size rd rn lane_imm lane_reg) s = three defined defined_one rd rn lane_reg s
-vector_follows (VecExtractLane size rd rn lane_imm lane_reg) s = three defined defined_one rd rn lane_reg s
-vector_follows (VecInsertLaneImm size rd ri imm lane_imm) s = two reused reused_one rd ri s
-vector_follows (VecInsertLaneImmUndef size rd imm lane_imm) s = one defined defined_one rd s
-vector_follows (VecReplicateLane size rd rn lane_imm) s = two defined defined_one rd rn s
-vector_follows (VecEltRev lane_count rd rn) s = two defined defined_one rd rn s
-vector_follows (VecLoad rd mem) s = one_and_memory defined defined_one rd mem s
-vector_follows (VecLoadRev rd mem) s = one_and_memory defined defined_one rd mem s
-vector_follows (VecLoadByte16Rev rd mem) s = one_and_memory defined defined_one rd mem s
-vector_follows (VecLoadByte32Rev rd mem) s = one_and_memory defined defined_one rd mem s
-vector_follows (VecLoadByte64Rev rd mem) s = one_and_memory defined defined_one rd mem s
-vector_follows (VecLoadElt16Rev rd mem) s = one_and_memory defined defined_one rd mem s
-vector_follows (VecLoadElt32Rev rd mem) s = one_and_memory defined defined_one rd mem s
-vector_follows (VecLoadElt64Rev rd mem) s = one_and_memory defined defined_one rd mem s
-vector_follows (VecStore rd mem) s = one_and_memory used used_one rd mem s
-vector_follows (VecStoreRev rd mem) s = one_and_memory used used_one rd mem s
-vector_follows (VecStoreByte16Rev rd mem) s = one_and_memory used used_one rd mem s
-vector_follows (VecStoreByte32Rev rd mem) s = one_and_memory used used_one rd mem s
-vector_follows (VecStoreByte64Rev rd mem) s = one_and_memory used used_one rd mem s
-vector_follows (VecStoreElt16Rev rd mem) s = one_and_memory used used_one rd mem s
-vector_follows (VecStoreElt32Rev rd mem) s = one_and_memory used used_one rd mem s
-vector_follows (VecStoreElt64Rev rd mem) s = one_and_memory used used_one rd mem s
-vector_follows (VecLoadReplicate size rd mem) s = one_and_memory defined defined_one rd mem s
-vector_follows (VecLoadReplicateRev size rd mem) s = one_and_memory defined defined_one rd mem s
-vector_follows (VecLoadLane size rd ri mem lane_imm) s = two_and_memory reused reused_one rd ri mem s
-vector_follows (VecLoadLaneRev size rd ri mem lane_imm) s = two_and_memory reused reused_one rd ri mem s
-vector_follows (VecLoadLaneUndef size rd mem lane_imm) s = one_and_memory defined defined_one rd mem s
-vector_follows (VecLoadLaneRevUndef size rd mem lane_imm) s = one_and_memory defined defined_one rd mem s
-vector_follows (VecStoreLane size rd mem lane_imm) s = one_and_memory used used_one rd mem s
-vector_follows (VecStoreLaneRev size rd mem lane_imm) s = one_and_memory used used_one rd mem s
+vector_follows v s =
+    as_equal (vector_report v) (vector_report (assigned_vector v s).0 ∙ ap (λ d. fields_requests d.fields) (described_at v s)) (left_at v s) (fields_follow (described v).fields s)
 
 abbrev IsGood : Portion → Type 0
 IsGood p = (s : List Reg) → Follows (portion_requests p) (portion_requests (portion_at p s).0) s (portion_at p s).1

@@ -145,29 +145,6 @@ impl<'a> AssignedRegisters<'a> {
         (rd, rn, rm)
     }
 
-    /// An output and three inputs.
-    pub fn output_and_three(
-        &mut self,
-        rd: Writable<Reg>,
-        rn: Reg,
-        rm: Reg,
-        ra: Reg,
-    ) -> (Writable<Reg>, Reg, Reg, Reg)
-        ensures first { result.0 ≡ register_at rd self.old.left.now }
-        ensures second { result.1 ≡ register_at rn (after rd self.old.left.now) }
-        ensures third { result.2 ≡ register_at rm (after rn (after rd self.old.left.now)) }
-        ensures fourth { result.3
-            ≡ register_at ra (after rm (after rn (after rd self.old.left.now))) }
-        ensures left { self.new.left.now
-            ≡ after ra (after rm (after rn (after rd self.old.left.now))) }
-    {
-        let rd = self.output(rd);
-        let rn = self.input(rn);
-        let rm = self.input(rm);
-        let ra = self.input(ra);
-        (rd, rn, rm, ra)
-    }
-
     /// Two inputs.
     pub fn two_inputs(&mut self, rn: Reg, rm: Reg) -> (Reg, Reg)
         ensures first { result.0 ≡ register_at rn self.old.left.now }

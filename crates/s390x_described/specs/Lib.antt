@@ -1,0 +1,5 @@
+pub mod Description
+pub mod Fields
+pub mod Given
+pub mod Kinds
+pub mod Values
