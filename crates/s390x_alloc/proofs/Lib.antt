@@ -1,8 +1,12 @@
 pub mod Agreeing
 pub mod Answering
+pub mod Deciding
 pub mod Example
+pub mod Following
 pub mod Leading
+pub mod Locating
 pub mod Meeting
+pub mod Placing
 pub mod Sameness
 pub mod Turning
 pub mod Walking

@@ -29,7 +29,7 @@ number-self n = grind (arith, nat_tests)
 made : RegClass → ℕ → RealRegister
 made c n = record { class = c; number = n }
 
-real-same : (p q : RealRegister) → same_real p q ≡ true → p ≡ q
+pub real-same : (p q : RealRegister) → same_real p q ≡ true → p ≡ q
 unfolding made
 real-same p q h =
     let a = and_parts (same_class p.class q.class) (nat_eq p.number q.number) h in

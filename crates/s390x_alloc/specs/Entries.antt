@@ -6,14 +6,10 @@ use Rattle.s390x_base.specs.declared.regs.Reg.TheVariants.{Real, Virtual}
 use Rattle.s390x_inst.specs.declared.function.Block.{Block}
 use Rattle.s390x_alloc.specs.declared.fault.PlanFault.{PlanFault}
 use Rattle.s390x_alloc.specs.declared.fault.PlanFault.TheVariants.{Entry, NoMemory}
-use Rattle.s390x_alloc.specs.declared.held.Held.{Held}
 use Rattle.s390x_alloc.specs.declared.plan.BlockPlan.{BlockPlan}
 use Rattle.s390x_alloc.specs.declared.plan.EntryPair.{EntryPair}
 use Rattle.s390x_alloc.specs.Held.{holds}
 use Rattle.s390x_alloc.specs.Shape.{precedes}
-
-abbrev pub pairs_of : Held → List EntryPair
-pairs_of h = h.pairs.items
 
 -- the numbers of those of `count` blocks that have a block as a successor, where the first of these has this number
 abbrev pub predecessors : (count block : ℕ) → (number : ℕ) → List Block → List ℕ

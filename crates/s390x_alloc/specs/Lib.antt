@@ -7,7 +7,9 @@ pub mod Example
 pub mod Faults
 pub mod Given
 pub mod Held
+pub mod Locations
 pub mod Moves
+pub mod Registers
 pub mod Same
 pub mod Shape
 pub mod Steps

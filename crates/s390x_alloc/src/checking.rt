@@ -1,13 +1,13 @@
 //! The faults of a plan.
-ghost use Rattle.std.specs.Prelude.{◌≡◌, [], IsOk, MatchResult, Ok, length, map};
+ghost use Rattle.std.specs.Prelude.{◌≡◌, [], IsOk, MatchResult, length};
 ghost use Rattle.s390x_alloc.specs.Blocks.{IsFault, after_block, after_blocks};
 ghost use Rattle.s390x_alloc.specs.Checked.{checked};
-ghost use Rattle.s390x_alloc.specs.Entries.{pairs_of};
+ghost use Rattle.s390x_alloc.specs.Locations.{AllLeadTo, LeadsTo};
 
 use crate::edits::check_edits;
 use crate::entries::entry_fault;
 use crate::fault::{PlanFault, shape_at, unsupported_at};
-use crate::held::Held;
+use crate::location_map::LocationMap;
 use crate::plan::BlockPlan;
 use crate::shape::{first_misshapen, first_unsupported};
 use s390x_inst::{Block, FrameLayout};
@@ -21,9 +21,9 @@ fn check_block(
     number: usize,
     block: &Block,
     plan: &BlockPlan,
-) -> Result<Held, PlanFault>
+) -> Result<LocationMap, PlanFault>
     ensures { let whole = after_block layout.now count number block.now plan.now in
-        MatchResult result (λ held. whole ≡ Ok held.pairs.items) (IsFault whole) }
+        MatchResult result (LeadsTo whole) (IsFault whole) }
 {
     if let Some(inst) = first_unsupported(&block.insts) {
         return Err(unsupported_at(number, inst));
@@ -40,10 +40,10 @@ pub fn check_blocks(
     layout: &FrameLayout,
     blocks: &[Block],
     plans: &[BlockPlan],
-) -> Result<Vec<Held>, PlanFault>
+) -> Result<Vec<LocationMap>, PlanFault>
     requires { length blocks.now ≡ length plans.now }
     ensures { let whole = after_blocks layout.now (length blocks.now) [] 0 blocks.now plans.now in
-        MatchResult result (λ ends. whole ≡ Ok (map pairs_of ends.items)) (IsFault whole) }
+        MatchResult result (λ ends. AllLeadTo whole ends.items) (IsFault whole) }
 {
     let mut ends = Vec::new(alloc);
     for (number, block) in blocks.iter().enumerate() {

@@ -1,11 +1,13 @@
 //! The edits of a block, one after the other.
-ghost use Rattle.std.specs.Prelude.{◌≡◌, ◌≤◌, IfOk, MatchResult, Ok, length};
+ghost use Rattle.std.specs.Prelude.{◌≡◌, ◌≤◌, IfOk, List, MatchResult, length};
 ghost use Rattle.s390x_alloc.specs.Blocks.{IsFault, after_edit, after_edits, steps_in};
+ghost use Rattle.s390x_alloc.specs.Locations.{IsMapOf, LeadsTo};
 ghost use Rattle.s390x_alloc.specs.Shape.{block_ending, is_end};
 ghost use Rattle.s390x_alloc.specs.Steps.{IsCause};
+ghost use Rattle.s390x_alloc.specs.declared.plan.EntryPair.{EntryPair as Pair};
 
 use crate::fault::{EditCause, PlanFault, edit_fault};
-use crate::held::Held;
+use crate::location_map::LocationMap;
 use crate::moves::check_move;
 use crate::plan::{BlockPlan, Edit};
 use crate::shape::is_end;
@@ -38,22 +40,21 @@ fn check_edit(
     alloc: Global,
     layout: &FrameLayout,
     ends: bool,
-    held: &mut Held,
+    held: &mut LocationMap,
     edit: &Edit,
     left: &[Inst],
 ) -> Result<(), EditCause>
     ensures taken { IfOk result (λ _. steps_in edit.now ≤ length left.now) }
-    ensures held { MatchResult result
-        (λ _. after_edit layout.now ends edit.now left.now held.old.pairs.items
-        ≡ Ok held.new.pairs.items)
-        (IsCause (after_edit layout.now ends edit.now left.now held.old.pairs.items)) }
+    ensures held { (list : List Pair) → IsMapOf held.old list → MatchResult result
+        (λ _. LeadsTo (after_edit layout.now ends edit.now left.now list) held.new)
+        (IsCause (after_edit layout.now ends edit.now left.now list)) }
 {
     match edit {
         Edit::Move { to, from } => {
             if ends && left.is_empty() {
                 return Err(EditCause::Misplaced);
             }
-            check_move(alloc, layout, held, to, from)
+            check_move(layout, held, to, from)
         }
         Edit::Step { regs } => match left.first() {
             Some(inst) => check_step(alloc, held, inst, regs),
@@ -69,16 +70,15 @@ pub fn check_edits(
     block: usize,
     insts: &[Inst],
     plan: &BlockPlan,
-) -> Result<Held, PlanFault>
+) -> Result<LocationMap, PlanFault>
     ensures { let whole = after_edits layout.now (is_end (block_ending insts.now)) block 0
         plan.now.edits.items insts.now plan.now.entry.items in
-        MatchResult result (λ held. whole ≡ Ok held.pairs.items) (IsFault whole) }
+        MatchResult result (LeadsTo whole) (IsFault whole) }
 {
     let ends = block_ends(insts);
-    let Ok(pairs) = Vec::from_slice(alloc, &plan.entry) else {
+    let Ok(mut held) = LocationMap::from_pairs(alloc, &plan.entry) else {
         return Err(PlanFault::NoMemory);
     };
-    let mut held = Held { pairs };
     let mut taken = 0;
     for (number, edit) in plan.edits.iter().enumerate() {
         match check_edit(alloc, layout, ends, &mut held, edit, &insts[taken..]) {

@@ -1,12 +1,14 @@
 //! The pairs with which blocks begin.
-ghost use Rattle.std.specs.Prelude.{◌≡◌, ℕ, ◌<◌, [], IfOk, length, map, slice_get};
-ghost use Rattle.s390x_alloc.specs.Entries.{IsFirst, all_hold, entry_fault, first_unfounded, is_founded, is_held_there, is_virtual, numbers_at, pairs_of, predecessors};
+ghost use Rattle.std.specs.Prelude.{◌≡◌, ℕ, ◌<◌, [], List, IfOk, length, slice_get};
+ghost use Rattle.s390x_alloc.specs.Entries.{IsFirst, all_hold, entry_fault, first_unfounded, is_founded, is_held_there, numbers_at, predecessors};
+ghost use Rattle.s390x_alloc.specs.Locations.{AreMapsOf, pair_of};
+ghost use Rattle.s390x_alloc.specs.declared.plan.EntryPair.{EntryPair as Pair};
 
 use crate::fault::{PlanFault, entry_fault_at};
-use crate::held::{Held, holds};
-use crate::plan::{BlockPlan, EntryPair};
+use crate::location_map::LocationMap;
+use crate::plan::{BlockPlan, EntryPair, Place};
 use crate::successors::add_successors;
-use s390x_base::Reg;
+use s390x_base::{Reg, RegClass};
 use s390x_inst::Block;
 use std::alloc::{AllocError, Global};
 
@@ -41,50 +43,67 @@ fn empty_lists(alloc: Global, size: usize) -> Result<Vec<Vec<usize>>, AllocError
     Ok(lists)
 }
 
-// Whether the pair is held at the end of a block.
-fn is_held_there(ends: &[Held], block: usize, pair: &EntryPair) -> bool
-    ensures { result ≡ is_held_there (slice_get (map pairs_of ends.now) block) pair.now }
+// Whether the virtual register is held in its place at the end of a block.
+fn is_held_there(
+    ends: &[LocationMap],
+    block: usize,
+    place: &Place,
+    num: u32,
+    class: RegClass,
+) -> bool
+    ensures { (lists : List (List Pair)) → AreMapsOf ends.now lists →
+        result ≡ is_held_there (slice_get lists block) (pair_of place.now num class) }
 {
     match ends.get(block) {
-        Some(held) => holds(&held.pairs, pair),
+        Some(held) => held.holds(*place, num, class),
         None => false,
     }
 }
 
-// Whether the pair is held at the ends of all these blocks.
-fn all_hold(ends: &[Held], blocks: &[usize], pair: &EntryPair) -> bool
-    ensures { result ≡ all_hold (map pairs_of ends.now) blocks.now pair.now }
+// Whether the virtual register is held in its place at the ends of all these blocks.
+fn all_hold(
+    ends: &[LocationMap],
+    blocks: &[usize],
+    place: &Place,
+    num: u32,
+    class: RegClass,
+) -> bool
+    ensures { (lists : List (List Pair)) → AreMapsOf ends.now lists →
+        result ≡ all_hold lists blocks.now (pair_of place.now num class) }
 {
     for block in blocks {
-        if !is_held_there(ends, *block, pair) {
+        if !is_held_there(ends, *block, place, num, class) {
             return false;
         }
     }
     true
 }
 
-// Whether it is a virtual register.
-fn is_virtual(reg: Reg) -> bool
-    ensures { result ≡ is_virtual reg }
+// Whether a block may begin with the pair, where these lead there.
+fn is_founded(ends: &[LocationMap], before: &[usize], block: usize, pair: &EntryPair) -> bool
+    ensures { (lists : List (List Pair)) → AreMapsOf ends.now lists →
+        result ≡ is_founded lists before.now block pair.now }
 {
-    match reg {
+    match pair.vreg {
         Reg::Real(_) => false,
-        Reg::Virtual { .. } => true,
+        Reg::Virtual { num, class } => {
+            block != 0 && all_hold(ends, before, &pair.place, num, class)
+        }
     }
 }
 
 // The first pair with which a block may not begin, by its number.
 fn first_unfounded(
-    ends: &[Held],
+    ends: &[LocationMap],
     before: &[usize],
     block: usize,
     entry: &[EntryPair],
 ) -> Option<usize>
-    ensures { result ≡ first_unfounded (map pairs_of ends.now) before.now block 0 entry.now }
+    ensures { (lists : List (List Pair)) → AreMapsOf ends.now lists →
+        result ≡ first_unfounded lists before.now block 0 entry.now }
 {
     for (number, pair) in entry.iter().enumerate() {
-        let founded = block != 0 && is_virtual(pair.vreg) && all_hold(ends, before, pair);
-        if !founded {
+        if !is_founded(ends, before, block, pair) {
             return Some(number);
         }
     }
@@ -97,10 +116,10 @@ pub fn entry_fault(
     alloc: Global,
     blocks: &[Block],
     plans: &[BlockPlan],
-    ends: &[Held],
+    ends: &[LocationMap],
 ) -> Result<Option<PlanFault>, AllocError>
-    ensures { IfOk result
-        (IsFirst (entry_fault blocks.now (length blocks.now) (map pairs_of ends.now) 0 plans.now)) }
+    ensures { (lists : List (List Pair)) → AreMapsOf ends.now lists →
+        IfOk result (IsFirst (entry_fault blocks.now (length blocks.now) lists 0 plans.now)) }
 {
     let before = predecessor_lists(alloc, blocks, plans.len())?;
     for (number, plan) in plans.iter().enumerate() {

@@ -1,14 +1,16 @@
 //! Which moves there are, and which instructions they are.
-ghost use Rattle.std.specs.Prelude.{◌≡◌, Some};
-ghost use Rattle.s390x_alloc.specs.Moves.{IsMoved, copy_of, holds_other_class, is_no_move, is_of_other_class, is_unlike, is_unlike_register, is_unmovable, load_of, move_inst, slot_operand, store_of};
+ghost use Rattle.std.specs.Prelude.{◌≡◌, IfOk, List, Some};
+ghost use Rattle.s390x_alloc.specs.Held.{moved};
+ghost use Rattle.s390x_alloc.specs.Locations.{IsMapOf};
+ghost use Rattle.s390x_alloc.specs.Moves.{IsMoved, copy_of, is_no_move, is_unlike, is_unlike_register, is_unmovable, load_of, move_inst, slot_operand, store_of};
+ghost use Rattle.s390x_alloc.specs.declared.plan.EntryPair.{EntryPair as Pair};
 
 use crate::fault::EditCause;
-use crate::held::Held;
-use crate::plan::{EntryPair, Place};
-use crate::same::{is_reserved, same_class, same_place};
+use crate::location_map::LocationMap;
+use crate::plan::Place;
+use crate::same::{is_reserved, same_class};
 use s390x_base::{PReg, Reg, RegClass, Writable};
 use s390x_inst::{FrameLayout, Inst, MemArg, VecInst};
-use std::alloc::Global;
 
 // Where a slot stands.
 fn slot_operand(slot: u32) -> MemArg
@@ -103,41 +105,20 @@ fn is_unmovable(layout: &FrameLayout, place: &Place) -> bool
     }
 }
 
-// Whether it is a virtual register of another class.
-fn is_of_other_class(class: RegClass, reg: Reg) -> bool
-    ensures { result ≡ is_of_other_class class reg }
-{
-    match reg {
-        Reg::Real(_) => false,
-        Reg::Virtual { class: other, .. } => !same_class(other, class),
-    }
-}
-
-// Whether the place is held as a virtual register of another class.
-fn holds_other_class(place: &Place, class: RegClass, held: &[EntryPair]) -> bool
-    ensures { result ≡ holds_other_class place.now class held.now }
-{
-    for pair in held {
-        if same_place(pair.place, *place) && is_of_other_class(class, pair.vreg) {
-            return true;
-        }
-    }
-    false
-}
-
 // Whether no value of the place is one for a register of this class.
-fn is_unlike_register(class: RegClass, from: &Place, held: &[EntryPair]) -> bool
-    ensures { result ≡ is_unlike_register class from.now held.now }
+fn is_unlike_register(class: RegClass, from: &Place, held: &LocationMap) -> bool
+    ensures { (list : List Pair) → IsMapOf held.now list →
+        result ≡ is_unlike_register class from.now list }
 {
     match *from {
         Place::Reg(preg) => !same_class(class, preg.class()),
-        Place::Slot(_) => holds_other_class(from, class, held),
+        Place::Slot(slot) => held.holds_other_class(Place::Slot(slot), class),
     }
 }
 
 // Whether no instruction moves from the one place to the other, or the value would change its class.
-fn is_unlike(to: &Place, from: &Place, held: &[EntryPair]) -> bool
-    ensures { result ≡ is_unlike to.now from.now held.now }
+fn is_unlike(to: &Place, from: &Place, held: &LocationMap) -> bool
+    ensures { (list : List Pair) → IsMapOf held.now list → result ≡ is_unlike to.now from.now list }
 {
     match *to {
         Place::Reg(to) => is_unlike_register(to.class(), from, held),
@@ -148,20 +129,30 @@ fn is_unlike(to: &Place, from: &Place, held: &[EntryPair]) -> bool
     }
 }
 
+// Whether there is no such move.
+fn is_no_move(layout: &FrameLayout, held: &LocationMap, to: &Place, from: &Place) -> bool
+    ensures { (list : List Pair) → IsMapOf held.now list →
+        result ≡ is_no_move layout.now to.now from.now list }
+{
+    is_unmovable(layout, to) || is_unmovable(layout, from) || is_unlike(to, from, held)
+}
+
 /// What is held behind a move. Refused where there is no such move, or for want of memory.
 pub fn check_move(
-    alloc: Global,
     layout: &FrameLayout,
-    held: &mut Held,
+    held: &mut LocationMap,
     to: &Place,
     from: &Place,
 ) -> Result<(), EditCause>
-    ensures { IsMoved layout.now to.now from.now held.old.pairs.items held.new.pairs.items result }
+    ensures cause { (list : List Pair) → IsMapOf held.old list
+        → IsMoved layout.now to.now from.now list (moved to.now from.now list) result }
+    ensures held { (list : List Pair) → IsMapOf held.old list →
+        IfOk result (λ _. IsMapOf held.new (moved to.now from.now list)) }
 {
-    if is_unmovable(layout, to) || is_unmovable(layout, from) || is_unlike(to, from, &held.pairs) {
+    if is_no_move(layout, held, to, from) {
         return Err(EditCause::Immovable);
     }
-    match held.move_value(alloc, to, from) {
+    match held.move_value(*to, *from) {
         Ok(()) => Ok(()),
         Err(_) => Err(EditCause::NoMemory),
     }

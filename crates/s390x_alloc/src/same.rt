@@ -1,8 +1,7 @@
-//! Registers, places and pairs that are the same.
+//! Registers that are the same.
 ghost use Rattle.std.specs.Prelude.{◌≡◌};
-ghost use Rattle.s390x_alloc.specs.Same.{is_reserved, same_class, same_pair, same_place, same_real, same_register};
+ghost use Rattle.s390x_alloc.specs.Same.{is_reserved, same_class, same_real, same_register};
 
-use crate::plan::{EntryPair, Place};
 use s390x_base::{PReg, Reg, RegClass};
 
 /// Whether two classes are the same.
@@ -50,43 +49,6 @@ pub fn same_register(a: Reg, b: Reg) -> bool
         Reg::Real(a) => is_real(b, a),
         Reg::Virtual { num, class } => is_virtual(b, num, class),
     }
-}
-
-// Whether a place is this register.
-fn is_register(place: Place, wanted: PReg) -> bool
-    ensures { result ≡ same_place (Place.Reg wanted) place }
-{
-    match place {
-        Place::Reg(preg) => same_real(wanted, preg),
-        Place::Slot(_) => false,
-    }
-}
-
-// Whether a place is this slot.
-fn is_slot(place: Place, wanted: u32) -> bool
-    ensures { result ≡ same_place (Place.Slot wanted) place }
-{
-    match place {
-        Place::Reg(_) => false,
-        Place::Slot(slot) => wanted == slot,
-    }
-}
-
-/// Whether two places are the same.
-pub fn same_place(a: Place, b: Place) -> bool
-    ensures { result ≡ same_place a b }
-{
-    match a {
-        Place::Reg(a) => is_register(b, a),
-        Place::Slot(a) => is_slot(b, a),
-    }
-}
-
-/// Whether two pairs are the same.
-pub fn same_pair(a: &EntryPair, b: &EntryPair) -> bool
-    ensures { result ≡ same_pair a.now b.now }
-{
-    same_place(a.place, b.place) && same_register(a.vreg, b.vreg)
 }
 
 /// Whether the register is `%r0`, `%r1` or `%r15`, which no virtual register is given.

@@ -1,12 +1,15 @@
 //! Whether a plan's registers do for an instruction.
-ghost use Rattle.std.specs.Prelude.{◌≡◌, ◌⊎◌, false, MatchResult, None, Some, Ok, slice_get};
+ghost use Rattle.std.specs.Prelude.{◌≡◌, ◌⊎◌, false, List, MatchResult, None, Some, slice_get};
+ghost use Rattle.s390x_alloc.specs.Locations.{IsMapOf, LeadsTo};
 ghost use Rattle.s390x_operands.specs.Operands.{operands, operands_cause};
 ghost use Rattle.s390x_alloc.specs.Steps.{IsCause, after_step, first_unheld, first_unsuited, is_given, is_held, operands_fault, suits_constraint, suits_operand, unreported};
+ghost use Rattle.s390x_alloc.specs.declared.plan.EntryPair.{EntryPair as Pair};
 
 use crate::fault::EditCause;
 use crate::given::{GivenOperand, count_operands, given_operands};
-use crate::held::{Held, holds};
-use crate::plan::{EntryPair, Place};
+use crate::held::take_step;
+use crate::location_map::LocationMap;
+use crate::plan::Place;
 use crate::same::{is_reserved, same_class, same_register};
 use s390x_base::Reg;
 use s390x_inst::Inst;
@@ -62,25 +65,23 @@ fn first_unsuited(all: &[Reg], operands: &[GivenOperand]) -> Option<usize>
 }
 
 // Whether a virtual register that is read stands in its place.
-fn is_held(operand: &GivenOperand, held: &[EntryPair]) -> bool
-    ensures { result ≡ is_held operand.now.kind operand.now.reg operand.now.given held.now }
+fn is_held(operand: &GivenOperand, held: &LocationMap) -> bool
+    ensures { (list : List Pair) → IsMapOf held.now list →
+        result ≡ is_held operand.now.kind operand.now.reg operand.now.given list }
 {
     match (operand.kind, operand.reg, operand.given) {
         (OperandKind::Def, _, _) | (OperandKind::Use, Reg::Real(_), _) => true,
-        (OperandKind::Use, Reg::Virtual { .. }, Reg::Real(preg)) => holds(
-            held,
-            &EntryPair {
-                place: Place::Reg(preg),
-                vreg: operand.reg,
-            },
-        ),
+        (OperandKind::Use, Reg::Virtual { num, class }, Reg::Real(preg)) => {
+            held.holds(Place::Reg(preg), num, class)
+        }
         (OperandKind::Use, Reg::Virtual { .. }, Reg::Virtual { .. }) => false,
     }
 }
 
 // The first operand that reads a register which its place doesn't hold, by its number.
-fn first_unheld(held: &[EntryPair], operands: &[GivenOperand]) -> Option<usize>
-    ensures { result ≡ first_unheld held.now 0 operands.now }
+fn first_unheld(held: &LocationMap, operands: &[GivenOperand]) -> Option<usize>
+    ensures { (list : List Pair) → IsMapOf held.now list →
+        result ≡ first_unheld list 0 operands.now }
 {
     for (number, operand) in operands.iter().enumerate() {
         if !is_held(operand, held) {
@@ -91,8 +92,9 @@ fn first_unheld(held: &[EntryPair], operands: &[GivenOperand]) -> Option<usize>
 }
 
 // The first operand whose register doesn't do, and why.
-fn operands_fault(regs: &[Reg], operands: &[GivenOperand], held: &[EntryPair]) -> Option<EditCause>
-    ensures { result ≡ operands_fault regs.now operands.now held.now }
+fn operands_fault(regs: &[Reg], operands: &[GivenOperand], held: &LocationMap) -> Option<EditCause>
+    ensures { (list : List Pair) → IsMapOf held.now list →
+        result ≡ operands_fault regs.now operands.now list }
 {
     if let Some(operand) = first_unsuited(regs, operands) {
         return Some(EditCause::Unsuited(operand));
@@ -121,13 +123,13 @@ fn reported(alloc: Global, inst: &Inst) -> Result<OperandList, EditCause>
 /// operands, a register doesn't suit its operand, or doesn't hold what the operand reads; or for want of memory, after which what is held may be anything.
 pub fn check_step(
     alloc: Global,
-    held: &mut Held,
+    held: &mut LocationMap,
     inst: &Inst,
     regs: &[Reg],
 ) -> Result<(), EditCause>
-    ensures { MatchResult result
-        (λ _. after_step inst.now regs.now held.old.pairs.items ≡ Ok held.new.pairs.items)
-        (IsCause (after_step inst.now regs.now held.old.pairs.items)) }
+    ensures { (list : List Pair) → IsMapOf held.old list → MatchResult result
+        (λ _. LeadsTo (after_step inst.now regs.now list) held.new)
+        (IsCause (after_step inst.now regs.now list)) }
 {
     let list = reported(alloc, inst)?;
     if count_operands(list.items()) != regs.len() {
@@ -136,10 +138,10 @@ pub fn check_step(
     let Ok(operands) = given_operands(alloc, list.items(), regs) else {
         return Err(EditCause::NoMemory);
     };
-    if let Some(cause) = operands_fault(regs, &operands, &held.pairs) {
+    if let Some(cause) = operands_fault(regs, &operands, held) {
         return Err(cause);
     }
-    match held.step(list.items(), &operands) {
+    match take_step(alloc, held, list.items(), &operands) {
         Ok(()) => Ok(()),
         Err(_) => Err(EditCause::NoMemory),
     }
