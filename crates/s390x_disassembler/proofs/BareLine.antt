@@ -1,5 +1,5 @@
 -- A line without its address and its bytes is read as the bytes of which it is written.
-use Rattle.std.proofs.Common.{◌≡◌, ℕ, ◌%◌, ◌^◌, ◌<◌, Bool, true, false, not, ◌&&◌, ◌==◌, nat_lt, ltb-true, eqb-true, eq-eqb, ne_eqb, if◌then◌else◌, List, [], ◌∷◌, ◌++◌, codes, length, drop, get_or, append_assoc, refl, sym, ap, ap₂, ◌∙◌, arith, Option, Some, None}
+use Rattle.std.proofs.Common.{◌≡◌, ℕ, ◌%◌, ◌^◌, ◌<◌, Bool, true, false, not, ◌&&◌, ◌==◌, nat_lt, ltb-true, eqb-true, eq-eqb, ne_eqb, if◌then◌else◌, List, [], ◌∷◌, ◌++◌, codes, length, drop, get_or, append_assoc, refl, sym, ap, ap₂, subst, ◌∙◌, arith, Option, Some, None}
 use Rattle.std.specs.Prelude.{Result, IfOk}
 use Rattle.std.specs.Str.{bytes_eq}
 use Rattle.std.proofs.lemmas.Result.{IfOk-weaker}
@@ -20,7 +20,7 @@ use Rattle.s390x_disassembler.specs.Spelling.{letters_of, choice}
 use Rattle.s390x_disassembler.specs.Names.{row_named}
 use Rattle.s390x_disassembler.specs.Text.{spellings, found_text, data_text, pairs_text, bytes_text, operands_text}
 use Rattle.s390x_disassembler.specs.Lines.{IsFound}
-use Rattle.s390x_disassembler.specs.Bare.{no_spelling, is_unit, IsRowRead, AreGroups, IsGroupRead, IsBareRead}
+use Rattle.s390x_disassembler.specs.Bare.{no_spelling, is_unit, IsRowRead, AreGroups, IsGroupRead, IsBareRead, IsInstructionRead}
 use Rattle.s390x_disassembler.proofs.Pieces.{one_pair, one_byte}
 use Rattle.s390x_disassembler.proofs.Distinct.{first_blank}
 use Rattle.s390x_disassembler.proofs.Names.{is_plain, named}
@@ -76,6 +76,9 @@ row_read a u l text w rest bytes more unit h word is reads e =
     let below : l.at < length MACHINE_ROWS = h.row.below in
     let name : row_named spellings w ≡ l.at = ap (row_named spellings) m ∙ named l.at (choice (get_or spellings l.at no_spelling).1 (fields_of (get_or MACHINE_ROWS l.at no_row).format h.fetch.slots)) below in
     reads l.at below below name h.fetch.slots more (record { fit = r.fit; opcode = r.opcode; allowed = r.allowed; legible = r.legible; mnemonic = m; text_is = is ∙ rest_is text w _ _ word t }) ∙ sym r.bytes
+
+pub instruction_read : (a : ℕ) (text w rest bytes : List ℕ) → IsWord text w → rest ≡ drop (length w) text → IsRowRead a spellings MACHINE_ROWS w rest bytes → IsInstructionRead a text bytes
+instruction_read a text w rest bytes word is reads u l more unit h e = row_read a u l text w rest bytes more unit h word is reads e
 
 -- ---- data
 pair_groups : AreGroups 2 pairs_text
@@ -223,7 +226,9 @@ short_ok r items a text w rest word is e h = IfOk-weaker r (λ b. IsGroupRead 2 
 pub byte_ok : {T E : Type 0} (r : Result T E) (items : T → List ℕ) (a : ℕ) (text w rest : List ℕ) → IsWord text w → rest ≡ drop (length w) text → bytes_eq w (codes ".byte") ≡ true → IfOk r (λ b. IsGroupRead 1 rest (items b)) → IfOk r (λ b. IsBareRead a text (items b))
 byte_ok r items a text w rest word is e h = IfOk-weaker r (λ b. IsGroupRead 1 rest (items b)) (λ b. IsBareRead a text (items b)) (λ b g. byte_read a text w rest (items b) word is (same_text w (codes ".byte") e) g) h
 
-pub name_ok : {T E : Type 0} (r : Result T E) (items : T → List ℕ) (a : ℕ) (text w rest : List ℕ) → IsWord text w → rest ≡ drop (length w) text → bytes_eq w (codes ".short") ≡ false → bytes_eq w (codes ".byte") ≡ false
-    → IfOk r (λ b. IsRowRead a spellings MACHINE_ROWS w rest (items b)) → IfOk r (λ b. IsBareRead a text (items b))
-name_ok r items a text w rest word is e f h =
-    IfOk-weaker r (λ b. IsRowRead a spellings MACHINE_ROWS w rest (items b)) (λ b. IsBareRead a text (items b)) (λ b g. name_read a text w rest (items b) word is (other_text w (codes ".short") e) (other_text w (codes ".byte") f) g) h
+pub name_ok : (a : ℕ) (text w rest bytes : List ℕ) → IsWord text w → rest ≡ drop (length w) text → bytes_eq w (codes ".short") ≡ false → bytes_eq w (codes ".byte") ≡ false → IsRowRead a spellings MACHINE_ROWS w rest bytes → IsBareRead a text bytes
+name_ok a text w rest bytes word is e f reads = name_read a text w rest bytes word is (other_text w (codes ".short") e) (other_text w (codes ".byte") f) reads
+
+-- the bytes that are stored are those that were read
+pub stored_ok : {T E : Type 0} (r : Result T E) (items : T → List ℕ) (a : ℕ) (text bytes lent : List ℕ) → lent ≡ bytes → IfOk r (λ b. items b ≡ lent) → IsBareRead a text bytes → IfOk r (λ b. IsBareRead a text (items b))
+stored_ok r items a text bytes lent e h reads = IfOk-weaker r (λ b. items b ≡ lent) (λ b. IsBareRead a text (items b)) (λ b g. subst (λ (t : List ℕ). IsBareRead a text t) (sym (g ∙ e)) reads) h

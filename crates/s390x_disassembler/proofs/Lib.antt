@@ -21,3 +21,6 @@ pub mod SoFar
 pub mod Tables
 pub mod Groups
 pub mod Columns
+pub mod Fitting
+pub mod OneLine
+pub mod Digits
