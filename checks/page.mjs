@@ -76,6 +76,26 @@ async function instructions(browser) {
   console.log(`${found.length} instructions are shown as the disassembler writes them, each with its bits and a sentence`);
 }
 
+// The texts of that output, typed as lines, are the code again; data are typed in hex between them.
+async function lines(browser) {
+  const wanted = read("crates", "s390x_disassembler_example", "stdout").trim().split("\n").map(line => line.match(/^[0-9a-f]+: ([0-9a-f]+) (.*)$/));
+  await browser.type("base", "0");
+  await browser.type("code", wanted.map(([, bytes, text]) => /^\.(short|byte) /.test(text) ? bytes : text).join("\n"));
+  same("what is wrong", await browser.value('document.getElementById("wrong").textContent'), "");
+  const shown = await browser.value('[...document.querySelectorAll(".instruction .bytes")].map(part => part.textContent)');
+  same("the code of the lines", shown.join(""), wanted.map(([, bytes]) => bytes).join(""));
+  const texts = wanted.filter(([, , text]) => !/^\.(short|byte) /.test(text));
+  console.log(`${texts.length} lines of assembly are read as their bytes`);
+  await browser.type("base", "1000");
+  await browser.type("code", "  AGRK  %r1, %r2, %r3\n\nb9040023\nlg %r1,8(%r2,%r15)\nj 0x1000");
+  same("lines and digits", (await browser.value('[...document.querySelectorAll(".instruction .bytes")].map(part => part.textContent)')).join(" "), "b9e83012 b9040023 e312f0080004 a7f4fff9");
+  for (const line of ["agrk %r1,%r2", "agrk %r1,%r2,%r16", "agrk %r1,%r2,%r3 x", "lgr %r2", "lgrx %r2,%r3", "je 0x1001", "agrk %r1,%r2,%r3".padEnd(300, "x")]) {
+    await browser.type("code", "lgr %r2,%r3\n" + line);
+    if (!/^Line 2 /.test(await browser.value('document.getElementById("wrong").textContent'))) fail("not refused: " + line);
+  }
+  console.log("lines and digits stand together, and lines of no instruction are refused");
+}
+
 // A line of the stored steps as the machine before it and what is wanted of it; null where it is no such line, or the storage is too small for it.
 function storedStep(line) {
   const [, code, how, before, after] = line.match(/^([0-9a-f]+) (emulator|manual) (.*) > (.*)$/) || [];
@@ -153,6 +173,7 @@ async function picture(browser) {
 const browser = new Browser();
 await browser.open(path.join(top, "page", "index.html"));
 await instructions(browser);
+await lines(browser);
 await stored(browser);
 await run(browser);
 if (image) await picture(browser);

@@ -200,13 +200,13 @@ no_address a b u x text rest more small unit h e columns =
     colon_last (digits 16 false b) (ap no_colon same.before ∙ w.colon)
 
 -- ---- the same where the mnemonic was compared
-same_text : (xs ys : List ℕ) → bytes_eq xs ys ≡ true → xs ≡ ys
+pub same_text : (xs ys : List ℕ) → bytes_eq xs ys ≡ true → xs ≡ ys
 same_text [] [] e = refl
 same_text [] (y ∷ ys) e = cc
 same_text (x ∷ xs) [] e = cc
 same_text (x ∷ xs) (y ∷ ys) e = let p = and_parts (x == y) (bytes_eq xs ys) e in ap₂ (λ (z : ℕ) (zs : List ℕ). z ∷ zs) (eqb-true x y p.0) (same_text xs ys p.1)
 
-other_text : (xs ys : List ℕ) → bytes_eq xs ys ≡ false → xs ≡ ys → ⊥
+pub other_text : (xs ys : List ℕ) → bytes_eq xs ys ≡ false → xs ≡ ys → ⊥
 other_text xs ys nay e = let h : bytes_eq xs xs ≡ false = ap (bytes_eq xs) e ∙ nay in true_false (bytes_eq xs xs) (itself xs) h
   where
     true_false : (b : Bool) → b ≡ true → b ≡ false → ⊥

@@ -78,7 +78,7 @@ left_away out separator a letters f o os away =
 pub fitted_same : (line written text : List ℕ) → fitting written ≡ fitting text → length line < 96 → line ≡ written → line ≡ text
 fitted_same line written text fits short e =
     let small : length written < 96 = omega (arith, short, ap length e) in
-    let cut : take 96 text ≡ line = sym fits ∙ whole 96 written (omega arith) ∙ sym e in
+    let cut : take 96 text ≡ line = sym fits ∙ whole 96 written (omega (arith, small)) ∙ sym e in
     sym cut ∙ short_whole 96 text (omega (arith, short, ap length cut))
   where
     short_whole : (n : ℕ) (xs : List ℕ) → length (take n xs) < n → take n xs ≡ xs

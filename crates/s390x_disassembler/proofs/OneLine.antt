@@ -1,5 +1,5 @@
 -- The line of an instruction tells its bytes.
-use Rattle.std.proofs.Common.{◌≡◌, ℕ, List, [], ◌∷◌, ◌++◌, ap, ◌∙◌, Option, Some, None}
+use Rattle.std.proofs.Common.{◌≡◌, ℕ, Bool, true, false, List, [], ◌∷◌, ◌++◌, ap, ◌∙◌, Option, Some, None}
 use Rattle.std.specs.Prelude.{IfNone}
 use Rattle.s390x_format.specs.declared.decoder.Located.{Located}
 use Rattle.s390x_format.specs.Fetch.{IsLocated}
@@ -19,3 +19,6 @@ line_told a line bytes l h f = f.line_is ∙ ap (λ t. t ++ (10 ∷ [])) (one_te
 pub none_short : {T : Type 0} (r : Option T) (a : ℕ) (line : List ℕ) → IfNone r (IsNoLine a line) → IfNone r (IsNoShortLine a line)
 none_short None a line h = λ bytes f. absurd (h bytes f)
 none_short (Some t) a line h = h
+
+pub not_both : (b : Bool) → b ≡ true → b ≡ false → ⊥
+not_both b h g = cc

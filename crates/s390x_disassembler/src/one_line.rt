@@ -14,6 +14,7 @@ use s390x_format::Located;
 
 /// The bytes of the instruction whose line this is at an address: its text, as a disassembly has it without the address and the
 /// bytes, and a line feed. `None` exactly where it is no instruction's, or has more than 95 bytes. No memory is taken.
+#[tactic(auto, using(crate::proofs::OneLine::none_short))]
 pub fn assembled_line(address: u64, line: &[u8]) -> Option<ArrayVec<u8, 6>>
     ensures code { IfSome result (λ bytes. IsInstructionLine address line.now bytes.items) }
     ensures one { IfSome result (λ bytes. IsOnlyLine address line.now bytes.items) }
