@@ -289,6 +289,7 @@ def main():
                     write(chosen.out, row, steps[at:at + chosen.count], ends[at:at + chosen.count])
                 if chosen.emulate:
                     rows_of[f"{row.opcode:x}-{row.name}"] = found = compared(row, steps[at:at + chosen.emulate], ends[at:at + chosen.emulate], folder)
+                    print(f"{row.opcode:x}-{row.name}: " + ", ".join(f"{count} {word}" for word, count in found.items() if count), flush=True)
                     counts.update({f"steps {word}": count for word, count in found.items()})
     for word, count in counts.items():
         print(f"{count} {word}")
