@@ -59,7 +59,8 @@ fn is_unit_line(address: u64, line: &[u8], bytes: &[u8], located: &Located) -> b
     requires { length line.now < 96 }
     ensures unit { result ≡ true → is_unit bytes.now ≡ true }
     ensures line { result ≡ true → line.now ≡ located_line address located.now }
-    ensures none { result ≡ false → is_unit bytes.now ≡ true → line.now ≡ located_line address located.now → ⊥ }
+    ensures none { result ≡ false → is_unit bytes.now ≡ true
+        → line.now ≡ located_line address located.now → ⊥ }
 {
     if is_unit(bytes) {
         is_line(address, line, located)
