@@ -51,7 +51,7 @@ row_worded : (a : ℕ) (u : List ℕ) (l : Located) (text more : List ℕ) → i
     → Worded text ((get_or spellings l.at no_spelling).0 ++ letters_of (get_or spellings l.at no_spelling).1 (fields_of (get_or MACHINE_ROWS l.at no_row).format h.fetch.slots))
     (operands_text 32 a (letters_of (get_or spellings l.at no_spelling).1 (fields_of (get_or MACHINE_ROWS l.at no_row).format h.fetch.slots)) (fields_of (get_or MACHINE_ROWS l.at no_row).format h.fetch.slots) (operands_of (get_or spellings l.at no_spelling).2) ++ (10 ∷ more))
 row_worded a u l text more unit h e =
-    let r = located_row a u l unit h in
+    let r = located_row a u l h in
     let first = first_operand (get_or spellings l.at no_spelling).2 a (letters_of (get_or spellings l.at no_spelling).1 (fields_of (get_or MACHINE_ROWS l.at no_row).format h.fetch.slots)) (fields_of (get_or MACHINE_ROWS l.at no_row).format h.fetch.slots) in
     record {
       text_is = e ∙ ap (λ (t : List ℕ). t ++ (10 ∷ more)) r.text ∙ append_assoc ((get_or spellings l.at no_spelling).0 ++ letters_of (get_or spellings l.at no_spelling).1 (fields_of (get_or MACHINE_ROWS l.at no_row).format h.fetch.slots)) _ (10 ∷ more);
@@ -70,12 +70,12 @@ name_is_plain a u l text w more unit h word e =
 row_read : (a : ℕ) (u : List ℕ) (l : Located) (text w rest bytes more : List ℕ) → is_unit u ≡ true → IsLocated u l → IsWord text w → rest ≡ drop (length w) text → IsRowRead a spellings MACHINE_ROWS w rest bytes → text ≡ found_text a u (Some l) ++ (10 ∷ more) → bytes ≡ u
 unfolding machine_rows letters_of
 row_read a u l text w rest bytes more unit h word is reads e =
-    let r = located_row a u l unit h in
+    let r = located_row a u l h in
     let t = row_worded a u l text more unit h e in
     let m = word_is text w _ _ word t in
     let below : l.at < length MACHINE_ROWS = h.row.below in
     let name : row_named spellings w ≡ l.at = ap (row_named spellings) m ∙ named l.at (choice (get_or spellings l.at no_spelling).1 (fields_of (get_or MACHINE_ROWS l.at no_row).format h.fetch.slots)) below in
-    reads l.at below below name h.fetch.slots more (record { fit = r.fit; opcode = r.opcode; allowed = r.allowed; legible = r.legible; mnemonic = m; text_is = is ∙ rest_is text w _ _ word t }) ∙ sym r.bytes
+    reads l.at below below name h.fetch.slots more (record { fit = r.fit; opcode = r.opcode; allowed = r.allowed; legible = r.legible; mnemonic = m; text_is = is ∙ rest_is text w _ _ word t }) ∙ sym (r.bytes unit)
 
 pub instruction_read : (a : ℕ) (text w rest bytes : List ℕ) → IsWord text w → rest ≡ drop (length w) text → IsRowRead a spellings MACHINE_ROWS w rest bytes → IsInstructionRead a text bytes
 instruction_read a text w rest bytes word is reads u l more unit h e = row_read a u l text w rest bytes more unit h word is reads e

@@ -12,6 +12,7 @@ pub mod Letters
 pub mod Start
 pub mod Spelled
 pub mod Written
+pub mod Widths
 pub mod FieldText
 pub mod Distinct
 pub mod LineFeed

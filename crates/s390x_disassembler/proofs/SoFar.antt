@@ -48,7 +48,7 @@ nothing_read base text = record {
 
 -- ---- more bytes behind a code
 more_bytes : (code bytes : List ℕ) → IsBytes code → IsBytes bytes → IsBytes (code ++ bytes)
-more_bytes [] bytes h g = g
+more_bytes [] bytes h g i = g i
 more_bytes (x ∷ code) bytes h g zero = h 0
 more_bytes (x ∷ code) bytes h g (suc i) = more_bytes code bytes (λ j. h (suc j)) g i
 

@@ -1,5 +1,5 @@
 -- The texts that are assembled: a disassembly, whose lines may lack their address and their bytes.
-use Rattle.std.specs.Prelude.{◌≡◌, ℕ, ◌+◌, ◌≤◌, Bool, true, ◌||◌, ◌==◌, List, [], ◌∷◌, ◌++◌, length, slice_index, Option, ◌⊎◌}
+use Rattle.std.specs.Prelude.{◌≡◌, ℕ, ◌+◌, Bool, true, ◌||◌, ◌==◌, List, [], ◌∷◌, ◌++◌, length, slice_index, Option, ◌⊎◌}
 use Rattle.hex.specs.Hex.{IsBytes}
 use Rattle.s390x_format.specs.Rows.{fetch_length_of}
 use Rattle.s390x_format.specs.declared.decoder.Located.{Located}
@@ -78,10 +78,6 @@ IsOnlyLine a line bytes = (other : List ℕ) → IsInstructionLine a line other 
 -- it is no instruction's
 abbrev pub IsNoLine : ℕ → List ℕ → Type 0
 IsNoLine a line = (bytes : List ℕ) → IsInstructionLine a line bytes → ⊥
-
--- it is none, or too long
-abbrev pub IsNoShortLine : ℕ → List ℕ → Type 0
-IsNoShortLine a line = (bytes : List ℕ) → IsInstructionLine a line bytes → 96 ≤ length line
 
 -- as many bytes as the first of them tells
 abbrev pub is_whole : List ℕ → Bool

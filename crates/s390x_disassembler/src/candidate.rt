@@ -32,8 +32,8 @@ pub fn candidate(alloc: Global, address: u64, text: &[u8]) -> Result<Vec<u8>, Al
     }
 }
 
-/// The same where the first line is an instruction's: its bytes, if there are any of which it is written without its address and
-/// its bytes; else any bytes. No memory is taken.
+/// The bytes that the first line of a text is read as where it is an instruction's, without memory: those of which it is written
+/// without its address and its bytes, if there are any; else any bytes.
 pub fn instruction_bytes(address: u64, text: &[u8]) -> ArrayVec<u8, 6>
     ensures { IsInstructionRead address text.now result.items }
 {

@@ -1,7 +1,7 @@
 //! The text of an instruction, without an allocator.
-ghost use Rattle.std.specs.Prelude.{◌≡◌, ◌∷◌, [], ◌++◌, map};
-ghost use Rattle.std.specs.Prelude.{false};
+ghost use Rattle.std.specs.Prelude.{◌≡◌, ◌∷◌, [], ◌++◌, ℕ, List, false, map};
 ghost use Rattle.std.specs.Fmt.{digits};
+ghost use Rattle.s390x_format.specs.Fetch.{IsLocated};
 ghost use Rattle.s390x_disassembler.specs.Text.{register_text, registers_text, storage_text, operand_text, operands_text, spelled, plain_row, row_text, spellings};
 ghost use Rattle.s390x_disassembler.specs.Fitted.{Adds, fitting};
 
@@ -13,10 +13,13 @@ use crate::table::SPELLINGS;
 use crate::text::{is_written, signed, value_at};
 use s390x_format::{Fields, Located};
 
-/// An instruction's text at an address, as GNU's assembler writes it, as far as it has 96 bytes. No memory is taken.
+/// An instruction's text at an address, as GNU's assembler writes it, as far as it has 96 bytes: the whole of it where some
+/// bytes are read as the instruction. No memory is taken.
 pub fn located_text(address: u64, located: &Located) -> Text
-    ensures { fitting result.items
+    ensures cut { fitting result.items
         ≡ fitting (row_text spellings address located.now.at located.now.decoded.fields) }
+    ensures whole { (bytes : List ℕ) → IsLocated bytes located.now → fitting result.items
+        ≡ row_text spellings address located.now.at located.now.decoded.fields }
 {
     let mut out = Text::new();
     put_row(

@@ -1,6 +1,6 @@
 //! The code of one line, without an allocator.
 ghost use Rattle.std.specs.Prelude.{◌≡◌, ◌<◌, ◌≤◌, length, true, false, IfNone, IfSome};
-ghost use Rattle.s390x_disassembler.specs.Assembly.{IsInstructionLine, IsNoLine, IsNoShortLine, IsOnlyLine, located_line};
+ghost use Rattle.s390x_disassembler.specs.Assembly.{IsInstructionLine, IsNoLine, IsOnlyLine, located_line};
 ghost use Rattle.s390x_disassembler.specs.Bare.{is_unit};
 ghost use Rattle.s390x_disassembler.specs.Fitted.{fitting};
 
@@ -13,13 +13,14 @@ use arrayvec::ArrayVec;
 use s390x_format::Located;
 
 /// The bytes of the instruction whose line this is at an address: its text, as a disassembly has it without the address and the
-/// bytes, and a line feed. `None` exactly where it is no instruction's, or has more than 95 bytes. No memory is taken.
-#[tactic(auto, using(crate::proofs::OneLine::none_short))]
+/// bytes, and a line feed. `None` exactly where it is no instruction's. No memory is taken.
+#[tactic(auto, using(crate::proofs::OneLine::none_long))]
 pub fn assembled_line(address: u64, line: &[u8]) -> Option<ArrayVec<u8, 6>>
     ensures code { IfSome result (λ bytes. IsInstructionLine address line.now bytes.items) }
     ensures one { IfSome result (λ bytes. IsOnlyLine address line.now bytes.items) }
-    ensures none { IfNone result (IsNoShortLine address line.now) }
+    ensures none { IfNone result (IsNoLine address line.now) }
 {
+    // No instruction's line is longer than a text has room.
     if line.len() < 96 {
         short_line(address, line)
     } else {

@@ -1,9 +1,8 @@
--- The text of an instruction, as far as there is room for it.
+-- The text of an instruction, and the instruction of a line.
 use Rattle.std.specs.Prelude.{◌≡◌, ℕ, ◌<◌, List, length, slice_index, Some}
 use Rattle.s390x_format.specs.Fetch.{IsLocated}
 use Rattle.s390x_format.specs.declared.decoder.Located.{Located}
 use Rattle.s390x_disassembler.specs.Text.{found_text}
-use Rattle.s390x_disassembler.specs.Fitted.{fitting}
 use Rattle.s390x_disassembler.specs.Assembly.{IsInstructionLine, IsOnlyLine}
 use Rattle.s390x_page.specs.declared.assembling.InstructionBytes.{InstructionBytes}
 use Rattle.s390x_page.specs.declared.text.InstructionText.{InstructionText}
@@ -17,7 +16,7 @@ pub record Holds (t : InstructionText) (text : List ℕ) : Type 0 where
 pub record IsTextOf (address : ℕ) (bytes : List ℕ) (t : InstructionText) : Type 0 where
   pub located : Located
   pub is : IsLocated bytes located
-  pub text : Holds t (fitting (found_text address bytes (Some located)))
+  pub text : Holds t (found_text address bytes (Some located))
 
 -- some bytes, and their number
 pub record HoldsBytes (b : InstructionBytes) (bytes : List ℕ) : Type 0 where

@@ -1,6 +1,6 @@
 //! The instruction of a line of assembly.
 ghost use Rattle.std.specs.Prelude.{◌≡◌, ◌≤◌, length, true, false};
-ghost use Rattle.s390x_disassembler.specs.Assembly.{IsNoShortLine};
+ghost use Rattle.s390x_disassembler.specs.Assembly.{IsNoLine};
 ghost use Rattle.s390x_page.specs.Texts.{HoldsBytes, IsAssembled};
 
 use s390x_disassembler::assembled_line;
@@ -15,12 +15,11 @@ pub struct InstructionBytes {
 
 /// The instruction whose line this is at an address: its text, as `s390x_page_text` writes it, and a line feed.
 ///
-/// True, and `out` has its bytes. False exactly where no instruction has this line, or it has more than 95 bytes; then `out` is
-/// left as it was.
+/// True, and `out` has its bytes. False exactly where no instruction has this line; then `out` is left as it was.
 #[unsafe(no_mangle)]
 pub extern "C" fn s390x_page_assemble(address: u64, line: &[u8], out: &mut InstructionBytes) -> bool
     ensures found { result ≡ true → IsAssembled address line.now out.new }
-    ensures none { result ≡ false → IsNoShortLine address line.now }
+    ensures none { result ≡ false → IsNoLine address line.now }
     ensures kept { result ≡ false → out.new ≡ out.old }
 {
     match assembled_line(address, line) {

@@ -16,8 +16,7 @@ pub struct InstructionText {
     pub bytes: [u8; 96],
 }
 
-/// The text of the instruction with which the bytes begin, at an address, as GNU's assembler writes it, as far as it has 96
-/// bytes.
+/// The text of the instruction with which the bytes begin, at an address, as GNU's assembler writes it.
 ///
 /// True, and `out` has it. False exactly where the bytes begin with no instruction; then `out` is left as it was.
 #[unsafe(no_mangle)]
