@@ -52,6 +52,10 @@ class Browser {
     await this.value(`{ const box = document.getElementById("${id}"); box.focus(); box.select(); }`);
     await this.ask("Input.insertText", { text });
   }
+  // A long text at once, since each line that is typed shows the page anew.
+  async put(id, text) {
+    await this.value(`{ const box = document.getElementById("${id}"); box.value = ${JSON.stringify(text)}; box.dispatchEvent(new Event("input")); }`);
+  }
   async press(id) { await this.value(`document.getElementById("${id}").click()`); }
 }
 
@@ -115,7 +119,7 @@ async function lines(browser) {
   const texts = rows.map(row => row[2]).filter(text => !/^\.(short|byte) |0x[0-9a-f]+$/.test(text));
   const wanted = assembled(texts, 0), known = texts.filter((_, k) => wanted[k] !== null);
   await browser.type("base", "0");
-  await browser.type("code", known.join("\n"));
+  await browser.put("code", known.join("\n"));
   same("what is wrong", await browser.value('document.getElementById("wrong").textContent'), "");
   const shown = await bytesShown(browser);
   same("how many instructions", shown.length, known.length);
