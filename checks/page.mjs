@@ -1,11 +1,17 @@
 // What page/index.html shows in a headless browser; checks/page.sh runs it: page.mjs TOP PROFILE [PICTURE].
-import { spawn } from "node:child_process";
+import { spawn, spawnSync } from "node:child_process";
 import fs from "node:fs";
 import path from "node:path";
 import { pathToFileURL } from "node:url";
 
 const [top, profile, image] = process.argv.slice(2);
 const read = (...names) => fs.readFileSync(path.join(top, ...names), "utf8");
+
+// Lines with targets before and behind them, negative numbers, indexes, masks and vectors, at 0x1000; and lines that are no instruction's.
+const TYPED = ["lghi %r2,-5", "aghi %r15,-160", "stmg %r6,%r15,48(%r15)", "lay %r1,-524288(%r2,%r3)", "larl %r4,0x1000", "brasl %r14,0x2000", "jne 0x1010", "jg 0xfff0",
+  "locgre %r1,%r2", "risbgn %r1,%r2,3,61,7", "vlr %v31,%v17", "vag %v1,%v2,%v30", "vl %v20,16(%r3,%r4)", "mvhi 4095(%r1),-32768", "br %r14"];
+const WRONG = ["agrk %r1,%r2", "agrk %r1,%r2,%r16", "agrk %r1,%r2,%r3 x", "lgr %r2", "lgrx %r2,%r3", "lghi %r2,32768", "lghi %r2,05", "je 0x1001", "lg %r1,4096(%q2)", ".short 0x0707",
+  "agrk %r1,%r2,%r3".padEnd(300, "x"), "agrk %r1,%r2,%r3" + " ".repeat(300) + "x", "é %r1"];
 
 // The browser by its debugging pipe: messages are JSON, each with a zero byte behind it.
 class Browser {
@@ -46,6 +52,10 @@ class Browser {
     await this.value(`{ const box = document.getElementById("${id}"); box.focus(); box.select(); }`);
     await this.ask("Input.insertText", { text });
   }
+  // A long text at once, since each line that is typed shows the page anew.
+  async put(id, text) {
+    await this.value(`{ const box = document.getElementById("${id}"); box.value = ${JSON.stringify(text)}; box.dispatchEvent(new Event("input")); }`);
+  }
   async press(id) { await this.value(`document.getElementById("${id}").click()`); }
 }
 
@@ -74,6 +84,58 @@ async function instructions(browser) {
     if (!card.sentence) fail("no sentence for " + card.line[2]);
   });
   console.log(`${found.length} instructions are shown as the disassembler writes them, each with its bits and a sentence`);
+}
+
+// What GNU's assembler makes of lines at an address, each as digits; null where it lacks the instruction. A target is written as its distance.
+function assembled(lines, base) {
+  fs.mkdirSync(profile, { recursive: true });
+  const [source, made, flat] = ["lines.s", "lines.o", "lines.bin"].map(name => path.join(profile, name)), lacking = new Set();
+  const given = lines.map(line => line.replace(/0x([0-9a-f]+)$/, (_, target) => "here+(" + BigInt.asIntN(64, BigInt("0x" + target) - BigInt(base)) + ")"));
+  for (;;) {
+    fs.writeFileSync(source, ".text\nhere:\n" + given.map((line, k) => (lacking.has(k) ? "" : line) + "\n").join(""));
+    const done = spawnSync("s390x-linux-gnu-as", ["-march=z16", "-mzarch", "-o", made, source], { encoding: "utf8" });
+    if (done.error) fail("s390x-linux-gnu-as doesn't start: " + done.error);
+    const wrong = [...done.stderr.matchAll(/:(\d+): (?:Fatal e|E)rror/g)].map(found => Number(found[1]) - 3);
+    if (!wrong.length) break;
+    wrong.forEach(k => lacking.add(k));
+  }
+  const copied = spawnSync("s390x-linux-gnu-objcopy", ["-O", "binary", "-j", ".text", made, flat]);
+  if (copied.status) fail("s390x-linux-gnu-objcopy: " + (copied.error || copied.stderr));
+  const code = fs.readFileSync(flat);
+  let at = 0;
+  return lines.map((_, k) => {
+    if (lacking.has(k)) return null;
+    const length = code[at] < 0x40 ? 2 : code[at] < 0xc0 ? 4 : 6;
+    at += length;
+    return code.subarray(at - length, at).toString("hex");
+  });
+}
+
+const bytesShown = browser => browser.value('[...document.querySelectorAll(".instruction .bytes")].map(part => part.textContent)');
+
+// Lines of assembly are read as GNU's assembler reads them: those of each machine row that it has, each at its own place, and those of `TYPED` together.
+async function lines(browser) {
+  const rows = read("crates", "s390x_disassembler_example", "stdout").trim().split("\n").map(line => line.match(/^([0-9a-f]+): [0-9a-f]+ (.*)$/));
+  const texts = rows.map(row => row[2]).filter(text => !/^\.(short|byte) |0x[0-9a-f]+$/.test(text));
+  const wanted = assembled(texts, 0), known = texts.filter((_, k) => wanted[k] !== null);
+  await browser.type("base", "0");
+  await browser.put("code", known.join("\n"));
+  same("what is wrong", await browser.value('document.getElementById("wrong").textContent'), "");
+  const shown = await bytesShown(browser);
+  same("how many instructions", shown.length, known.length);
+  wanted.filter(bytes => bytes !== null).forEach((bytes, k) => same(known[k], shown[k], bytes));
+  console.log(`${known.length} lines of assembly are read as GNU's assembler reads them, which lacks ${texts.length - known.length} more`);
+  await browser.type("base", "1000");
+  await browser.type("code", TYPED.join("\n"));
+  assembled(TYPED, 0x1000).forEach((bytes, k) => { if (bytes === null) fail("not GNU's: " + TYPED[k]); });
+  same("the typed lines", (await bytesShown(browser)).join(" "), assembled(TYPED, 0x1000).join(" "));
+  await browser.type("code", "  AGRK  %r1, %r2, %r3\n\nb9040023\nlg %r1,8(%r2,%r15)\nj 0x1000");
+  same("lines and digits", (await bytesShown(browser)).join(" "), ["b9e83012", "b9040023", ...assembled(["lg %r1,8(%r2,%r15)"], 0), "a7f4fff9"].join(" "));
+  for (const line of WRONG) {
+    await browser.type("code", "lgr %r2,%r3\n" + line);
+    if (!/^Line 2 /.test(await browser.value('document.getElementById("wrong").textContent'))) fail("not refused: " + line);
+  }
+  console.log("lines and digits stand together, and lines of no instruction are refused");
 }
 
 // A line of the stored steps as the machine before it and what is wanted of it; null where it is no such line, or the storage is too small for it.
@@ -144,7 +206,7 @@ async function run(browser) {
 
 async function picture(browser) {
   await browser.type("base", "1000");
-  await browser.type("code", "a7280005 a7390000 b9080032 a72affff a774fffc 5030f080 07fe");
+  await browser.type("code", "lhi %r2,5\nlghi %r3,0\nagr %r3,%r2\nahi %r2,-1\njne 0x1008\n5030f080 07fe");
   for (let k = 0; k < 7; k++) await browser.press("step");
   const { data } = await browser.ask("Page.captureScreenshot", { format: "png", clip: { x: 0, y: 0, width: 1280, height: 900, scale: 0.75 } });
   fs.writeFileSync(image, Buffer.from(data, "base64"));
@@ -153,6 +215,7 @@ async function picture(browser) {
 const browser = new Browser();
 await browser.open(path.join(top, "page", "index.html"));
 await instructions(browser);
+await lines(browser);
 await stored(browser);
 await run(browser);
 if (image) await picture(browser);

@@ -1,11 +1,11 @@
 #!/usr/bin/env bash
 # The page of instructions: it is built anew and compared with the one that is committed, opened in a headless browser from the file system,
-# typed into, and what it shows is compared with the disassembler's stored output, with the steps that the emulator and the manual gave, and with
-# a small run worked out by hand. Run by hand, from anywhere:
+# typed into, and what it shows is compared with the disassembler's stored output, with what GNU's assembler makes of lines, with the steps that
+# the emulator and the manual gave, and with a small run worked out by hand. Run by hand, from anywhere:
 #
 #     checks/page.sh [--shown] [PICTURE.png]    --shown: not built anew; PICTURE.png: a picture of the page is written there
 #
-# Needs chromium (from 133 on) and node (from 18 on). The first build takes as long as the proofs of the libraries below that this checkout hasn't built.
+# Needs chromium (from 133 on), node (from 18 on) and binutils for s390x. The first build takes as long as the proofs of the libraries below that this checkout hasn't built.
 set -eu
 top=$(cd "$(dirname "$0")/.." && pwd)
 folder=$(mktemp -d "${TMPDIR:-/tmp}/shown.XXXXXX")

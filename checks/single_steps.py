@@ -11,7 +11,7 @@ numbers), `vr` (32) and `ram`, a list of an address and the bytes from there on;
 Masks, registers, immediates and the state are drawn. Rows, formats and what a row allows are read from the tables of `s390x_format`.
 
 The steps are taken by `s390x_page_step` of the module in page/index.html, which is built of proved code, in one process of node (from 20 on); a thousand a row
-take some minutes, most of them for writing 2 GB. --emulate N runs N steps of each row on qemu-s390x too, and tells of each row how many agree, differ, or are none
+take some minutes, most of them for writing 1.6 GB. --emulate N runs N steps of each row on qemu-s390x too, and tells of each row how many agree, differ, or are none
 of the emulator's. It ends with 0 where all that the emulator has agrees, with 1 where one differs.
 """
 import argparse
@@ -131,6 +131,13 @@ def pick_lane(drawn, slots, general):
         general[slots["REG_2"]] = lane - slots["DISPLACEMENT"]
 
 
+def keep_out(slots, width):
+    """A relative branch leads nowhere among the operands, where an instruction may stand by chance."""
+    distance = 2 * signed(slots["IMMEDIATE"], width)
+    if DATA <= PLACE + distance < DATA + SIZE:
+        slots["IMMEDIATE"] = -distance // 2 % 2 ** width
+
+
 def lead(drawn, row, slots, general, vector):
     """Most operands in storage lie in the region: by their base, or by their distance."""
     if row.name in ("vsl", "vsrl", "vsra"):
@@ -156,6 +163,8 @@ def lead(drawn, row, slots, general, vector):
     elif row.name == "larl":
         # the emulator cuts great distances
         slots["IMMEDIATE"] = drawn.randrange(-0x1000000, 0x10000000) % 2 ** 32
+    elif row.kind in ("RiB", "RiC") or row.opcode in (0xc04, 0xc05):
+        keep_out(slots, 16 if row.kind in ("RiB", "RiC") else 32)
     elif row.opcode in (0x07, 0x0d):
         general[slots["REG_2"]] = ZEROS + 2 * drawn.randrange(16)
 
@@ -289,6 +298,7 @@ def main():
                     write(chosen.out, row, steps[at:at + chosen.count], ends[at:at + chosen.count])
                 if chosen.emulate:
                     rows_of[f"{row.opcode:x}-{row.name}"] = found = compared(row, steps[at:at + chosen.emulate], ends[at:at + chosen.emulate], folder)
+                    print(f"{row.opcode:x}-{row.name}: " + ", ".join(f"{count} {word}" for word, count in found.items() if count), flush=True)
                     counts.update({f"steps {word}": count for word, count in found.items()})
     for word, count in counts.items():
         print(f"{count} {word}")

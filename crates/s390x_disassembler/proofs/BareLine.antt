@@ -1,5 +1,5 @@
 -- A line without its address and its bytes is read as the bytes of which it is written.
-use Rattle.std.proofs.Common.{◌≡◌, ℕ, ◌%◌, ◌^◌, ◌<◌, Bool, true, false, not, ◌&&◌, ◌==◌, nat_lt, ltb-true, eqb-true, eq-eqb, ne_eqb, if◌then◌else◌, List, [], ◌∷◌, ◌++◌, codes, length, drop, get_or, append_assoc, refl, sym, ap, ap₂, ◌∙◌, arith, Option, Some, None}
+use Rattle.std.proofs.Common.{◌≡◌, ℕ, ◌%◌, ◌^◌, ◌<◌, Bool, true, false, not, ◌&&◌, ◌==◌, nat_lt, ltb-true, eqb-true, eq-eqb, ne_eqb, if◌then◌else◌, List, [], ◌∷◌, ◌++◌, codes, length, drop, get_or, append_assoc, refl, sym, ap, ap₂, subst, ◌∙◌, arith, Option, Some, None}
 use Rattle.std.specs.Prelude.{Result, IfOk}
 use Rattle.std.specs.Str.{bytes_eq}
 use Rattle.std.proofs.lemmas.Result.{IfOk-weaker}
@@ -20,7 +20,7 @@ use Rattle.s390x_disassembler.specs.Spelling.{letters_of, choice}
 use Rattle.s390x_disassembler.specs.Names.{row_named}
 use Rattle.s390x_disassembler.specs.Text.{spellings, found_text, data_text, pairs_text, bytes_text, operands_text}
 use Rattle.s390x_disassembler.specs.Lines.{IsFound}
-use Rattle.s390x_disassembler.specs.Bare.{no_spelling, is_unit, IsRowRead, AreGroups, IsGroupRead, IsBareRead}
+use Rattle.s390x_disassembler.specs.Bare.{no_spelling, is_unit, IsRowRead, AreGroups, IsGroupRead, IsBareRead, IsInstructionRead}
 use Rattle.s390x_disassembler.proofs.Pieces.{one_pair, one_byte}
 use Rattle.s390x_disassembler.proofs.Distinct.{first_blank}
 use Rattle.s390x_disassembler.proofs.Names.{is_plain, named}
@@ -51,7 +51,7 @@ row_worded : (a : ℕ) (u : List ℕ) (l : Located) (text more : List ℕ) → i
     → Worded text ((get_or spellings l.at no_spelling).0 ++ letters_of (get_or spellings l.at no_spelling).1 (fields_of (get_or MACHINE_ROWS l.at no_row).format h.fetch.slots))
     (operands_text 32 a (letters_of (get_or spellings l.at no_spelling).1 (fields_of (get_or MACHINE_ROWS l.at no_row).format h.fetch.slots)) (fields_of (get_or MACHINE_ROWS l.at no_row).format h.fetch.slots) (operands_of (get_or spellings l.at no_spelling).2) ++ (10 ∷ more))
 row_worded a u l text more unit h e =
-    let r = located_row a u l unit h in
+    let r = located_row a u l h in
     let first = first_operand (get_or spellings l.at no_spelling).2 a (letters_of (get_or spellings l.at no_spelling).1 (fields_of (get_or MACHINE_ROWS l.at no_row).format h.fetch.slots)) (fields_of (get_or MACHINE_ROWS l.at no_row).format h.fetch.slots) in
     record {
       text_is = e ∙ ap (λ (t : List ℕ). t ++ (10 ∷ more)) r.text ∙ append_assoc ((get_or spellings l.at no_spelling).0 ++ letters_of (get_or spellings l.at no_spelling).1 (fields_of (get_or MACHINE_ROWS l.at no_row).format h.fetch.slots)) _ (10 ∷ more);
@@ -70,12 +70,15 @@ name_is_plain a u l text w more unit h word e =
 row_read : (a : ℕ) (u : List ℕ) (l : Located) (text w rest bytes more : List ℕ) → is_unit u ≡ true → IsLocated u l → IsWord text w → rest ≡ drop (length w) text → IsRowRead a spellings MACHINE_ROWS w rest bytes → text ≡ found_text a u (Some l) ++ (10 ∷ more) → bytes ≡ u
 unfolding machine_rows letters_of
 row_read a u l text w rest bytes more unit h word is reads e =
-    let r = located_row a u l unit h in
+    let r = located_row a u l h in
     let t = row_worded a u l text more unit h e in
     let m = word_is text w _ _ word t in
     let below : l.at < length MACHINE_ROWS = h.row.below in
     let name : row_named spellings w ≡ l.at = ap (row_named spellings) m ∙ named l.at (choice (get_or spellings l.at no_spelling).1 (fields_of (get_or MACHINE_ROWS l.at no_row).format h.fetch.slots)) below in
-    reads l.at below below name h.fetch.slots more (record { fit = r.fit; opcode = r.opcode; allowed = r.allowed; legible = r.legible; mnemonic = m; text_is = is ∙ rest_is text w _ _ word t }) ∙ sym r.bytes
+    reads l.at below below name h.fetch.slots more (record { fit = r.fit; opcode = r.opcode; allowed = r.allowed; legible = r.legible; mnemonic = m; text_is = is ∙ rest_is text w _ _ word t }) ∙ sym (r.bytes unit)
+
+pub instruction_read : (a : ℕ) (text w rest bytes : List ℕ) → IsWord text w → rest ≡ drop (length w) text → IsRowRead a spellings MACHINE_ROWS w rest bytes → IsInstructionRead a text bytes
+instruction_read a text w rest bytes word is reads u l more unit h e = row_read a u l text w rest bytes more unit h word is reads e
 
 -- ---- data
 pair_groups : AreGroups 2 pairs_text
@@ -197,13 +200,13 @@ no_address a b u x text rest more small unit h e columns =
     colon_last (digits 16 false b) (ap no_colon same.before ∙ w.colon)
 
 -- ---- the same where the mnemonic was compared
-same_text : (xs ys : List ℕ) → bytes_eq xs ys ≡ true → xs ≡ ys
+pub same_text : (xs ys : List ℕ) → bytes_eq xs ys ≡ true → xs ≡ ys
 same_text [] [] e = refl
 same_text [] (y ∷ ys) e = cc
 same_text (x ∷ xs) [] e = cc
 same_text (x ∷ xs) (y ∷ ys) e = let p = and_parts (x == y) (bytes_eq xs ys) e in ap₂ (λ (z : ℕ) (zs : List ℕ). z ∷ zs) (eqb-true x y p.0) (same_text xs ys p.1)
 
-other_text : (xs ys : List ℕ) → bytes_eq xs ys ≡ false → xs ≡ ys → ⊥
+pub other_text : (xs ys : List ℕ) → bytes_eq xs ys ≡ false → xs ≡ ys → ⊥
 other_text xs ys nay e = let h : bytes_eq xs xs ≡ false = ap (bytes_eq xs) e ∙ nay in true_false (bytes_eq xs xs) (itself xs) h
   where
     true_false : (b : Bool) → b ≡ true → b ≡ false → ⊥
@@ -223,7 +226,9 @@ short_ok r items a text w rest word is e h = IfOk-weaker r (λ b. IsGroupRead 2 
 pub byte_ok : {T E : Type 0} (r : Result T E) (items : T → List ℕ) (a : ℕ) (text w rest : List ℕ) → IsWord text w → rest ≡ drop (length w) text → bytes_eq w (codes ".byte") ≡ true → IfOk r (λ b. IsGroupRead 1 rest (items b)) → IfOk r (λ b. IsBareRead a text (items b))
 byte_ok r items a text w rest word is e h = IfOk-weaker r (λ b. IsGroupRead 1 rest (items b)) (λ b. IsBareRead a text (items b)) (λ b g. byte_read a text w rest (items b) word is (same_text w (codes ".byte") e) g) h
 
-pub name_ok : {T E : Type 0} (r : Result T E) (items : T → List ℕ) (a : ℕ) (text w rest : List ℕ) → IsWord text w → rest ≡ drop (length w) text → bytes_eq w (codes ".short") ≡ false → bytes_eq w (codes ".byte") ≡ false
-    → IfOk r (λ b. IsRowRead a spellings MACHINE_ROWS w rest (items b)) → IfOk r (λ b. IsBareRead a text (items b))
-name_ok r items a text w rest word is e f h =
-    IfOk-weaker r (λ b. IsRowRead a spellings MACHINE_ROWS w rest (items b)) (λ b. IsBareRead a text (items b)) (λ b g. name_read a text w rest (items b) word is (other_text w (codes ".short") e) (other_text w (codes ".byte") f) g) h
+pub name_ok : (a : ℕ) (text w rest bytes : List ℕ) → IsWord text w → rest ≡ drop (length w) text → bytes_eq w (codes ".short") ≡ false → bytes_eq w (codes ".byte") ≡ false → IsRowRead a spellings MACHINE_ROWS w rest bytes → IsBareRead a text bytes
+name_ok a text w rest bytes word is e f reads = name_read a text w rest bytes word is (other_text w (codes ".short") e) (other_text w (codes ".byte") f) reads
+
+-- the bytes that are stored are those that were read
+pub stored_ok : {T E : Type 0} (r : Result T E) (items : T → List ℕ) (a : ℕ) (text bytes lent : List ℕ) → lent ≡ bytes → IfOk r (λ b. items b ≡ lent) → IsBareRead a text bytes → IfOk r (λ b. IsBareRead a text (items b))
+stored_ok r items a text bytes lent e h reads = IfOk-weaker r (λ b. items b ≡ lent) (λ b. IsBareRead a text (items b)) (λ b g. subst (λ (t : List ℕ). IsBareRead a text t) (sym (g ∙ e)) reads) h

@@ -114,7 +114,7 @@ plain_clear (c ∷ m) h = let p = and_parts (nat_lt 58 c) (is_plain m) h in ((λ
 
 pub located_clear : (a : ℕ) (u : List ℕ) (l : Located) → a < 2 ^ 64 → is_unit u ≡ true → IsLocated u l → IsClear (found_text a u (Some l))
 located_clear a u l small unit h =
-    let r = located_row a u l unit h in
+    let r = located_row a u l h in
     subst (λ (t : List ℕ). IsClear t) (sym r.text)
     (clear_both ((get_or spellings l.at no_spelling).0 ++ letters_of (get_or spellings l.at no_spelling).1 (fields_of (get_or MACHINE_ROWS l.at no_row).format h.fetch.slots)) _
     (plain_clear _ (plain_mnemonic l.at (fields_of (get_or MACHINE_ROWS l.at no_row).format h.fetch.slots)))

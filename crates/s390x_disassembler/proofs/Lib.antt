@@ -12,6 +12,7 @@ pub mod Letters
 pub mod Start
 pub mod Spelled
 pub mod Written
+pub mod Widths
 pub mod FieldText
 pub mod Distinct
 pub mod LineFeed
@@ -21,3 +22,6 @@ pub mod SoFar
 pub mod Tables
 pub mod Groups
 pub mod Columns
+pub mod Fitting
+pub mod OneLine
+pub mod Digits

@@ -71,13 +71,13 @@ regs_small kind s (suc (suc zero)) fit lt = slot_below kind s 3 (omega arith) fi
 regs_small kind s (suc (suc (suc zero))) fit lt = slot_below kind s 4 (omega arith) fit
 regs_small kind s (suc (suc (suc (suc j)))) fit lt = absurd (omega arith)
 
-masks_at : (kind : FormatKind) (s : List ℕ) (j : ℕ) → j < 3 → slice_index (fields_of kind s).masks j ≡ slice_index s (5 + j)
+pub masks_at : (kind : FormatKind) (s : List ℕ) (j : ℕ) → j < 3 → slice_index (fields_of kind s).masks j ≡ slice_index s (5 + j)
 masks_at kind s zero lt = refl
 masks_at kind s (suc zero) lt = refl
 masks_at kind s (suc (suc zero)) lt = refl
 masks_at kind s (suc (suc (suc j))) lt = absurd (omega arith)
 
-masks_small : (kind : FormatKind) (s : List ℕ) (j : ℕ) → SlotsFit (layout_of kind) s → j < 3 → slice_index s (5 + j) < 2 ^ 8
+pub masks_small : (kind : FormatKind) (s : List ℕ) (j : ℕ) → SlotsFit (layout_of kind) s → j < 3 → slice_index s (5 + j) < 2 ^ 8
 masks_small kind s zero fit lt = slot_below kind s 5 (omega arith) fit
 masks_small kind s (suc zero) fit lt = slot_below kind s 6 (omega arith) fit
 masks_small kind s (suc (suc zero)) fit lt = slot_below kind s 7 (omega arith) fit

@@ -25,6 +25,7 @@ AllWhole code (l ∷ ls) = (l.length ≡ fetch_length_of (slice_index code l.off
 
 -- the lines that are read are a source of the code, and what has them has the code
 pub record IsSoFar (base : ℕ) (text code rest : List ℕ) (lines : ℕ) : Type 0 where
+  pub bytes : IsBytes code
   pub before : List ℕ
   pub text_is : text ≡ before ++ rest
   pub source : IsSource base code before
@@ -35,6 +36,7 @@ pub record IsSoFar (base : ℕ) (text code rest : List ℕ) (lines : ℕ) : Type
 
 pub nothing_read : (base : ℕ) (text : List ℕ) → IsSoFar base text [] text 0
 nothing_read base text = record {
+  bytes = λ i. omega arith;
   before = [];
   text_is = refl;
   source = record { lines = []; covers = refl; spells = refl };
@@ -45,6 +47,11 @@ nothing_read base text = record {
 }
 
 -- ---- more bytes behind a code
+more_bytes : (code bytes : List ℕ) → IsBytes code → IsBytes bytes → IsBytes (code ++ bytes)
+more_bytes [] bytes h g i = g i
+more_bytes (x ∷ code) bytes h g zero = h 0
+more_bytes (x ∷ code) bytes h g (suc i) = more_bytes code bytes (λ j. h (suc j)) g i
+
 longer_bytes : (code bytes : List ℕ) (l : Line) → l.offset + l.length ≤ length code → bytes_at (code ++ bytes) l ≡ bytes_at code l
 longer_bytes code bytes l le =
     ap (take l.length) (drop-append-le l.offset code bytes (omega (arith, le))) ∙ take-append-le l.length (drop l.offset code) bytes (omega (arith, le, length-drop l.offset code))
@@ -206,12 +213,13 @@ has_more base text code bytes rest more lines some so first reads =
     }
 
 -- one more line is read
-pub line_read : (base : ℕ) (text code bytes rest more : List ℕ) (lines : ℕ) → 0 < length rest → (so : IsSoFar base text code rest lines) → (is_whole bytes ≡ false → more ≡ []) → (first : IsFirstLine (address_of base (length code)) rest bytes more)
+pub line_read : (base : ℕ) (text code bytes rest more : List ℕ) (lines : ℕ) → 0 < length rest → (so : IsSoFar base text code rest lines) → IsBytes bytes → (is_whole bytes ≡ false → more ≡ []) → (first : IsFirstLine (address_of base (length code)) rest bytes more)
     → ((u r : List ℕ) → IsBytes u → IsFirstLine (address_of base (length code)) rest u r → (bytes ≡ u) × (more ≡ r)) → IsSoFar base text (code ++ bytes) more (lines + 1)
-line_read base text code bytes rest more lines some so part first reads =
+line_read base text code bytes rest more lines some so small part first reads =
     let l : Line = line_of code bytes first.found in
     let has = has_more base text code bytes rest more lines some so first reads in
     record {
+      bytes = more_bytes code bytes so.bytes small;
       before = has.now;
       text_is = has.text_is;
       source = has.source;
@@ -267,6 +275,7 @@ no_other base c code rest line more behind hc is none a = no_line base c code (l
 pub wrong_read : (base : ℕ) (text code rest : List ℕ) (lines : ℕ) → IsSoFar base text code rest lines → ((u r : List ℕ) → IsBytes u → IsFirstLine (address_of base (length code)) rest u r → ⊥) → IsWrongSource base text (lines + 1)
 wrong_read base text code rest lines so none = record {
   code = code;
+  bytes = so.bytes;
   before = so.before;
   rest = rest;
   text_is = so.text_is;
@@ -277,11 +286,12 @@ wrong_read base text code rest lines so none = record {
 
 -- and so is the one behind a line whose bytes end the code
 pub wrong_behind : (base : ℕ) (text code bytes rest more : List ℕ) (lines : ℕ) → 0 < length rest → IsSoFar base text code rest lines → is_whole bytes ≡ false → (first : IsFirstLine (address_of base (length code)) rest bytes more)
-    → ((u r : List ℕ) → IsBytes u → IsFirstLine (address_of base (length code)) rest u r → (bytes ≡ u) × (more ≡ r)) → IsWrongSource base text (lines + 1 + 1)
-wrong_behind base text code bytes rest more lines some so part first reads =
+    → ((u r : List ℕ) → IsBytes u → IsFirstLine (address_of base (length code)) rest u r → (bytes ≡ u) × (more ≡ r)) → IsBytes bytes → IsWrongSource base text (lines + 1 + 1)
+wrong_behind base text code bytes rest more lines some so part first reads small =
     let has = has_more base text code bytes rest more lines some so first reads in
     record {
       code = code ++ bytes;
+      bytes = more_bytes code bytes so.bytes small;
       before = has.now;
       rest = more;
       text_is = has.text_is;

@@ -1,8 +1,6 @@
 -- Looking through the tables of spellings and of letters.
 use Rattle.std.proofs.Common.{◌≡◌, ℕ, zero, suc, ◌+◌, ◌-◌, ◌*◌, ◌/◌, ◌%◌, ◌^◌, ◌<◌, ◌≤◌, true, false, List, [], ◌∷◌, ◌++◌, length, map, drop, get_or, slice_index_or, append-nil, refl, sym, ap, subst, ◌∙◌, Bor, arith}
 use Rattle.std.specs.Str.{bytes_eq}
-use Rattle.std.specs.Prelude.{Result, IfOk}
-use Rattle.std.proofs.lemmas.Result.{IfOk-weaker}
 use Rattle.std.proofs.lemmas.List.{length-map, get_or_default}
 use Rattle.s390x_format.specs.declared.row.MachineRow.{MachineRow}
 use Rattle.s390x_format.specs.Reading.{be_bytes, no_row}
@@ -85,8 +83,6 @@ unnamed_read a i ss rows m text bytes is nay at l1 l2 named values more sp =
     let same : i ≡ at = is ∙ named in
     absurd (nay (omega (arith, same, l1, length-map ss (λ row. plain_row row))) (omega (arith, same, l2)))
 
-pub named_ok : {T E : Type 0} (r : Result T E) (items : T → List ℕ) (a i : ℕ) (ss : List (Bor (List ℕ) × Suffix × Form)) (rows : List MachineRow) (m text : List ℕ) (e : MachineRow) (d : Bor (List ℕ) × Suffix × Form) → i ≡ row_named (map (λ row. plain_row row) ss) m → i < length ss → i < length rows
-    → IfOk r (λ b. IsSpelledRead a (slice_index_or rows i e) (plain_row (slice_index_or ss i d)) m text (items b)) → IfOk r (λ b. IsRowRead a (map (λ row. plain_row row) ss) rows m text (items b))
-named_ok r items a i ss rows m text e d is lt there h =
-    IfOk-weaker r (λ b. IsSpelledRead a (slice_index_or rows i e) (plain_row (slice_index_or ss i d)) m text (items b)) (λ b. IsRowRead a (map (λ row. plain_row row) ss) rows m text (items b))
-    (λ b g. named_read a i ss rows m text (items b) (slice_index_or rows i e) d is lt (get_or_default rows i e no_row there) g) h
+pub named_here : (a i : ℕ) (ss : List (Bor (List ℕ) × Suffix × Form)) (rows : List MachineRow) (m text bytes : List ℕ) (e : MachineRow) (d : Bor (List ℕ) × Suffix × Form) → i ≡ row_named (map (λ row. plain_row row) ss) m → i < length ss → i < length rows
+    → IsSpelledRead a (slice_index_or rows i e) (plain_row (slice_index_or ss i d)) m text bytes → IsRowRead a (map (λ row. plain_row row) ss) rows m text bytes
+named_here a i ss rows m text bytes e d is lt there h = named_read a i ss rows m text bytes (slice_index_or rows i e) d is lt (get_or_default rows i e no_row there) h

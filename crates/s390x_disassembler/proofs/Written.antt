@@ -59,7 +59,7 @@ pub record IsRowOf (a : ℕ) (u : List ℕ) (l : Located) (row : MachineRow) (s 
   pub allowed : is_allowed row.allowed values ≡ true
   pub legible : is_legible row s ≡ true
   pub text : found_text a u (Some l) ≡ (s.0 ++ letters_of s.1 (fields_of row.format values)) ++ operands_text 32 a (letters_of s.1 (fields_of row.format values)) (fields_of row.format values) (operands_of s.2)
-  pub bytes : u ≡ encode row.format values
+  pub bytes : is_unit u ≡ true → u ≡ encode row.format values
 
 unit_few : (u : List ℕ) → is_unit u ≡ true → length u ≤ fetch_length_of (slice_index u 0)
 unfolding is_unit
@@ -69,12 +69,12 @@ pub unit_some : (u : List ℕ) → is_unit u ≡ true → 0 < length u
 unfolding is_unit
 unit_some u h = ltb-true _ _ (and_parts (nat_lt 0 (length u)) (nat_le (length u) (fetch_length_of (slice_index u 0))) h).0
 
-row_of : (a : ℕ) (u : List ℕ) (l : Located) (values : List ℕ) (at : ℕ) (row : MachineRow) → is_unit u ≡ true → l.at < length MACHINE_ROWS → row ≡ get_or MACHINE_ROWS l.at no_row
+row_of : (a : ℕ) (u : List ℕ) (l : Located) (values : List ℕ) (at : ℕ) (row : MachineRow) → l.at < length MACHINE_ROWS → row ≡ get_or MACHINE_ROWS l.at no_row
     → l.decoded.row.format ≡ row.format → SlotsFit (layout_of l.decoded.row.format) values → slice_index values 0 ≡ row.opcode → is_allowed row.allowed values ≡ true
     → take (length_of l.decoded.row.format) u ≡ encode l.decoded.row.format values → length_of l.decoded.row.format ≡ fetch_length_of (slice_index u 0) → l.decoded.fields ≡ fields_of l.decoded.row.format values
     → IsRowOf a u l row (get_or spellings l.at no_spelling) values
 unfolding spelled
-row_of a u l values at row unit below row_is format fit opcode allowed bytes size fields =
+row_of a u l values at row below row_is format fit opcode allowed bytes size fields =
     let f : l.decoded.fields ≡ fields_of row.format values = fields ∙ ap (λ (k : FormatKind). fields_of k values) format in
     record {
       fit = subst (λ (k : FormatKind). SlotsFit (layout_of k) values) format fit;
@@ -84,19 +84,19 @@ row_of a u l values at row unit below row_is format fit opcode allowed bytes siz
       text = row_spelled spellings a l.at l.decoded.fields below
           ∙ ap (λ (g : Fields). spelled a (get_or spellings l.at no_spelling) g) f
           ∙ sym (append_assoc (get_or spellings l.at no_spelling).0 (letters_of (get_or spellings l.at no_spelling).1 (fields_of row.format values)) _);
-      bytes = sym (take_all (length_of l.decoded.row.format) u (omega (arith, size, unit_few u unit))) ∙ bytes ∙ ap (λ (k : FormatKind). encode k values) format;
+      bytes = λ unit. sym (take_all (length_of l.decoded.row.format) u (omega (arith, size, unit_few u unit))) ∙ bytes ∙ ap (λ (k : FormatKind). encode k values) format;
     }
 
 -- the bytes of an instruction are those of a row
-pub located_row : (a : ℕ) (u : List ℕ) (l : Located) → is_unit u ≡ true → (h : IsLocated u l) → IsRowOf a u l (get_or MACHINE_ROWS l.at no_row) (get_or spellings l.at no_spelling) h.fetch.slots
+pub located_row : (a : ℕ) (u : List ℕ) (l : Located) → (h : IsLocated u l) → IsRowOf a u l (get_or MACHINE_ROWS l.at no_row) (get_or spellings l.at no_spelling) h.fetch.slots
 unfolding machine_rows
-located_row a u l unit h =
+located_row a u l h =
     let d : Reading = record { row = l.decoded.row; slots = h.fetch.slots } in
     let r = h.fetch.reading in
     let k = known MACHINE_ROWS FIRST_BYTES u d rows_are rows_indexed r in
     let at : r.at ≡ l.at = same_place MACHINE_ROWS r.at l.at rows_rise r.in_table h.row.below (sym r.opcode ∙ sym h.row.same) in
     let format : l.decoded.row.format ≡ (get_or MACHINE_ROWS l.at no_row).format = r.format ∙ ap (λ (i : ℕ). (get_or MACHINE_ROWS i no_row).format) at in
-    row_of a u l h.fetch.slots l.at (get_or MACHINE_ROWS l.at no_row) unit h.row.below refl format r.fit (r.code ∙ sym h.row.same)
+    row_of a u l h.fetch.slots l.at (get_or MACHINE_ROWS l.at no_row) h.row.below refl format r.fit (r.code ∙ sym h.row.same)
     (subst (λ (i : ℕ). is_allowed (get_or MACHINE_ROWS i no_row).allowed h.fetch.slots ≡ true) at r.allowed) r.bytes_are (ap length_of k.read.format ∙ k.read.bytes_are) h.fetch.fields
 
 pub plain_mnemonic : (j : ℕ) (f : Fields) → is_plain ((get_or spellings j no_spelling).0 ++ letters_of (get_or spellings j no_spelling).1 f) ≡ true

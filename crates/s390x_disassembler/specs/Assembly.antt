@@ -3,9 +3,10 @@ use Rattle.std.specs.Prelude.{◌≡◌, ℕ, ◌+◌, Bool, true, ◌||◌, ◌
 use Rattle.hex.specs.Hex.{IsBytes}
 use Rattle.s390x_format.specs.Rows.{fetch_length_of}
 use Rattle.s390x_format.specs.declared.decoder.Located.{Located}
+use Rattle.s390x_format.specs.Fetch.{IsLocated}
 use Rattle.s390x_disassembler.specs.declared.line.Line.{Line}
 use Rattle.s390x_disassembler.specs.Lines.{IsFound, bytes_at, Covers}
-use Rattle.s390x_disassembler.specs.Text.{found_text}
+use Rattle.s390x_disassembler.specs.Text.{found_text, row_text, spellings}
 use Rattle.s390x_disassembler.specs.Disassembly.{address_of, full_line, line_text}
 use Rattle.s390x_disassembler.specs.Bare.{is_unit}
 
@@ -44,6 +45,7 @@ IsNoSource base text = (c : List ℕ) → IsBytes c → IsSource base c text →
 -- them and this line; or it is the last, and no line feed ends it
 pub record IsWrongSource (base : ℕ) (text : List ℕ) (number : ℕ) : Type 0 where
   pub code : List ℕ
+  pub bytes : IsBytes code
   pub before : List ℕ
   pub rest : List ℕ
   pub text_is : text ≡ before ++ rest
@@ -57,6 +59,25 @@ pub record IsFirstLine (a : ℕ) (text bytes rest : List ℕ) : Type 0 where
   pub found : Option Located
   pub is_found : IsFound bytes found
   pub text_is : (text ≡ full_line a bytes found ++ rest) ⊎ (text ≡ bare_line a bytes found ++ rest)
+
+-- an instruction's line at an address, without its address and its bytes
+abbrev pub located_line : ℕ → Located → List ℕ
+located_line a l = row_text spellings a l.at l.decoded.fields ++ (10 ∷ [])
+
+-- the line is that of an instruction, which has these bytes
+pub record IsInstructionLine (a : ℕ) (line bytes : List ℕ) : Type 0 where
+  pub unit : is_unit bytes ≡ true
+  pub located : Located
+  pub is : IsLocated bytes located
+  pub line_is : line ≡ located_line a located
+
+-- it is the line of no other bytes
+abbrev pub IsOnlyLine : ℕ → List ℕ → List ℕ → Type 0
+IsOnlyLine a line bytes = (other : List ℕ) → IsInstructionLine a line other → bytes ≡ other
+
+-- it is no instruction's
+abbrev pub IsNoLine : ℕ → List ℕ → Type 0
+IsNoLine a line = (bytes : List ℕ) → IsInstructionLine a line bytes → ⊥
 
 -- as many bytes as the first of them tells
 abbrev pub is_whole : List ℕ → Bool

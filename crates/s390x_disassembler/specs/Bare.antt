@@ -1,5 +1,5 @@
 -- What a line without its address and its bytes is read as.
-use Rattle.std.specs.Prelude.{◌≡◌, ℕ, ◌%◌, ◌<◌, ◌≤◌, Bool, true, ◌&&◌, nat_lt, nat_le, List, [], ◌∷◌, ◌++◌, length, take, drop, get_or, slice_index, Option}
+use Rattle.std.specs.Prelude.{◌≡◌, ℕ, ◌%◌, ◌<◌, ◌≤◌, Bool, true, ◌&&◌, nat_lt, nat_le, List, [], ◌∷◌, ◌++◌, length, take, drop, get_or, slice_index, Option, Some}
 use Rattle.hex.specs.Hex.{encode_lower, IsBytes}
 use Rattle.s390x_format.specs.declared.row.MachineRow.{MachineRow}
 use Rattle.s390x_format.specs.declared.decoder.Located.{Located}
@@ -8,6 +8,7 @@ use Rattle.s390x_format.specs.Formats.{layout_of}
 use Rattle.s390x_format.specs.Rows.{is_allowed, fetch_length_of}
 use Rattle.s390x_format.specs.Reading.{encode, no_row}
 use Rattle.s390x_format.specs.View.{fields_of}
+use Rattle.s390x_format.specs.Fetch.{IsLocated}
 use Rattle.s390x_disassembler.specs.declared.forms.Form.{Form}
 use Rattle.s390x_disassembler.specs.declared.forms.Form.TheVariants.{BranchRegister}
 use Rattle.s390x_disassembler.specs.declared.spelling.Suffix.{Suffix}
@@ -58,3 +59,7 @@ IsGroupRead size text bytes =
 -- the bytes are those of which the first line is written
 abbrev pub IsBareRead : ℕ → List ℕ → List ℕ → Type 0
 IsBareRead a text bytes = (u : List ℕ) (x : Option Located) (more : List ℕ) → IsBytes u → is_unit u ≡ true → IsFound u x → text ≡ found_text a u x ++ (10 ∷ more) → bytes ≡ u
+
+-- the same where it is an instruction's
+abbrev pub IsInstructionRead : ℕ → List ℕ → List ℕ → Type 0
+IsInstructionRead a text bytes = (u : List ℕ) (l : Located) (more : List ℕ) → is_unit u ≡ true → IsLocated u l → text ≡ found_text a u (Some l) ++ (10 ∷ more) → bytes ≡ u

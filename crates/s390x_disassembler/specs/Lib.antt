@@ -10,3 +10,4 @@ pub mod Operands
 pub mod Start
 pub mod Bare
 pub mod Assembly
+pub mod Fitted

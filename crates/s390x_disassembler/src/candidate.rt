@@ -4,13 +4,14 @@ ghost use Rattle.s390x_format.specs.Reading.{be_bytes, encode};
 ghost use Rattle.s390x_disassembler.specs.Text.{plain_row};
 ghost use Rattle.s390x_disassembler.specs.Names.{is_ending, may_name, place_in, row_named};
 ghost use Rattle.s390x_disassembler.specs.Start.{least_of, start_value, told_value};
-ghost use Rattle.s390x_disassembler.specs.Bare.{IsBareRead, IsGroupRead, IsRowRead, IsSpelledRead};
+ghost use Rattle.s390x_disassembler.specs.Bare.{IsBareRead, IsGroupRead, IsInstructionRead, IsRowRead, IsSpelledRead};
 
 use crate::forms::operands;
 use crate::reading::put_operands;
 use crate::scan::{begins, behind, head, hex_bytes, word};
 use crate::spelling::{Spelling, Suffix, letter_table};
 use crate::table::SPELLINGS;
+use arrayvec::ArrayVec;
 use s390x_format::{Allowed, FormatKind, MACHINE_ROWS, MachineRow, layout, length, pack};
 use std::alloc::{AllocError, Global};
 
@@ -26,28 +27,46 @@ pub fn candidate(alloc: Global, address: u64, text: &[u8]) -> Result<Vec<u8>, Al
     } else if mnemonic == b".byte".as_slice() {
         groups(alloc, 1, rest)
     } else {
-        named_bytes(alloc, address, &SPELLINGS, &MACHINE_ROWS, mnemonic, rest)
+        let bytes = named_bytes(address, &SPELLINGS, &MACHINE_ROWS, mnemonic, rest);
+        stored(alloc, &bytes)
     }
+}
+
+/// The bytes that the first line of a text is read as where it is an instruction's, without memory: those of which it is written
+/// without its address and its bytes, if there are any; else any bytes.
+pub fn instruction_bytes(address: u64, text: &[u8]) -> ArrayVec<u8, 6>
+    ensures { IsInstructionRead address text.now result.items }
+{
+    let mnemonic = word(text);
+    let rest = behind(text, mnemonic.len());
+    named_bytes(address, &SPELLINGS, &MACHINE_ROWS, mnemonic, rest)
+}
+
+// The bytes as a vector.
+fn stored(alloc: Global, bytes: &[u8]) -> Result<Vec<u8>, AllocError>
+    ensures { IfOk result (λ v. v.items ≡ bytes.now) }
+{
+    let mut items = Vec::new(alloc);
+    items.extend_from_slice(bytes)?;
+    Ok(items)
 }
 
 // The bytes of a mnemonic and operands.
 fn named_bytes(
-    alloc: Global,
     address: u64,
     spellings: &[Spelling],
     rows: &[MachineRow],
     mnemonic: &[u8],
     text: &[u8],
-) -> Result<Vec<u8>, AllocError>
-    ensures { IfOk result
-        (λ bytes. IsRowRead address (map (λ row. plain_row row) spellings.now) rows.now mnemonic.now
-        text.now bytes.items) }
+) -> ArrayVec<u8, 6>
+    ensures { IsRowRead address (map (λ row. plain_row row) spellings.now) rows.now mnemonic.now
+        text.now result.items }
 {
     let at = find(spellings, mnemonic);
     if at < spellings.len() && at < rows.len() {
-        row_bytes(alloc, address, rows[at], spellings[at], mnemonic, text)
+        row_bytes(address, rows[at], spellings[at], mnemonic, text)
     } else {
-        Ok(Vec::new(alloc))
+        ArrayVec::new()
     }
 }
 
@@ -99,22 +118,20 @@ fn place(table: &[&str], letters: &[u8]) -> usize
 
 // The bytes of a row with the operands of a text.
 fn row_bytes(
-    alloc: Global,
     address: u64,
     row: MachineRow,
     spelling: Spelling,
     mnemonic: &[u8],
     text: &[u8],
-) -> Result<Vec<u8>, AllocError>
-    ensures { IfOk result
-        (λ bytes. IsSpelledRead address row (plain_row spelling.entry) mnemonic.now text.now
-        bytes.items) }
+) -> ArrayVec<u8, 6>
+    ensures { IsSpelledRead address row (plain_row spelling.entry) mnemonic.now text.now
+        result.items }
 {
     let (stem, suffix, form) = spelling;
     let letters = behind(mnemonic, stem.as_bytes().len());
     let mut slots = start(row, suffix, place(letter_table(suffix), letters));
     put_operands(&mut slots, address, row.format, operands(form), text);
-    bytes_of(alloc, row.format, &slots)
+    bytes_of(row.format, &slots)
 }
 
 // The values that a row tells, and letters at a place of its suffix's table.
@@ -161,23 +178,23 @@ fn least_mask(allowed: Allowed) -> u8
 
 // The bytes of the values in a format's slots.
 #[tactic(auto, using(s390x_format::proofs::FormatFacts::layout_ok, s390x_format::proofs::FormatFacts::length_small))]
-fn bytes_of(alloc: Global, format: FormatKind, slots: &[u32; 10]) -> Result<Vec<u8>, AllocError>
-    ensures { IfOk result (λ bytes. bytes.items ≡ encode format slots.now) }
+fn bytes_of(format: FormatKind, slots: &[u32; 10]) -> ArrayVec<u8, 6>
+    ensures { result.items ≡ encode format slots.now }
 {
-    number_bytes(alloc, pack(layout(format), slots), length(format))
+    number_bytes(pack(layout(format), slots), length(format))
 }
 
 // A number's bytes, the most significant first.
 #[tactic(auto, using(crate::proofs::Tables::be_step, crate::proofs::Tables::be_done))]
-fn number_bytes(alloc: Global, number: u64, count: usize) -> Result<Vec<u8>, AllocError>
+fn number_bytes(number: u64, count: usize) -> ArrayVec<u8, 6>
     requires { count ≤ 6 }
-    ensures { IfOk result (λ bytes. bytes.items ≡ be_bytes count number) }
+    ensures { result.items ≡ be_bytes count number }
 {
-    let mut bytes = Vec::new(alloc);
+    let mut bytes: ArrayVec<u8, 6> = ArrayVec::new();
     for i in 0..count {
-        bytes.push(((number >> (8 * (count - 1 - i))) % 256) as u8)?;
+        bytes.push(((number >> (8 * (count - 1 - i))) % 256) as u8);
     }
-    Ok(bytes)
+    bytes
 }
 
 // The bytes of numbers in hexadecimal digits, so many of each.

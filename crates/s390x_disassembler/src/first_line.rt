@@ -97,9 +97,9 @@ fn kept(bytes: Vec<u8>, more: &[u8]) -> Option<(Vec<u8>, &[u8])>
     }
 }
 
-// Whether some bytes stand together: there are some, and no more than the first of them tells.
+/// Whether some bytes stand together: there are some, and no more than the first of them tells.
 #[tactic(auto, unfolding(crate::specs::Bare::is_unit))]
-fn is_unit(bytes: &[u8]) -> bool
+pub fn is_unit(bytes: &[u8]) -> bool
     ensures { result ≡ is_unit bytes.now }
 {
     0 < bytes.len() && bytes.len() <= fetch_length(first(bytes))
@@ -107,7 +107,8 @@ fn is_unit(bytes: &[u8]) -> bool
 
 /// Whether a line's bytes are as many as the first of them tells, or nothing stands behind the line.
 pub fn ends_well(bytes: &[u8], more: &[u8]) -> bool
-    ensures { result ≡ ends_well bytes.now more.now }
+    ensures ends { result ≡ ends_well bytes.now more.now }
+    ensures bytes { IsBytes bytes.now }
 {
     bytes.len() == fetch_length(first(bytes)) || more.is_empty()
 }

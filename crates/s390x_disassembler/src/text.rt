@@ -97,8 +97,8 @@ fn put_operands(
     Ok(())
 }
 
-// Whether an operand is written.
-fn is_written(letters: &str, fields: &Fields, operand: Operand) -> bool
+/// Whether an operand is written.
+pub fn is_written(letters: &str, fields: &Fields, operand: Operand) -> bool
     ensures { result ≡ is_written letters.now fields.now operand }
 {
     match operand {
@@ -139,8 +139,8 @@ fn put_operand(
     }
 }
 
-// The value at a place; 0 past the end.
-fn value_at(values: &[u8], k: u8) -> u8
+/// The value at a place; 0 past the end.
+pub fn value_at(values: &[u8], k: u8) -> u8
     ensures { result ≡ slice_index values.now k }
 {
     if usize::from(k) < values.len() {
@@ -150,8 +150,8 @@ fn value_at(values: &[u8], k: u8) -> u8
     }
 }
 
-// The signed number that an immediate stands for, which is negative from `half` on.
-fn signed(half: u32, imm: i64) -> i64
+/// The signed number that an immediate stands for, which is negative from `half` on.
+pub fn signed(half: u32, imm: i64) -> i64
     ensures { result ≡ signed_of half imm }
 {
     if imm < i64::from(half) {

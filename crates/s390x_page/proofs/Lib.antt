@@ -1,6 +1,3 @@
-mod Fitting
-mod Numbers
-mod SameTable
 mod SmallStorage
 mod TwoHalves
 mod Ends

@@ -1,17 +1,11 @@
--- The text of an instruction, as far as there is room for it.
-use Rattle.std.specs.Prelude.{◌≡◌, ℕ, ◌<◌, List, ◌++◌, length, take, slice_index, Some}
+-- The text of an instruction, and the instruction of a line.
+use Rattle.std.specs.Prelude.{◌≡◌, ℕ, ◌<◌, List, length, slice_index, Some}
 use Rattle.s390x_format.specs.Fetch.{IsLocated}
 use Rattle.s390x_format.specs.declared.decoder.Located.{Located}
 use Rattle.s390x_disassembler.specs.Text.{found_text}
+use Rattle.s390x_disassembler.specs.Assembly.{IsInstructionLine, IsOnlyLine}
+use Rattle.s390x_page.specs.declared.assembling.InstructionBytes.{InstructionBytes}
 use Rattle.s390x_page.specs.declared.text.InstructionText.{InstructionText}
-
--- as many bytes as there is room for
-abbrev pub fitting : List ℕ → List ℕ
-fitting text = take 96 text
-
--- behind what was written before stands a text, as far as there is room
-abbrev pub Adds : List ℕ → List ℕ → List ℕ → Type 0
-Adds before text after = fitting after ≡ fitting (before ++ text)
 
 -- a text's bytes, and their number
 pub record Holds (t : InstructionText) (text : List ℕ) : Type 0 where
@@ -22,4 +16,16 @@ pub record Holds (t : InstructionText) (text : List ℕ) : Type 0 where
 pub record IsTextOf (address : ℕ) (bytes : List ℕ) (t : InstructionText) : Type 0 where
   pub located : Located
   pub is : IsLocated bytes located
-  pub text : Holds t (fitting (found_text address bytes (Some located)))
+  pub text : Holds t (found_text address bytes (Some located))
+
+-- some bytes, and their number
+pub record HoldsBytes (b : InstructionBytes) (bytes : List ℕ) : Type 0 where
+  pub count : b.length ≡ length bytes
+  pub each : (i : ℕ) → i < length bytes → slice_index b.bytes i ≡ slice_index bytes i
+
+-- the line is that of an instruction at an address, and these are its bytes, the only ones with this line
+pub record IsAssembled (address : ℕ) (line : List ℕ) (b : InstructionBytes) : Type 0 where
+  pub code : List ℕ
+  pub is : IsInstructionLine address line code
+  pub one : IsOnlyLine address line code
+  pub bytes : HoldsBytes b code

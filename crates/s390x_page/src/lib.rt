@@ -2,18 +2,16 @@
 //! small machine. Nothing here allocates: answers go into the caller's structs.
 #![tactic(auto)]
 
-mod digits;
+mod assembling;
 mod halves;
 mod instruction;
-mod letters;
 mod parts;
 mod registers;
-mod room;
 mod stepping;
 mod storage;
-mod table;
 mod text;
 
+pub use assembling::{InstructionBytes, s390x_page_assemble};
 pub use instruction::{Instruction, s390x_page_decode};
 pub use parts::{FormatPart, s390x_page_part};
 pub use registers::Registers;

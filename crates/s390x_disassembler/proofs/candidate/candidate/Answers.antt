@@ -1,6 +1,6 @@
 use Rattle.std.proofs.Common.{ap, sym, ◌∙◌}
 use Rattle.std.specs.Str.{bytes_eq}
-use Rattle.s390x_disassembler.proofs.BareLine.{short_ok, byte_ok, name_ok}
+use Rattle.s390x_disassembler.proofs.BareLine.{short_ok, byte_ok, name_ok, stored_ok}
 use Rattle.s390x_disassembler.proofs.candidate.candidate.Goals as goal
 
 pub returns-then-eq : goal.returns-then-eq
@@ -15,6 +15,7 @@ returns-then-eq-2 c =
 
 pub returns-else-eq-2 : goal.returns-else-eq-2
 returns-else-eq-2 c =
-    name_ok c.named_bytes.result (λ b. b.items) c.args.address c.args.text.now c.word-mnemonic.result.now c.behind-rest.result.now c.word-mnemonic.ensures c.behind-rest.ensures
+    stored_ok c.stored.result (λ b. b.items) c.args.address c.args.text.now c.named_bytes-bytes.result.items c.deref.result.now c.deref.ensures.0 c.stored.ensures
+    (name_ok c.args.address c.args.text.now c.word-mnemonic.result.now c.behind-rest.result.now c.named_bytes-bytes.result.items c.word-mnemonic.ensures c.behind-rest.ensures
     (ap (λ t. bytes_eq c.word-mnemonic.result.now t) (sym c.as_slice.ensures) ∙ sym c.eq.ensures ∙ c.if-eq.false)
-    (ap (λ t. bytes_eq c.word-mnemonic.result.now t) (sym c.as_slice-else-eq.ensures) ∙ sym c.eq-else-eq.ensures ∙ c.if-eq-2.false) c.named_bytes.ensures
+    (ap (λ t. bytes_eq c.word-mnemonic.result.now t) (sym c.as_slice-else-eq.ensures) ∙ sym c.eq-else-eq.ensures ∙ c.if-eq-2.false) c.named_bytes-bytes.ensures)

@@ -1,7 +1,0 @@
-use Rattle.std.proofs.Common.{◌≡◌, ◌++◌, drop}
-use Rattle.s390x_page.specs.Texts.{fitting}
-use Rattle.s390x_page.proofs.room.put_bytes.Given as goal
-
--- what is written, with the bytes that are left
-abbrev pub invariant-loop-byte : goal.invariant-loop-byte
-invariant-loop-byte l = fitting (l.out.items ++ drop l.byte-index l.bytes) ≡ fitting (l.initial.out.items ++ l.bytes)

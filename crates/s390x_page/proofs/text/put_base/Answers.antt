@@ -1,5 +1,0 @@
-use Rattle.s390x_page.proofs.Fitting.{both, byte_then}
-use Rattle.s390x_page.proofs.text.put_base.Goals as goal
-
-pub returns : goal.returns
-returns c = byte_then _ _ _ _ _ c.put_byte.ensures (both _ _ _ _ _ c.put_register.ensures c.put_byte-2.ensures)

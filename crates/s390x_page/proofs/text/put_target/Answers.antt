@@ -1,5 +1,0 @@
-use Rattle.s390x_page.proofs.Fitting.{both}
-use Rattle.s390x_page.proofs.text.put_target.Goals as goal
-
-pub returns : goal.returns
-returns c = both _ _ _ _ _ c.put.ensures c.put_digits.ensures
