@@ -32,7 +32,14 @@ fn emit_checked(
     state: &EmitState,
 ) -> Result<(), EmitError>
     requires { may_encode found.now ≡ true }
-    ensures answer { MatchResult result (λ _. (access_cause sink.old (in_state state.now (memory_instruction_of found.now)) ≡ None) × (sink.new ≡ appended sink.old (memory_parts (in_state state.now (memory_instruction_of found.now))))) (λ e. (e ≡ NoMemory) ⊎ (access_cause sink.old (in_state state.now (memory_instruction_of found.now)) ≡ Some e)) }
+    ensures answer { MatchResult result
+        (λ _. (access_cause sink.old (in_state state.now (memory_instruction_of found.now)) ≡ None)
+        × (sink.new
+        ≡ appended sink.old
+        (memory_parts (in_state state.now (memory_instruction_of found.now)))))
+        (λ e. (e ≡ NoMemory)
+        ⊎ (access_cause sink.old (in_state state.now (memory_instruction_of found.now))
+        ≡ Some e)) }
     ensures kept { Extends sink.old sink.new }
 {
     if sink.is_failed() {
@@ -54,7 +61,14 @@ fn emit_marking(
     state: &EmitState,
 ) -> Result<(), EmitError>
     requires { may_encode found.now ≡ true }
-    ensures answer { MatchResult result (λ _. (access_cause sink.old (in_state state.now (memory_instruction_of found.now)) ≡ None) × (sink.new ≡ appended sink.old (memory_parts (in_state state.now (memory_instruction_of found.now))))) (λ e. (e ≡ NoMemory) ⊎ (access_cause sink.old (in_state state.now (memory_instruction_of found.now)) ≡ Some e)) }
+    ensures answer { MatchResult result
+        (λ _. (access_cause sink.old (in_state state.now (memory_instruction_of found.now)) ≡ None)
+        × (sink.new
+        ≡ appended sink.old
+        (memory_parts (in_state state.now (memory_instruction_of found.now)))))
+        (λ e. (e ≡ NoMemory)
+        ⊎ (access_cause sink.old (in_state state.now (memory_instruction_of found.now))
+        ≡ Some e)) }
     ensures poisoned { IfErr result (λ _. IsTrue sink.new.failed) }
     ensures kept { Extends sink.old sink.new }
 {
@@ -208,8 +222,13 @@ pub fn mem_emit(
     requires short { IfSome opcode_rx (λ o. o < 256) }
     requires integer { (rows_take_general opcode_rx && rows_take_general opcode_rxy) ≡ true }
     requires relative { has_12_bits opcode_ril ≡ true }
-    ensures answer { let access = in_state state.old (one_register rd opcode_rx opcode_rxy (relative_opcode emit_info.now add_trap opcode_ril) add_trap mem.now) in
-        MatchResult result (λ _. (access_cause sink.old access ≡ None) × (sink.new ≡ appended sink.old (memory_parts access))) (λ e. (e ≡ NoMemory) ⊎ (access_cause sink.old access ≡ Some e)) }
+    ensures answer { let access = in_state state.old
+        (one_register rd opcode_rx opcode_rxy (relative_opcode emit_info.now add_trap opcode_ril)
+        add_trap mem.now) in
+        MatchResult result
+        (λ _. (access_cause sink.old access ≡ None)
+        × (sink.new ≡ appended sink.old (memory_parts access)))
+        (λ e. (e ≡ NoMemory) ⊎ (access_cause sink.old access ≡ Some e)) }
     ensures poisoned { IfErr result (λ _. IsTrue sink.new.failed) }
     ensures kept { Extends sink.old sink.new }
     ensures state { state.new ≡ state.old }
@@ -245,8 +264,12 @@ pub fn mem_rs_emit(
     state: &mut EmitState,
 ) -> Result<(), EmitError>
     requires { IfSome opcode_rs (λ o. o < 256) }
-    ensures answer { let access = in_state state.old (two_registers rd rn opcode_rs opcode_rsy add_trap mem.now) in
-        MatchResult result (λ _. (access_cause sink.old access ≡ None) × (sink.new ≡ appended sink.old (memory_parts access))) (λ e. (e ≡ NoMemory) ⊎ (access_cause sink.old access ≡ Some e)) }
+    ensures answer { let access = in_state state.old
+        (two_registers rd rn opcode_rs opcode_rsy add_trap mem.now) in
+        MatchResult result
+        (λ _. (access_cause sink.old access ≡ None)
+        × (sink.new ≡ appended sink.old (memory_parts access)))
+        (λ e. (e ≡ NoMemory) ⊎ (access_cause sink.old access ≡ Some e)) }
     ensures poisoned { IfErr result (λ _. IsTrue sink.new.failed) }
     ensures kept { Extends sink.old sink.new }
     ensures state { state.new ≡ state.old }
@@ -280,8 +303,12 @@ pub fn mem_imm8_emit(
     state: &mut EmitState,
 ) -> Result<(), EmitError>
     requires { opcode_si < 256 }
-    ensures answer { let access = in_state state.old (byte_immediate imm opcode_si opcode_siy add_trap mem.now) in
-        MatchResult result (λ _. (access_cause sink.old access ≡ None) × (sink.new ≡ appended sink.old (memory_parts access))) (λ e. (e ≡ NoMemory) ⊎ (access_cause sink.old access ≡ Some e)) }
+    ensures answer { let access = in_state state.old
+        (byte_immediate imm opcode_si opcode_siy add_trap mem.now) in
+        MatchResult result
+        (λ _. (access_cause sink.old access ≡ None)
+        × (sink.new ≡ appended sink.old (memory_parts access)))
+        (λ e. (e ≡ NoMemory) ⊎ (access_cause sink.old access ≡ Some e)) }
     ensures poisoned { IfErr result (λ _. IsTrue sink.new.failed) }
     ensures kept { Extends sink.old sink.new }
     ensures state { state.new ≡ state.old }
@@ -312,8 +339,12 @@ pub fn mem_imm16_emit(
     _emit_info: &EmitInfo,
     state: &mut EmitState,
 ) -> Result<(), EmitError>
-    ensures answer { let access = in_state state.old (halfword_immediate imm opcode_sil add_trap mem.now) in
-        MatchResult result (λ _. (access_cause sink.old access ≡ None) × (sink.new ≡ appended sink.old (memory_parts access))) (λ e. (e ≡ NoMemory) ⊎ (access_cause sink.old access ≡ Some e)) }
+    ensures answer { let access = in_state state.old
+        (halfword_immediate imm opcode_sil add_trap mem.now) in
+        MatchResult result
+        (λ _. (access_cause sink.old access ≡ None)
+        × (sink.new ≡ appended sink.old (memory_parts access)))
+        (λ e. (e ≡ NoMemory) ⊎ (access_cause sink.old access ≡ Some e)) }
     ensures poisoned { IfErr result (λ _. IsTrue sink.new.failed) }
     ensures kept { Extends sink.old sink.new }
     ensures state { state.new ≡ state.old }
@@ -346,8 +377,12 @@ pub fn mem_vrx_emit(
     state: &mut EmitState,
 ) -> Result<(), EmitError>
     requires { m3 < 16 }
-    ensures answer { let access = in_state state.old (vector_register rd opcode m3 add_trap mem.now) in
-        MatchResult result (λ _. (access_cause sink.old access ≡ None) × (sink.new ≡ appended sink.old (memory_parts access))) (λ e. (e ≡ NoMemory) ⊎ (access_cause sink.old access ≡ Some e)) }
+    ensures answer { let access = in_state state.old
+        (vector_register rd opcode m3 add_trap mem.now) in
+        MatchResult result
+        (λ _. (access_cause sink.old access ≡ None)
+        × (sink.new ≡ appended sink.old (memory_parts access)))
+        (λ e. (e ≡ NoMemory) ⊎ (access_cause sink.old access ≡ Some e)) }
     ensures poisoned { IfErr result (λ _. IsTrue sink.new.failed) }
     ensures kept { Extends sink.old sink.new }
     ensures state { state.new ≡ state.old }
@@ -388,8 +423,12 @@ pub fn mem_float_emit(
     state: &mut EmitState,
 ) -> Result<(), EmitError>
     requires { (is_first_float opcode_rx && is_first_float opcode_rxy) ≡ true }
-    ensures answer { let access = in_state state.old (float_register rd opcode_rx opcode_rxy add_trap mem.now) in
-        MatchResult result (λ _. (access_cause sink.old access ≡ None) × (sink.new ≡ appended sink.old (memory_parts access))) (λ e. (e ≡ NoMemory) ⊎ (access_cause sink.old access ≡ Some e)) }
+    ensures answer { let access = in_state state.old
+        (float_register rd opcode_rx opcode_rxy add_trap mem.now) in
+        MatchResult result
+        (λ _. (access_cause sink.old access ≡ None)
+        × (sink.new ≡ appended sink.old (memory_parts access)))
+        (λ e. (e ≡ NoMemory) ⊎ (access_cause sink.old access ≡ Some e)) }
     ensures poisoned { IfErr result (λ _. IsTrue sink.new.failed) }
     ensures kept { Extends sink.old sink.new }
     ensures state { state.new ≡ state.old }

@@ -55,7 +55,11 @@ pub fn mem_finalize(
     state: &EmitState,
     mi: MemInstType,
 ) -> Result<(SmallVec<Inst, 4, Global>, MemArg), EmitError>
-    ensures { MatchResult result (λ r. (operand_cause mi (resolved state.now mem.now) ≡ None) × (r.0.items ≡ (finalized mi (resolved state.now mem.now)).helpers) × (r.1 ≡ (finalized mi (resolved state.now mem.now)).operand)) (λ e. operand_cause mi (resolved state.now mem.now) ≡ Some e) }
+    ensures { MatchResult result
+        (λ r. (operand_cause mi (resolved state.now mem.now) ≡ None)
+        × (r.0.items ≡ (finalized mi (resolved state.now mem.now)).helpers)
+        × (r.1 ≡ (finalized mi (resolved state.now mem.now)).operand))
+        (λ e. operand_cause mi (resolved state.now mem.now) ≡ Some e) }
 {
     let plan = plan_operand(mem, state, mi)?;
     let mut helpers = SmallVec::new(alloc);

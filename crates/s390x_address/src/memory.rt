@@ -79,7 +79,13 @@ fn is_general_operand(mem: &MemArg) -> bool
 
 // A code with a trap recorded at its first byte.
 fn put_trapping(sink: &mut MachBuffer, code: &Code, trap_code: TrapCode) -> Result<(), EmitError>
-    ensures answer { OnOk result (sink.new ≡ record sink.old { bytes = sink.old.bytes ++ code.now; traps = sink.old.traps ++ record { offset = length sink.old.bytes; code = trap_code } ∷ [] }) }
+    ensures answer { OnOk result
+        (sink.new
+        ≡ record sink.old {
+          bytes = sink.old.bytes ++ code.now;
+          traps = sink.old.traps
+              ++ record { offset = length sink.old.bytes; code = trap_code } ∷ [];
+        }) }
     ensures lacks { put_cause sink.old (length code.now) ≡ None → IfErr result (λ e. e ≡ NoMemory) }
     ensures kept { Extends sink.old sink.new }
 {
@@ -89,7 +95,8 @@ fn put_trapping(sink: &mut MachBuffer, code: &Code, trap_code: TrapCode) -> Resu
 
 // The code of a row, with the trap of its faults.
 fn put_row(sink: &mut MachBuffer, code: &Code, trap_code: Option<TrapCode>) -> Result<(), EmitError>
-    ensures answer { (m : MachineInstruction) → code.now ≡ bytes_of m → OnOk result (sink.new ≡ appended sink.old (access_parts (Some m) trap_code)) }
+    ensures answer { (m : MachineInstruction) → code.now ≡ bytes_of m
+        → OnOk result (sink.new ≡ appended sink.old (access_parts (Some m) trap_code)) }
     ensures lacks { put_cause sink.old (length code.now) ≡ None → IfErr result (λ e. e ≡ NoMemory) }
     ensures kept { Extends sink.old sink.new }
 {
@@ -102,7 +109,8 @@ fn put_row(sink: &mut MachBuffer, code: &Code, trap_code: Option<TrapCode>) -> R
 // The load of an offset into `%r1`, where there is one.
 fn put_far(sink: &mut MachBuffer, far: Option<i32>) -> Result<(), EmitError>
     ensures answer { OnOk result (sink.new ≡ appended sink.old (helpers_parts (far_helper far))) }
-    ensures lacks { put_cause sink.old (parts_size (helpers_parts (far_helper far))) ≡ None → IfErr result (λ e. e ≡ NoMemory) }
+    ensures lacks { put_cause sink.old (parts_size (helpers_parts (far_helper far))) ≡ None
+        → IfErr result (λ e. e ≡ NoMemory) }
     ensures kept { Extends sink.old sink.new }
 {
     match far {
@@ -112,7 +120,8 @@ fn put_far(sink: &mut MachBuffer, far: Option<i32>) -> Result<(), EmitError>
 }
 
 fn put_offset(sink: &mut MachBuffer, off: i32) -> Result<(), EmitError>
-    ensures answer { OnOk result (sink.new ≡ appended sink.old (helpers_parts (far_helper (Some off)))) }
+    ensures answer { OnOk result
+        (sink.new ≡ appended sink.old (helpers_parts (far_helper (Some off)))) }
     ensures lacks { put_cause sink.old 6 ≡ None → IfErr result (λ e. e ≡ NoMemory) }
     ensures kept { Extends sink.old sink.new }
 {
@@ -127,8 +136,14 @@ fn put_access(
     operand: &MemArg,
     trap_code: Option<TrapCode>,
 ) -> Result<(), EmitError>
-    ensures answer { OnOk result (sink.new ≡ appended sink.old (access_parts (storage_row (storage_form_of rows.now) operand.now) trap_code)) }
-    ensures lacks { put_cause sink.old (parts_size (access_parts (storage_row (storage_form_of rows.now) operand.now) trap_code)) ≡ None → rows_encode rows.now ≡ true → operand_general operand.now ≡ true → IfErr result (λ e. e ≡ NoMemory) }
+    ensures answer { OnOk result
+        (sink.new
+        ≡ appended sink.old
+        (access_parts (storage_row (storage_form_of rows.now) operand.now) trap_code)) }
+    ensures lacks { put_cause sink.old
+        (parts_size (access_parts (storage_row (storage_form_of rows.now) operand.now) trap_code))
+        ≡ None → rows_encode rows.now ≡ true → operand_general operand.now ≡ true
+        → IfErr result (λ e. e ≡ NoMemory) }
     ensures kept { Extends sink.old sink.new }
 {
     match rows.row(operand) {
@@ -142,8 +157,10 @@ fn put_storage_row(
     row: &StorageRow,
     trap_code: Option<TrapCode>,
 ) -> Result<(), EmitError>
-    ensures answer { OnOk result (sink.new ≡ appended sink.old (access_parts (Some (row_of row.now)) trap_code)) }
-    ensures lacks { put_cause sink.old (size_of (row_of row.now)) ≡ None → row_encodes row.now ≡ true → IfErr result (λ e. e ≡ NoMemory) }
+    ensures answer { OnOk result
+        (sink.new ≡ appended sink.old (access_parts (Some (row_of row.now)) trap_code)) }
+    ensures lacks { put_cause sink.old (size_of (row_of row.now)) ≡ None
+        → row_encodes row.now ≡ true → IfErr result (λ e. e ≡ NoMemory) }
     ensures kept { Extends sink.old sink.new }
 {
     let code = row.code()?;
@@ -158,8 +175,13 @@ fn put_operand(
     trap_code: Option<TrapCode>,
 ) -> Result<(), EmitError>
     requires { relative_encodes rows.now ≡ true }
-    ensures answer { OnOk result (sink.new ≡ appended sink.old (operand_parts (storage_form_of rows.now) trap_code operand.now)) }
-    ensures lacks { put_cause sink.old (parts_size (operand_parts (storage_form_of rows.now) trap_code operand.now)) ≡ None → rows_encode rows.now ≡ true → may_stand (declared_in sink.old) operand.now ≡ true → IfErr result (λ e. e ≡ NoMemory) }
+    ensures answer { OnOk result
+        (sink.new
+        ≡ appended sink.old (operand_parts (storage_form_of rows.now) trap_code operand.now)) }
+    ensures lacks { put_cause sink.old
+        (parts_size (operand_parts (storage_form_of rows.now) trap_code operand.now)) ≡ None
+        → rows_encode rows.now ≡ true → may_stand (declared_in sink.old) operand.now ≡ true
+        → IfErr result (λ e. e ≡ NoMemory) }
     ensures kept { Extends sink.old sink.new }
 {
     if is_relative(operand) {
@@ -171,8 +193,10 @@ fn put_operand(
 
 // The load of an address into `%r1`, where there is one.
 fn put_address(sink: &mut MachBuffer, address: Option<MemArg>) -> Result<(), EmitError>
-    ensures answer { OnOk result (sink.new ≡ appended sink.old (helpers_parts (address_helper address))) }
-    ensures lacks { put_cause sink.old (parts_size (helpers_parts (address_helper address))) ≡ None → address_stands (declared_in sink.old) address ≡ true → IfErr result (λ e. e ≡ NoMemory) }
+    ensures answer { OnOk result
+        (sink.new ≡ appended sink.old (helpers_parts (address_helper address))) }
+    ensures lacks { put_cause sink.old (parts_size (helpers_parts (address_helper address))) ≡ None
+        → address_stands (declared_in sink.old) address ≡ true → IfErr result (λ e. e ≡ NoMemory) }
     ensures kept { Extends sink.old sink.new }
 {
     match address {
@@ -203,8 +227,14 @@ fn put_plan(
     trap_code: Option<TrapCode>,
 ) -> Result<(), EmitError>
     requires { relative_encodes rows.now ≡ true }
-    ensures answer { OnOk result (sink.new ≡ appended sink.old (finalized_parts (storage_form_of rows.now) trap_code (finalized_of plan.now))) }
-    ensures lacks { put_cause sink.old (parts_size (finalized_parts (storage_form_of rows.now) trap_code (finalized_of plan.now))) ≡ None → rows_encode rows.now ≡ true → plan_stands (declared_in sink.old) plan.now ≡ true → IfErr result (λ e. e ≡ NoMemory) }
+    ensures answer { OnOk result
+        (sink.new
+        ≡ appended sink.old
+        (finalized_parts (storage_form_of rows.now) trap_code (finalized_of plan.now))) }
+    ensures lacks { put_cause sink.old
+        (parts_size (finalized_parts (storage_form_of rows.now) trap_code (finalized_of plan.now)))
+        ≡ None → rows_encode rows.now ≡ true → plan_stands (declared_in sink.old) plan.now ≡ true
+        → IfErr result (λ e. e ≡ NoMemory) }
     ensures kept { Extends sink.old sink.new }
 {
     put_far(sink, plan.far)?;
@@ -225,7 +255,8 @@ fn row_size(row: Option<StorageRow>) -> u64
 
 // How many bytes the access has of an operand that stands in it as it is.
 fn operand_size(rows: &StorageRows, operand: &MemArg) -> u64
-    ensures value { (code : Option TrapKind) → result ≡ parts_size (operand_parts (storage_form_of rows.now) code operand.now) }
+    ensures value { (code : Option TrapKind)
+        → result ≡ parts_size (operand_parts (storage_form_of rows.now) code operand.now) }
     ensures few { result ≤ 6 }
 {
     if is_relative(operand) {
@@ -259,7 +290,9 @@ fn address_size(address: Option<MemArg>) -> u64
 
 // `%r1` can't be read behind a helper; an addend has to fit 32 bits.
 fn helped_cause(reads: bool, helped: bool, fits: bool) -> Option<EmitError>
-    ensures { result ≡ first_emit_cause (unless (not (reads && helped)) ScratchConflict) (unless fits OffsetOutOfRange) }
+    ensures { result
+        ≡ first_emit_cause (unless (not (reads && helped)) ScratchConflict)
+        (unless fits OffsetOutOfRange) }
 {
     if reads && helped {
         Some(EmitError::ScratchConflict)
@@ -292,7 +325,9 @@ impl MemoryInst {
     #[tactic(auto, using(crate::proofs::Loading::loaded_encodes))]
     pub fn loaded(&self) -> Option<MemoryInst>
         requires { may_encode self.now ≡ true }
-        ensures row { option_map memory_instruction_of result ≡ cond (accesses_relative (Some (memory_instruction_of self.now))) (without_relative (Some (memory_instruction_of self.now))) None }
+        ensures row { option_map memory_instruction_of result
+            ≡ cond (accesses_relative (Some (memory_instruction_of self.now)))
+            (without_relative (Some (memory_instruction_of self.now))) None }
         ensures encodes { IfSome result (λ x. may_encode x ≡ true) }
     {
         let StorageRows::OneRegister {
@@ -351,7 +386,9 @@ impl MemoryInst {
 
     // The first cause behind those of the rows, the registers and the operand, of an operand that was planned.
     fn planned_cause(&self, sink: &MachBuffer, plan: &Plan) -> Option<EmitError>
-        ensures { result ≡ planned_cause (declared_in sink.now) (memory_instruction_of self.now) (finalized_of plan.now) }
+        ensures { result
+            ≡ planned_cause (declared_in sink.now) (memory_instruction_of self.now)
+            (finalized_of plan.now) }
     {
         match helped_cause(
             self.reads_scratch,
@@ -365,8 +402,12 @@ impl MemoryInst {
 
     // The causes behind those of the rows and the registers.
     fn last_cause(&self, sink: &MachBuffer, state: &EmitState) -> Option<EmitError>
-        requires { has_form (type_of (storage_form_of self.now.rows) self.now.accesses) self.now.operand ≡ true }
-        ensures { result ≡ first_emit_cause (late_cause (in_state state.now (memory_instruction_of self.now))) (target_cause (declared_in sink.now) (in_state state.now (memory_instruction_of self.now))) }
+        requires { has_form (type_of (storage_form_of self.now.rows) self.now.accesses)
+            self.now.operand ≡ true }
+        ensures { result
+            ≡ first_emit_cause (late_cause (in_state state.now (memory_instruction_of self.now)))
+            (target_cause (declared_in sink.now)
+            (in_state state.now (memory_instruction_of self.now))) }
     {
         match plan_operand(&self.operand, state, self.forms()) {
             Ok(plan) => self.planned_cause(sink, &plan),
@@ -380,7 +421,9 @@ impl MemoryInst {
     /// it stands where an access relative to the instruction needs it: such an access of a label has at most two bytes, one of a constant at most
     /// its alignment (`BadAlignment`).
     pub fn cause(&self, sink: &MachBuffer, state: &EmitState) -> Option<EmitError>
-        ensures { result ≡ memory_cause (declared_in sink.now) (in_state state.now (memory_instruction_of self.now)) }
+        ensures { result
+            ≡ memory_cause (declared_in sink.now)
+            (in_state state.now (memory_instruction_of self.now)) }
     {
         if !has_form(self.forms(), &self.operand) {
             Some(EmitError::BadOperator)
@@ -393,7 +436,10 @@ impl MemoryInst {
 
     /// How many bytes it has with its helpers, where no cause refuses it.
     pub fn size(&self, state: &EmitState) -> u64
-        ensures value { (D : Declared) → memory_cause D (in_state state.now (memory_instruction_of self.now)) ≡ None → result ≡ parts_size (memory_parts (in_state state.now (memory_instruction_of self.now))) }
+        ensures value { (D : Declared)
+            → memory_cause D (in_state state.now (memory_instruction_of self.now)) ≡ None
+            → result
+            ≡ parts_size (memory_parts (in_state state.now (memory_instruction_of self.now))) }
         ensures few { result ≤ 18 }
     {
         match plan_operand(&self.operand, state, self.forms()) {
@@ -410,8 +456,15 @@ impl MemoryInst {
     /// `cause`.
     pub fn emit(&self, sink: &mut MachBuffer, state: &EmitState) -> Result<(), EmitError>
         requires { may_encode self.now ≡ true }
-        ensures answer { OnOk result (sink.new ≡ appended sink.old (memory_parts (in_state state.now (memory_instruction_of self.now)))) }
-        ensures lacks { put_cause sink.old (parts_size (memory_parts (in_state state.now (memory_instruction_of self.now)))) ≡ None → memory_cause (declared_in sink.old) (in_state state.now (memory_instruction_of self.now)) ≡ None → IfErr result (λ e. e ≡ NoMemory) }
+        ensures answer { OnOk result
+            (sink.new
+            ≡ appended sink.old
+            (memory_parts (in_state state.now (memory_instruction_of self.now)))) }
+        ensures lacks { put_cause sink.old
+            (parts_size (memory_parts (in_state state.now (memory_instruction_of self.now)))) ≡ None
+            → memory_cause (declared_in sink.old)
+            (in_state state.now (memory_instruction_of self.now)) ≡ None
+            → IfErr result (λ e. e ≡ NoMemory) }
         ensures kept { Extends sink.old sink.new }
     {
         match plan_operand(&self.operand, state, self.forms()) {
@@ -423,8 +476,20 @@ impl MemoryInst {
     // The helpers and the access of a plan, where no later cause refuses it.
     fn emit_plan(&self, sink: &mut MachBuffer, plan: &Plan) -> Result<(), EmitError>
         requires { relative_encodes self.now.rows ≡ true }
-        ensures answer { OnOk result ((planned_cause (declared_in sink.old) (memory_instruction_of self.now) (finalized_of plan.now) ≡ None) × (sink.new ≡ appended sink.old (finalized_parts (storage_form_of self.now.rows) (fault_code (memory_instruction_of self.now)) (finalized_of plan.now)))) }
-        ensures lacks { put_cause sink.old (parts_size (finalized_parts (storage_form_of self.now.rows) (fault_code (memory_instruction_of self.now)) (finalized_of plan.now))) ≡ None → rows_encode self.now.rows ≡ true → plan_stands (declared_in sink.old) plan.now ≡ true → planned_cause (declared_in sink.old) (memory_instruction_of self.now) (finalized_of plan.now) ≡ None → IfErr result (λ e. e ≡ NoMemory) }
+        ensures answer { OnOk result
+            ((planned_cause (declared_in sink.old) (memory_instruction_of self.now)
+            (finalized_of plan.now) ≡ None)
+            × (sink.new
+            ≡ appended sink.old
+            (finalized_parts (storage_form_of self.now.rows)
+            (fault_code (memory_instruction_of self.now)) (finalized_of plan.now)))) }
+        ensures lacks { put_cause sink.old
+            (parts_size
+            (finalized_parts (storage_form_of self.now.rows)
+            (fault_code (memory_instruction_of self.now)) (finalized_of plan.now))) ≡ None
+            → rows_encode self.now.rows ≡ true → plan_stands (declared_in sink.old) plan.now ≡ true
+            → planned_cause (declared_in sink.old) (memory_instruction_of self.now)
+            (finalized_of plan.now) ≡ None → IfErr result (λ e. e ≡ NoMemory) }
         ensures kept { Extends sink.old sink.new }
     {
         match self.planned_cause(sink, plan) {
@@ -444,8 +509,17 @@ impl MemoryInst {
     fn emit_planned(&self, sink: &mut MachBuffer, state: &EmitState) -> Result<(), EmitError>
         requires encodes { may_encode self.now ≡ true }
         requires valid { (self.now.operands_valid && operand_general self.now.operand) ≡ true }
-        ensures answer { OnOk result ((memory_cause (declared_in sink.old) (in_state state.now (memory_instruction_of self.now)) ≡ None) × (sink.new ≡ appended sink.old (memory_parts (in_state state.now (memory_instruction_of self.now))))) }
-        ensures lacks { put_cause sink.old (parts_size (memory_parts (in_state state.now (memory_instruction_of self.now)))) ≡ None → memory_cause (declared_in sink.old) (in_state state.now (memory_instruction_of self.now)) ≡ None → IfErr result (λ e. e ≡ NoMemory) }
+        ensures answer { OnOk result
+            ((memory_cause (declared_in sink.old)
+            (in_state state.now (memory_instruction_of self.now)) ≡ None)
+            × (sink.new
+            ≡ appended sink.old
+            (memory_parts (in_state state.now (memory_instruction_of self.now))))) }
+        ensures lacks { put_cause sink.old
+            (parts_size (memory_parts (in_state state.now (memory_instruction_of self.now)))) ≡ None
+            → memory_cause (declared_in sink.old)
+            (in_state state.now (memory_instruction_of self.now)) ≡ None
+            → IfErr result (λ e. e ≡ NoMemory) }
         ensures kept { Extends sink.old sink.new }
     {
         match plan_operand(&self.operand, state, self.forms()) {
@@ -456,7 +530,9 @@ impl MemoryInst {
 
     // The register and the offset of its operand, where it is no more than that in this state.
     fn base_and_offset(&self, state: &EmitState) -> Option<(Reg, i128)>
-        ensures { IfSome result (λ p. resolved state.now self.now.operand ≡ RegOffset p.0 p.1 (flags_of self.now.operand)) }
+        ensures { IfSome result
+            (λ p. resolved state.now self.now.operand
+            ≡ RegOffset p.0 p.1 (flags_of self.now.operand)) }
     {
         match &self.operand {
             MemArg::RegOffset { reg, off, .. } => Some((*reg, i128::from(*off))),
@@ -469,7 +545,8 @@ impl MemoryInst {
 
     // Its code, where it is behind no helper and a displacement holds its offset.
     fn plain_code(&self, state: &EmitState) -> Option<Code>
-        ensures { IfSome result (λ code. IsPlain (in_state state.now (memory_instruction_of self.now)) code) }
+        ensures { IfSome result
+            (λ code. IsPlain (in_state state.now (memory_instruction_of self.now)) code) }
     {
         match self.base_and_offset(state) {
             Some((base, off)) => offset_code(&self.rows, base, off),
@@ -481,8 +558,17 @@ impl MemoryInst {
     fn emit_valid(&self, sink: &mut MachBuffer, state: &EmitState) -> Result<(), EmitError>
         requires encodes { may_encode self.now ≡ true }
         requires valid { (self.now.operands_valid && operand_general self.now.operand) ≡ true }
-        ensures answer { OnOk result ((memory_cause (declared_in sink.old) (in_state state.now (memory_instruction_of self.now)) ≡ None) × (sink.new ≡ appended sink.old (memory_parts (in_state state.now (memory_instruction_of self.now))))) }
-        ensures lacks { put_cause sink.old (parts_size (memory_parts (in_state state.now (memory_instruction_of self.now)))) ≡ None → memory_cause (declared_in sink.old) (in_state state.now (memory_instruction_of self.now)) ≡ None → IfErr result (λ e. e ≡ NoMemory) }
+        ensures answer { OnOk result
+            ((memory_cause (declared_in sink.old)
+            (in_state state.now (memory_instruction_of self.now)) ≡ None)
+            × (sink.new
+            ≡ appended sink.old
+            (memory_parts (in_state state.now (memory_instruction_of self.now))))) }
+        ensures lacks { put_cause sink.old
+            (parts_size (memory_parts (in_state state.now (memory_instruction_of self.now)))) ≡ None
+            → memory_cause (declared_in sink.old)
+            (in_state state.now (memory_instruction_of self.now)) ≡ None
+            → IfErr result (λ e. e ≡ NoMemory) }
         ensures kept { Extends sink.old sink.new }
     {
         match self.plain_code(state) {
@@ -499,8 +585,17 @@ impl MemoryInst {
         state: &EmitState,
     ) -> Result<(), EmitError>
         requires { may_encode self.now ≡ true }
-        ensures answer { OnOk result ((memory_cause (declared_in sink.old) (in_state state.now (memory_instruction_of self.now)) ≡ None) × (sink.new ≡ appended sink.old (memory_parts (in_state state.now (memory_instruction_of self.now))))) }
-        ensures lacks { put_cause sink.old (parts_size (memory_parts (in_state state.now (memory_instruction_of self.now)))) ≡ None → memory_cause (declared_in sink.old) (in_state state.now (memory_instruction_of self.now)) ≡ None → IfErr result (λ e. e ≡ NoMemory) }
+        ensures answer { OnOk result
+            ((memory_cause (declared_in sink.old)
+            (in_state state.now (memory_instruction_of self.now)) ≡ None)
+            × (sink.new
+            ≡ appended sink.old
+            (memory_parts (in_state state.now (memory_instruction_of self.now))))) }
+        ensures lacks { put_cause sink.old
+            (parts_size (memory_parts (in_state state.now (memory_instruction_of self.now)))) ≡ None
+            → memory_cause (declared_in sink.old)
+            (in_state state.now (memory_instruction_of self.now)) ≡ None
+            → IfErr result (λ e. e ≡ NoMemory) }
         ensures kept { Extends sink.old sink.new }
     {
         if self.has_valid_registers() {

@@ -18,21 +18,34 @@ use s390x_typed_steps::{low_12, low_displacement};
 
 // The code of the row of format RX at a base and a displacement, where its registers may stand there.
 fn short_code(opcode: u8, register: Reg, base: Reg, disp: UImm12) -> Option<Code>
-    ensures { IfSome result (λ code. code ≡ bytes_of (rx opcode (number_of register) (number_of base) (number_of no_register) (low_12 disp))) }
+    ensures { IfSome result
+        (λ code. code
+        ≡ bytes_of
+        (rx opcode (number_of register) (number_of base) (number_of no_register)
+        (low_12 disp))) }
 {
     enc_rx(u16::from(opcode), register, base, zero_reg(), low_12(disp)).ok()
 }
 
 // The same of format RXY.
 fn long_code(opcode: u16, register: Reg, base: Reg, disp: SImm20) -> Option<Code>
-    ensures { IfSome result (λ code. code ≡ bytes_of (rxy opcode (number_of register) (number_of base) (number_of no_register) (low_displacement disp))) }
+    ensures { IfSome result
+        (λ code. code
+        ≡ bytes_of
+        (rxy opcode (number_of register) (number_of base) (number_of no_register)
+        (low_displacement disp))) }
 {
     enc_rxy(opcode, register, base, zero_reg(), low_displacement(disp)).ok()
 }
 
 // The same at an offset, where there is a row and its displacement holds the offset.
 fn long_offset_code(opcode: Option<u16>, register: Reg, base: Reg, off: i128) -> Option<Code>
-    ensures { IfSome result (λ code. (fits_20 off ≡ true) × (option_map bytes_of (of_opcode (λ o. rxy o (number_of register) (number_of base) (number_of no_register) (low_displacement off)) opcode) ≡ Some code)) }
+    ensures { IfSome result
+        (λ code. (fits_20 off ≡ true)
+        × (option_map bytes_of
+        (of_opcode
+        (λ o. rxy o (number_of register) (number_of base) (number_of no_register)
+        (low_displacement off)) opcode) ≡ Some code)) }
 {
     let opcode = opcode?;
     let disp = long_displacement(off)?;
@@ -41,7 +54,16 @@ fn long_offset_code(opcode: Option<u16>, register: Reg, base: Reg, off: i128) ->
 
 /// The code at a base and an offset of an instruction by one general register, where a displacement of its rows holds the offset.
 pub fn offset_code(rows: &StorageRows, base: Reg, off: i128) -> Option<Code>
-    ensures { (accesses operands_valid reads_scratch : Bool) (flags : MachMemFlags) → IfSome result (λ code. IsPlain (record { form = storage_form_of rows.now; operand = RegOffset base off flags; accesses = accesses; operands_valid = operands_valid; reads_scratch = reads_scratch }) code) }
+    ensures { (accesses operands_valid reads_scratch : Bool) (flags : MachMemFlags)
+        → IfSome result
+        (λ code. IsPlain
+        (record {
+          form = storage_form_of rows.now;
+          operand = RegOffset base off flags;
+          accesses = accesses;
+          operands_valid = operands_valid;
+          reads_scratch = reads_scratch;
+        }) code) }
 {
     let StorageRows::OneRegister {
         register,

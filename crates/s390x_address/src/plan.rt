@@ -46,7 +46,14 @@ impl Plan {
 
 // An offset that an index has to hold: it is loaded into `%r1`, which can't be the base too.
 fn far_offset(reg: Reg, off: i32, flags: MachMemFlags) -> Result<Plan, EmitError>
-    ensures { MatchResult result (λ p. (is_numbered 1 reg ≡ false) × (finalized_of p ≡ record { helpers = Mov64SImm32 scratch off ∷ []; operand = BXD12 reg scratch 0 flags }) × (p.address ≡ None)) (λ e. (is_numbered 1 reg ≡ true) × (e ≡ ScratchConflict)) }
+    ensures { MatchResult result
+        (λ p. (is_numbered 1 reg ≡ false)
+        × (finalized_of p
+        ≡ record {
+          helpers = Mov64SImm32 scratch off ∷ [];
+          operand = BXD12 reg scratch 0 flags;
+        }) × (p.address ≡ None))
+        (λ e. (is_numbered 1 reg ≡ true) × (e ≡ ScratchConflict)) }
 {
     if is_numbered(1, &reg) {
         return Err(EmitError::ScratchConflict);
@@ -98,7 +105,10 @@ fn immediate(off: i128) -> Option<i32>
 
 // A register and an offset, with the displacement or the helper that holds the offset.
 fn plan_offset(reg: Reg, off: i128, flags: MachMemFlags) -> Result<Plan, EmitError>
-    ensures { MatchResult result (λ p. (offset_cause (RegOffset reg off flags) ≡ None) × (finalized_of p ≡ with_offset reg off flags) × (p.address ≡ None)) (λ e. offset_cause (RegOffset reg off flags) ≡ Some e) }
+    ensures { MatchResult result
+        (λ p. (offset_cause (RegOffset reg off flags) ≡ None)
+        × (finalized_of p ≡ with_offset reg off flags) × (p.address ≡ None))
+        (λ e. offset_cause (RegOffset reg off flags) ≡ Some e) }
 {
     let index = zero_reg();
     match short_displacement(off) {
@@ -164,7 +174,8 @@ fn added_offset(off: i64, added: i128) -> i128
 
 /// The exact offset from the stack pointer of a frame operand, where it is one.
 pub fn frame_offset(mem: &MemArg, state: &EmitState) -> Option<i128>
-    ensures frame { IfSome result (λ off. resolved state.now mem.now ≡ RegOffset stack_pointer off trusted) }
+    ensures frame { IfSome result
+        (λ off. resolved state.now mem.now ≡ RegOffset stack_pointer off trusted) }
     ensures other { result ≡ None → resolved state.now mem.now ≡ mem.now }
 {
     match mem {
@@ -190,7 +201,9 @@ pub fn frame_offset(mem: &MemArg, state: &EmitState) -> Option<i128>
 
 // An operand that is no frame operand, with its displacement.
 fn displace_other(mem: &MemArg) -> Result<Plan, EmitError>
-    ensures { MatchResult result (λ p. (offset_cause mem.now ≡ None) × (finalized_of p ≡ displaced mem.now) × (p.address ≡ None)) (λ e. offset_cause mem.now ≡ Some e) }
+    ensures { MatchResult result
+        (λ p. (offset_cause mem.now ≡ None) × (finalized_of p ≡ displaced mem.now)
+        × (p.address ≡ None)) (λ e. offset_cause mem.now ≡ Some e) }
 {
     match mem {
         MemArg::RegOffset { reg, off, flags } => plan_offset(*reg, i128::from(*off), *flags),
@@ -200,7 +213,10 @@ fn displace_other(mem: &MemArg) -> Result<Plan, EmitError>
 
 // An operand with its displacement.
 fn displace(mem: &MemArg, state: &EmitState) -> Result<Plan, EmitError>
-    ensures { MatchResult result (λ p. (offset_cause (resolved state.now mem.now) ≡ None) × (finalized_of p ≡ displaced (resolved state.now mem.now)) × (p.address ≡ None)) (λ e. offset_cause (resolved state.now mem.now) ≡ Some e) }
+    ensures { MatchResult result
+        (λ p. (offset_cause (resolved state.now mem.now) ≡ None)
+        × (finalized_of p ≡ displaced (resolved state.now mem.now)) × (p.address ≡ None))
+        (λ e. offset_cause (resolved state.now mem.now) ≡ Some e) }
 {
     match frame_offset(mem, state) {
         Some(off) => plan_offset(stack_reg(), off, MachMemFlags::trusted()),
@@ -229,7 +245,10 @@ fn load_address(mi: MemInstType, p: Plan) -> Plan
 /// `BadOperator` where they have none for it, `ScratchConflict` where its offset is loaded over its base `%r1`, `OffsetOutOfRange` where its
 /// exact offset doesn't fit a signed immediate of 32 bits (cranelift-codegen, `mem_finalize` in `emit.rs`).
 pub fn plan_operand(mem: &MemArg, state: &EmitState, mi: MemInstType) -> Result<Plan, EmitError>
-    ensures { MatchResult result (λ p. (operand_cause mi (resolved state.now mem.now) ≡ None) × (finalized_of p ≡ finalized mi (resolved state.now mem.now))) (λ e. operand_cause mi (resolved state.now mem.now) ≡ Some e) }
+    ensures { MatchResult result
+        (λ p. (operand_cause mi (resolved state.now mem.now) ≡ None)
+        × (finalized_of p ≡ finalized mi (resolved state.now mem.now)))
+        (λ e. operand_cause mi (resolved state.now mem.now) ≡ Some e) }
 {
     if !has_form(mi, mem) {
         return Err(EmitError::BadOperator);

@@ -48,7 +48,9 @@ pub fn relative_bytes(opcode: u16) -> u32
 
 // A label that names no block, or that would have to stand on a greater boundary than an even place.
 fn label_cause(sink: &MachBuffer, target: MachLabel, boundary: u32) -> Option<EmitError>
-    ensures { result ≡ first_emit_cause (target_label_cause sink.now.block_count target) (unless (nat_le boundary 2) BadAlignment) }
+    ensures { result
+        ≡ first_emit_cause (target_label_cause sink.now.block_count target)
+        (unless (nat_le boundary 2) BadAlignment) }
 {
     if target.0 >= sink.block_count() {
         Some(EmitError::UnboundLabel)
@@ -61,7 +63,9 @@ fn label_cause(sink: &MachBuffer, target: MachLabel, boundary: u32) -> Option<Em
 
 // A constant that isn't declared, or not on this boundary.
 fn constant_cause(sink: &MachBuffer, constant: VCodeConstant, boundary: u32) -> Option<EmitError>
-    ensures { result ≡ first_emit_cause (bound_cause (declared_in sink.now) (Constant constant)) (alignment_cause (declared_in sink.now) boundary (Constant constant)) }
+    ensures { result
+        ≡ first_emit_cause (bound_cause (declared_in sink.now) (Constant constant))
+        (alignment_cause (declared_in sink.now) boundary (Constant constant)) }
 {
     match sink.constant_align(constant) {
         Some(align) => {
@@ -78,7 +82,9 @@ fn constant_cause(sink: &MachBuffer, constant: VCodeConstant, boundary: u32) -> 
 /// The first cause of the place that an operand names, which has to stand on a boundary: a label names no block or a constant isn't declared
 /// (`UnboundLabel`), nothing tells that it stands there (`BadAlignment`).
 pub fn target_cause(sink: &MachBuffer, operand: &MemArg, boundary: u32) -> Option<EmitError>
-    ensures { result ≡ first_emit_cause (bound_cause (declared_in sink.now) operand.now) (alignment_cause (declared_in sink.now) boundary operand.now) }
+    ensures { result
+        ≡ first_emit_cause (bound_cause (declared_in sink.now) operand.now)
+        (alignment_cause (declared_in sink.now) boundary operand.now) }
 {
     match operand {
         MemArg::Label { target } => label_cause(sink, *target, boundary),
@@ -112,8 +118,16 @@ pub fn put_trap(sink: &mut MachBuffer, trap_code: Option<TrapCode>) -> Result<()
 
 // A code with half of the distance to a label behind its second byte; the buffer's end fills it in.
 fn put_linked(sink: &mut MachBuffer, code: &Code, label: MachLabel) -> Result<(), EmitError>
-    ensures answer { OnOk result (sink.new ≡ record sink.old { bytes = sink.old.bytes ++ code.now; uses = sink.old.uses ++ record { kind = BranchRIL; offset = length sink.old.bytes; label = label } ∷ [] }) }
-    ensures lacks { put_cause sink.old (length code.now) ≡ None → label.0 < length sink.old.labels → IfErr result (λ e. e ≡ NoMemory) }
+    ensures answer { OnOk result
+        (sink.new
+        ≡ record sink.old {
+          bytes = sink.old.bytes ++ code.now;
+          uses = sink.old.uses
+              ++ record { kind = BranchRIL; offset = length sink.old.bytes; label = label }
+              ∷ [];
+        }) }
+    ensures lacks { put_cause sink.old (length code.now) ≡ None → label.0 < length sink.old.labels
+        → IfErr result (λ e. e ≡ NoMemory) }
     ensures kept { Extends sink.old sink.new }
 {
     let offset = sink.cur_offset();
@@ -129,8 +143,10 @@ fn put_to_label(
     label: MachLabel,
 ) -> Result<(), EmitError>
     requires { opcode < 4096 }
-    ensures answer { OnOk result (sink.new ≡ with_part sink.old (Relative opcode (number_of register) (ToBlock label.0))) }
-    ensures lacks { put_cause sink.old 6 ≡ None → is_general_class register ≡ true → label.0 < length sink.old.labels → IfErr result (λ e. e ≡ NoMemory) }
+    ensures answer { OnOk result
+        (sink.new ≡ with_part sink.old (Relative opcode (number_of register) (ToBlock label.0))) }
+    ensures lacks { put_cause sink.old 6 ≡ None → is_general_class register ≡ true
+        → label.0 < length sink.old.labels → IfErr result (λ e. e ≡ NoMemory) }
     ensures kept { Extends sink.old sink.new }
 {
     let code = enc_ril_b(opcode, register, 0)?;
@@ -145,8 +161,12 @@ fn put_to_constant(
     constant: VCodeConstant,
 ) -> Result<(), EmitError>
     requires { opcode < 4096 }
-    ensures answer { OnOk result (sink.new ≡ with_part sink.old (RelativeConstant opcode (number_of register) constant.0)) }
-    ensures lacks { put_cause sink.old 6 ≡ None → is_general_class register ≡ true → constant.0 < length sink.old.constants → sink.old.block_count + length sink.old.constants ≤ length sink.old.labels → IfErr result (λ e. e ≡ NoMemory) }
+    ensures answer { OnOk result
+        (sink.new ≡ with_part sink.old (RelativeConstant opcode (number_of register) constant.0)) }
+    ensures lacks { put_cause sink.old 6 ≡ None → is_general_class register ≡ true
+        → constant.0 < length sink.old.constants
+        → sink.old.block_count + length sink.old.constants ≤ length sink.old.labels
+        → IfErr result (λ e. e ≡ NoMemory) }
     ensures kept { Extends sink.old sink.new }
 {
     let label = sink.get_label_for_constant(constant)?;
@@ -162,8 +182,10 @@ fn put_to_symbol(
     offset: i32,
 ) -> Result<(), EmitError>
     requires { opcode < 4096 }
-    ensures answer { OnOk result (sink.new ≡ with_part sink.old (RelativeSymbol opcode (number_of register) name offset)) }
-    ensures lacks { put_cause sink.old 6 ≡ None → is_general_class register ≡ true → IfErr result (λ e. e ≡ NoMemory) }
+    ensures answer { OnOk result
+        (sink.new ≡ with_part sink.old (RelativeSymbol opcode (number_of register) name offset)) }
+    ensures lacks { put_cause sink.old 6 ≡ None → is_general_class register ≡ true
+        → IfErr result (λ e. e ≡ NoMemory) }
     ensures kept { Extends sink.old sink.new }
 {
     let code = enc_ril_b(opcode, register, 0)?;
@@ -188,8 +210,13 @@ fn put_row(
     operand: &MemArg,
 ) -> Result<(), EmitError>
     requires { opcode < 4096 }
-    ensures answer { OnOk result (sink.new ≡ appended sink.old (relative_part opcode (number_of register) operand.now)) }
-    ensures lacks { put_cause sink.old (parts_size (relative_part opcode (number_of register) operand.now)) ≡ None → is_general_class register ≡ true → is_bound_operand (declared_in sink.old) operand.now ≡ true → IfErr result (λ e. e ≡ NoMemory) }
+    ensures answer { OnOk result
+        (sink.new ≡ appended sink.old (relative_part opcode (number_of register) operand.now)) }
+    ensures lacks { put_cause sink.old
+        (parts_size (relative_part opcode (number_of register) operand.now)) ≡ None
+        → is_general_class register ≡ true
+        → is_bound_operand (declared_in sink.old) operand.now ≡ true
+        → IfErr result (λ e. e ≡ NoMemory) }
     ensures kept { Extends sink.old sink.new }
 {
     read_labels(sink);
@@ -212,8 +239,15 @@ fn put_trapping_row(
     trap_code: Option<TrapCode>,
 ) -> Result<(), EmitError>
     requires { opcode < 4096 }
-    ensures answer { OnOk result (sink.new ≡ appended sink.old (trap_here trap_code ++ relative_part opcode (number_of register) operand.now)) }
-    ensures lacks { put_cause sink.old (parts_size (trap_here trap_code ++ relative_part opcode (number_of register) operand.now)) ≡ None → is_general_class register ≡ true → is_bound_operand (declared_in sink.old) operand.now ≡ true → IfErr result (λ e. e ≡ NoMemory) }
+    ensures answer { OnOk result
+        (sink.new
+        ≡ appended sink.old
+        (trap_here trap_code ++ relative_part opcode (number_of register) operand.now)) }
+    ensures lacks { put_cause sink.old
+        (parts_size (trap_here trap_code ++ relative_part opcode (number_of register) operand.now))
+        ≡ None → is_general_class register ≡ true
+        → is_bound_operand (declared_in sink.old) operand.now ≡ true
+        → IfErr result (λ e. e ≡ NoMemory) }
     ensures kept { Extends sink.old sink.new }
 {
     put_trap(sink, trap_code)?;
@@ -231,8 +265,13 @@ pub fn put_relative(
     trap_code: Option<TrapCode>,
 ) -> Result<(), EmitError>
     requires { relative_encodes rows.now ≡ true }
-    ensures answer { OnOk result (sink.new ≡ appended sink.old (relative_parts (storage_form_of rows.now) trap_code operand.now)) }
-    ensures lacks { put_cause sink.old (parts_size (relative_parts (storage_form_of rows.now) trap_code operand.now)) ≡ None → rows_encode rows.now ≡ true → is_bound_operand (declared_in sink.old) operand.now ≡ true → IfErr result (λ e. e ≡ NoMemory) }
+    ensures answer { OnOk result
+        (sink.new
+        ≡ appended sink.old (relative_parts (storage_form_of rows.now) trap_code operand.now)) }
+    ensures lacks { put_cause sink.old
+        (parts_size (relative_parts (storage_form_of rows.now) trap_code operand.now)) ≡ None
+        → rows_encode rows.now ≡ true → is_bound_operand (declared_in sink.old) operand.now ≡ true
+        → IfErr result (λ e. e ≡ NoMemory) }
     ensures kept { Extends sink.old sink.new }
 {
     match rows {
@@ -247,7 +286,8 @@ pub fn put_relative(
 
 // How many bytes a row has with an operand that is relative to it.
 fn row_size(operand: &MemArg) -> u64
-    ensures value { (opcode register : ℕ) → result ≡ parts_size (relative_part opcode register operand.now) }
+    ensures value { (opcode register : ℕ)
+        → result ≡ parts_size (relative_part opcode register operand.now) }
     ensures few { result ≤ 6 }
 {
     match operand {
@@ -258,7 +298,8 @@ fn row_size(operand: &MemArg) -> u64
 
 /// How many bytes the access has.
 pub fn relative_size(rows: &StorageRows, operand: &MemArg) -> u64
-    ensures value { (code : Option TrapKind) → result ≡ parts_size (relative_parts (storage_form_of rows.now) code operand.now) }
+    ensures value { (code : Option TrapKind)
+        → result ≡ parts_size (relative_parts (storage_form_of rows.now) code operand.now) }
     ensures few { result ≤ 6 }
 {
     match rows {

@@ -126,7 +126,11 @@ fn masked_code(
     disp: UImm12,
     mask: u8,
 ) -> Result<Code, EmitError>
-    ensures { MatchResult result (λ code. code ≡ bytes_of (vrx opcode (number_of v1) (number_of b2) (number_of x2) mask (low_12 disp))) (λ _. (nat_lt mask 16 && is_vector v1 && is_general_class b2 && is_general_class x2) ≡ false) }
+    ensures { MatchResult result
+        (λ code. code
+        ≡ bytes_of (vrx opcode (number_of v1) (number_of b2) (number_of x2) mask (low_12 disp)))
+        (λ _. (nat_lt mask 16 && is_vector v1 && is_general_class b2 && is_general_class x2)
+        ≡ false) }
 {
     if mask < 16 {
         enc_vrx(opcode, v1, b2, x2, low_12(disp), mask)
@@ -138,7 +142,8 @@ fn masked_code(
 impl StorageRow {
     /// Its bytes. It is refused where a register or the mask can't be encoded.
     pub fn code(&self) -> Result<Code, EmitError>
-        ensures { MatchResult result (λ code. code ≡ bytes_of (row_of self.now)) (λ _. row_encodes self.now ≡ false) }
+        ensures { MatchResult result (λ code. code ≡ bytes_of (row_of self.now))
+            (λ _. row_encodes self.now ≡ false) }
     {
         match self {
             StorageRow::Rx {
@@ -217,8 +222,11 @@ impl StorageRow {
 
 #[tactic(auto, using(crate::proofs::Encoding::indexed_encodes))]
 fn rx_row(opcode: Option<u8>, r1: Reg, b2: Reg, x2: Reg, disp: UImm12) -> Option<StorageRow>
-    ensures row { option_map row_of result ≡ of_opcode (λ o. rx o (number_of r1) (number_of b2) (number_of x2) (low_12 disp)) opcode }
-    ensures encodes { (is_general_class r1 && rows_take_general opcode) ≡ true → (is_general_class b2 && is_general_class x2) ≡ true → IfSome result (λ row. row_encodes row ≡ true) }
+    ensures row { option_map row_of result
+        ≡ of_opcode (λ o. rx o (number_of r1) (number_of b2) (number_of x2) (low_12 disp)) opcode }
+    ensures encodes { (is_general_class r1 && rows_take_general opcode) ≡ true
+        → (is_general_class b2 && is_general_class x2) ≡ true
+        → IfSome result (λ row. row_encodes row ≡ true) }
 {
     match opcode {
         Some(opcode) => Some(StorageRow::Rx {
@@ -234,8 +242,13 @@ fn rx_row(opcode: Option<u8>, r1: Reg, b2: Reg, x2: Reg, disp: UImm12) -> Option
 
 #[tactic(auto, using(crate::proofs::Encoding::indexed_encodes))]
 fn rxy_row(opcode: Option<u16>, r1: Reg, b2: Reg, x2: Reg, disp: SImm20) -> Option<StorageRow>
-    ensures row { option_map row_of result ≡ of_opcode (λ o. rxy o (number_of r1) (number_of b2) (number_of x2) (low_displacement disp)) opcode }
-    ensures encodes { (is_general_class r1 && rows_take_general opcode) ≡ true → (is_general_class b2 && is_general_class x2) ≡ true → IfSome result (λ row. row_encodes row ≡ true) }
+    ensures row { option_map row_of result
+        ≡ of_opcode
+        (λ o. rxy o (number_of r1) (number_of b2) (number_of x2) (low_displacement disp))
+        opcode }
+    ensures encodes { (is_general_class r1 && rows_take_general opcode) ≡ true
+        → (is_general_class b2 && is_general_class x2) ≡ true
+        → IfSome result (λ row. row_encodes row ≡ true) }
 {
     match opcode {
         Some(opcode) => Some(StorageRow::Rxy {
@@ -251,8 +264,10 @@ fn rxy_row(opcode: Option<u16>, r1: Reg, b2: Reg, x2: Reg, disp: SImm20) -> Opti
 
 #[tactic(auto, using(crate::proofs::Encoding::ranged_encodes))]
 fn rs_row(opcode: Option<u8>, r1: Reg, r3: Reg, b2: Reg, disp: UImm12) -> Option<StorageRow>
-    ensures row { option_map row_of result ≡ of_opcode (λ o. rs o (number_of r1) (number_of r3) (number_of b2) (low_12 disp)) opcode }
-    ensures encodes { (is_general_class r1 && is_general_class r3) ≡ true → is_general_class b2 ≡ true → IfSome result (λ row. row_encodes row ≡ true) }
+    ensures row { option_map row_of result
+        ≡ of_opcode (λ o. rs o (number_of r1) (number_of r3) (number_of b2) (low_12 disp)) opcode }
+    ensures encodes { (is_general_class r1 && is_general_class r3) ≡ true
+        → is_general_class b2 ≡ true → IfSome result (λ row. row_encodes row ≡ true) }
 {
     match opcode {
         Some(opcode) => Some(StorageRow::Rs {
@@ -268,8 +283,12 @@ fn rs_row(opcode: Option<u8>, r1: Reg, r3: Reg, b2: Reg, disp: UImm12) -> Option
 
 #[tactic(auto, using(crate::proofs::Encoding::ranged_encodes))]
 fn rsy_row(opcode: Option<u16>, r1: Reg, r3: Reg, b2: Reg, disp: SImm20) -> Option<StorageRow>
-    ensures row { option_map row_of result ≡ of_opcode (λ o. rsy o (number_of r1) (number_of r3) (number_of b2) (low_displacement disp)) opcode }
-    ensures encodes { (is_general_class r1 && is_general_class r3) ≡ true → is_general_class b2 ≡ true → IfSome result (λ row. row_encodes row ≡ true) }
+    ensures row { option_map row_of result
+        ≡ of_opcode
+        (λ o. rsy o (number_of r1) (number_of r3) (number_of b2) (low_displacement disp))
+        opcode }
+    ensures encodes { (is_general_class r1 && is_general_class r3) ≡ true
+        → is_general_class b2 ≡ true → IfSome result (λ row. row_encodes row ≡ true) }
 {
     match opcode {
         Some(opcode) => Some(StorageRow::Rsy {
@@ -285,8 +304,10 @@ fn rsy_row(opcode: Option<u16>, r1: Reg, r3: Reg, b2: Reg, disp: SImm20) -> Opti
 
 #[tactic(auto, using(crate::proofs::Encoding::masked_encodes))]
 fn vrx_row(opcode: u16, v1: Reg, b2: Reg, x2: Reg, disp: UImm12, mask: u8) -> StorageRow
-    ensures row { row_of result ≡ vrx opcode (number_of v1) (number_of b2) (number_of x2) mask (low_12 disp) }
-    ensures encodes { (nat_lt mask 16 && is_vector v1) ≡ true → (is_general_class b2 && is_general_class x2) ≡ true → row_encodes result ≡ true }
+    ensures row { row_of result
+        ≡ vrx opcode (number_of v1) (number_of b2) (number_of x2) mask (low_12 disp) }
+    ensures encodes { (nat_lt mask 16 && is_vector v1) ≡ true
+        → (is_general_class b2 && is_general_class x2) ≡ true → row_encodes result ≡ true }
 {
     StorageRow::Vrx {
         opcode,
@@ -300,8 +321,10 @@ fn vrx_row(opcode: u16, v1: Reg, b2: Reg, x2: Reg, disp: UImm12, mask: u8) -> St
 
 #[tactic(auto, using(crate::proofs::Encoding::float_encodes))]
 fn float_rx_row(opcode: u8, r1: Reg, b2: Reg, x2: Reg, disp: UImm12) -> StorageRow
-    ensures row { row_of result ≡ rx opcode (number_of r1) (number_of b2) (number_of x2) (low_12 disp) }
-    ensures encodes { may_stand_first opcode r1 ≡ true → (is_general_class b2 && is_general_class x2) ≡ true → row_encodes result ≡ true }
+    ensures row { row_of result
+        ≡ rx opcode (number_of r1) (number_of b2) (number_of x2) (low_12 disp) }
+    ensures encodes { may_stand_first opcode r1 ≡ true
+        → (is_general_class b2 && is_general_class x2) ≡ true → row_encodes result ≡ true }
 {
     StorageRow::Rx {
         opcode,
@@ -314,8 +337,10 @@ fn float_rx_row(opcode: u8, r1: Reg, b2: Reg, x2: Reg, disp: UImm12) -> StorageR
 
 #[tactic(auto, using(crate::proofs::Encoding::float_encodes))]
 fn float_rxy_row(opcode: u16, r1: Reg, b2: Reg, x2: Reg, disp: SImm20) -> StorageRow
-    ensures row { row_of result ≡ rxy opcode (number_of r1) (number_of b2) (number_of x2) (low_displacement disp) }
-    ensures encodes { may_stand_first opcode r1 ≡ true → (is_general_class b2 && is_general_class x2) ≡ true → row_encodes result ≡ true }
+    ensures row { row_of result
+        ≡ rxy opcode (number_of r1) (number_of b2) (number_of x2) (low_displacement disp) }
+    ensures encodes { may_stand_first opcode r1 ≡ true
+        → (is_general_class b2 && is_general_class x2) ≡ true → row_encodes result ≡ true }
 {
     StorageRow::Rxy {
         opcode,
@@ -379,8 +404,12 @@ impl StorageRows {
 
     // The row at a displacement of 12 bits.
     fn short_row(&self, base: Reg, index: Reg, disp: UImm12) -> Option<StorageRow>
-        ensures row { (flags : MachMemFlags) → option_map row_of result ≡ storage_row (storage_form_of self.now) (BXD12 base index disp flags) }
-        ensures encodes { rows_encode self.now ≡ true → (is_general_class base && is_general_class index) ≡ true → IfSome result (λ row. row_encodes row ≡ true) }
+        ensures row { (flags : MachMemFlags)
+            → option_map row_of result
+            ≡ storage_row (storage_form_of self.now) (BXD12 base index disp flags) }
+        ensures encodes { rows_encode self.now ≡ true
+            → (is_general_class base && is_general_class index) ≡ true
+            → IfSome result (λ row. row_encodes row ≡ true) }
     {
         match self {
             StorageRows::OneRegister { register, rx, .. } => rx_row(
@@ -417,8 +446,12 @@ impl StorageRows {
 
     // The row at a displacement of 20 bits.
     fn long_row(&self, base: Reg, index: Reg, disp: SImm20) -> Option<StorageRow>
-        ensures row { (flags : MachMemFlags) → option_map row_of result ≡ storage_row (storage_form_of self.now) (BXD20 base index disp flags) }
-        ensures encodes { rows_encode self.now ≡ true → (is_general_class base && is_general_class index) ≡ true → IfSome result (λ row. row_encodes row ≡ true) }
+        ensures row { (flags : MachMemFlags)
+            → option_map row_of result
+            ≡ storage_row (storage_form_of self.now) (BXD20 base index disp flags) }
+        ensures encodes { rows_encode self.now ≡ true
+            → (is_general_class base && is_general_class index) ≡ true
+            → IfSome result (λ row. row_encodes row ≡ true) }
     {
         match self {
             StorageRows::OneRegister { register, rxy, .. } => rxy_row(
@@ -445,8 +478,10 @@ impl StorageRows {
 
     /// The row at an operand that stands in it as it is, where there is one.
     pub fn row(&self, operand: &MemArg) -> Option<StorageRow>
-        ensures row { option_map row_of result ≡ storage_row (storage_form_of self.now) operand.now }
-        ensures encodes { rows_encode self.now ≡ true → operand_general operand.now ≡ true → IfSome result (λ row. row_encodes row ≡ true) }
+        ensures row { option_map row_of result
+            ≡ storage_row (storage_form_of self.now) operand.now }
+        ensures encodes { rows_encode self.now ≡ true → operand_general operand.now ≡ true
+            → IfSome result (λ row. row_encodes row ≡ true) }
     {
         match operand {
             MemArg::BXD12 {

@@ -65,7 +65,9 @@ pub fn answer_blocks(
     plans: &[BlockPlan],
 ) -> Result<Vec<Block>, NoMemory>
     requires { length blocks.now ≡ length plans.now }
-    ensures { IfOk result (λ v. map (λ (b : AnyBlock). map portions b.insts.items) v.items ≡ blocks_answer blocks.now plans.now) }
+    ensures { IfOk result
+        (λ v. map (λ (b : AnyBlock). map portions b.insts.items) v.items
+        ≡ blocks_answer blocks.now plans.now) }
 {
     let mut answered = Vec::new(alloc);
     for (number, block) in blocks.iter().enumerate() {

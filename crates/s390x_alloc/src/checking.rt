@@ -22,7 +22,8 @@ fn check_block(
     block: &Block,
     plan: &BlockPlan,
 ) -> Result<Held, PlanFault>
-    ensures { let whole = after_block layout.now count number block.now plan.now in MatchResult result (λ held. whole ≡ Ok held.pairs.items) (IsFault whole) }
+    ensures { let whole = after_block layout.now count number block.now plan.now in
+        MatchResult result (λ held. whole ≡ Ok held.pairs.items) (IsFault whole) }
 {
     if let Some(inst) = first_unsupported(&block.insts) {
         return Err(unsupported_at(number, inst));
@@ -41,7 +42,8 @@ pub fn check_blocks(
     plans: &[BlockPlan],
 ) -> Result<Vec<Held>, PlanFault>
     requires { length blocks.now ≡ length plans.now }
-    ensures { let whole = after_blocks layout.now (length blocks.now) [] 0 blocks.now plans.now in MatchResult result (λ ends. whole ≡ Ok (map pairs_of ends.items)) (IsFault whole) }
+    ensures { let whole = after_blocks layout.now (length blocks.now) [] 0 blocks.now plans.now in
+        MatchResult result (λ ends. whole ≡ Ok (map pairs_of ends.items)) (IsFault whole) }
 {
     let mut ends = Vec::new(alloc);
     for (number, block) in blocks.iter().enumerate() {
@@ -60,7 +62,8 @@ pub fn check_faults(
     blocks: &[Block],
     plans: &[BlockPlan],
 ) -> Result<(), PlanFault>
-    ensures { let whole = checked layout.now blocks.now plans.now in MatchResult result (λ _. IsOk whole) (IsFault whole) }
+    ensures { let whole = checked layout.now blocks.now plans.now in
+        MatchResult result (λ _. IsOk whole) (IsFault whole) }
 {
     if blocks.len() != plans.len() {
         return Err(PlanFault::Blocks);

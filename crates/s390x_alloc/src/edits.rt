@@ -43,7 +43,10 @@ fn check_edit(
     left: &[Inst],
 ) -> Result<(), EditCause>
     ensures taken { IfOk result (λ _. steps_in edit.now ≤ length left.now) }
-    ensures held { MatchResult result (λ _. after_edit layout.now ends edit.now left.now held.old.pairs.items ≡ Ok held.new.pairs.items) (IsCause (after_edit layout.now ends edit.now left.now held.old.pairs.items)) }
+    ensures held { MatchResult result
+        (λ _. after_edit layout.now ends edit.now left.now held.old.pairs.items
+        ≡ Ok held.new.pairs.items)
+        (IsCause (after_edit layout.now ends edit.now left.now held.old.pairs.items)) }
 {
     match edit {
         Edit::Move { to, from } => {
@@ -67,7 +70,9 @@ pub fn check_edits(
     insts: &[Inst],
     plan: &BlockPlan,
 ) -> Result<Held, PlanFault>
-    ensures { let whole = after_edits layout.now (is_end (block_ending insts.now)) block 0 plan.now.edits.items insts.now plan.now.entry.items in MatchResult result (λ held. whole ≡ Ok held.pairs.items) (IsFault whole) }
+    ensures { let whole = after_edits layout.now (is_end (block_ending insts.now)) block 0
+        plan.now.edits.items insts.now plan.now.entry.items in
+        MatchResult result (λ held. whole ≡ Ok held.pairs.items) (IsFault whole) }
 {
     let ends = block_ends(insts);
     let Ok(pairs) = Vec::from_slice(alloc, &plan.entry) else {

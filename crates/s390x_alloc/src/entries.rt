@@ -18,7 +18,9 @@ fn predecessor_lists(
     size: usize,
 ) -> Result<Vec<Vec<usize>>, AllocError>
     ensures size { IfOk result (λ v. length v.items ≡ size) }
-    ensures lists { IfOk result (λ v. (n : ℕ) → n < size → numbers_at v.items n ≡ predecessors (length blocks.now) n 0 blocks.now) }
+    ensures lists { IfOk result
+        (λ v. (n : ℕ) → n < size
+        → numbers_at v.items n ≡ predecessors (length blocks.now) n 0 blocks.now) }
 {
     let mut before = empty_lists(alloc, size)?;
     for (number, block) in blocks.iter().enumerate() {
@@ -97,7 +99,8 @@ pub fn entry_fault(
     plans: &[BlockPlan],
     ends: &[Held],
 ) -> Result<Option<PlanFault>, AllocError>
-    ensures { IfOk result (IsFirst (entry_fault blocks.now (length blocks.now) (map pairs_of ends.now) 0 plans.now)) }
+    ensures { IfOk result
+        (IsFirst (entry_fault blocks.now (length blocks.now) (map pairs_of ends.now) 0 plans.now)) }
 {
     let before = predecessor_lists(alloc, blocks, plans.len())?;
     for (number, plan) in plans.iter().enumerate() {

@@ -54,7 +54,10 @@ fn put_operand(
     regs: &[Reg],
     item: &Reported,
 ) -> Result<(), AllocError>
-    ensures { IfOk result (λ _. operands.new.items ≡ operands.old.items ++ given_operand item.now (slice_get regs.now (length operands.old.items))) }
+    ensures { IfOk result
+        (λ _. operands.new.items
+        ≡ operands.old.items
+        ++ given_operand item.now (slice_get regs.now (length operands.old.items))) }
 {
     match *item {
         Reported::Operand {

@@ -48,7 +48,8 @@ impl Held {
 
     // The registers of the set hold nothing.
     fn drop_set(&mut self, set: PRegSet)
-        ensures { self.new.pairs.items ≡ filter (λ x. not (is_in_set set x.place)) self.old.pairs.items }
+        ensures { self.new.pairs.items
+            ≡ filter (λ x. not (is_in_set set x.place)) self.old.pairs.items }
     {
         self.pairs.retain(|pair| !is_in_set(set, pair.place));
     }
@@ -71,7 +72,8 @@ impl Held {
 
     /// What is held behind a move: `to` holds what `from` held before it. After `AllocError` some of that may be missing.
     pub fn move_value(&mut self, alloc: Global, to: &Place, from: &Place) -> Result<(), AllocError>
-        ensures { IfOk result (λ _. self.new.pairs.items ≡ moved to.now from.now self.old.pairs.items) }
+        ensures { IfOk result
+            (λ _. self.new.pairs.items ≡ moved to.now from.now self.old.pairs.items) }
     {
         let carried = self.carried(alloc, to, from)?;
         self.drop_place(*to);
@@ -100,14 +102,17 @@ impl Held {
 
     // The place holds nothing, and no other one holds the register.
     fn drop_both(&mut self, place: Place, reg: Reg)
-        ensures { self.new.pairs.items ≡ filter (λ x. not (same_place x.place place || same_register x.vreg reg)) self.old.pairs.items }
+        ensures { self.new.pairs.items
+            ≡ filter (λ x. not (same_place x.place place || same_register x.vreg reg))
+            self.old.pairs.items }
     {
         self.pairs.retain(|pair| !(same_place(pair.place, place) || same_register(pair.vreg, reg)));
     }
 
     // An output stands in its register alone, and nothing else stands there.
     fn put_output(&mut self, preg: PReg, reg: &Reg) -> Result<(), AllocError>
-        ensures { IfOk result (λ _. self.new.pairs.items ≡ with_output preg reg.now self.old.pairs.items) }
+        ensures { IfOk result
+            (λ _. self.new.pairs.items ≡ with_output preg reg.now self.old.pairs.items) }
     {
         self.drop_both(Place::Reg(preg), *reg);
         self.pairs.extend_from_slice(&[EntryPair {
@@ -118,7 +123,10 @@ impl Held {
 
     // An operand, where it is an output.
     fn put_operand(&mut self, operand: &GivenOperand) -> Result<(), AllocError>
-        ensures { IfOk result (λ _. self.new.pairs.items ≡ with_operand operand.now.kind operand.now.reg operand.now.given self.old.pairs.items) }
+        ensures { IfOk result
+            (λ _. self.new.pairs.items
+            ≡ with_operand operand.now.kind operand.now.reg operand.now.given
+            self.old.pairs.items) }
     {
         match (operand.kind, operand.given) {
             (OperandKind::Def, Reg::Real(preg)) => self.put_output(preg, &operand.reg),
@@ -129,7 +137,8 @@ impl Held {
     /// What is held behind an instruction: what it overwrites holds nothing, and then its outputs stand in their registers. After `AllocError` some of that may
     /// be missing.
     pub fn step(&mut self, items: &[Reported], operands: &[GivenOperand]) -> Result<(), AllocError>
-        ensures { IfOk result (λ _. self.new.pairs.items ≡ stepped items.now operands.now self.old.pairs.items) }
+        ensures { IfOk result
+            (λ _. self.new.pairs.items ≡ stepped items.now operands.now self.old.pairs.items) }
     {
         self.drop_items(items);
         for operand in operands {

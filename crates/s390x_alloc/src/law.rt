@@ -16,7 +16,8 @@ ghost use Rattle.s390x_alloc.specs.declared.plan.EntryPair.{EntryPair};
 /// Where a plan has no fault, on every walk from the first block, and whatever the values are, each instruction reads by its registers the values of its virtual
 /// registers.
 pub fn walks_read_alike()
-    ensures { (layout : FrameLayout) (blocks : List Block) (plans : List BlockPlan) → IsOk (checked layout blocks plans) → EveryWalkReadsAlike blocks plans }
+    ensures { (layout : FrameLayout) (blocks : List Block) (plans : List BlockPlan)
+        → IsOk (checked layout blocks plans) → EveryWalkReadsAlike blocks plans }
 {}
 
 /// Some plan of two blocks has no fault, with a move into a slot and one out of it, and a walk comes to both blocks.
@@ -26,5 +27,6 @@ pub fn some_plan_is_accepted()
 
 /// The registers of a step that has no cause of refusal meet what its instruction reports.
 pub fn accepted_registers_meet()
-    ensures { (i : Inst) (regs : List Reg) (held : List EntryPair) → step_cause i regs held ≡ None → Meets (operands i) regs }
+    ensures { (i : Inst) (regs : List Reg) (held : List EntryPair) → step_cause i regs held ≡ None
+        → Meets (operands i) regs }
 {}

@@ -29,8 +29,10 @@ pub fn check_plan(
     layout: &FrameLayout,
     plan: &Plan,
 ) -> Result<AllocatedFunction, PlanFault>
-    ensures answer { MatchResult result (IsAnswered layout.now function.now plan.now) (IsFault (checked layout.now function.now.blocks.items plan.now.blocks.items)) }
-    ensures walks { IfOk result (λ _. EveryWalkReadsAlike function.now.blocks.items plan.now.blocks.items) }
+    ensures answer { MatchResult result (IsAnswered layout.now function.now plan.now)
+        (IsFault (checked layout.now function.now.blocks.items plan.now.blocks.items)) }
+    ensures walks { IfOk result
+        (λ _. EveryWalkReadsAlike function.now.blocks.items plan.now.blocks.items) }
 {
     check_faults(alloc, layout, &function.blocks, &plan.blocks)?;
     let Ok(blocks) = answer_blocks(alloc, &function.blocks, &plan.blocks) else {

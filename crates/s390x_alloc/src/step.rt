@@ -105,7 +105,9 @@ fn operands_fault(regs: &[Reg], operands: &[GivenOperand], held: &[EntryPair]) -
 
 // What the instruction reports, or the cause why it doesn't.
 fn reported(alloc: Global, inst: &Inst) -> Result<OperandList, EditCause>
-    ensures { MatchResult result (λ list. (operands_cause false inst.now ≡ None) × (list.items.items ≡ operands inst.now)) (λ c. (c ≡ EditCause.NoMemory) ⊎ (unreported (operands_cause false inst.now) ≡ Some c)) }
+    ensures { MatchResult result
+        (λ list. (operands_cause false inst.now ≡ None) × (list.items.items ≡ operands inst.now))
+        (λ c. (c ≡ EditCause.NoMemory) ⊎ (unreported (operands_cause false inst.now) ≡ Some c)) }
 {
     let mut list = OperandList::new(alloc);
     match inst.get_operands(&mut list) {
@@ -123,7 +125,9 @@ pub fn check_step(
     inst: &Inst,
     regs: &[Reg],
 ) -> Result<(), EditCause>
-    ensures { MatchResult result (λ _. after_step inst.now regs.now held.old.pairs.items ≡ Ok held.new.pairs.items) (IsCause (after_step inst.now regs.now held.old.pairs.items)) }
+    ensures { MatchResult result
+        (λ _. after_step inst.now regs.now held.old.pairs.items ≡ Ok held.new.pairs.items)
+        (IsCause (after_step inst.now regs.now held.old.pairs.items)) }
 {
     let list = reported(alloc, inst)?;
     if count_operands(list.items()) != regs.len() {

@@ -31,7 +31,9 @@ fn push_once(numbers: &mut Vec<usize>, number: usize) -> Result<(), AllocError>
 // Block `here` behind the predecessors of a block, where that is one of those with a list.
 fn add_once(before: &mut [Vec<usize>], block: usize, here: usize) -> Result<(), AllocError>
     ensures size { length before.new ≡ length before.old }
-    ensures lists { IfOk result (λ _. (n : ℕ) → n < length before.old → numbers_at before.new n ≡ put_once (nat_eq block n) here (numbers_at before.old n)) }
+    ensures lists { IfOk result
+        (λ _. (n : ℕ) → n < length before.old
+        → numbers_at before.new n ≡ put_once (nat_eq block n) here (numbers_at before.old n)) }
 {
     if block < before.len() {
         push_once(&mut before[block], here)?;
@@ -47,7 +49,10 @@ fn add_labels(
     here: usize,
 ) -> Result<(), AllocError>
     ensures size { length before.new ≡ length before.old }
-    ensures lists { IfOk result (λ _. (n : ℕ) → n < length before.old → numbers_at before.new n ≡ put_once (is_label_in labels.now n) here (numbers_at before.old n)) }
+    ensures lists { IfOk result
+        (λ _. (n : ℕ) → n < length before.old
+        → numbers_at before.new n
+        ≡ put_once (is_label_in labels.now n) here (numbers_at before.old n)) }
 {
     for label in labels {
         add_once(before, label.0 as usize, here)?;
@@ -59,7 +64,10 @@ fn add_labels(
 fn add_next(before: &mut [Vec<usize>], count: usize, here: usize) -> Result<(), AllocError>
     requires { here < count }
     ensures size { length before.new ≡ length before.old }
-    ensures lists { IfOk result (λ _. (n : ℕ) → n < length before.old → numbers_at before.new n ≡ put_once (nat_eq (here + 1) n && nat_lt n count) here (numbers_at before.old n)) }
+    ensures lists { IfOk result
+        (λ _. (n : ℕ) → n < length before.old
+        → numbers_at before.new n
+        ≡ put_once (nat_eq (here + 1) n && nat_lt n count) here (numbers_at before.old n)) }
 {
     if here + 1 < count {
         add_once(before, here + 1, here)?;
@@ -77,7 +85,11 @@ fn add_ending(
 ) -> Result<(), AllocError>
     requires { here < count }
     ensures size { length before.new ≡ length before.old }
-    ensures lists { IfOk result (λ _. (n : ℕ) → n < length before.old → numbers_at before.new n ≡ put_once (ends_before count here (ending inst.now) n) here (numbers_at before.old n)) }
+    ensures lists { IfOk result
+        (λ _. (n : ℕ) → n < length before.old
+        → numbers_at before.new n
+        ≡ put_once (ends_before count here (ending inst.now) n) here
+        (numbers_at before.old n)) }
 {
     match inst {
         Inst::Jump { dest } => add_labels(before, &[*dest], here),
@@ -111,7 +123,10 @@ pub fn add_successors(
 ) -> Result<(), AllocError>
     requires { here < count }
     ensures size { length before.new ≡ length before.old }
-    ensures lists { IfOk result (λ _. (n : ℕ) → n < length before.old → numbers_at before.new n ≡ put_once (precedes count here insts.now n) here (numbers_at before.old n)) }
+    ensures lists { IfOk result
+        (λ _. (n : ℕ) → n < length before.old
+        → numbers_at before.new n
+        ≡ put_once (precedes count here insts.now n) here (numbers_at before.old n)) }
 {
     match insts.last() {
         Some(inst) => add_ending(before, count, here, inst),

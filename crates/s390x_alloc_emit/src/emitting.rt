@@ -38,11 +38,17 @@ pub fn emit_assigned(
     info: &EmitInfo,
     state: &mut EmitState,
 ) -> Result<(), AssignedError>
-    ensures answer { MatchResult result (λ _. IsEmitted info.now.isa_flags state.old sink.old inst.now registers.now state.new sink.new) (λ error. IsNotEmitted info.now.isa_flags state.old sink.old inst.now registers.now state.new sink.new error) }
+    ensures answer { MatchResult result
+        (λ _. IsEmitted info.now.isa_flags state.old sink.old inst.now registers.now state.new
+        sink.new)
+        (λ error. IsNotEmitted info.now.isa_flags state.old sink.old inst.now registers.now
+        state.new sink.new error) }
     ensures suffices { MayBeGiven info.now.isa_flags state.old sink.old inst.now registers.now
         → IfErr result (λ error. (error ≢ Emit BadRegister) × (error ≢ Emit ScratchConflict)) }
     ensures changes { MayBeGiven info.now.isa_flags state.old sink.old inst.now registers.now
-        → IfOk result (λ _. IsEmittedForOutputs info.now.isa_flags state.old sink.old inst.now registers.now state.new sink.new) }
+        → IfOk result
+        (λ _. IsEmittedForOutputs info.now.isa_flags state.old sink.old inst.now registers.now
+        state.new sink.new) }
     ensures kept { Extends sink.old sink.new }
 {
     let assigned = match assign(alloc, inst, registers) {

@@ -14,7 +14,10 @@ pub fn assign_operator(
     registers: &mut AssignedRegisters<'_>,
     inst: &Inst,
 ) -> Result<Inst, AllocError>
-    ensures { IfOk result (λ j. IsPortion (portion_by assigned_operator (first_portion inst.now) registers.old.left.now) j registers.new.left.now) }
+    ensures { IfOk result
+        (λ j. IsPortion
+        (portion_by assigned_operator (first_portion inst.now) registers.old.left.now) j
+        registers.new.left.now) }
 {
     match inst {
         Inst::AluRRR { alu_op, rd, rn, rm } => {

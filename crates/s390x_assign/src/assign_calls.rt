@@ -74,8 +74,10 @@ pub fn assign_list<T: TakesRegisters + Drop>(
     registers: &mut AssignedRegisters<'_>,
     items: &[T],
 ) -> Result<Vec<T>, AllocError>
-    ensures value { IfOk result (λ xs. xs.items ≡ (each_at T.given items.now registers.old.left.now).0) }
-    ensures left { IfOk result (λ xs. registers.new.left.now ≡ (each_at T.given items.now registers.old.left.now).1) }
+    ensures value { IfOk result
+        (λ xs. xs.items ≡ (each_at T.given items.now registers.old.left.now).0) }
+    ensures left { IfOk result
+        (λ xs. registers.new.left.now ≡ (each_at T.given items.now registers.old.left.now).1) }
 {
     let mut assigned = Vec::new(alloc);
     for item in items {
@@ -107,7 +109,11 @@ pub fn assign_call(
     link: Writable<Reg>,
     info: &CallInfo,
 ) -> Result<Inst, AllocError>
-    ensures { IfOk result (λ j. IsPortion (portion_at (calling link info.now.dest info.now.uses.items info.now.defs.items (terms_of info.now)) registers.old.left.now) j registers.new.left.now) }
+    ensures { IfOk result
+        (λ j. IsPortion
+        (portion_at
+        (calling link info.now.dest info.now.uses.items info.now.defs.items
+        (terms_of info.now)) registers.old.left.now) j registers.new.left.now) }
 {
     let dest = registers.destination(&info.dest);
     let uses = assign_list(alloc, registers, &info.uses)?;
@@ -136,7 +142,10 @@ pub fn assign_return_call(
     registers: &mut AssignedRegisters<'_>,
     info: &ReturnCallInfo<CallInstDest>,
 ) -> Result<Inst, AllocError>
-    ensures { IfOk result (λ j. IsPortion (portion_at (tail_calling info.now.dest info.now.uses.items info.now.callee_pop_size) registers.old.left.now) j registers.new.left.now) }
+    ensures { IfOk result
+        (λ j. IsPortion
+        (portion_at (tail_calling info.now.dest info.now.uses.items info.now.callee_pop_size)
+        registers.old.left.now) j registers.new.left.now) }
 {
     let dest = registers.destination(&info.dest);
     let uses = assign_list(alloc, registers, &info.uses)?;

@@ -15,7 +15,10 @@ pub fn assign_control(
     registers: &mut AssignedRegisters<'_>,
     inst: &Inst,
 ) -> Result<Inst, AllocError>
-    ensures { IfOk result (λ j. IsPortion (portion_by assigned_control (first_portion inst.now) registers.old.left.now) j registers.new.left.now) }
+    ensures { IfOk result
+        (λ j. IsPortion
+        (portion_by assigned_control (first_portion inst.now) registers.old.left.now) j
+        registers.new.left.now) }
 {
     match inst {
         Inst::LoadSymbolReloc { rd, symbol_reloc } => {

@@ -14,7 +14,9 @@ pub fn assign_move(
     registers: &mut AssignedRegisters<'_>,
     inst: &Inst,
 ) -> Result<Inst, AllocError>
-    ensures { IfOk result (λ j. IsPortion (portion_by assigned_move (first_portion inst.now) registers.old.left.now) j registers.new.left.now) }
+    ensures { IfOk result
+        (λ j. IsPortion (portion_by assigned_move (first_portion inst.now) registers.old.left.now) j
+        registers.new.left.now) }
 {
     match inst {
         Inst::Mov64 { rd, rm } => {

@@ -14,7 +14,9 @@ fn assign_store(
     registers: &mut AssignedRegisters<'_>,
     inst: &Inst,
 ) -> Result<Inst, AllocError>
-    ensures { IfOk result (λ j. IsPortion (portion_by assigned_store (first_portion inst.now) registers.old.left.now) j registers.new.left.now) }
+    ensures { IfOk result
+        (λ j. IsPortion (portion_by assigned_store (first_portion inst.now) registers.old.left.now)
+        j registers.new.left.now) }
 {
     match inst {
         Inst::Store8 { rd, mem } => {
@@ -145,7 +147,10 @@ pub fn assign_storage(
     registers: &mut AssignedRegisters<'_>,
     inst: &Inst,
 ) -> Result<Inst, AllocError>
-    ensures { IfOk result (λ j. IsPortion (portion_by assigned_storage (first_portion inst.now) registers.old.left.now) j registers.new.left.now) }
+    ensures { IfOk result
+        (λ j. IsPortion
+        (portion_by assigned_storage (first_portion inst.now) registers.old.left.now) j
+        registers.new.left.now) }
 {
     match inst.as_load() {
         Some(load) => {

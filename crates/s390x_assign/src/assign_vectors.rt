@@ -6,7 +6,8 @@ use s390x_inst::VecInst;
 
 /// A vector instruction with its registers.
 pub fn assign_vector(registers: &mut AssignedRegisters<'_>, inst: &VecInst) -> VecInst
-    ensures { IsGiven (assigned_vector inst.now registers.old.left.now) result registers.new.left.now }
+    ensures { IsGiven (assigned_vector inst.now registers.old.left.now) result
+        registers.new.left.now }
 {
     match inst {
         VecInst::VecLoad { rd, mem } => {
@@ -183,7 +184,8 @@ pub fn assign_vector(registers: &mut AssignedRegisters<'_>, inst: &VecInst) -> V
 
 /// A vector instruction without memory, with its registers.
 fn assign_register_vector(registers: &mut AssignedRegisters<'_>, inst: &VecInst) -> VecInst
-    ensures { IsGiven (assigned_register_vector inst.now registers.old.left.now) result registers.new.left.now }
+    ensures { IsGiven (assigned_register_vector inst.now registers.old.left.now) result
+        registers.new.left.now }
 {
     match inst {
         VecInst::VecRRR { op, rd, rn, rm } => {

@@ -156,8 +156,10 @@ impl<'a> AssignedRegisters<'a> {
         ensures first { result.0 ≡ register_at rd self.old.left.now }
         ensures second { result.1 ≡ register_at rn (after rd self.old.left.now) }
         ensures third { result.2 ≡ register_at rm (after rn (after rd self.old.left.now)) }
-        ensures fourth { result.3 ≡ register_at ra (after rm (after rn (after rd self.old.left.now))) }
-        ensures left { self.new.left.now ≡ after ra (after rm (after rn (after rd self.old.left.now))) }
+        ensures fourth { result.3
+            ≡ register_at ra (after rm (after rn (after rd self.old.left.now))) }
+        ensures left { self.new.left.now
+            ≡ after ra (after rm (after rn (after rd self.old.left.now))) }
     {
         let rd = self.output(rd);
         let rn = self.input(rn);
@@ -207,7 +209,8 @@ impl<'a> AssignedRegisters<'a> {
         ensures first { result.0 ≡ register_at rd self.old.left.now }
         ensures second { result.1 ≡ register_at rn (after rd self.old.left.now) }
         ensures memory { result.2 ≡ (memory_at mem.now (after rn (after rd self.old.left.now))).0 }
-        ensures left { self.new.left.now ≡ (memory_at mem.now (after rn (after rd self.old.left.now))).1 }
+        ensures left { self.new.left.now
+            ≡ (memory_at mem.now (after rn (after rd self.old.left.now))).1 }
     {
         let rd = self.output(rd);
         let rn = self.input(rn);
@@ -225,8 +228,10 @@ impl<'a> AssignedRegisters<'a> {
         ensures first { result.0 ≡ register_at rd self.old.left.now }
         ensures second { result.1 ≡ register_at rn (after rd self.old.left.now) }
         ensures third { result.2 ≡ register_at rm (after rn (after rd self.old.left.now)) }
-        ensures memory { result.3 ≡ (memory_at mem.now (after rm (after rn (after rd self.old.left.now)))).0 }
-        ensures left { self.new.left.now ≡ (memory_at mem.now (after rm (after rn (after rd self.old.left.now)))).1 }
+        ensures memory { result.3
+            ≡ (memory_at mem.now (after rm (after rn (after rd self.old.left.now)))).0 }
+        ensures left { self.new.left.now
+            ≡ (memory_at mem.now (after rm (after rn (after rd self.old.left.now)))).1 }
     {
         let rd = self.output(rd);
         let rn = self.input(rn);

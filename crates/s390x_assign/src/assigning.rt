@@ -33,7 +33,9 @@ fn assign_members(
     registers: &mut AssignedRegisters<'_>,
     insts: &[Inst],
 ) -> Result<Vec<Inst>, AllocError>
-    ensures { IfOk result (λ body. ArePortions (assigned (members_portions insts.now) registers.old.left.now) (members_portions body.items) registers.new.left.now) }
+    ensures { IfOk result
+        (λ body. ArePortions (assigned (members_portions insts.now) registers.old.left.now)
+        (members_portions body.items) registers.new.left.now) }
 {
     let mut body = Vec::new(alloc);
     for inst in insts {
@@ -49,7 +51,9 @@ fn assign_inst(
     registers: &mut AssignedRegisters<'_>,
     inst: &Inst,
 ) -> Result<Inst, AllocError>
-    ensures { IfOk result (λ j. ArePortions (assigned (portions inst.now) registers.old.left.now) (portions j) registers.new.left.now) }
+    ensures { IfOk result
+        (λ j. ArePortions (assigned (portions inst.now) registers.old.left.now) (portions j)
+        registers.new.left.now) }
 {
     match inst {
         Inst::Loop { cond, body } => {

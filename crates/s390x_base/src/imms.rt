@@ -143,7 +143,8 @@ impl UImm16Shifted {
     /// The number as one aligned part of 16 bits, with the least such shift; None where its set bits lie in no such part.
     pub fn maybe_from_u64(value: u64) -> Option<UImm16Shifted>
         ensures value { IfSome result (λ i. (i.bits * 2 ^ (16 * i.shift) ≡ value) × (i.shift < 4)) }
-        ensures least { (bits shift : ℕ) → bits < 65536 → shift < 4 → bits * 2 ^ (16 * shift) ≡ value → MatchOption result ⊥ (λ i. i.shift ≤ shift) }
+        ensures least { (bits shift : ℕ) → bits < 65536 → shift < 4
+            → bits * 2 ^ (16 * shift) ≡ value → MatchOption result ⊥ (λ i. i.shift ≤ shift) }
     {
         if value % 0x1_0000 == value {
             Some(UImm16Shifted {
@@ -207,7 +208,8 @@ impl UImm32Shifted {
     /// The number as one aligned half of 32 bits, with the least such shift; None where its set bits lie in no such half.
     pub fn maybe_from_u64(value: u64) -> Option<UImm32Shifted>
         ensures value { IfSome result (λ i. (i.bits * 2 ^ (32 * i.shift) ≡ value) × (i.shift < 2)) }
-        ensures least { (bits shift : ℕ) → bits < 4294967296 → shift < 2 → bits * 2 ^ (32 * shift) ≡ value → MatchOption result ⊥ (λ i. i.shift ≤ shift) }
+        ensures least { (bits shift : ℕ) → bits < 4294967296 → shift < 2
+            → bits * 2 ^ (32 * shift) ≡ value → MatchOption result ⊥ (λ i. i.shift ≤ shift) }
     {
         if value % 0x1_0000_0000 == value {
             Some(UImm32Shifted {

@@ -88,7 +88,9 @@ fn objects_of_codes(alloc: Global, members: &[Member], objects: &[ObjectMember])
 
 // The members by their names in objects, with their finished codes, where no name comes twice.
 fn coded_members(alloc: Global, members: &[Member]) -> Result<Vec<ObjectMember>, BundleError>
-    ensures { MatchResult result (λ objects. (duplicate_of members.now ≡ None) × AreObjectMembers members.now objects.items) (HasNoCodes members.now) }
+    ensures { MatchResult result
+        (λ objects. (duplicate_of members.now ≡ None) × AreObjectMembers members.now objects.items)
+        (HasNoCodes members.now) }
 {
     match duplicate_name(alloc, members) {
         Ok(None) => emit_members(alloc, members),
@@ -99,7 +101,8 @@ fn coded_members(alloc: Global, members: &[Member]) -> Result<Vec<ObjectMember>,
 
 // The members by their names in objects, with their finished codes.
 fn emit_members(alloc: Global, members: &[Member]) -> Result<Vec<ObjectMember>, BundleError>
-    ensures { MatchResult result (λ objects. AreObjectMembers members.now objects.items) (HasNoCode (first_refused members.now)) }
+    ensures { MatchResult result (λ objects. AreObjectMembers members.now objects.items)
+        (HasNoCode (first_refused members.now)) }
 {
     let mut objects = Vec::new(alloc);
     for member in members {
@@ -113,7 +116,8 @@ fn emit_members(alloc: Global, members: &[Member]) -> Result<Vec<ObjectMember>, 
 
 // The member by its name in objects, with its finished code.
 fn emit_member(alloc: Global, member: &Member) -> Result<ObjectMember, BundleError>
-    ensures { MatchResult result (IsObjectMember member.now) (HasNoCode (refused_or member.now.name (emit_cause member.now) None)) }
+    ensures { MatchResult result (IsObjectMember member.now)
+        (HasNoCode (refused_or member.now.name (emit_cause member.now) None)) }
 {
     match emit_function(alloc, &member.function, &member.info, member.state) {
         Ok(code) => match object_member(alloc, member.name, code) {
@@ -134,7 +138,8 @@ fn object_member(
     name: ExternalName,
     code: MachBufferFinalized,
 ) -> Result<ObjectMember, AllocError>
-    ensures { IfOk result (λ object. (string_bytes object.name ≡ symbol_name name) × (object.code ≡ code)) }
+    ensures { IfOk result
+        (λ object. (string_bytes object.name ≡ symbol_name name) × (object.code ≡ code)) }
 {
     let name = format!(in alloc; "u{}", name.0)?;
     Ok(ObjectMember { name, code })

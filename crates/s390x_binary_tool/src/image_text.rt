@@ -9,7 +9,9 @@ use std::alloc::{AllocError, Global};
 
 // The bytes that a line of hex digits writes, or why it writes none.
 fn decode_line(alloc: Global, line: &[u8]) -> Result<Result<Vec<u8>, FromHexError>, AllocError>
-    ensures { IfOk result (λ r. MatchResult r (λ bytes. decode_of line.now ≡ Ok bytes.items) (λ error. decode_of line.now ≡ Err error)) }
+    ensures { IfOk result
+        (λ r. MatchResult r (λ bytes. decode_of line.now ≡ Ok bytes.items)
+        (λ error. decode_of line.now ≡ Err error)) }
 {
     match hex::decode(alloc, line) {
         Ok(bytes) => Ok(Ok(bytes)),
@@ -20,7 +22,8 @@ fn decode_line(alloc: Global, line: &[u8]) -> Result<Result<Vec<u8>, FromHexErro
 
 /// The bytes that lines of hex digits write, each line ended by a line feed; else the number of the first line that isn't so.
 pub fn read_image(alloc: Global, text: &[u8]) -> Result<Result<Vec<u8>, usize>, AllocError>
-    ensures lines { IfOk result (λ r. MatchResult r (λ image. IsImageText text.now image.items) (IsWrongLine text.now)) }
+    ensures lines { IfOk result
+        (λ r. MatchResult r (λ image. IsImageText text.now image.items) (IsWrongLine text.now)) }
     ensures few { IfOk result (λ r. IfErr r (λ number. number ≤ length text.now + 1)) }
 {
     let mut image = Vec::new(alloc);
@@ -43,7 +46,8 @@ pub fn read_image(alloc: Global, text: &[u8]) -> Result<Result<Vec<u8>, usize>, 
 
 /// The number of the first byte, from 0, that isn't the same in both; where one has no more bytes there, the shorter length. None where they are the same.
 pub fn first_difference(first: &[u8], second: &[u8]) -> Option<usize>
-    ensures { MatchOption result (first.now ≡ second.now) (λ at. IsFirstDifference first.now second.now at) }
+    ensures { MatchOption result (first.now ≡ second.now)
+        (λ at. IsFirstDifference first.now second.now at) }
 {
     let least = first.len().min(second.len());
     for at in 0..least {

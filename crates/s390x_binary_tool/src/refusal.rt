@@ -39,7 +39,9 @@ fn refusal_of_job(alloc: Global, job: &Job) -> BinaryReply
 
 // The reply with a cause and its place.
 fn placed(alloc: Global, refusal: &Refusal) -> BinaryReply
-    ensures { IsMadeReply (Shared status.Refused) (refusal_line refusal.now.error refusal.now.position) result.status (cow_slice_items result.text) }
+    ensures { IsMadeReply (Shared status.Refused)
+        (refusal_line refusal.now.error refusal.now.position) result.status
+        (cow_slice_items result.text) }
 {
     made(
         BinaryStatus::Shared(Status::Refused),
@@ -49,7 +51,8 @@ fn placed(alloc: Global, refusal: &Refusal) -> BinaryReply
 
 // The cause and its place, and a line feed.
 fn refusal_line(alloc: Global, refusal: &Refusal) -> Result<String, AllocError>
-    ensures { IfOk result (λ text. string_bytes text ≡ refusal_line refusal.now.error refusal.now.position) }
+    ensures { IfOk result
+        (λ text. string_bytes text ≡ refusal_line refusal.now.error refusal.now.position) }
 {
     let mut out = String::new(alloc);
     let name = emit_error_name(refusal.error);
@@ -61,7 +64,8 @@ fn refusal_line(alloc: Global, refusal: &Refusal) -> Result<String, AllocError>
 
 // A place in a function.
 fn put_position(out: &mut String, position: &Position) -> Result<(), AllocError>
-    ensures { OnOk result (string_bytes out.new ≡ string_bytes out.old ++ position_text position.now) }
+    ensures { OnOk result
+        (string_bytes out.new ≡ string_bytes out.old ++ position_text position.now) }
 {
     match position {
         Position::Start => out.push_str("start"),
@@ -89,7 +93,8 @@ fn put_path(out: &mut String, path: &[usize]) -> Result<(), AllocError>
 
 // Each number behind a point.
 fn put_more_numbers(out: &mut String, numbers: &[usize]) -> Result<(), AllocError>
-    ensures { OnOk result (string_bytes out.new ≡ string_bytes out.old ++ more_numbers numbers.now) }
+    ensures { OnOk result
+        (string_bytes out.new ≡ string_bytes out.old ++ more_numbers numbers.now) }
 {
     for number in numbers {
         write!(out, ".{number}")?;

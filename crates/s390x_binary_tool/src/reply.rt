@@ -42,8 +42,11 @@ fn bytes_of(text: CowStr<'static>) -> CowSlice<'static, u8>
 
 /// A reply with a text that was made, or that memory doesn't suffice for.
 pub fn made(status: BinaryStatus, text: Result<String, AllocError>) -> BinaryReply
-    ensures ok { IfOk text (λ t. (result.status ≡ status) × (cow_slice_items result.text ≡ string_bytes t)) }
-    ensures err { OnErr text ((result.status ≡ Shared first.NoMemory) × (cow_slice_items result.text ≡ line (codes "no memory"))) }
+    ensures ok { IfOk text
+        (λ t. (result.status ≡ status) × (cow_slice_items result.text ≡ string_bytes t)) }
+    ensures err { OnErr text
+        ((result.status ≡ Shared first.NoMemory)
+        × (cow_slice_items result.text ≡ line (codes "no memory"))) }
 {
     match text {
         Ok(text) => with_text(status, text),
@@ -86,7 +89,8 @@ pub fn with_file(file: Vec<u8>) -> BinaryReply
 
 /// The reply to an input that is no text of what the command reads: the number of its first line that is at fault.
 pub fn wrong_at(alloc: Global, number: usize) -> BinaryReply
-    ensures { IsMadeReply (Shared first.Syntax) (line (codes "syntax " ++ decimal number)) result.status (cow_slice_items result.text) }
+    ensures { IsMadeReply (Shared first.Syntax) (line (codes "syntax " ++ decimal number))
+        result.status (cow_slice_items result.text) }
 {
     made(
         BinaryStatus::Shared(Status::Syntax),

@@ -32,24 +32,47 @@ pub fn run<S: Source, K: Sink>(
     sink: &mut K,
 ) -> BinaryStatus
     // The words and the input have this reply, and its text was written whole, or else a prefix of it.
-    ensures ended { IsEnded (record { words = texts words.now; left = S.left source.old; left' = S.left source.new; faults = S.faults source.old; faults' = S.faults source.new })
-        (K.told sink.old) (K.told sink.new) (K.faults sink.old) (K.faults sink.new) result }
+    ensures ended { IsEnded
+        (record {
+          words = texts words.now;
+          left = S.left source.old;
+          left' = S.left source.new;
+          faults = S.faults source.old;
+          faults' = S.faults source.new;
+        }) (K.told sink.old)
+        (K.told sink.new) (K.faults sink.old) (K.faults sink.new) result }
     // At `Ok` the source held what the command reads, which nothing refuses, and the sink was told the command's text for it: `none` of a job that emission
     // doesn't refuse; nothing of a job and its image at this base; the disassembly of code, and of no other; the code of a source; the object of a job, which
     // runs as typed wherever it is linked; the object of functions.
-    ensures ok { result ≡ Shared status.Ok → IsDone (record { words = texts words.now; left = S.left source.old; left' = S.left source.new; faults = S.faults source.old; faults' = S.faults source.new })
-        (K.told sink.old) (K.told sink.new) }
+    ensures ok { result ≡ Shared status.Ok
+        → IsDone
+        (record {
+          words = texts words.now;
+          left = S.left source.old;
+          left' = S.left source.new;
+          faults = S.faults source.old;
+          faults' = S.faults source.new;
+        }) (K.told sink.old)
+        (K.told sink.new) }
     // What nothing refuses is done, where no read and no write fails.
-    ensures complete { (command : Command) (input : List ℕ) → IsForm (texts words.now) command → S.left source.old ≡ Some input → IsAccepted command (texts words.now) input
-        → (FaultCountRose (S.faults source.old) (S.faults source.new) → ⊥) → (FaultCountRose (K.faults sink.old) (K.faults sink.new) → ⊥)
+    ensures complete { (command : Command) (input : List ℕ) → IsForm (texts words.now) command
+        → S.left source.old ≡ Some input → IsAccepted command (texts words.now) input
+        → (FaultCountRose (S.faults source.old) (S.faults source.new) → ⊥)
+        → (FaultCountRose (K.faults sink.old) (K.faults sink.new) → ⊥)
         → (result ≡ Shared status.Ok) ⊎ (result ≡ Shared status.NoMemory) }
     ensures usage { result ≡ Shared status.Usage → IsNoForm (texts words.now) }
-    ensures always_usage { IsNoForm (texts words.now) → (result ≡ Shared status.Usage) ⊎ (result ≡ Shared status.WriteFault) }
-    ensures read_fault { result ≡ Shared status.ReadFault → FaultCountRose (S.faults source.old) (S.faults source.new) }
-    ensures always_read_fault { S.faults source.old < S.faults source.new → (result ≡ Shared status.ReadFault) ⊎ (result ≡ Shared status.WriteFault) }
-    ensures write_fault { result ≡ Shared status.WriteFault → FaultCountRose (K.faults sink.old) (K.faults sink.new) }
-    ensures always_write_fault { K.faults sink.old < K.faults sink.new → result ≡ Shared status.WriteFault }
-    ensures too_long { result ≡ Shared status.InputTooLong → IsTooLong (S.left source.old) (S.left source.new) }
+    ensures always_usage { IsNoForm (texts words.now)
+        → (result ≡ Shared status.Usage) ⊎ (result ≡ Shared status.WriteFault) }
+    ensures read_fault { result ≡ Shared status.ReadFault
+        → FaultCountRose (S.faults source.old) (S.faults source.new) }
+    ensures always_read_fault { S.faults source.old < S.faults source.new
+        → (result ≡ Shared status.ReadFault) ⊎ (result ≡ Shared status.WriteFault) }
+    ensures write_fault { result ≡ Shared status.WriteFault
+        → FaultCountRose (K.faults sink.old) (K.faults sink.new) }
+    ensures always_write_fault { K.faults sink.old < K.faults sink.new
+        → result ≡ Shared status.WriteFault }
+    ensures too_long { result ≡ Shared status.InputTooLong
+        → IsTooLong (S.left source.old) (S.left source.new) }
 {
     let reply = reply_to(alloc, words, source);
     deliver(&reply, sink)
@@ -57,8 +80,15 @@ pub fn run<S: Source, K: Sink>(
 
 // The reply to these words and to what the source holds.
 fn reply_to<S: Source>(alloc: Global, words: &[String], source: &mut S) -> BinaryReply
-    ensures { IsReply (record { words = texts words.now; left = S.left source.old; left' = S.left source.new; faults = S.faults source.old; faults' = S.faults source.new })
-        result.status (cow_slice_items result.text) }
+    ensures { IsReply
+        (record {
+          words = texts words.now;
+          left = S.left source.old;
+          left' = S.left source.new;
+          faults = S.faults source.old;
+          faults' = S.faults source.new;
+        }) result.status
+        (cow_slice_items result.text) }
 {
     let Some(command) = read_words(words) else {
         return shared(fixed(Status::Usage, "usage\n"));
@@ -72,7 +102,8 @@ fn reply_to<S: Source>(alloc: Global, words: &[String], source: &mut S) -> Binar
 // The answer to a command, which these words are, and its whole input.
 fn answer(alloc: Global, command: Command, words: &[String], input: &[u8]) -> BinaryReply
     requires { length input.now < too_many }
-    ensures { IsInputAnswer command (texts words.now) input.now result.status (cow_slice_items result.text) }
+    ensures { IsInputAnswer command (texts words.now) input.now result.status
+        (cow_slice_items result.text) }
 {
     match command {
         Command::Refusal => refusal(alloc, input),
@@ -86,8 +117,8 @@ fn answer(alloc: Global, command: Command, words: &[String], input: &[u8]) -> Bi
 
 // Writes the reply's text, and answers how all ended.
 fn deliver<K: Sink>(reply: &BinaryReply, sink: &mut K) -> BinaryStatus
-    ensures { IsDelivered (K.told sink.old) (K.told sink.new) (K.faults sink.old) (K.faults sink.new)
-        reply.now.status (cow_slice_items reply.now.text) result }
+    ensures { IsDelivered (K.told sink.old) (K.told sink.new) (K.faults sink.old)
+        (K.faults sink.new) reply.now.status (cow_slice_items reply.now.text) result }
 {
     match write_text(reply.text.as_slice(), sink) {
         Ok(()) => reply.status,

@@ -70,7 +70,8 @@ fn compare(alloc: Global, base: u64, job: &Job, image: &[u8]) -> BinaryReply
 
 // The reply to bytes that differ from the image first at this one.
 fn differs(alloc: Global, at: usize) -> BinaryReply
-    ensures { IsMadeReply Differs (line (codes "differs " ++ decimal at)) result.status (cow_slice_items result.text) }
+    ensures { IsMadeReply Differs (line (codes "differs " ++ decimal at)) result.status
+        (cow_slice_items result.text) }
 {
     made(BinaryStatus::Differs, format!(in alloc; "differs {at}\n"))
 }

@@ -112,7 +112,8 @@ fn is_branch_use(u: LabelFixup, start: CodeOffset, target: MachLabel) -> bool
 // Where the last use of a branch stands. A block's own stand at the end.
 #[tactic(auto, using(crate::proofs::Ending::last_found, crate::proofs::Ending::none_found, crate::proofs::Ending::none_more, crate::proofs::Ending::none_behind))]
 fn last_use(uses: &[LabelFixup], start: CodeOffset, target: MachLabel) -> Option<usize>
-    ensures { MatchOption result (without_use start target.0 uses.now ≡ uses.now) (λ i. (i < length uses.now) × (without_use start target.0 uses.now ≡ remove uses.now i)) }
+    ensures { MatchOption result (without_use start target.0 uses.now ≡ uses.now)
+        (λ i. (i < length uses.now) × (without_use start target.0 uses.now ≡ remove uses.now i)) }
 {
     for i in (0..uses.len()).rev() {
         if is_branch_use(uses[i], start, target) {
@@ -144,7 +145,11 @@ pub fn invert_uses(
 ) -> Result<(), AllocError>
     requires small { start + 12 < 4294967296 }
     requires differ { taken.0 ≢ not_taken.0 }
-    ensures { MatchResult result (λ _. uses.new.items ≡ without_use start taken.0 (without_use (start + 6) not_taken.0 uses.old.items) ++ record { kind = BranchRIL; offset = start; label = not_taken } ∷ []) (λ _. uses.new.items ≡ uses.old.items) }
+    ensures { MatchResult result
+        (λ _. uses.new.items
+        ≡ without_use start taken.0 (without_use (start + 6) not_taken.0 uses.old.items)
+        ++ record { kind = BranchRIL; offset = start; label = not_taken } ∷ [])
+        (λ _. uses.new.items ≡ uses.old.items) }
 {
     uses.push(LabelFixup {
         kind: LabelUse::BranchRIL,

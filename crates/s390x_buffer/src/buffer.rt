@@ -93,7 +93,10 @@ impl MachBuffer {
         block_count: u32,
         constants: &[ConstantData],
     ) -> Result<MachBuffer, EmitError>
-        ensures { MatchResult result (λ b. (new_cause block_count (map constant_of constants.now) ≡ None) × (b ≡ fresh_buffer block_count (map constant_of constants.now))) (λ e. FailsWith (new_cause block_count (map constant_of constants.now)) e) }
+        ensures { MatchResult result
+            (λ b. (new_cause block_count (map constant_of constants.now) ≡ None)
+            × (b ≡ fresh_buffer block_count (map constant_of constants.now)))
+            (λ e. FailsWith (new_cause block_count (map constant_of constants.now)) e) }
     {
         if !all_aligned(constants) {
             return Err(EmitError::BadAlignment);
@@ -179,7 +182,8 @@ impl MachBuffer {
 
     // A refusal: the mark stands from now on.
     fn refuse(&mut self, e: EmitError) -> Result<(), EmitError>
-        ensures { MatchResult result (λ _. false ≡ true) (λ x. (x ≡ e) × (self.new ≡ poisoned self.old)) }
+        ensures { MatchResult result (λ _. false ≡ true)
+            (λ x. (x ≡ e) × (self.new ≡ poisoned self.old)) }
     {
         self.fail();
         Err(e)
@@ -188,7 +192,11 @@ impl MachBuffer {
     /// Appends bytes. Refused by `LabelOutOfRange` where the length would reach 2^31.
     #[inline(never)]
     pub fn put(&mut self, bytes: &[u8]) -> Result<(), EmitError>
-        ensures answer { MatchResult result (λ _. (put_cause self.old (length bytes.now) ≡ None) × (self.new ≡ record self.old { bytes = self.old.bytes ++ bytes.now })) (λ e. FailsWith (put_cause self.old (length bytes.now)) e × (self.new ≡ poisoned self.old)) }
+        ensures answer { MatchResult result
+            (λ _. (put_cause self.old (length bytes.now) ≡ None)
+            × (self.new ≡ record self.old { bytes = self.old.bytes ++ bytes.now }))
+            (λ e. FailsWith (put_cause self.old (length bytes.now)) e
+            × (self.new ≡ poisoned self.old)) }
         ensures kept { Extends self.old self.new }
     {
         if self.failed {
@@ -204,7 +212,9 @@ impl MachBuffer {
     #[inline(always)]
     fn append(&mut self, bytes: &[u8]) -> Result<(), EmitError>
         requires { length self.old.bytes + length bytes.now < limit }
-        ensures { MatchResult result (λ _. self.new ≡ record self.old { bytes = self.old.bytes ++ bytes.now }) (λ e. (e ≡ NoMemory) × (self.new ≡ poisoned self.old)) }
+        ensures { MatchResult result
+            (λ _. self.new ≡ record self.old { bytes = self.old.bytes ++ bytes.now })
+            (λ e. (e ≡ NoMemory) × (self.new ≡ poisoned self.old)) }
     {
         match self.bytes.extend_from_slice(bytes) {
             Ok(()) => Ok(()),
@@ -214,7 +224,10 @@ impl MachBuffer {
 
     /// Appends a byte. Refused by `LabelOutOfRange` where the length would reach 2^31.
     pub fn put1(&mut self, value: u8) -> Result<(), EmitError>
-        ensures answer { MatchResult result (λ _. (put_cause self.old 1 ≡ None) × (self.new ≡ record self.old { bytes = self.old.bytes ++ value ∷ [] })) (λ e. FailsWith (put_cause self.old 1) e × (self.new ≡ poisoned self.old)) }
+        ensures answer { MatchResult result
+            (λ _. (put_cause self.old 1 ≡ None)
+            × (self.new ≡ record self.old { bytes = self.old.bytes ++ value ∷ [] }))
+            (λ e. FailsWith (put_cause self.old 1) e × (self.new ≡ poisoned self.old)) }
         ensures kept { Extends self.old self.new }
     {
         self.put(&[value])
@@ -222,7 +235,10 @@ impl MachBuffer {
 
     /// Appends four bytes, the most significant first. Refused by `LabelOutOfRange` where the length would reach 2^31.
     pub fn put4(&mut self, value: u32) -> Result<(), EmitError>
-        ensures answer { MatchResult result (λ _. (put_cause self.old 4 ≡ None) × (self.new ≡ record self.old { bytes = self.old.bytes ++ to_be_bytes w32 value })) (λ e. FailsWith (put_cause self.old 4) e × (self.new ≡ poisoned self.old)) }
+        ensures answer { MatchResult result
+            (λ _. (put_cause self.old 4 ≡ None)
+            × (self.new ≡ record self.old { bytes = self.old.bytes ++ to_be_bytes w32 value }))
+            (λ e. FailsWith (put_cause self.old 4) e × (self.new ≡ poisoned self.old)) }
         ensures kept { Extends self.old self.new }
     {
         let word = value.to_be_bytes();
@@ -231,7 +247,10 @@ impl MachBuffer {
 
     /// Appends eight bytes, the most significant first. Refused by `LabelOutOfRange` where the length would reach 2^31.
     pub fn put8(&mut self, value: u64) -> Result<(), EmitError>
-        ensures answer { MatchResult result (λ _. (put_cause self.old 8 ≡ None) × (self.new ≡ record self.old { bytes = self.old.bytes ++ to_be_bytes w64 value })) (λ e. FailsWith (put_cause self.old 8) e × (self.new ≡ poisoned self.old)) }
+        ensures answer { MatchResult result
+            (λ _. (put_cause self.old 8 ≡ None)
+            × (self.new ≡ record self.old { bytes = self.old.bytes ++ to_be_bytes w64 value }))
+            (λ e. FailsWith (put_cause self.old 8) e × (self.new ≡ poisoned self.old)) }
         ensures kept { Extends self.old self.new }
     {
         let doubleword = value.to_be_bytes();
@@ -240,7 +259,11 @@ impl MachBuffer {
 
     /// Appends the code of an instruction. Refused by `LabelOutOfRange` where the length would reach 2^31.
     pub fn put_code(&mut self, code: &Code) -> Result<(), EmitError>
-        ensures answer { MatchResult result (λ _. (put_cause self.old (length code.now) ≡ None) × (self.new ≡ record self.old { bytes = self.old.bytes ++ code.now })) (λ e. FailsWith (put_cause self.old (length code.now)) e × (self.new ≡ poisoned self.old)) }
+        ensures answer { MatchResult result
+            (λ _. (put_cause self.old (length code.now) ≡ None)
+            × (self.new ≡ record self.old { bytes = self.old.bytes ++ code.now }))
+            (λ e. FailsWith (put_cause self.old (length code.now)) e
+            × (self.new ≡ poisoned self.old)) }
         ensures kept { Extends self.old self.new }
     {
         let bytes = code.bytes();
@@ -271,7 +294,14 @@ impl MachBuffer {
     /// Records a trap at the current offset. `Failed` comes where the buffer is poisoned, `NoMemory` for want of
     /// memory.
     pub fn add_trap(&mut self, code: TrapCode) -> Result<(), EmitError>
-        ensures answer { MatchResult result (λ _. (mark_cause self.old ≡ None) × (self.new ≡ record self.old { traps = self.old.traps ++ record { offset = length self.old.bytes; code = code } ∷ [] })) (λ e. FailsWith (mark_cause self.old) e × (self.new ≡ poisoned self.old)) }
+        ensures answer { MatchResult result
+            (λ _. (mark_cause self.old ≡ None)
+            × (self.new
+            ≡ record self.old {
+              traps = self.old.traps
+                  ++ record { offset = length self.old.bytes; code = code } ∷ [];
+            }))
+            (λ e. FailsWith (mark_cause self.old) e × (self.new ≡ poisoned self.old)) }
         ensures kept { Extends self.old self.new }
     {
         if self.failed {
@@ -292,7 +322,19 @@ impl MachBuffer {
         name: ExternalName,
         addend: Addend,
     ) -> Result<(), EmitError>
-        ensures answer { MatchResult result (λ _. (mark_cause self.old ≡ None) × (self.new ≡ record self.old { relocs = self.old.relocs ++ record { offset = length self.old.bytes; kind = kind; name = name; addend = addend } ∷ [] })) (λ e. FailsWith (mark_cause self.old) e × (self.new ≡ poisoned self.old)) }
+        ensures answer { MatchResult result
+            (λ _. (mark_cause self.old ≡ None)
+            × (self.new
+            ≡ record self.old {
+              relocs = self.old.relocs
+                  ++ record {
+                    offset = length self.old.bytes;
+                    kind = kind;
+                    name = name;
+                    addend = addend;
+                  } ∷ [];
+            }))
+            (λ e. FailsWith (mark_cause self.old) e × (self.new ≡ poisoned self.old)) }
         ensures kept { Extends self.old self.new }
     {
         let offset = self.cur_offset();
@@ -307,7 +349,15 @@ impl MachBuffer {
         name: ExternalName,
         addend: Addend,
     ) -> Result<(), EmitError>
-        ensures answer { MatchResult result (λ _. (mark_cause self.old ≡ None) × (self.new ≡ record self.old { relocs = self.old.relocs ++ record { offset = offset; kind = kind; name = name; addend = addend } ∷ [] })) (λ e. FailsWith (mark_cause self.old) e × (self.new ≡ poisoned self.old)) }
+        ensures answer { MatchResult result
+            (λ _. (mark_cause self.old ≡ None)
+            × (self.new
+            ≡ record self.old {
+              relocs = self.old.relocs
+                  ++ record { offset = offset; kind = kind; name = name; addend = addend }
+                  ∷ [];
+            }))
+            (λ e. FailsWith (mark_cause self.old) e × (self.new ≡ poisoned self.old)) }
         ensures kept { Extends self.old self.new }
     {
         if self.failed {
@@ -330,7 +380,10 @@ impl MachBuffer {
 
     /// The next unused label. Refused by `LabelOutOfRange` where its number would pass 4294967295.
     pub fn get_label(&mut self) -> Result<MachLabel, EmitError>
-        ensures answer { MatchResult result (λ l. (draw_cause self.old ≡ None) × (l.0 ≡ length self.old.labels) × (self.new ≡ record self.old { labels = self.old.labels ++ None ∷ [] })) (λ e. FailsWith (draw_cause self.old) e × (self.new ≡ poisoned self.old)) }
+        ensures answer { MatchResult result
+            (λ l. (draw_cause self.old ≡ None) × (l.0 ≡ length self.old.labels)
+            × (self.new ≡ record self.old { labels = self.old.labels ++ None ∷ [] }))
+            (λ e. FailsWith (draw_cause self.old) e × (self.new ≡ poisoned self.old)) }
         ensures kept { Extends self.old self.new }
     {
         if self.failed {
@@ -356,7 +409,11 @@ impl MachBuffer {
         &mut self,
         constant: VCodeConstant,
     ) -> Result<MachLabel, EmitError>
-        ensures answer { MatchResult result (λ l. (constant_cause self.old constant.0 ≡ None) × (l.0 ≡ constant_label self.old constant.0) × (self.new ≡ self.old)) (λ e. FailsWith (constant_cause self.old constant.0) e × (self.new ≡ poisoned self.old)) }
+        ensures answer { MatchResult result
+            (λ l. (constant_cause self.old constant.0 ≡ None)
+            × (l.0 ≡ constant_label self.old constant.0) × (self.new ≡ self.old))
+            (λ e. FailsWith (constant_cause self.old constant.0) e
+            × (self.new ≡ poisoned self.old)) }
         ensures kept { Extends self.old self.new }
     {
         if self.failed {
@@ -374,7 +431,15 @@ impl MachBuffer {
     pub fn bind_label(&mut self, label: MachLabel) -> Result<(), EmitError>
         requires unbound { get_or self.old.labels label.0 None ≡ None }
         requires no_constant { IsNoConstant self.old label.0 }
-        ensures answer { MatchResult result (λ _. (label_cause self.old label.0 ≡ None) × (self.new ≡ record self.old { labels = set self.old.labels label.0 (Some (length self.old.bytes)); branches = NoBranch })) (λ e. FailsWith (label_cause self.old label.0) e × (self.new ≡ poisoned self.old)) }
+        ensures answer { MatchResult result
+            (λ _. (label_cause self.old label.0 ≡ None)
+            × (self.new
+            ≡ record self.old {
+              labels = set self.old.labels label.0
+                  (Some (length self.old.bytes));
+              branches = NoBranch;
+            }))
+            (λ e. FailsWith (label_cause self.old label.0) e × (self.new ≡ poisoned self.old)) }
         ensures kept { ExtendsExcept label.0 self.old self.new }
     {
         if self.failed {
@@ -396,7 +461,14 @@ impl MachBuffer {
         label: MachLabel,
         kind: LabelUse,
     ) -> Result<(), EmitError>
-        ensures answer { MatchResult result (λ _. (label_cause self.old label.0 ≡ None) × (self.new ≡ record self.old { uses = self.old.uses ++ record { kind = kind; offset = offset; label = label } ∷ [] })) (λ e. FailsWith (label_cause self.old label.0) e × (self.new ≡ poisoned self.old)) }
+        ensures answer { MatchResult result
+            (λ _. (label_cause self.old label.0 ≡ None)
+            × (self.new
+            ≡ record self.old {
+              uses = self.old.uses
+                  ++ record { kind = kind; offset = offset; label = label } ∷ [];
+            }))
+            (λ e. FailsWith (label_cause self.old label.0) e × (self.new ≡ poisoned self.old)) }
         ensures kept { Extends self.old self.new }
     {
         if self.failed {
@@ -419,7 +491,14 @@ impl MachBuffer {
     /// Records a call's site at the current offset. `Failed` comes where the buffer is poisoned, `NoMemory` for want
     /// of memory.
     pub fn add_call_site(&mut self) -> Result<(), EmitError>
-        ensures answer { MatchResult result (λ _. (mark_cause self.old ≡ None) × (self.new ≡ record self.old { call_sites = self.old.call_sites ++ length self.old.bytes ∷ [] })) (λ e. FailsWith (mark_cause self.old) e × (self.new ≡ poisoned self.old)) }
+        ensures answer { MatchResult result
+            (λ _. (mark_cause self.old ≡ None)
+            × (self.new
+            ≡ record self.old {
+              call_sites = self.old.call_sites ++ length self.old.bytes
+                  ∷ [];
+            }))
+            (λ e. FailsWith (mark_cause self.old) e × (self.new ≡ poisoned self.old)) }
         ensures kept { Extends self.old self.new }
     {
         if self.failed {
@@ -440,7 +519,19 @@ impl MachBuffer {
         frame: u64,
         handlers: &[TryHandler],
     ) -> Result<(), EmitError>
-        ensures answer { MatchResult result (λ _. (handlers_cause self.old handlers.now ≡ None) × (self.new ≡ record self.old { try_call_sites = self.old.try_call_sites ++ record { offset = length self.old.bytes; frame = frame; handlers = handlers.now } ∷ [] })) (λ e. FailsWith (handlers_cause self.old handlers.now) e × (self.new ≡ poisoned self.old)) }
+        ensures answer { MatchResult result
+            (λ _. (handlers_cause self.old handlers.now ≡ None)
+            × (self.new
+            ≡ record self.old {
+              try_call_sites = self.old.try_call_sites
+                  ++ record {
+                    offset = length self.old.bytes;
+                    frame = frame;
+                    handlers = handlers.now;
+                  } ∷ [];
+            }))
+            (λ e. FailsWith (handlers_cause self.old handlers.now) e
+            × (self.new ≡ poisoned self.old)) }
         ensures kept { Extends self.old self.new }
     {
         if self.failed {
@@ -468,7 +559,14 @@ impl MachBuffer {
     /// Records the site of a patchable call of so many bytes at the current offset. `Failed` comes where the buffer
     /// is poisoned, `NoMemory` for want of memory.
     pub fn add_patchable_call_site(&mut self, len: u32) -> Result<(), EmitError>
-        ensures answer { MatchResult result (λ _. (mark_cause self.old ≡ None) × (self.new ≡ record self.old { patchable_sites = self.old.patchable_sites ++ record { offset = length self.old.bytes; len = len } ∷ [] })) (λ e. FailsWith (mark_cause self.old) e × (self.new ≡ poisoned self.old)) }
+        ensures answer { MatchResult result
+            (λ _. (mark_cause self.old ≡ None)
+            × (self.new
+            ≡ record self.old {
+              patchable_sites = self.old.patchable_sites
+                  ++ record { offset = length self.old.bytes; len = len } ∷ [];
+            }))
+            (λ e. FailsWith (mark_cause self.old) e × (self.new ≡ poisoned self.old)) }
         ensures kept { Extends self.old self.new }
     {
         if self.failed {
@@ -483,7 +581,14 @@ impl MachBuffer {
 
     /// Records a stack map at an offset. `Failed` comes where the buffer is poisoned, `NoMemory` for want of memory.
     pub fn push_user_stack_map(&mut self, offset: CodeOffset, map: u32) -> Result<(), EmitError>
-        ensures answer { MatchResult result (λ _. (mark_cause self.old ≡ None) × (self.new ≡ record self.old { stack_maps = self.old.stack_maps ++ record { offset = offset; map = map } ∷ [] })) (λ e. FailsWith (mark_cause self.old) e × (self.new ≡ poisoned self.old)) }
+        ensures answer { MatchResult result
+            (λ _. (mark_cause self.old ≡ None)
+            × (self.new
+            ≡ record self.old {
+              stack_maps = self.old.stack_maps
+                  ++ record { offset = offset; map = map } ∷ [];
+            }))
+            (λ e. FailsWith (mark_cause self.old) e × (self.new ≡ poisoned self.old)) }
         ensures kept { Extends self.old self.new }
     {
         if self.failed {
@@ -498,7 +603,14 @@ impl MachBuffer {
     /// The current offset is where the next step starts. Forgets all recorded branches. `Failed` comes where the
     /// buffer is poisoned, `NoMemory` for want of memory.
     pub fn start_step(&mut self) -> Result<(), EmitError>
-        ensures answer { MatchResult result (λ _. (mark_cause self.old ≡ None) × (self.new ≡ record self.old { starts = self.old.starts ++ length self.old.bytes ∷ []; branches = NoBranch })) (λ e. FailsWith (mark_cause self.old) e × (self.new ≡ poisoned self.old)) }
+        ensures answer { MatchResult result
+            (λ _. (mark_cause self.old ≡ None)
+            × (self.new
+            ≡ record self.old {
+              starts = self.old.starts ++ length self.old.bytes ∷ [];
+              branches = NoBranch;
+            }))
+            (λ e. FailsWith (mark_cause self.old) e × (self.new ≡ poisoned self.old)) }
         ensures kept { Extends self.old self.new }
     {
         if self.failed {
@@ -523,7 +635,11 @@ impl MachBuffer {
         requires here { start ≡ length self.old.bytes }
         requires six { end ≡ start + 6 }
         requires used { has_use start target.0 self.old.uses ≡ true }
-        ensures answer { MatchResult result (λ _. (mark_cause self.old ≡ None) × (self.new ≡ record self.old { branches = with_jump self.old.branches start target })) (λ e. FailsWith (mark_cause self.old) e × (self.new ≡ poisoned self.old)) }
+        ensures answer { MatchResult result
+            (λ _. (mark_cause self.old ≡ None)
+            × (self.new
+            ≡ record self.old { branches = with_jump self.old.branches start target }))
+            (λ e. FailsWith (mark_cause self.old) e × (self.new ≡ poisoned self.old)) }
         ensures kept { Extends self.old self.new }
     {
         if self.failed {
@@ -547,7 +663,14 @@ impl MachBuffer {
         requires six { end ≡ start + 6 }
         requires used { has_use start target.0 self.old.uses ≡ true }
         requires inverted_six { length inverted.now ≡ 6 }
-        ensures answer { MatchResult result (λ _. (mark_cause self.old ≡ None) × (self.new ≡ record self.old { branches = with_conditional self.old.branches start target inverted.now })) (λ e. FailsWith (mark_cause self.old) e × (self.new ≡ poisoned self.old)) }
+        ensures answer { MatchResult result
+            (λ _. (mark_cause self.old ≡ None)
+            × (self.new
+            ≡ record self.old {
+              branches = with_conditional self.old.branches start target
+                  inverted.now;
+            }))
+            (λ e. FailsWith (mark_cause self.old) e × (self.new ≡ poisoned self.old)) }
         ensures kept { Extends self.old self.new }
     {
         if self.failed {
@@ -566,7 +689,9 @@ impl MachBuffer {
     /// buffer is poisoned, `NoMemory` for want of memory.
     #[tactic(auto, using(crate::proofs::Ending::keeps_mark, crate::proofs::Ending::keeps_ended))]
     pub fn end_block(&mut self, next: Option<MachLabel>) -> Result<(), EmitError>
-        ensures answer { MatchResult result (λ _. (mark_cause self.old ≡ None) × (self.new ≡ ended next self.old)) (λ e. FailsWith (mark_cause self.old) e × (self.new ≡ poisoned self.old)) }
+        ensures answer { MatchResult result
+            (λ _. (mark_cause self.old ≡ None) × (self.new ≡ ended next self.old))
+            (λ e. FailsWith (mark_cause self.old) e × (self.new ≡ poisoned self.old)) }
         ensures kept { KeepsTables self.old self.new }
     {
         if self.failed {
@@ -580,7 +705,8 @@ impl MachBuffer {
 
     // What is recorded up to the current offset is folded, where the next block has this label.
     fn fold(&mut self, next: MachLabel) -> Result<(), EmitError>
-        ensures { MatchResult result (λ _. self.new ≡ ended_by self.old.branches next.0 self.old) (λ e. (e ≡ NoMemory) × (self.new ≡ poisoned self.old)) }
+        ensures { MatchResult result (λ _. self.new ≡ ended_by self.old.branches next.0 self.old)
+            (λ e. (e ≡ NoMemory) × (self.new ≡ poisoned self.old)) }
     {
         let here = self.cur_offset();
         match self.branches {
@@ -616,7 +742,9 @@ impl MachBuffer {
     ) -> Result<(), EmitError>
         requires at_end { start + 12 ≡ length self.old.bytes }
         requires small { start + 12 < limit }
-        ensures { MatchResult result (λ _. self.new ≡ both_ended next.0 start taken not_taken inverted self.old) (λ e. (e ≡ NoMemory) × (self.new ≡ poisoned self.old)) }
+        ensures { MatchResult result
+            (λ _. self.new ≡ both_ended next.0 start taken not_taken inverted self.old)
+            (λ e. (e ≡ NoMemory) × (self.new ≡ poisoned self.old)) }
     {
         if not_taken.0 == next.0 {
             self.cut(start + 6, not_taken);
@@ -650,7 +778,9 @@ impl MachBuffer {
     ) -> Result<(), EmitError>
         requires at_end { start + 12 ≡ length self.old.bytes }
         requires differ { taken.0 ≢ not_taken.0 }
-        ensures { MatchResult result (λ _. self.new ≡ inverted_alone start taken.0 not_taken inverted self.old) (λ e. (e ≡ NoMemory) × (self.new ≡ poisoned self.old)) }
+        ensures { MatchResult result
+            (λ _. self.new ≡ inverted_alone start taken.0 not_taken inverted self.old)
+            (λ e. (e ≡ NoMemory) × (self.new ≡ poisoned self.old)) }
     {
         if invert_uses(&mut self.uses, start, taken, not_taken).is_err() {
             return self.refuse(EmitError::NoMemory);
@@ -668,7 +798,8 @@ impl MachBuffer {
     /// `PCRel32` sum leaves signed 32 bits, or its bytes lie past the end.
     #[tactic(auto, using(crate::proofs::Branching::branches_lead))]
     pub fn finish(self) -> Result<MachBufferFinalized, EmitError>
-        ensures answer { MatchResult result (λ f. (finish_cause self ≡ None) × Finished self f) (λ e. FailsWithEither (length_cause self) (patch_cause self) e) }
+        ensures answer { MatchResult result (λ f. (finish_cause self ≡ None) × Finished self f)
+            (λ e. FailsWithEither (length_cause self) (patch_cause self) e) }
         ensures branches { IfOk result (λ f. BranchesLead self f.bytes.items) }
     {
         if self.failed {

@@ -52,7 +52,10 @@ pub fn constants_fit(n: usize, constants: &[ConstantData]) -> bool
 // Appends a constant, with zero bytes before it.
 fn append_constant(bytes: &mut Vec<u8>, constant: &ConstantData) -> Result<CodeOffset, AllocError>
     requires { constant_start (length bytes.old.items) (constant_of constant.now) < limit }
-    ensures { IfOk result (λ start. (start ≡ constant_start (length bytes.old.items) (constant_of constant.now)) × (bytes.new.items ≡ bytes.old.items ++ padded (length bytes.old.items) (constant_of constant.now))) }
+    ensures { IfOk result
+        (λ start. (start ≡ constant_start (length bytes.old.items) (constant_of constant.now))
+        × (bytes.new.items
+        ≡ bytes.old.items ++ padded (length bytes.old.items) (constant_of constant.now))) }
 {
     let start = start_of(bytes.len(), constant.align);
     let gap = start - bytes.len();
@@ -70,7 +73,13 @@ pub fn append_constants(
     constants: &[ConstantData],
 ) -> Result<Vec<CodeOffset>, AllocError>
     requires { constants_end (length bytes.old.items) (map constant_of constants.now) < limit }
-    ensures { IfOk result (λ starts. (starts.items ≡ constant_starts (length bytes.old.items) (map constant_of constants.now)) × (bytes.new.items ≡ bytes.old.items ++ constant_bytes (length bytes.old.items) (map constant_of constants.now))) }
+    ensures { IfOk result
+        (λ starts.
+        (starts.items
+        ≡ constant_starts (length bytes.old.items) (map constant_of constants.now))
+        × (bytes.new.items
+        ≡ bytes.old.items
+        ++ constant_bytes (length bytes.old.items) (map constant_of constants.now))) }
 {
     let mut starts = Vec::new(alloc);
     for c in constants {
@@ -104,10 +113,15 @@ pub fn place_and_patch(
 ) -> Result<Vec<CodeOffset>, EmitError>
     requires fits { constants_end (length bytes.old.items) (map constant_of constants.now) < limit }
     requires labels { block_count + length constants.now ≤ length labels.old.items }
-    ensures { let starts = constant_starts (length bytes.old.items) (map constant_of constants.now) in
+    ensures { let starts = constant_starts (length bytes.old.items)
+        (map constant_of constants.now) in
         let all = bind_constants block_count starts labels.old.items in
         let unpatched = with_constants bytes.old.items (map constant_of constants.now) in
-        MatchResult result (λ v. (uses_cause all uses.now unpatched ≡ None) × (v.items ≡ starts) × (labels.new.items ≡ all) × (bytes.new.items ≡ patch_all (offset_of_label all) uses.now unpatched)) (λ e. (e ≡ NoMemory) ⊎ (uses_cause all uses.now unpatched ≡ Some e)) }
+        MatchResult result
+        (λ v. (uses_cause all uses.now unpatched ≡ None) × (v.items ≡ starts)
+        × (labels.new.items ≡ all)
+        × (bytes.new.items ≡ patch_all (offset_of_label all) uses.now unpatched))
+        (λ e. (e ≡ NoMemory) ⊎ (uses_cause all uses.now unpatched ≡ Some e)) }
 {
     let Ok(starts) = append_constants(alloc, bytes, constants) else {
         return Err(EmitError::NoMemory);
@@ -152,7 +166,8 @@ fn place_handlers(
     labels: &[Option<CodeOffset>],
     handlers: &[TryHandler],
 ) -> Result<Vec<HandlerEntry>, AllocError>
-    ensures { IfOk result (λ v. v.items ≡ map (bound_handler (offset_of_label labels.now)) handlers.now) }
+    ensures { IfOk result
+        (λ v. v.items ≡ map (bound_handler (offset_of_label labels.now)) handlers.now) }
 {
     let mut entries = Vec::new(alloc);
     for h in handlers {
@@ -168,7 +183,9 @@ pub fn place_try_sites(
     labels: &[Option<CodeOffset>],
     sites: &[TrySite],
 ) -> Result<Vec<TryEntry>, AllocError>
-    ensures { IfOk result (λ v. map entry_of v.items ≡ map (bound_site (offset_of_label labels.now)) (map site_of sites.now)) }
+    ensures { IfOk result
+        (λ v. map entry_of v.items
+        ≡ map (bound_site (offset_of_label labels.now)) (map site_of sites.now)) }
 {
     let mut entries = Vec::new(alloc);
     for s in sites {

@@ -7,10 +7,12 @@ ghost use Rattle.s390x_buffer.specs.declared.entries.MachBufferFinalized.{MachBu
 
 /// A patched word that shares no byte with another use is what was put there, plus the distance.
 pub fn sums_stand()
-    ensures { (s : BufferState) (f : MachBufferFinalized) → finish_cause s ≡ None → Finished s f → SumsStand s f.bytes.items }
+    ensures { (s : BufferState) (f : MachBufferFinalized) → finish_cause s ≡ None → Finished s f
+        → SumsStand s f.bytes.items }
 {}
 
 /// No use makes the code longer, and a byte that no use patches is the one that was put, or a constant's.
 pub fn others_stand()
-    ensures { (s : BufferState) (f : MachBufferFinalized) → Finished s f → OthersStand s f.bytes.items }
+    ensures { (s : BufferState) (f : MachBufferFinalized) → Finished s f
+        → OthersStand s f.bytes.items }
 {}

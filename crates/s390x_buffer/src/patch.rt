@@ -152,7 +152,10 @@ pub fn patch_uses(
     labels: &[Option<CodeOffset>],
     uses: &[LabelFixup],
 ) -> Result<(), EmitError>
-    ensures { MatchResult result (λ _. (uses_cause labels.now uses.now bytes.old ≡ None) × (bytes.new ≡ patch_all (offset_of_label labels.now) uses.now bytes.old)) (λ e. uses_cause labels.now uses.now bytes.old ≡ Some e) }
+    ensures { MatchResult result
+        (λ _. (uses_cause labels.now uses.now bytes.old ≡ None)
+        × (bytes.new ≡ patch_all (offset_of_label labels.now) uses.now bytes.old))
+        (λ e. uses_cause labels.now uses.now bytes.old ≡ Some e) }
 {
     for u in uses {
         if let Some(e) = use_cause(bytes, labels, *u) {

@@ -14,7 +14,8 @@ use std::alloc::Global;
 
 // The finished code of a member.
 fn emit_member(alloc: Global, member: &Member) -> Result<MachBufferFinalized, BundleError>
-    ensures { MatchResult result (IsEmitted member.now) (HasNoCode (refused_or member.now.name (emit_cause member.now) None)) }
+    ensures { MatchResult result (IsEmitted member.now)
+        (HasNoCode (refused_or member.now.name (emit_cause member.now) None)) }
 {
     match emit_function(alloc, &member.function, &member.info, member.state) {
         Ok(code) => Ok(code),
@@ -28,7 +29,8 @@ fn emit_member(alloc: Global, member: &Member) -> Result<MachBufferFinalized, Bu
 
 // The finished code of each member.
 fn emit_members(alloc: Global, members: &[Member]) -> Result<Vec<MachBufferFinalized>, BundleError>
-    ensures { MatchResult result (λ codes. AreEmitted members.now codes.items) (HasNoCode (first_refused members.now)) }
+    ensures { MatchResult result (λ codes. AreEmitted members.now codes.items)
+        (HasNoCode (first_refused members.now)) }
 {
     let mut codes = Vec::new(alloc);
     for member in members {

@@ -7,7 +7,10 @@ use std::alloc::AllocError;
 /// Puts a member's bytes behind those before it, with zeros up to its start. After `AllocError` some of that may stand there.
 pub fn put_part(bytes: &mut Vec<u8>, start: u32, part: &[u8]) -> Result<(), AllocError>
     requires { length bytes.old.items ≤ start }
-    ensures { IfOk result (λ _. bytes.new.items ≡ bytes.old.items ++ part_behind (length bytes.old.items) (record { start = start; bytes = part.now })) }
+    ensures { IfOk result
+        (λ _. bytes.new.items
+        ≡ bytes.old.items
+        ++ part_behind (length bytes.old.items) (record { start = start; bytes = part.now })) }
 {
     let gap = start as usize - bytes.len();
     for _i in 0..gap {

@@ -57,7 +57,8 @@ pub fn join_members(
 ) -> Result<Bundle, JoinError>
     requires counts { length codes.now ≡ length members.now }
     requires finished { All IsFinished codes.now }
-    ensures answer { MatchResult result (IsBundleOf base members.now codes.now) (HasNoBundle base members.now codes.now) }
+    ensures answer { MatchResult result (IsBundleOf base members.now codes.now)
+        (HasNoBundle base members.now codes.now) }
     ensures within { IfErr result (TellsMember (length members.now)) }
 {
     let Ok(extents) = extents_of(alloc, codes) else {

@@ -30,7 +30,9 @@ fn linked_member(
     code: &MachBufferFinalized,
 ) -> Result<Image, LinkError>
     requires fields { HasItsFields code.now }
-    ensures { (symbols : Symbols) → AreJoined joint.now lines.now symbols → MatchResult result (λ image. IsLinked code.now address symbols image.bytes.items) (λ e. IsLinkCause code.now address symbols e) }
+    ensures { (symbols : Symbols) → AreJoined joint.now lines.now symbols
+        → MatchResult result (λ image. IsLinked code.now address symbols image.bytes.items)
+        (λ e. IsLinkCause code.now address symbols e) }
 {
     match member_table(alloc, joint, lines, &code.relocs) {
         Ok(table) => link(alloc, code, address, &table),
@@ -51,8 +53,17 @@ pub fn link_members(
     requires codes { length codes.now ≡ length members.now }
     requires fits { All (λ s. base + s < 2 ^ 64) starts.now }
     requires fields { All HasItsFields codes.now }
-    requires rise { Rise 0 (linked_parts base members.now starts.now members.now starts.now codes.now) }
-    ensures answer { MatchResult result (λ bytes. (first_unlinked base members.now starts.now 0 members.now starts.now codes.now ≡ None) × (bytes.items ≡ parts_behind 0 (linked_parts base members.now starts.now members.now starts.now codes.now))) (λ refusal. IsUnlinked (first_unlinked base members.now starts.now 0 members.now starts.now codes.now) refusal) }
+    requires rise { Rise 0
+        (linked_parts base members.now starts.now members.now starts.now codes.now) }
+    ensures answer { MatchResult result
+        (λ bytes.
+        (first_unlinked base members.now starts.now 0 members.now starts.now codes.now ≡ None)
+        × (bytes.items
+        ≡ parts_behind 0
+        (linked_parts base members.now starts.now members.now starts.now codes.now)))
+        (λ refusal. IsUnlinked
+        (first_unlinked base members.now starts.now 0 members.now starts.now codes.now)
+        refusal) }
     ensures within { IfErr result (λ refusal. refusal.member < length members.now) }
 {
     let mut bytes = Vec::new(alloc);

@@ -52,7 +52,8 @@ fn start_of(end: Option<u32>, alignment: u32) -> u64
 // A member's start, where it can stand there.
 fn checked_start(base: u64, start: u64, size: u32) -> Result<u32, PlaceCause>
     requires { start < 8589934592 }
-    ensures answer { MatchResult result (λ s. (place_cause base start size ≡ None) × (s ≡ start)) (λ cause. place_cause base start size ≡ Some cause) }
+    ensures answer { MatchResult result (λ s. (place_cause base start size ≡ None) × (s ≡ start))
+        (λ cause. place_cause base start size ≡ Some cause) }
     ensures short { IfOk result (λ s. s + size < 2147483648) }
 {
     if size == 0 {
@@ -74,7 +75,10 @@ fn checked_start(base: u64, start: u64, size: u32) -> Result<u32, PlaceCause>
 /// or above.
 pub fn starts_of(alloc: Global, base: u64, members: &[Extent]) -> Result<Vec<u32>, PlaceError>
     requires { All (λ x. 0 < x.alignment) members.now }
-    ensures answer { MatchResult result (λ starts. (first_misplaced base None 0 members.now ≡ None) × (starts.items ≡ starts_behind None members.now)) (λ e. HasNoPlaces (first_misplaced base None 0 members.now) e) }
+    ensures answer { MatchResult result
+        (λ starts. (first_misplaced base None 0 members.now ≡ None)
+        × (starts.items ≡ starts_behind None members.now))
+        (λ e. HasNoPlaces (first_misplaced base None 0 members.now) e) }
     ensures within { IfErr result (TellsOneOf (length members.now)) }
 {
     let mut starts = Vec::new(alloc);

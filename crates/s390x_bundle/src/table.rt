@@ -48,7 +48,8 @@ pub fn member_table(
     lines: &[SymbolLine],
     relocs: &[RelocEntry],
 ) -> Result<SymbolTable, NoMemory>
-    ensures { (symbols : Symbols) → AreJoined joint.now lines.now symbols → IfOk result (λ table. AnswersAlike relocs.now table symbols) }
+    ensures { (symbols : Symbols) → AreJoined joint.now lines.now symbols
+        → IfOk result (λ table. AnswersAlike relocs.now table symbols) }
 {
     let mut table = line_table(alloc, lines)?;
     for reloc in relocs {

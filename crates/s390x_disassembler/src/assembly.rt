@@ -37,7 +37,8 @@ pub fn assemble(alloc: Global, base: u64, text: &[u8]) -> Result<Vec<u8>, Assemb
 // The code, or the number of the first wrong line.
 fn assembled(alloc: Global, base: u64, text: &[u8]) -> Result<Result<Vec<u8>, usize>, AllocError>
     ensures code { IfOk result (λ answer. IfOk answer (λ code. IsSource base code.items text.now)) }
-    ensures one { IfOk result (λ answer. IfOk answer (λ code. IsOnlySource base code.items text.now)) }
+    ensures one { IfOk result
+        (λ answer. IfOk answer (λ code. IsOnlySource base code.items text.now)) }
     ensures error { IfOk result (λ answer. IfErr answer (λ _. IsNoSource base text.now)) }
     ensures line { IfOk result (λ answer. IfErr answer (λ line. IsWrongSource base text.now line)) }
 {

@@ -39,7 +39,9 @@ fn named_bytes(
     mnemonic: &[u8],
     text: &[u8],
 ) -> Result<Vec<u8>, AllocError>
-    ensures { IfOk result (λ bytes. IsRowRead address (map (λ row. plain_row row) spellings.now) rows.now mnemonic.now text.now bytes.items) }
+    ensures { IfOk result
+        (λ bytes. IsRowRead address (map (λ row. plain_row row) spellings.now) rows.now mnemonic.now
+        text.now bytes.items) }
 {
     let at = find(spellings, mnemonic);
     if at < spellings.len() && at < rows.len() {
@@ -104,7 +106,9 @@ fn row_bytes(
     mnemonic: &[u8],
     text: &[u8],
 ) -> Result<Vec<u8>, AllocError>
-    ensures { IfOk result (λ bytes. IsSpelledRead address row (plain_row spelling.entry) mnemonic.now text.now bytes.items) }
+    ensures { IfOk result
+        (λ bytes. IsSpelledRead address row (plain_row spelling.entry) mnemonic.now text.now
+        bytes.items) }
 {
     let (stem, suffix, form) = spelling;
     let letters = behind(mnemonic, stem.as_bytes().len());
@@ -116,7 +120,8 @@ fn row_bytes(
 // The values that a row tells, and letters at a place of its suffix's table.
 fn start(row: MachineRow, suffix: Suffix, place: usize) -> [u32; 10]
     ensures ten { length result ≡ 10 }
-    ensures values { (k : ℕ) → k < 10 → slice_index result k ≡ start_value row suffix (place % 256) k }
+    ensures values { (k : ℕ) → k < 10
+        → slice_index result k ≡ start_value row suffix (place % 256) k }
 {
     let place = (place % 256) as u32;
     let mut slots = [0u32; 10];
@@ -129,7 +134,8 @@ fn start(row: MachineRow, suffix: Suffix, place: usize) -> [u32; 10]
 // What letters at a place tell.
 fn put_letters(slots: &mut [u32; 10], suffix: Suffix, place: u32)
     ensures ten { length slots.new ≡ 10 }
-    ensures values { (k : ℕ) → k < 10 → slice_index slots.new k ≡ told_value suffix place k (slice_index slots.old k) }
+    ensures values { (k : ℕ) → k < 10
+        → slice_index slots.new k ≡ told_value suffix place k (slice_index slots.old k) }
 {
     match suffix {
         Suffix::Plain => (),

@@ -20,8 +20,10 @@ pub fn first_line(
     address: u64,
     text: &[u8],
 ) -> Result<Option<(Vec<u8>, &[u8])>, AllocError>
-    ensures sound { IfOk result (λ r. IfSome r (λ p. IsFirstLine address text.now p.0.items p.1.now)) }
-    ensures complete { (u rest : List ℕ) → IsBytes u → IsFirstLine address text.now u rest → IfOk result (λ r. MatchOption r ⊥ (λ p. (p.0.items ≡ u) × (p.1.now ≡ rest))) }
+    ensures sound { IfOk result
+        (λ r. IfSome r (λ p. IsFirstLine address text.now p.0.items p.1.now)) }
+    ensures complete { (u rest : List ℕ) → IsBytes u → IsFirstLine address text.now u rest
+        → IfOk result (λ r. MatchOption r ⊥ (λ p. (p.0.items ≡ u) × (p.1.now ≡ rest))) }
 {
     let head = address_text(alloc, address)?;
     match strip(text, head.as_bytes()) {
@@ -32,7 +34,8 @@ pub fn first_line(
 
 // What stands before the bytes.
 fn address_text(alloc: Global, address: u64) -> Result<String, AllocError>
-    ensures { IfOk result (λ text. string_bytes text ≡ digits 16 false address ++ (58 ∷ (32 ∷ []))) }
+    ensures { IfOk result
+        (λ text. string_bytes text ≡ digits 16 false address ++ (58 ∷ (32 ∷ []))) }
 {
     let mut out = String::new(alloc);
     write!(out, "{address:x}: ")?;
@@ -47,8 +50,10 @@ fn with_columns<'a>(
     rest: &[u8],
 ) -> Result<Option<(Vec<u8>, &'a [u8])>, AllocError>
     requires { text.now ≡ digits 16 false address ++ (58 ∷ (32 ∷ rest.now)) }
-    ensures sound { IfOk result (λ r. IfSome r (λ p. IsFirstLine address text.now p.0.items p.1.now)) }
-    ensures complete { (u rest : List ℕ) → IsBytes u → IsFirstLine address text.now u rest → IfOk result (λ r. MatchOption r ⊥ (λ p. (p.0.items ≡ u) × (p.1.now ≡ rest))) }
+    ensures sound { IfOk result
+        (λ r. IfSome r (λ p. IsFirstLine address text.now p.0.items p.1.now)) }
+    ensures complete { (u rest : List ℕ) → IsBytes u → IsFirstLine address text.now u rest
+        → IfOk result (λ r. MatchOption r ⊥ (λ p. (p.0.items ≡ u) × (p.1.now ≡ rest))) }
 {
     let bytes = hex_bytes(alloc, word(rest))?;
     let found = found_in(&bytes);
@@ -66,8 +71,10 @@ fn without_columns(
     text: &[u8],
 ) -> Result<Option<(Vec<u8>, &[u8])>, AllocError>
     requires { (rest : List ℕ) → text.now ≢ digits 16 false address ++ (58 ∷ (32 ∷ rest)) }
-    ensures sound { IfOk result (λ r. IfSome r (λ p. IsFirstLine address text.now p.0.items p.1.now)) }
-    ensures complete { (u rest : List ℕ) → IsBytes u → IsFirstLine address text.now u rest → IfOk result (λ r. MatchOption r ⊥ (λ p. (p.0.items ≡ u) × (p.1.now ≡ rest))) }
+    ensures sound { IfOk result
+        (λ r. IfSome r (λ p. IsFirstLine address text.now p.0.items p.1.now)) }
+    ensures complete { (u rest : List ℕ) → IsBytes u → IsFirstLine address text.now u rest
+        → IfOk result (λ r. MatchOption r ⊥ (λ p. (p.0.items ≡ u) × (p.1.now ≡ rest))) }
 {
     let bytes = candidate(alloc, address, text)?;
     let found = found_in(&bytes);
@@ -80,7 +87,8 @@ fn without_columns(
 
 // The bytes of a line with what stands behind it, where they stand together.
 fn kept(bytes: Vec<u8>, more: &[u8]) -> Option<(Vec<u8>, &[u8])>
-    ensures { MatchOption result (is_unit bytes.items ≡ false) (λ p. (is_unit bytes.items ≡ true) × (p.0.items ≡ bytes.items) × (p.1.now ≡ more.now)) }
+    ensures { MatchOption result (is_unit bytes.items ≡ false)
+        (λ p. (is_unit bytes.items ≡ true) × (p.0.items ≡ bytes.items) × (p.1.now ≡ more.now)) }
 {
     if is_unit(&bytes) {
         Some((bytes, more))
@@ -135,7 +143,8 @@ fn bare_line(
 
 // What stands behind a line at the head of a text.
 fn strip<'a>(text: &'a [u8], line: &[u8]) -> Option<&'a [u8]>
-    ensures { MatchOption result ((rest : List ℕ) → text.now ≢ line.now ++ rest) (λ rest. text.now ≡ line.now ++ rest.now) }
+    ensures { MatchOption result ((rest : List ℕ) → text.now ≢ line.now ++ rest)
+        (λ rest. text.now ≡ line.now ++ rest.now) }
 {
     text.strip_prefix(line)
 }

@@ -77,7 +77,8 @@ fn put_lines(
     code: &[u8],
     lines: &[Line],
 ) -> Result<(), AllocError>
-    ensures { OnOk result (string_bytes out.new ≡ string_bytes out.old ++ lines_text base code.now lines.now) }
+    ensures { OnOk result
+        (string_bytes out.new ≡ string_bytes out.old ++ lines_text base code.now lines.now) }
 {
     for line in lines {
         put_line(alloc, out, base, code, line)?;
@@ -93,7 +94,8 @@ pub fn put_line(
     code: &[u8],
     line: &Line,
 ) -> Result<(), AllocError>
-    ensures { OnOk result (string_bytes out.new ≡ string_bytes out.old ++ line_text base code.now line.now) }
+    ensures { OnOk result
+        (string_bytes out.new ≡ string_bytes out.old ++ line_text base code.now line.now) }
 {
     put_full_line(
         alloc,
@@ -112,7 +114,8 @@ pub fn put_full_line(
     bytes: &[u8],
     found: &Option<Located>,
 ) -> Result<(), AllocError>
-    ensures { OnOk result (string_bytes out.new ≡ string_bytes out.old ++ full_line address bytes.now found.now) }
+    ensures { OnOk result
+        (string_bytes out.new ≡ string_bytes out.old ++ full_line address bytes.now found.now) }
 {
     let digits = hex::encode(alloc, bytes)?;
     write!(out, "{address:x}: {digits} ")?;

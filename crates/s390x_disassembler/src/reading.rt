@@ -134,7 +134,8 @@ fn put_indexed<'a>(
     text: &'a [u8],
 ) -> &'a [u8]
     ensures ten { length slots.new ≡ 10 }
-    ensures read { IsRead format address (Indexed index base) text.now slots.old slots.new result.now }
+    ensures read { IsRead format address (Indexed index base) text.now slots.old slots.new
+        result.now }
 {
     let rest = put_number(slots, 9, 1048576, text);
     let (index_value, base_value, rest) = registers(rest);

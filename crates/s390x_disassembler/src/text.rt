@@ -19,7 +19,8 @@ pub fn put_found(
     bytes: &[u8],
     found: &Option<Located>,
 ) -> Result<(), AllocError>
-    ensures { OnOk result (string_bytes out.new ≡ string_bytes out.old ++ found_text address bytes.now found.now) }
+    ensures { OnOk result
+        (string_bytes out.new ≡ string_bytes out.old ++ found_text address bytes.now found.now) }
 {
     match found {
         Some(located) => put_row(
@@ -41,7 +42,10 @@ fn put_row(
     at: usize,
     fields: &Fields,
 ) -> Result<(), AllocError>
-    ensures { OnOk result (string_bytes out.new ≡ string_bytes out.old ++ row_text (map (λ row. plain_row row) spellings.now) address at fields.now) }
+    ensures { OnOk result
+        (string_bytes out.new
+        ≡ string_bytes out.old
+        ++ row_text (map (λ row. plain_row row) spellings.now) address at fields.now) }
 {
     if at < spellings.len() {
         put_spelled(out, address, spellings[at], fields)
@@ -58,7 +62,9 @@ fn put_spelled(
     spelling: Spelling,
     fields: &Fields,
 ) -> Result<(), AllocError>
-    ensures { OnOk result (string_bytes out.new ≡ string_bytes out.old ++ spelled address (plain_row spelling.entry) fields.now) }
+    ensures { OnOk result
+        (string_bytes out.new
+        ≡ string_bytes out.old ++ spelled address (plain_row spelling.entry) fields.now) }
 {
     let (stem, suffix, form) = spelling;
     let letters = letters(suffix, fields);
@@ -75,7 +81,10 @@ fn put_operands(
     fields: &Fields,
     operands: &[Operand],
 ) -> Result<(), AllocError>
-    ensures { OnOk result (string_bytes out.new ≡ string_bytes out.old ++ operands_text 32 address letters.now fields.now operands.now) }
+    ensures { OnOk result
+        (string_bytes out.new
+        ≡ string_bytes out.old
+        ++ operands_text 32 address letters.now fields.now operands.now) }
 {
     let mut separator = b' ';
     for operand in operands {
@@ -106,7 +115,8 @@ fn put_operand(
     fields: &Fields,
     operand: Operand,
 ) -> Result<(), AllocError>
-    ensures { OnOk result (string_bytes out.new ≡ string_bytes out.old ++ operand_text address fields.now operand) }
+    ensures { OnOk result
+        (string_bytes out.new ≡ string_bytes out.old ++ operand_text address fields.now operand) }
 {
     match operand {
         Operand::General(k) => put_register(out, b'r', value_at(&fields.regs, k)),
@@ -176,14 +186,16 @@ fn put_integer(out: &mut String, z: i64) -> Result<(), AllocError>
 
 // An address that is a target.
 fn put_address(out: &mut String, address: u64) -> Result<(), AllocError>
-    ensures { OnOk result (string_bytes out.new ≡ string_bytes out.old ++ (48 ∷ (120 ∷ digits 16 false address))) }
+    ensures { OnOk result
+        (string_bytes out.new ≡ string_bytes out.old ++ (48 ∷ (120 ∷ digits 16 false address))) }
 {
     write!(out, "0x{address:x}")
 }
 
 // An address in storage.
 fn put_storage(out: &mut String, disp: i32, index: u8, base: u8) -> Result<(), AllocError>
-    ensures { OnOk result (string_bytes out.new ≡ string_bytes out.old ++ storage_text disp index base) }
+    ensures { OnOk result
+        (string_bytes out.new ≡ string_bytes out.old ++ storage_text disp index base) }
 {
     put_integer(out, i64::from(disp))?;
     put_registers(out, index, base)
@@ -192,7 +204,8 @@ fn put_storage(out: &mut String, disp: i32, index: u8, base: u8) -> Result<(), A
 // The registers of an address in storage.
 #[tactic(auto, unfolding(crate::specs::Text::registers_text))]
 fn put_registers(out: &mut String, index: u8, base: u8) -> Result<(), AllocError>
-    ensures { OnOk result (string_bytes out.new ≡ string_bytes out.old ++ registers_text index base) }
+    ensures { OnOk result
+        (string_bytes out.new ≡ string_bytes out.old ++ registers_text index base) }
 {
     if index != 0 {
         write!(out, "(%r{index},%r{base})")
@@ -255,7 +268,9 @@ fn put_number(
     bytes: &[u8],
 ) -> Result<(), AllocError>
     requires { separator < 128 }
-    ensures { OnOk result (string_bytes out.new ≡ string_bytes out.old ++ (separator ∷ (48 ∷ (120 ∷ encode_lower bytes.now)))) }
+    ensures { OnOk result
+        (string_bytes out.new
+        ≡ string_bytes out.old ++ (separator ∷ (48 ∷ (120 ∷ encode_lower bytes.now)))) }
 {
     let separator = char::from(separator);
     let digits = hex::encode(alloc, bytes)?;

@@ -59,7 +59,10 @@ fn put_header(
     name_at: u32,
     content_at: u64,
 ) -> Result<(), AllocError>
-    ensures { IfOk result (λ _. headers.new.items ≡ headers.old.items ++ section_header_bytes name_at content_at (section_of section.now)) }
+    ensures { IfOk result
+        (λ _. headers.new.items
+        ≡ headers.old.items
+        ++ section_header_bytes name_at content_at (section_of section.now)) }
 {
     let fields = [
         Field::Word(name_at),
@@ -80,9 +83,15 @@ fn put_header(
 fn put_section(parts: &mut FileParts, start: u64, section: &SectionParts) -> Result<(), AllocError>
     requires names { length parts.old.names.items < 1000000 }
     requires start { start < 1000000 }
-    ensures headers { IfOk result (λ _. parts.new.headers.items ≡ parts.old.headers.items ++ section_header_bytes (length parts.old.names.items) (start + length parts.old.contents.items) (section_of section.now)) }
-    ensures names { IfOk result (λ _. parts.new.names.items ≡ parts.old.names.items ++ (section.now.name.now ++ 0 ∷ [])) }
-    ensures contents { IfOk result (λ _. parts.new.contents.items ≡ parts.old.contents.items ++ section.now.content.items) }
+    ensures headers { IfOk result
+        (λ _. parts.new.headers.items
+        ≡ parts.old.headers.items
+        ++ section_header_bytes (length parts.old.names.items)
+        (start + length parts.old.contents.items) (section_of section.now)) }
+    ensures names { IfOk result
+        (λ _. parts.new.names.items ≡ parts.old.names.items ++ (section.now.name.now ++ 0 ∷ [])) }
+    ensures contents { IfOk result
+        (λ _. parts.new.contents.items ≡ parts.old.contents.items ++ section.now.content.items) }
 {
     let name_at = parts.names.len() as u32;
     let content_at = start + parts.contents.len() as u64;
@@ -102,8 +111,13 @@ fn put_names(
 ) -> Result<(), AllocError>
     requires names { length names.items < 1000000 }
     requires start { start < 1000000 }
-    ensures headers { IfOk result (λ _. headers.new.items ≡ headers.old.items ++ section_header_bytes (length names.items) (start + length contents.old.items) (string_section names_name (names.items ++ (names_name ++ 0 ∷ [])))) }
-    ensures contents { IfOk result (λ _. contents.new.items ≡ contents.old.items ++ (names.items ++ (names_name ++ 0 ∷ []))) }
+    ensures headers { IfOk result
+        (λ _. headers.new.items
+        ≡ headers.old.items
+        ++ section_header_bytes (length names.items) (start + length contents.old.items)
+        (string_section names_name (names.items ++ (names_name ++ 0 ∷ [])))) }
+    ensures contents { IfOk result
+        (λ _. contents.new.items ≡ contents.old.items ++ (names.items ++ (names_name ++ 0 ∷ []))) }
 {
     let name_at = names.len() as u32;
     let content_at = start + contents.len() as u64;
@@ -126,7 +140,8 @@ fn put_names(
 // Puts the header of a file with a number of sections, the last of which has their names.
 fn put_file_header(file: &mut Vec<u8>, sections: u16) -> Result<(), AllocError>
     requires { 0 < sections }
-    ensures { IfOk result (λ _. file.new.items ≡ file.old.items ++ file_header_bytes sections (sections - 1)) }
+    ensures { IfOk result
+        (λ _. file.new.items ≡ file.old.items ++ file_header_bytes sections (sections - 1)) }
 {
     file.extend_from_slice(&IDENT)?;
     let fields = [

@@ -47,7 +47,8 @@ fn start_behind(end: Option<u32>, alignment: u32) -> u64
 
 // The end of a member that starts there, where it is below 2^31.
 fn checked_end(start: u64, size: u64) -> Result<u32, ObjectError>
-    ensures { let cause = limit_cause 2147483648 (start + size) in MatchResult result (λ end. (cause ≡ None) × (end ≡ start + size)) (λ e. cause ≡ Some e) }
+    ensures { let cause = limit_cause 2147483648 (start + size) in
+        MatchResult result (λ end. (cause ≡ None) × (end ≡ start + size)) (λ e. cause ≡ Some e) }
 {
     let end = u128::from(start) + u128::from(size);
     if 2147483648 <= end {
@@ -58,7 +59,8 @@ fn checked_end(start: u64, size: u64) -> Result<u32, ObjectError>
 
 // A relocation of a member that starts there, where its offset is below 2^32.
 fn moved(start: u32, reloc: RelocEntry) -> Result<RelocEntry, ObjectError>
-    ensures { let cause = limit_cause 4294967296 (start + reloc.offset) in MatchResult result (λ r. (cause ≡ None) × (r ≡ moved start reloc)) (λ e. cause ≡ Some e) }
+    ensures { let cause = limit_cause 4294967296 (start + reloc.offset) in
+        MatchResult result (λ r. (cause ≡ None) × (r ≡ moved start reloc)) (λ e. cause ≡ Some e) }
 {
     let offset = u64::from(start) + u64::from(reloc.offset);
     if 4294967296 <= offset {
@@ -78,7 +80,10 @@ fn put_relocs(
     start: u32,
     added: &[RelocEntry],
 ) -> Result<(), ObjectError>
-    ensures { let cause = offsets_cause start added.now in MatchResult result (λ _. (cause ≡ None) × (relocs.new.items ≡ relocs.old.items ++ map (moved start) added.now)) (IsCause cause) }
+    ensures { let cause = offsets_cause start added.now in
+        MatchResult result
+        (λ _. (cause ≡ None) × (relocs.new.items ≡ relocs.old.items ++ map (moved start) added.now))
+        (IsCause cause) }
 {
     for reloc in added {
         match moved(start, *reloc) {
@@ -96,7 +101,9 @@ fn put_relocs(
 // Puts a member's bytes behind those before it, with zeros up to its start.
 fn put_bytes(bytes: &mut Vec<u8>, start: u32, part: &[u8]) -> Result<(), AllocError>
     requires { length bytes.old.items ≤ start }
-    ensures { IfOk result (λ _. bytes.new.items ≡ bytes.old.items ++ (zeros (start - length bytes.old.items) ++ part.now)) }
+    ensures { IfOk result
+        (λ _. bytes.new.items
+        ≡ bytes.old.items ++ (zeros (start - length bytes.old.items) ++ part.now)) }
 {
     let gap = start as usize - bytes.len();
     for _i in 0..gap {
@@ -111,7 +118,9 @@ fn put_function(
     member: &ObjectMember,
     start: u32,
 ) -> Result<(), AllocError>
-    ensures { IfOk result (λ _. map function_of functions.new.items ≡ map function_of functions.old.items ++ function_at start member.now ∷ []) }
+    ensures { IfOk result
+        (λ _. map function_of functions.new.items
+        ≡ map function_of functions.old.items ++ function_at start member.now ∷ []) }
 {
     let name = member.name.clone()?;
     functions.push(TextFunction {

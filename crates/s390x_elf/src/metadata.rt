@@ -109,7 +109,8 @@ impl Row for MapEntry {
 
 // Puts the rows of entries behind others.
 fn put_rows<E: Row>(numbers: &mut Vec<u64>, entries: &[E]) -> Result<(), AllocError>
-    ensures { IfOk result (λ _. numbers.new.items ≡ numbers.old.items ++ flat_map E.flat entries.now) }
+    ensures { IfOk result
+        (λ _. numbers.new.items ≡ numbers.old.items ++ flat_map E.flat entries.now) }
 {
     for entry in entries {
         entry.put_row(numbers)?;
@@ -135,7 +136,8 @@ fn put_handlers(
     call: u32,
     handlers: &[HandlerEntry],
 ) -> Result<(), AllocError>
-    ensures { IfOk result (λ _. numbers.new.items ≡ numbers.old.items ++ flat_map (handler_row call) handlers.now) }
+    ensures { IfOk result
+        (λ _. numbers.new.items ≡ numbers.old.items ++ flat_map (handler_row call) handlers.now) }
 {
     for handler in handlers {
         put_handler(numbers, call, *handler)?;
@@ -145,7 +147,8 @@ fn put_handlers(
 
 // Puts the rows of the calls' handlers behind others.
 fn put_all_handlers(numbers: &mut Vec<u64>, tries: &[TryEntry]) -> Result<(), AllocError>
-    ensures { IfOk result (λ _. numbers.new.items ≡ numbers.old.items ++ flat_map handlers_of tries.now) }
+    ensures { IfOk result
+        (λ _. numbers.new.items ≡ numbers.old.items ++ flat_map handlers_of tries.now) }
 {
     for entry in tries {
         put_handlers(numbers, entry.offset, &entry.handlers)?;
@@ -347,7 +350,8 @@ fn put_kind(
     codes: &[Coded],
 ) -> Result<(), AllocError>
     requires { length codes.now < 4294967295 }
-    ensures sections { IfOk result (λ _. AddsSections sections.old sections.new (table_sections (codes_of codes.now) kind)) }
+    ensures sections { IfOk result
+        (λ _. AddsSections sections.old sections.new (table_sections (codes_of codes.now) kind)) }
     ensures fits { IfOk result (λ _. TableFits (codes_of codes.now) kind) }
 {
     let table = table_of(alloc, kind, codes)?;
@@ -368,7 +372,9 @@ fn put_kinds(
     codes: &[Coded],
 ) -> Result<(), AllocError>
     requires { length codes.now < 4294967295 }
-    ensures sections { IfOk result (λ _. AddsSections sections.old sections.new (kinds_sections (codes_of codes.now) kinds.now)) }
+    ensures sections { IfOk result
+        (λ _. AddsSections sections.old sections.new
+        (kinds_sections (codes_of codes.now) kinds.now)) }
     ensures fits { IfOk result (λ _. All (TableFits (codes_of codes.now)) kinds.now) }
 {
     for kind in kinds {
@@ -408,7 +414,8 @@ pub fn put_tables(
     codes: &[Coded],
 ) -> Result<(), AllocError>
     requires { length codes.now < 4294967295 }
-    ensures sections { IfOk result (λ _. AddsSections sections.old sections.new (metadata_sections (codes_of codes.now))) }
+    ensures sections { IfOk result
+        (λ _. AddsSections sections.old sections.new (metadata_sections (codes_of codes.now))) }
     ensures fits { IfOk result (λ _. MetadataFits (codes_of codes.now)) }
 {
     if have_entries(codes) {

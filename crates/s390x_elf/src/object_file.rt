@@ -35,7 +35,8 @@ fn has_zero(bytes: &[u8]) -> bool
 
 // Whether a function may have a name.
 fn check_name(name: &str) -> Result<(), ObjectError>
-    ensures { MatchResult result (λ _. name_cause name.now ≡ None) (λ e. name_cause name.now ≡ Some e) }
+    ensures { MatchResult result (λ _. name_cause name.now ≡ None)
+        (λ e. name_cause name.now ≡ Some e) }
 {
     if name.is_empty() {
         return Err(ObjectError::EmptyName);
@@ -49,7 +50,8 @@ fn check_name(name: &str) -> Result<(), ObjectError>
 // Whether a function may stand behind others, whose symbols these are.
 fn check_function(symbols: &GlobalSymbols, function: &TextFunction) -> Result<(), ObjectError>
     requires { Indexes symbols.now.places (map symbol_of symbols.now.symbols.items) }
-    ensures { let cause = function_cause (map symbol_of symbols.now.symbols.items) (function_of function.now) in MatchResult result (λ _. cause ≡ None) (λ e. cause ≡ Some e) }
+    ensures { let cause = function_cause (map symbol_of symbols.now.symbols.items)
+        (function_of function.now) in MatchResult result (λ _. cause ≡ None) (λ e. cause ≡ Some e) }
 {
     check_name(function.name.as_str())?;
     if symbols.has(function.name.as_str()) {
@@ -63,7 +65,8 @@ fn check_function(symbols: &GlobalSymbols, function: &TextFunction) -> Result<()
 
 // Whether given names may be given.
 fn check_given(names: &[GivenName]) -> Result<(), ObjectError>
-    ensures { let cause = given_cause names.now in MatchResult result (λ _. cause ≡ None) (λ e. cause ≡ Some e) }
+    ensures { let cause = given_cause names.now in
+        MatchResult result (λ _. cause ≡ None) (λ e. cause ≡ Some e) }
 {
     for given in names {
         if let Err(error) = check_name(given.name.as_str()) {
@@ -181,7 +184,10 @@ fn object_sections(
 ) -> Result<Vec<SectionParts>, AllocError>
     requires strings { strings.items ≡ 0 ∷ string_table (map symbol_of symbols.now.symbols.items) }
     requires small { length strings.items < 2 ^ 32 }
-    ensures { IfOk result (λ sections. map section_of sections.items ≡ sections_by (map symbol_of symbols.now.symbols.items) alignment relocations.items text.now) }
+    ensures { IfOk result
+        (λ sections. map section_of sections.items
+        ≡ sections_by (map symbol_of symbols.now.symbols.items) alignment relocations.items
+        text.now) }
 {
     let entries = symbol_entries(alloc, &symbols.symbols)?;
     let text = Vec::from_slice(alloc, text)?;
@@ -261,7 +267,8 @@ pub fn text_object(
     relocs: &[RelocEntry],
 ) -> Result<Vec<u8>, ObjectError>
     ensures answer { TextAnswer names.now functions.now alignment text.now relocs.now result }
-    ensures linked { IfOk result (λ file. IsTextLinked names.now functions.now text.now relocs.now file.items) }
+    ensures linked { IfOk result
+        (λ file. IsTextLinked names.now functions.now text.now relocs.now file.items) }
 {
     let sections = text_sections(alloc, names, functions, alignment, text, relocs)?;
     let Ok(file) = file_with_tables(alloc, sections, &[]) else {

@@ -32,8 +32,12 @@ pub fn add_used_names(
     relocs: &[RelocEntry],
 ) -> Result<(), AllocError>
     requires { Indexes symbols.old.places (map symbol_of symbols.old.symbols.items) }
-    ensures places { IfOk result (λ _. Indexes symbols.new.places (map symbol_of symbols.new.symbols.items)) }
-    ensures symbols { IfOk result (λ _. map symbol_of symbols.new.symbols.items ≡ with_used_names (name_in names.now) (map symbol_of symbols.old.symbols.items) relocs.now) }
+    ensures places { IfOk result
+        (λ _. Indexes symbols.new.places (map symbol_of symbols.new.symbols.items)) }
+    ensures symbols { IfOk result
+        (λ _. map symbol_of symbols.new.symbols.items
+        ≡ with_used_names (name_in names.now) (map symbol_of symbols.old.symbols.items)
+        relocs.now) }
 {
     for reloc in relocs {
         let name = symbol_name(alloc, names, reloc.name)?;
@@ -52,7 +56,11 @@ fn put_entry(
 ) -> Result<(), AllocError>
     requires places { Indexes symbols.now.places (map symbol_of symbols.now.symbols.items) }
     requires few { length symbols.now.symbols.items < 4294967296 }
-    ensures entries { IfOk result (λ _. entries.new.items ≡ entries.old.items ++ relocation_entry (name_in names.now) (map symbol_of symbols.now.symbols.items) reloc) }
+    ensures entries { IfOk result
+        (λ _. entries.new.items
+        ≡ entries.old.items
+        ++ relocation_entry (name_in names.now) (map symbol_of symbols.now.symbols.items)
+        reloc) }
     ensures fits { RelocFits reloc }
 {
     let name = symbol_name(alloc, names, reloc.name)?;
@@ -76,7 +84,10 @@ pub fn relocation_entries(
 ) -> Result<Vec<u8>, AllocError>
     requires places { Indexes symbols.now.places (map symbol_of symbols.now.symbols.items) }
     requires few { length symbols.now.symbols.items < 4294967296 }
-    ensures entries { IfOk result (λ entries. entries.items ≡ relocation_entries (name_in names.now) (map symbol_of symbols.now.symbols.items) relocs.now) }
+    ensures entries { IfOk result
+        (λ entries. entries.items
+        ≡ relocation_entries (name_in names.now) (map symbol_of symbols.now.symbols.items)
+        relocs.now) }
     ensures fits { IfOk result (λ _. All RelocFits relocs.now) }
 {
     let mut entries = Vec::new(alloc);

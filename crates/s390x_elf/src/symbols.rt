@@ -71,9 +71,13 @@ impl GlobalSymbols {
     /// Puts a symbol behind the others, none of which has its name.
     pub fn push(&mut self, symbol: GlobalSymbol) -> Result<(), AllocError>
         requires places { Indexes self.old.places (map symbol_of self.old.symbols.items) }
-        requires name { place (map symbol_of self.old.symbols.items) (string_bytes symbol.name) ≡ None }
-        ensures places { IfOk result (λ _. Indexes self.new.places (map symbol_of self.new.symbols.items)) }
-        ensures symbols { IfOk result (λ _. map symbol_of self.new.symbols.items ≡ map symbol_of self.old.symbols.items ++ symbol_of symbol ∷ []) }
+        requires name { place (map symbol_of self.old.symbols.items) (string_bytes symbol.name)
+            ≡ None }
+        ensures places { IfOk result
+            (λ _. Indexes self.new.places (map symbol_of self.new.symbols.items)) }
+        ensures symbols { IfOk result
+            (λ _. map symbol_of self.new.symbols.items
+            ≡ map symbol_of self.old.symbols.items ++ symbol_of symbol ∷ []) }
     {
         let name = symbol.name.clone()?;
         let next = self.symbols.len() as u64;
@@ -93,9 +97,14 @@ impl GlobalSymbols {
     /// Puts a function behind the others, none of which has its name.
     pub fn add_function(&mut self, function: &TextFunction) -> Result<(), AllocError>
         requires places { Indexes self.old.places (map symbol_of self.old.symbols.items) }
-        requires name { place (map symbol_of self.old.symbols.items) (string_bytes function.now.name) ≡ None }
-        ensures places { IfOk result (λ _. Indexes self.new.places (map symbol_of self.new.symbols.items)) }
-        ensures symbols { IfOk result (λ _. map symbol_of self.new.symbols.items ≡ map symbol_of self.old.symbols.items ++ function_symbol (function_of function.now) ∷ []) }
+        requires name { place (map symbol_of self.old.symbols.items)
+            (string_bytes function.now.name) ≡ None }
+        ensures places { IfOk result
+            (λ _. Indexes self.new.places (map symbol_of self.new.symbols.items)) }
+        ensures symbols { IfOk result
+            (λ _. map symbol_of self.new.symbols.items
+            ≡ map symbol_of self.old.symbols.items ++ function_symbol (function_of function.now)
+            ∷ []) }
         ensures fits { IfOk result (λ _. FunctionFits (function_of function.now)) }
     {
         let name = function.name.clone()?;
@@ -110,8 +119,11 @@ impl GlobalSymbols {
     /// Puts a name that the object uses behind the others, where no symbol has it.
     pub fn add_name(&mut self, name: String) -> Result<(), AllocError>
         requires { Indexes self.old.places (map symbol_of self.old.symbols.items) }
-        ensures places { IfOk result (λ _. Indexes self.new.places (map symbol_of self.new.symbols.items)) }
-        ensures symbols { IfOk result (λ _. map symbol_of self.new.symbols.items ≡ with_name (map symbol_of self.old.symbols.items) (string_bytes name)) }
+        ensures places { IfOk result
+            (λ _. Indexes self.new.places (map symbol_of self.new.symbols.items)) }
+        ensures symbols { IfOk result
+            (λ _. map symbol_of self.new.symbols.items
+            ≡ with_name (map symbol_of self.old.symbols.items) (string_bytes name)) }
     {
         if self.has(name.as_str()) {
             return Ok(());
@@ -148,7 +160,9 @@ pub fn string_table(alloc: Global, symbols: &[GlobalSymbol]) -> Result<Vec<u8>, 
 
 // Puts the entry of a symbol behind others.
 fn put_entry(entries: &mut Vec<u8>, name_at: u32, symbol: &GlobalSymbol) -> Result<(), AllocError>
-    ensures { IfOk result (λ _. entries.new.items ≡ entries.old.items ++ symbol_entry name_at (symbol_of symbol.now)) }
+    ensures { IfOk result
+        (λ _. entries.new.items
+        ≡ entries.old.items ++ symbol_entry name_at (symbol_of symbol.now)) }
 {
     match symbol.extent {
         Some(extent) => put_fields(
@@ -177,7 +191,9 @@ fn put_entry(entries: &mut Vec<u8>, name_at: u32, symbol: &GlobalSymbol) -> Resu
 /// The entries of symbols, behind the one of the symbol that stands for none.
 pub fn symbol_entries(alloc: Global, symbols: &[GlobalSymbol]) -> Result<Vec<u8>, AllocError>
     requires { 1 + length (string_table (map symbol_of symbols.now)) < 2 ^ 32 }
-    ensures { IfOk result (λ entries. entries.items ≡ symbol_entry 0 null_symbol ++ symbol_entries 1 (map symbol_of symbols.now)) }
+    ensures { IfOk result
+        (λ entries. entries.items
+        ≡ symbol_entry 0 null_symbol ++ symbol_entries 1 (map symbol_of symbols.now)) }
 {
     let mut entries = Vec::new(alloc);
     entries.extend_from_slice(&[0; 24])?;

@@ -204,7 +204,9 @@ pub fn compare_unsigned_word_opcode(op: CmpOp) -> Option<ShortOpcode>
 #[tactic(auto, using(crate::proofs::Encoding::itself))]
 fn count_ones(rd: &Writable<Reg>, rn: &Reg, mode: u8) -> Result<Code, EmitError>
     requires { mode < 16 }
-    ensures { result ≡ code_where (is_general rd.now && is_general rn.now) (rrf_cde 0xb9e1 (number_of rd.now) (number_of rn.now) mode 0) }
+    ensures { result
+        ≡ code_where (is_general rd.now && is_general rn.now)
+        (rrf_cde 0xb9e1 (number_of rd.now) (number_of rn.now) mode 0) }
 {
     let output = rd.to_reg();
     masked(two_general(&output, rn), 0xb9e1, output, *rn, mode)
@@ -214,7 +216,10 @@ fn count_ones(rd: &Writable<Reg>, rn: &Reg, mode: u8) -> Result<Code, EmitError>
 /// register is not general, or an input that has to be the output isn't it.
 #[tactic(auto, using(crate::proofs::Encoding::unary_two_general))]
 pub fn unary_row(op: UnaryOp, rd: &Writable<Reg>, rn: &Reg) -> Option<Result<Code, EmitError>>
-    ensures { result ≡ single_code (single_with (is_general rd.now && is_general rn.now) (unary_row op (number_of rd.now) (number_of rn.now))) }
+    ensures { result
+        ≡ single_code
+        (single_with (is_general rd.now && is_general rn.now)
+        (unary_row op (number_of rd.now) (number_of rn.now))) }
 {
     match op {
         UnaryOp::PopcntByte => Some(count_ones(rd, rn, 0)),
@@ -232,7 +237,11 @@ pub fn three_row(
     rn: &Reg,
     rm: &Reg,
 ) -> Option<Result<Code, EmitError>>
-    ensures { result ≡ single_code (single_with (is_general rd.now && is_general rn.now && is_general rm.now) (three_row (alu_three op) (alu_two op) (number_of rd.now) (number_of rn.now) (number_of rm.now))) }
+    ensures { result
+        ≡ single_code
+        (single_with (is_general rd.now && is_general rn.now && is_general rm.now)
+        (three_row (alu_three op) (alu_two op) (number_of rd.now) (number_of rn.now)
+        (number_of rm.now))) }
 {
     let three = three_opcode(op)?;
     let output = rd.to_reg();
@@ -245,7 +254,11 @@ pub fn three_row(
 #[tactic(auto, using(crate::proofs::Encoding::outer_general))]
 fn shorter_code(three: u16, two: u16, rd: &Reg, rn: &Reg, rm: &Reg) -> Result<Code, EmitError>
     requires { takes_general (Some two) ≡ true }
-    ensures { Some result ≡ single_code (single_with (is_general rd.now && is_general rn.now && is_general rm.now) (three_row (Some three) (Some two) (number_of rd.now) (number_of rn.now) (number_of rm.now))) }
+    ensures { Some result
+        ≡ single_code
+        (single_with (is_general rd.now && is_general rn.now && is_general rm.now)
+        (three_row (Some three) (Some two) (number_of rd.now) (number_of rn.now)
+        (number_of rm.now))) }
 {
     if same_number(rd, rn) {
         two_operands(three_general(rd, rn, rm), two, *rd, *rm)
@@ -263,7 +276,11 @@ pub fn three_halfword_row(
     rn: &Reg,
     imm: i16,
 ) -> Option<Result<Code, EmitError>>
-    ensures { result ≡ single_code (single_with (is_general rd.now && is_general rn.now) (three_halfword_row (alu_three_halfword op) (alu_halfword op) (number_of rd.now) (number_of rn.now) (low_halfword imm))) }
+    ensures { result
+        ≡ single_code
+        (single_with (is_general rd.now && is_general rn.now)
+        (three_halfword_row (alu_three_halfword op) (alu_halfword op) (number_of rd.now)
+        (number_of rn.now) (low_halfword imm))) }
 {
     let three = three_halfword_opcode(op)?;
     let output = rd.to_reg();
@@ -282,7 +299,11 @@ fn shorter_halfword_code(
     rn: &Reg,
     imm: u16,
 ) -> Result<Code, EmitError>
-    ensures { Some result ≡ single_code (single_with (is_general rd.now && is_general rn.now) (three_halfword_row (Some three) (Some (opcode_of two)) (number_of rd.now) (number_of rn.now) imm)) }
+    ensures { Some result
+        ≡ single_code
+        (single_with (is_general rd.now && is_general rn.now)
+        (three_halfword_row (Some three) (Some (opcode_of two)) (number_of rd.now)
+        (number_of rn.now) imm)) }
 {
     let valid = two_general(rd, rn);
     if same_number(rd, rn) {

@@ -111,7 +111,11 @@ pub fn rotated_row(
     end: u8,
     amount: i8,
 ) -> Option<Result<Code, EmitError>>
-    ensures { result ≡ single_code (single_with (reuses rd.now ri.now && is_general rn.now) (rotated_row (Some (rotate_then op)) (number_of rd.now) (number_of rn.now) start end start (rotation amount))) }
+    ensures { result
+        ≡ single_code
+        (single_with (reuses rd.now ri.now && is_general rn.now)
+        (rotated_row (Some (rotate_then op)) (number_of rd.now) (number_of rn.now) start end
+        start (rotation amount))) }
 {
     let output = rd.to_reg();
     let rotated = rotation(amount);
@@ -134,7 +138,11 @@ pub fn tested_row(
     end: u8,
     amount: i8,
 ) -> Option<Result<Code, EmitError>>
-    ensures { result ≡ single_code (single_with (is_general rd.now && is_general rn.now) (rotated_row (rotate_then_test op) (number_of rd.now) (number_of rn.now) start end (start + 128) (rotation amount))) }
+    ensures { result
+        ≡ single_code
+        (single_with (is_general rd.now && is_general rn.now)
+        (rotated_row (rotate_then_test op) (number_of rd.now) (number_of rn.now) start end
+        (start + 128) (rotation amount))) }
 {
     let opcode = test_opcode(op)?;
     let rotated = rotation(amount);
@@ -163,7 +171,12 @@ pub fn shift_row(
     amount: u8,
     register: &Reg,
 ) -> Option<Result<Code, EmitError>>
-    ensures { result ≡ single_code (single_with (is_general rd.now && is_general rn.now && is_general register.now) (Some (rsy (shift_opcode op) (number_of rd.now) (number_of rn.now) (number_of register.now) (low_byte amount)))) }
+    ensures { result
+        ≡ single_code
+        (single_with (is_general rd.now && is_general rn.now && is_general register.now)
+        (Some
+        (rsy (shift_opcode op) (number_of rd.now) (number_of rn.now)
+        (number_of register.now) (low_byte amount)))) }
 {
     let output = rd.to_reg();
     Some(shifted(
@@ -180,7 +193,11 @@ pub fn shift_row(
 /// is not general, or an input that has to be the output isn't it.
 #[tactic(auto, unfolding(s390x_typed_steps::specs::SingleCode::code_where))]
 pub fn product_row(rd: &WritableRegPair, rn: &Reg, rm: &Reg) -> Option<Result<Code, EmitError>>
-    ensures { result ≡ single_code (single_with (is_even_pair rd.now.hi rd.now.lo && is_general rn.now && is_general rm.now) (Some (rrf_ab 0xb9ec (number_of rd.now.hi) (number_of rn.now) (number_of rm.now) 0))) }
+    ensures { result
+        ≡ single_code
+        (single_with
+        (is_even_pair rd.now.hi rd.now.lo && is_general rn.now && is_general rm.now)
+        (Some (rrf_ab 0xb9ec (number_of rd.now.hi) (number_of rn.now) (number_of rm.now) 0))) }
 {
     if is_even_pair(rd) {
         Some(three_operands(0xb9ec, &rd.hi.to_reg(), rn, rm))
@@ -194,7 +211,10 @@ pub fn product_row(rd: &WritableRegPair, rn: &Reg, rm: &Reg) -> Option<Result<Co
 #[tactic(auto, using(crate::proofs::Encoding::even_general))]
 pub fn pair_row(opcode: u16, rd: &WritableRegPair, rn: &Reg) -> Option<Result<Code, EmitError>>
     requires { takes_general (Some opcode) ≡ true }
-    ensures { result ≡ single_code (single_with (is_even_pair rd.now.hi rd.now.lo && is_general rn.now) (Some (two_operands opcode (number_of rd.now.hi) (number_of rn.now)))) }
+    ensures { result
+        ≡ single_code
+        (single_with (is_even_pair rd.now.hi rd.now.lo && is_general rn.now)
+        (Some (two_operands opcode (number_of rd.now.hi) (number_of rn.now)))) }
 {
     Some(two_operands(is_even_pair(rd) && general(rn), opcode, rd.hi.to_reg(), *rn))
 }
@@ -209,7 +229,11 @@ pub fn reused_low_row(
     rn: &Reg,
 ) -> Option<Result<Code, EmitError>>
     requires { takes_general (Some opcode) ≡ true }
-    ensures { result ≡ single_code (single_with (is_even_pair rd.now.hi rd.now.lo && reuses rd.now.lo ri.now && is_general rn.now) (Some (two_operands opcode (number_of rd.now.hi) (number_of rn.now)))) }
+    ensures { result
+        ≡ single_code
+        (single_with
+        (is_even_pair rd.now.hi rd.now.lo && reuses rd.now.lo ri.now && is_general rn.now)
+        (Some (two_operands opcode (number_of rd.now.hi) (number_of rn.now)))) }
 {
     Some(two_operands(
         is_even_pair(rd) && is_reused(&rd.lo.to_reg(), ri) && general(rn),

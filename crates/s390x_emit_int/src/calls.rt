@@ -73,7 +73,8 @@ fn handler_of(handler: &TryCallHandler) -> TryHandler
 
 // The first cause of the handlers' labels.
 fn handlers_cause(blocks: u32, handlers: &[TryCallHandler]) -> Option<EmitError>
-    ensures { result ≡ labels_cause blocks (map (λ (h : TryCallHandler). (handler_of h).label) handlers.now) }
+    ensures { result
+        ≡ labels_cause blocks (map (λ (h : TryCallHandler). (handler_of h).label) handlers.now) }
 {
     for handler in handlers {
         let cause = label_cause(blocks, handler_of(handler).label);
@@ -86,7 +87,8 @@ fn handlers_cause(blocks: u32, handlers: &[TryCallHandler]) -> Option<EmitError>
 
 // The first cause of the labels that a call's sites name.
 fn sites_cause(blocks: u32, info: &CallInfo) -> Option<EmitError>
-    ensures { (state : Emission) → result ≡ labels_cause blocks (site_labels (sites_of state info.now)) }
+    ensures { (state : Emission)
+        → result ≡ labels_cause blocks (site_labels (sites_of state info.now)) }
 {
     match &info.try_call_info {
         Some(try_info) => handlers_cause(blocks, &try_info.exception_handlers),
@@ -117,7 +119,8 @@ pub fn call_cause(
     link: &Reg,
     info: &CallInfo,
 ) -> Option<EmitError>
-    ensures { result ≡ call_cause blocks state.now.nominal depth (calling state.now link.now info.now) }
+    ensures { result
+        ≡ call_cause blocks state.now.nominal depth (calling state.now link.now info.now) }
 {
     if !can_call(link, &info.dest) {
         return Some(EmitError::BadRegister);
@@ -153,7 +156,9 @@ pub fn behind_call(state: &EmitState, popped: u32) -> EmitState
 
 // BRANCH RELATIVE AND SAVE LONG to a symbol, to which linking fills in the distance.
 fn put_call_symbol(sink: &mut MachBuffer, link: Reg, name: ExternalName) -> Result<(), EmitError>
-    ensures answer { OnOk result (sink.new ≡ apply_all sink.old (part_fragments (CallSymbol (Some (number_of link)) name ∷ []))) }
+    ensures answer { OnOk result
+        (sink.new
+        ≡ apply_all sink.old (part_fragments (CallSymbol (Some (number_of link)) name ∷ []))) }
     ensures lacks { put_cause sink.old 6 ≡ None → is_general link ≡ true → LacksMemory result }
     ensures kept { Extends sink.old sink.new }
 {
@@ -165,8 +170,10 @@ fn put_call_symbol(sink: &mut MachBuffer, link: Reg, name: ExternalName) -> Resu
 
 // BRANCH AND SAVE to the address in a register, which is read before the return place is written.
 fn put_call_register(sink: &mut MachBuffer, link: Reg, reg: Reg) -> Result<(), EmitError>
-    ensures answer { OnOk result (sink.new ≡ apply_all sink.old (part_fragments (call_part link (Indirect reg) ∷ []))) }
-    ensures lacks { put_cause sink.old 2 ≡ None → is_general link ≡ true → is_general reg ≡ true → LacksMemory result }
+    ensures answer { OnOk result
+        (sink.new ≡ apply_all sink.old (part_fragments (call_part link (Indirect reg) ∷ []))) }
+    ensures lacks { put_cause sink.old 2 ≡ None → is_general link ≡ true → is_general reg ≡ true
+        → LacksMemory result }
     ensures kept { Extends sink.old sink.new }
 {
     let code = enc_rr(0x0d, link, reg)?;
@@ -175,8 +182,10 @@ fn put_call_register(sink: &mut MachBuffer, link: Reg, reg: Reg) -> Result<(), E
 
 // The machine instruction of a call.
 fn put_call(sink: &mut MachBuffer, link: Reg, dest: &CallInstDest) -> Result<(), EmitError>
-    ensures answer { OnOk result (sink.new ≡ apply_all sink.old (part_fragments (call_part link dest.now ∷ []))) }
-    ensures lacks { put_cause sink.old (call_size dest.now) ≡ None → is_general link ≡ true → is_target dest.now ≡ true → LacksMemory result }
+    ensures answer { OnOk result
+        (sink.new ≡ apply_all sink.old (part_fragments (call_part link dest.now ∷ []))) }
+    ensures lacks { put_cause sink.old (call_size dest.now) ≡ None → is_general link ≡ true
+        → is_target dest.now ≡ true → LacksMemory result }
     ensures kept { Extends sink.old sink.new }
 {
     match dest {
@@ -189,7 +198,8 @@ fn put_call(sink: &mut MachBuffer, link: Reg, dest: &CallInstDest) -> Result<(),
 
 // The stack map, where there is one.
 fn record_map(sink: &mut MachBuffer, stack_map: Option<u32>) -> Result<(), EmitError>
-    ensures answer { OnOk result (sink.new ≡ apply_all sink.old (part_fragments (site_parts (map_site stack_map)))) }
+    ensures answer { OnOk result
+        (sink.new ≡ apply_all sink.old (part_fragments (site_parts (map_site stack_map)))) }
     ensures lacks { sink.old.failed ≡ false → LacksMemory result }
     ensures kept { Extends sink.old sink.new }
 {
@@ -219,8 +229,13 @@ fn record_try(
     layout: &FrameLayout,
     info: &TryCallInfo,
 ) -> Result<(), EmitError>
-    ensures answer { OnOk result (sink.new ≡ apply_all sink.old (part_fragments (site_parts (return_site layout.now (Some info.now) ∷ [])))) }
-    ensures lacks { (blocks : ℕ) → sink.old.failed ≡ false → blocks ≤ length sink.old.labels → labels_cause blocks (site_labels (return_site layout.now (Some info.now) ∷ [])) ≡ None → LacksMemory result }
+    ensures answer { OnOk result
+        (sink.new
+        ≡ apply_all sink.old
+        (part_fragments (site_parts (return_site layout.now (Some info.now) ∷ [])))) }
+    ensures lacks { (blocks : ℕ) → sink.old.failed ≡ false → blocks ≤ length sink.old.labels
+        → labels_cause blocks (site_labels (return_site layout.now (Some info.now) ∷ [])) ≡ None
+        → LacksMemory result }
     ensures kept { Extends sink.old sink.new }
 {
     match push_handlers(alloc, &info.exception_handlers) {
@@ -236,8 +251,13 @@ fn record_return(
     layout: &FrameLayout,
     info: &Option<TryCallInfo>,
 ) -> Result<(), EmitError>
-    ensures answer { OnOk result (sink.new ≡ apply_all sink.old (part_fragments (site_parts (return_site layout.now info.now ∷ [])))) }
-    ensures lacks { (blocks : ℕ) → sink.old.failed ≡ false → blocks ≤ length sink.old.labels → labels_cause blocks (site_labels (return_site layout.now info.now ∷ [])) ≡ None → LacksMemory result }
+    ensures answer { OnOk result
+        (sink.new
+        ≡ apply_all sink.old
+        (part_fragments (site_parts (return_site layout.now info.now ∷ [])))) }
+    ensures lacks { (blocks : ℕ) → sink.old.failed ≡ false → blocks ≤ length sink.old.labels
+        → labels_cause blocks (site_labels (return_site layout.now info.now ∷ [])) ≡ None
+        → LacksMemory result }
     ensures kept { Extends sink.old sink.new }
 {
     match info {
@@ -252,7 +272,10 @@ fn record_patchable(
     patchable: bool,
     dest: &CallInstDest,
 ) -> Result<(), EmitError>
-    ensures answer { OnOk result (sink.new ≡ apply_all sink.old (part_fragments (site_parts (patchable_site patchable dest.now)))) }
+    ensures answer { OnOk result
+        (sink.new
+        ≡ apply_all sink.old
+        (part_fragments (site_parts (patchable_site patchable dest.now)))) }
     ensures lacks { sink.old.failed ≡ false → LacksMemory result }
     ensures kept { Extends sink.old sink.new }
 {
@@ -270,8 +293,12 @@ fn record_sites(
     state: &EmitState,
     info: &CallInfo,
 ) -> Result<(), EmitError>
-    ensures answer { OnOk result (sink.new ≡ apply_all sink.old (part_fragments (site_parts (sites_of state.now info.now)))) }
-    ensures lacks { (blocks : ℕ) → sink.old.failed ≡ false → blocks ≤ length sink.old.labels → labels_cause blocks (site_labels (sites_of state.now info.now)) ≡ None → LacksMemory result }
+    ensures answer { OnOk result
+        (sink.new
+        ≡ apply_all sink.old (part_fragments (site_parts (sites_of state.now info.now)))) }
+    ensures lacks { (blocks : ℕ) → sink.old.failed ≡ false → blocks ≤ length sink.old.labels
+        → labels_cause blocks (site_labels (sites_of state.now info.now)) ≡ None
+        → LacksMemory result }
     ensures kept { Extends sink.old sink.new }
 {
     let mut here = *state;
@@ -288,8 +315,15 @@ fn put_call_step(
     link: &Reg,
     info: &CallInfo,
 ) -> Result<(), EmitError>
-    ensures answer { OnOk result (sink.new ≡ apply_all sink.old (part_fragments (step_parts (CallingStep (calling state.now link.now info.now))))) }
-    ensures lacks { (blocks : ℕ) → put_cause sink.old (call_size info.now.dest) ≡ None → blocks ≤ length sink.old.labels → is_general link.now ≡ true → is_target info.now.dest ≡ true → labels_cause blocks (site_labels (sites_of state.now info.now)) ≡ None → LacksMemory result }
+    ensures answer { OnOk result
+        (sink.new
+        ≡ apply_all sink.old
+        (part_fragments (step_parts (CallingStep (calling state.now link.now info.now))))) }
+    ensures lacks { (blocks : ℕ) → put_cause sink.old (call_size info.now.dest) ≡ None
+        → blocks ≤ length sink.old.labels → is_general link.now ≡ true
+        → is_target info.now.dest ≡ true
+        → labels_cause blocks (site_labels (sites_of state.now info.now)) ≡ None
+        → LacksMemory result }
     ensures kept { Extends sink.old sink.new }
 {
     put_call(sink, *link, &info.dest)?;
@@ -305,9 +339,18 @@ fn emit_call_step(
     link: &Reg,
     info: &CallInfo,
 ) -> Result<(), EmitError>
-    ensures cause { OnOk result (call_cause sink.old.block_count state.now.nominal depth (calling state.now link.now info.now) ≡ None) }
-    ensures answer { OnOk result (sink.new ≡ apply_all sink.old (part_fragments (step_parts (CallingStep (calling state.now link.now info.now))))) }
-    ensures lacks { (after : ℕ) → MembersPassed sink.old after depth (step_size (CallingStep (calling state.now link.now info.now))) (call_cause sink.old.block_count state.now.nominal depth (calling state.now link.now info.now)) → LacksMemory result }
+    ensures cause { OnOk result
+        (call_cause sink.old.block_count state.now.nominal depth
+        (calling state.now link.now info.now) ≡ None) }
+    ensures answer { OnOk result
+        (sink.new
+        ≡ apply_all sink.old
+        (part_fragments (step_parts (CallingStep (calling state.now link.now info.now))))) }
+    ensures lacks { (after : ℕ)
+        → MembersPassed sink.old after depth
+        (step_size (CallingStep (calling state.now link.now info.now)))
+        (call_cause sink.old.block_count state.now.nominal depth
+        (calling state.now link.now info.now)) → LacksMemory result }
     ensures kept { Extends sink.old sink.new }
 {
     match call_cause(sink.block_count(), state, depth, link, info) {
@@ -328,7 +371,9 @@ fn emit_step(
     after: MachLabel,
 ) -> Result<(), EmitError>
     requires { HasRoom sink.old }
-    ensures { Emits flags sink.old sink.new after.0 depth state.now.nominal (nominal_after state.now.nominal inst.now) (Whole (resolved_instruction state.now inst.now) ∷ []) result }
+    ensures { Emits flags sink.old sink.new after.0 depth state.now.nominal
+        (nominal_after state.now.nominal inst.now)
+        (Whole (resolved_instruction state.now inst.now) ∷ []) result }
 {
     sink.start_step()?;
     emit_leaf(flags, sink, state, depth, inst, after)
@@ -345,7 +390,8 @@ fn emit_steps(
 ) -> Result<(), EmitError>
     requires room { HasRoom sink.old }
     requires keep { AllKeepNominal insts.now }
-    ensures { Emits flags sink.old sink.new after.0 depth state.now.nominal state.now.nominal (wholes state.now insts.now) result }
+    ensures { Emits flags sink.old sink.new after.0 depth state.now.nominal state.now.nominal
+        (wholes state.now insts.now) result }
 {
     for inst in insts {
         emit_step(flags, sink, state, depth, inst, after)?;
@@ -375,7 +421,8 @@ fn emit_result(
     after: MachLabel,
 ) -> Result<(), EmitError>
     requires { HasRoom sink.old }
-    ensures { Emits flags sink.old sink.new after.0 depth state.now.nominal state.now.nominal (load_before state.now def.now.vreg def.now.location []) result }
+    ensures { Emits flags sink.old sink.new after.0 depth state.now.nominal state.now.nominal
+        (load_before state.now def.now.vreg def.now.location []) result }
 {
     let RetLocation::Stack(_, _) = def.location else {
         return Ok(());
@@ -396,7 +443,8 @@ fn emit_results(
     after: MachLabel,
 ) -> Result<(), EmitError>
     requires { HasRoom sink.old }
-    ensures { Emits flags sink.old sink.new after.0 depth state.now.nominal state.now.nominal (load_bodies state.now defs.now) result }
+    ensures { Emits flags sink.old sink.new after.0 depth state.now.nominal state.now.nominal
+        (load_bodies state.now defs.now) result }
 {
     for def in defs {
         emit_result(flags, sink, state, depth, def, after)?;
@@ -414,7 +462,9 @@ fn emit_loads(
     after: MachLabel,
 ) -> Result<(), EmitError>
     requires { HasRoom sink.old }
-    ensures { (state : Emission) → behind.now ≡ behind_call state info.now.callee_pop_size → Emits flags sink.old sink.new after.0 depth behind.now.nominal behind.now.nominal (result_bodies state info.now) result }
+    ensures { (state : Emission) → behind.now ≡ behind_call state info.now.callee_pop_size
+        → Emits flags sink.old sink.new after.0 depth behind.now.nominal behind.now.nominal
+        (result_bodies state info.now) result }
 {
     if info.patchable {
         Ok(())
@@ -433,7 +483,8 @@ fn emit_continuation(
     after: MachLabel,
 ) -> Result<(), EmitError>
     requires { HasRoom sink.old }
-    ensures { Emits flags sink.old sink.new after.0 depth state.now.nominal state.now.nominal (continuation_bodies info.now) result }
+    ensures { Emits flags sink.old sink.new after.0 depth state.now.nominal state.now.nominal
+        (continuation_bodies info.now) result }
 {
     match info {
         Some(info) => {
@@ -459,7 +510,8 @@ pub fn emit_call(
     after: MachLabel,
 ) -> Result<(), EmitError>
     requires { HasRoom sink.old }
-    ensures { EmitsOwn flags sink.old sink.new after.0 depth state.now.nominal (leaves (call_bodies state.now link info.now) empty) result }
+    ensures { EmitsOwn flags sink.old sink.new after.0 depth state.now.nominal
+        (leaves (call_bodies state.now link info.now) empty) result }
 {
     emit_call_step(alloc, sink, state, depth, &link, info)?;
     let behind = behind_call(state, info.callee_pop_size);
@@ -471,7 +523,8 @@ pub fn emit_call(
 
 // Whether an offset from a register needs `%r1`, where the rows have these forms.
 fn is_offset_helped(mi: MemInstType, off: i64) -> bool
-    ensures { (reg : Reg) (flags : MachMemFlags) → result ≡ is_helped (finalized mi (RegOffset reg off flags)).helpers }
+    ensures { (reg : Reg) (flags : MachMemFlags)
+        → result ≡ is_helped (finalized mi (RegOffset reg off flags)).helpers }
 {
     if 0 <= off && off <= 4095 {
         false
@@ -567,7 +620,11 @@ fn keep_target(
     dest: &CallInstDest,
 ) -> Result<(Vec<Inst>, CallInstDest), EmitError>
     requires { copied.now ≡ copied_target dest.now }
-    ensures { MatchResult result (λ r. ((stands_in_scratch dest.now && any_helped insts.items) ≡ false) × (r.0.items ≡ insts.items) × (r.1 ≡ jump_target dest.now)) (λ e. ((stands_in_scratch dest.now && any_helped insts.items) ≡ true) × (e ≡ ScratchConflict)) }
+    ensures { MatchResult result
+        (λ r. ((stands_in_scratch dest.now && any_helped insts.items) ≡ false)
+        × (r.0.items ≡ insts.items) × (r.1 ≡ jump_target dest.now))
+        (λ e. ((stands_in_scratch dest.now && any_helped insts.items) ≡ true)
+        × (e ≡ ScratchConflict)) }
 {
     if loses_target(dest, copied, &insts) {
         Err(EmitError::ScratchConflict)
@@ -584,7 +641,11 @@ fn take_down(
     dest: &CallInstDest,
 ) -> Result<(Vec<Inst>, CallInstDest), EmitError>
     requires { is_first_saved layout.now.first_saved_gpr ≡ true }
-    ensures { let is_lost = loses_target layout.now popped dest.now in MatchResult result (λ r. (is_lost ≡ false) × (r.0.items ≡ epilogue layout.now popped dest.now) × (r.1 ≡ jump_target dest.now)) (λ e. (e ≡ NoMemory) ⊎ ((is_lost ≡ true) × (e ≡ ScratchConflict))) }
+    ensures { let is_lost = loses_target layout.now popped dest.now in
+        MatchResult result
+        (λ r. (is_lost ≡ false) × (r.0.items ≡ epilogue layout.now popped dest.now)
+        × (r.1 ≡ jump_target dest.now))
+        (λ e. (e ≡ NoMemory) ⊎ ((is_lost ≡ true) × (e ≡ ScratchConflict))) }
 {
     match gen_tail_epilogue(alloc, layout, popped, dest) {
         Ok((insts, copied)) => keep_target(insts, &copied, dest),
@@ -600,7 +661,11 @@ pub fn open_tail_call(
     popped: u32,
     dest: &CallInstDest,
 ) -> Result<(Vec<Inst>, CallInstDest), EmitError>
-    ensures { let cause = tail_cause dest.now layout.now.first_saved_gpr (loses_target layout.now popped dest.now) in MatchResult result (λ r. (cause ≡ None) × (r.0.items ≡ epilogue layout.now popped dest.now) × (r.1 ≡ jump_target dest.now)) (λ e. (e ≡ NoMemory) ⊎ (cause ≡ Some e)) }
+    ensures { let cause = tail_cause dest.now layout.now.first_saved_gpr
+        (loses_target layout.now popped dest.now) in
+        MatchResult result
+        (λ r. (cause ≡ None) × (r.0.items ≡ epilogue layout.now popped dest.now)
+        × (r.1 ≡ jump_target dest.now)) (λ e. (e ≡ NoMemory) ⊎ (cause ≡ Some e)) }
 {
     if can_open(dest, layout.first_saved_gpr) {
         take_down(alloc, layout, popped, dest)
@@ -611,7 +676,8 @@ pub fn open_tail_call(
 
 // BRANCH RELATIVE ON CONDITION LONG to a symbol, always; linking fills in the distance.
 fn put_jump_symbol(sink: &mut MachBuffer, name: ExternalName) -> Result<(), EmitError>
-    ensures answer { OnOk result (sink.new ≡ apply_all sink.old (part_fragments (CallSymbol None name ∷ []))) }
+    ensures answer { OnOk result
+        (sink.new ≡ apply_all sink.old (part_fragments (CallSymbol None name ∷ []))) }
     ensures lacks { put_cause sink.old 6 ≡ None → LacksMemory result }
     ensures kept { Extends sink.old sink.new }
 {
@@ -623,8 +689,10 @@ fn put_jump_symbol(sink: &mut MachBuffer, name: ExternalName) -> Result<(), Emit
 
 // The jump of a tail call.
 fn put_tail(sink: &mut MachBuffer, dest: &CallInstDest) -> Result<(), EmitError>
-    ensures answer { OnOk result (sink.new ≡ apply_all sink.old (part_fragments (tail_part dest.now ∷ []))) }
-    ensures lacks { put_cause sink.old (call_size dest.now) ≡ None → is_target dest.now ≡ true → LacksMemory result }
+    ensures answer { OnOk result
+        (sink.new ≡ apply_all sink.old (part_fragments (tail_part dest.now ∷ []))) }
+    ensures lacks { put_cause sink.old (call_size dest.now) ≡ None → is_target dest.now ≡ true
+        → LacksMemory result }
     ensures kept { Extends sink.old sink.new }
 {
     match dest {
@@ -636,7 +704,9 @@ fn put_tail(sink: &mut MachBuffer, dest: &CallInstDest) -> Result<(), EmitError>
 // The jump of a tail call as a step, with its site behind it.
 fn emit_tail_jump(sink: &mut MachBuffer, dest: &CallInstDest) -> Result<(), EmitError>
     requires { is_target dest.now ≡ true }
-    ensures { (flags : IsaFlags) (after depth nominal : ℕ) → Emits flags sink.old sink.new after depth nominal nominal (TailJump dest.now ∷ []) result }
+    ensures { (flags : IsaFlags) (after depth nominal : ℕ)
+        → Emits flags sink.old sink.new after depth nominal nominal (TailJump dest.now ∷ [])
+        result }
 {
     sink.start_step()?;
     put_tail(sink, dest)?;
@@ -655,7 +725,8 @@ pub fn emit_tail_call(
     after: MachLabel,
 ) -> Result<(), EmitError>
     requires { HasRoom sink.old }
-    ensures { EmitsOwn flags sink.old sink.new after.0 depth state.now.nominal (leaves (tail_bodies state.now info.now.callee_pop_size info.now.dest) empty) result }
+    ensures { EmitsOwn flags sink.old sink.new after.0 depth state.now.nominal
+        (leaves (tail_bodies state.now info.now.callee_pop_size info.now.dest) empty) result }
 {
     let (insts, dest) = open_tail_call(
         alloc,

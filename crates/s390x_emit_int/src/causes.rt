@@ -66,7 +66,8 @@ fn labels_cause(blocks: u32, labels: &[MachLabel]) -> Option<EmitError>
 
 /// Why one of two labels names no block.
 pub fn two_labels_cause(blocks: u32, taken: MachLabel, not_taken: MachLabel) -> Option<EmitError>
-    ensures { result ≡ first_emit_cause (target_label_cause blocks taken) (target_label_cause blocks not_taken) }
+    ensures { result
+        ≡ first_emit_cause (target_label_cause blocks taken) (target_label_cause blocks not_taken) }
 {
     match label_cause(blocks, taken) {
         Some(error) => Some(error),
@@ -75,7 +76,9 @@ pub fn two_labels_cause(blocks: u32, taken: MachLabel, not_taken: MachLabel) -> 
 }
 
 fn address_cause(blocks: u32, dst: &Reg, label: MachLabel) -> Option<EmitError>
-    ensures { result ≡ first_emit_cause (unless (is_general dst.now) BadRegister) (target_label_cause blocks label) }
+    ensures { result
+        ≡ first_emit_cause (unless (is_general dst.now) BadRegister)
+        (target_label_cause blocks label) }
 {
     if general(dst) {
         label_cause(blocks, label)
@@ -85,7 +88,9 @@ fn address_cause(blocks: u32, dst: &Reg, label: MachLabel) -> Option<EmitError>
 }
 
 fn indirect_cause(blocks: u32, rn: Reg, targets: &[MachLabel]) -> Option<EmitError>
-    ensures { result ≡ first_emit_cause (unless (is_general rn && is_nonzero rn) BadRegister) (labels_cause blocks targets.now) }
+    ensures { result
+        ≡ first_emit_cause (unless (is_general rn && is_nonzero rn) BadRegister)
+        (labels_cause blocks targets.now) }
 {
     if branchable(rn) {
         labels_cause(blocks, targets)
@@ -153,7 +158,9 @@ pub fn branch_cause(blocks: u32, depth: u32, inst: &Inst) -> Option<EmitError>
 
 // The first cause of an instruction that isn't one machine instruction.
 fn memory_cause(state: &EmitState, sink: &MachBuffer, depth: u32, inst: &Inst) -> Option<EmitError>
-    ensures { result ≡ memory_cause_or (declared_in sink.now) (memory (resolved_instruction state.now inst.now)) (branch_cause sink.now.block_count depth inst.now) }
+    ensures { result
+        ≡ memory_cause_or (declared_in sink.now) (memory (resolved_instruction state.now inst.now))
+        (branch_cause sink.now.block_count depth inst.now) }
 {
     match find_memory(inst) {
         Some(found) => found.cause(sink, state),
@@ -163,7 +170,8 @@ fn memory_cause(state: &EmitState, sink: &MachBuffer, depth: u32, inst: &Inst) -
 
 /// Why one machine instruction is refused.
 pub fn found_cause(found: Result<Code, EmitError>) -> Option<EmitError>
-    ensures { (x : SingleInstruction) → found ≡ code_where x.operands_valid x.row → result ≡ unless x.operands_valid BadRegister }
+    ensures { (x : SingleInstruction) → found ≡ code_where x.operands_valid x.row
+        → result ≡ unless x.operands_valid BadRegister }
 {
     match found {
         Ok(_) => None,
@@ -173,7 +181,11 @@ pub fn found_cause(found: Result<Code, EmitError>) -> Option<EmitError>
 
 // The first cause of an instruction whose facility is there.
 fn other_cause(state: &EmitState, sink: &MachBuffer, depth: u32, inst: &Inst) -> Option<EmitError>
-    ensures { result ≡ cause_or (single_instruction inst.now) (memory_cause_or (declared_in sink.now) (memory (resolved_instruction state.now inst.now)) (branch_cause sink.now.block_count depth inst.now)) }
+    ensures { result
+        ≡ cause_or (single_instruction inst.now)
+        (memory_cause_or (declared_in sink.now)
+        (memory (resolved_instruction state.now inst.now))
+        (branch_cause sink.now.block_count depth inst.now)) }
 {
     match find_single_instruction(inst) {
         Some(found) => found_cause(found),
@@ -183,7 +195,12 @@ fn other_cause(state: &EmitState, sink: &MachBuffer, depth: u32, inst: &Inst) ->
 
 // The same, behind the cause by the stack sizes.
 fn later_cause(state: &EmitState, sink: &MachBuffer, depth: u32, inst: &Inst) -> Option<EmitError>
-    ensures { result ≡ first_emit_cause (stack_cause state.now.nominal depth inst.now) (cause_or (single_instruction inst.now) (memory_cause_or (declared_in sink.now) (memory (resolved_instruction state.now inst.now)) (branch_cause sink.now.block_count depth inst.now))) }
+    ensures { result
+        ≡ first_emit_cause (stack_cause state.now.nominal depth inst.now)
+        (cause_or (single_instruction inst.now)
+        (memory_cause_or (declared_in sink.now)
+        (memory (resolved_instruction state.now inst.now))
+        (branch_cause sink.now.block_count depth inst.now))) }
 {
     match stack_cause(state, depth, inst) {
         Some(error) => Some(error),
@@ -218,7 +235,9 @@ fn stack_or_numbers_cause(
     depth: u32,
     inst: &Inst,
 ) -> Option<EmitError>
-    ensures { result ≡ first_emit_cause (stack_cause state.now.nominal depth inst.now) (numbers_cause (length sink.now.labels) (instruction_fresh_labels inst.now)) }
+    ensures { result
+        ≡ first_emit_cause (stack_cause state.now.nominal depth inst.now)
+        (numbers_cause (length sink.now.labels) (instruction_fresh_labels inst.now)) }
 {
     match stack_cause(state, depth, inst) {
         Some(error) => Some(error),
@@ -234,7 +253,10 @@ pub fn outer_cause(
     depth: u32,
     inst: &Inst,
 ) -> Option<EmitError>
-    ensures { result ≡ first_emit_cause (facility_cause flags inst.now) (first_emit_cause (stack_cause state.now.nominal depth inst.now) (numbers_cause (length sink.now.labels) (instruction_fresh_labels inst.now))) }
+    ensures { result
+        ≡ first_emit_cause (facility_cause flags inst.now)
+        (first_emit_cause (stack_cause state.now.nominal depth inst.now)
+        (numbers_cause (length sink.now.labels) (instruction_fresh_labels inst.now))) }
 {
     match facility_cause(flags, inst) {
         Some(error) => Some(error),
@@ -251,7 +273,9 @@ pub fn instruction_cause(
     depth: u32,
     inst: &Inst,
 ) -> Option<EmitError>
-    ensures { result ≡ instruction_cause flags (declared_in sink.now) state.now.nominal depth (resolved_instruction state.now inst.now) }
+    ensures { result
+        ≡ instruction_cause flags (declared_in sink.now) state.now.nominal depth
+        (resolved_instruction state.now inst.now) }
 {
     match facility_cause(flags, inst) {
         Some(error) => Some(error),

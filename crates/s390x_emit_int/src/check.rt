@@ -73,7 +73,12 @@ fn branch_size(inst: &Inst) -> u64
 
 // The size of an instruction that isn't one machine instruction, counted up to the limit of code.
 fn other_size(state: &EmitState, inst: &Inst) -> u64
-    ensures value { (D : Declared) → memory_cause_or D (memory (resolved_instruction state.now inst.now)) None ≡ None → min code_limit result ≡ min code_limit (memory_size_or (memory (resolved_instruction state.now inst.now)) (branch_size inst.now)) }
+    ensures value { (D : Declared)
+        → memory_cause_or D (memory (resolved_instruction state.now inst.now)) None ≡ None
+        → min code_limit result
+        ≡ min code_limit
+        (memory_size_or (memory (resolved_instruction state.now inst.now))
+        (branch_size inst.now)) }
     ensures few { result ≤ code_limit }
 {
     match find_memory(inst) {
@@ -84,7 +89,8 @@ fn other_size(state: &EmitState, inst: &Inst) -> u64
 
 // The size of one machine instruction whose registers may stand there.
 fn found_size(found: Result<Code, EmitError>) -> u64
-    ensures value { (x : SingleInstruction) → found ≡ code_where x.operands_valid x.row → x.operands_valid ≡ true → result ≡ size_of x.row }
+    ensures value { (x : SingleInstruction) → found ≡ code_where x.operands_valid x.row
+        → x.operands_valid ≡ true → result ≡ size_of x.row }
     ensures few { result ≤ 6 }
 {
     match found {
@@ -95,7 +101,10 @@ fn found_size(found: Result<Code, EmitError>) -> u64
 
 // The size of an instruction that no cause refuses, counted up to the limit of code.
 fn size_of(state: &EmitState, inst: &Inst) -> u64
-    ensures value { (flags : IsaFlags) (D : Declared) (nominal depth : ℕ) → instruction_cause flags D nominal depth (resolved_instruction state.now inst.now) ≡ None → min code_limit result ≡ min code_limit (instruction_size (resolved_instruction state.now inst.now)) }
+    ensures value { (flags : IsaFlags) (D : Declared) (nominal depth : ℕ)
+        → instruction_cause flags D nominal depth (resolved_instruction state.now inst.now) ≡ None
+        → min code_limit result
+        ≡ min code_limit (instruction_size (resolved_instruction state.now inst.now)) }
     ensures few { result ≤ code_limit }
 {
     match find_single_instruction(inst) {
@@ -133,7 +142,9 @@ pub fn add(t: Totals, labels: u64, bytes: u64) -> Result<Totals, EmitError>
     requires counted { IsCounted t }
     requires few { labels ≤ 2 }
     requires short { bytes ≤ code_limit }
-    ensures { MatchResult result (λ r. (numbers_cause t.labels labels ≡ None) × Adds t r labels bytes) (λ e. numbers_cause t.labels labels ≡ Some e) }
+    ensures { MatchResult result
+        (λ r. (numbers_cause t.labels labels ≡ None) × Adds t r labels bytes)
+        (λ e. numbers_cause t.labels labels ≡ Some e) }
 {
     if t.labels + labels > 4294967296 {
         return Err(EmitError::LabelOutOfRange);
@@ -156,7 +167,11 @@ pub fn check_leaf(
     inst: &Inst,
 ) -> Result<Totals, EmitError>
     requires { IsCounted t }
-    ensures { let j = resolved_instruction state.now inst.now in let cause = leaf_cause flags (declared_in sink.now) t.labels state.now.nominal depth j in MatchResult result (λ r. (cause ≡ None) × Adds t r (instruction_fresh_labels j) (instruction_size j)) (λ e. cause ≡ Some e) }
+    ensures { let j = resolved_instruction state.now inst.now in
+        let cause = leaf_cause flags (declared_in sink.now) t.labels state.now.nominal depth j in
+        MatchResult result
+        (λ r. (cause ≡ None) × Adds t r (instruction_fresh_labels j) (instruction_size j))
+        (λ e. cause ≡ Some e) }
 {
     match instruction_cause(flags, state, sink, depth, inst) {
         Some(error) => Err(error),
@@ -168,7 +183,10 @@ pub fn check_leaf(
 /// `NestedTooDeep` where loops nest eight deep already.
 pub fn open_loop(t: Totals, depth: u32) -> Result<Totals, EmitError>
     requires { IsCounted t }
-    ensures { MatchResult result (λ r. (first_emit_cause (nesting_cause depth) (numbers_cause t.labels 2) ≡ None) × Adds t r 2 0 × (depth < 8)) (λ e. first_emit_cause (nesting_cause depth) (numbers_cause t.labels 2) ≡ Some e) }
+    ensures { MatchResult result
+        (λ r. (first_emit_cause (nesting_cause depth) (numbers_cause t.labels 2) ≡ None)
+        × Adds t r 2 0 × (depth < 8))
+        (λ e. first_emit_cause (nesting_cause depth) (numbers_cause t.labels 2) ≡ Some e) }
 {
     if depth < 8 {
         add(t, 2, 0)
@@ -190,7 +208,13 @@ pub fn check_members(
     insts: &[Inst],
 ) -> Result<Totals, EmitError>
     requires { IsCounted t }
-    ensures { let members = members_of flags state.old insts.now in let cause = tree_cause flags (declared_in sink.now) t.labels state.old.nominal depth members in MatchResult result (λ r. (cause ≡ None) × Adds t r (fresh_labels members) (tree_size members) × (state.new.nominal ≡ nominal_behind state.old.nominal members)) (λ e. (e ≡ NoMemory) ⊎ (cause ≡ Some e)) }
+    ensures { let members = members_of flags state.old insts.now in
+        let cause = tree_cause flags (declared_in sink.now) t.labels state.old.nominal depth
+        members in
+        MatchResult result
+        (λ r. (cause ≡ None) × Adds t r (fresh_labels members) (tree_size members)
+        × (state.new.nominal ≡ nominal_behind state.old.nominal members))
+        (λ e. (e ≡ NoMemory) ⊎ (cause ≡ Some e)) }
 {
     let mut sum = t;
     for inst in insts {
@@ -212,7 +236,8 @@ pub fn check_inst(
     inst: &Inst,
 ) -> Result<Totals, EmitError>
     requires { IsCounted t }
-    ensures { ChecksTree flags (declared_in sink.now) t depth state.now.nominal (member_of flags state.now inst.now) result }
+    ensures { ChecksTree flags (declared_in sink.now) t depth state.now.nominal
+        (member_of flags state.now inst.now) result }
 {
     match inst {
         Inst::Loop { body, .. } => check_loop(alloc, flags, state, sink, t, depth, body),
@@ -234,8 +259,13 @@ fn check_loop(
 ) -> Result<Totals, EmitError>
     requires { IsCounted t }
     ensures { let members = members_of flags (without_map state.now) body.now in
-        let cause = first_emit_cause (first_emit_cause (nesting_cause depth) (numbers_cause t.labels 2)) (tree_cause flags (declared_in sink.now) (t.labels + 2) state.now.nominal (depth + 1) members) in
-        MatchResult result (λ r. (cause ≡ None) × Adds t r (2 + fresh_labels members) (tree_size members + 6)) (λ e. (e ≡ NoMemory) ⊎ (cause ≡ Some e)) }
+        let cause = first_emit_cause
+        (first_emit_cause (nesting_cause depth) (numbers_cause t.labels 2))
+        (tree_cause flags (declared_in sink.now) (t.labels + 2) state.now.nominal (depth + 1)
+        members) in
+        MatchResult result
+        (λ r. (cause ≡ None) × Adds t r (2 + fresh_labels members) (tree_size members + 6))
+        (λ e. (e ≡ NoMemory) ⊎ (cause ≡ Some e)) }
 {
     let opened = open_loop(t, depth)?;
     let mut inside = *state;
@@ -254,7 +284,12 @@ fn check_block_members(
     insts: &[Inst],
 ) -> Result<Totals, EmitError>
     requires { IsCounted t }
-    ensures { let members = block_members_of flags state.old insts.now in let cause = tree_cause flags (declared_in sink.now) t.labels state.old.nominal 0 members in MatchResult result (λ r. (cause ≡ None) × Adds t r (fresh_labels members) (tree_size members) × (state.new.nominal ≡ nominal_behind state.old.nominal members)) (λ e. (e ≡ NoMemory) ⊎ (cause ≡ Some e)) }
+    ensures { let members = block_members_of flags state.old insts.now in
+        let cause = tree_cause flags (declared_in sink.now) t.labels state.old.nominal 0 members in
+        MatchResult result
+        (λ r. (cause ≡ None) × Adds t r (fresh_labels members) (tree_size members)
+        × (state.new.nominal ≡ nominal_behind state.old.nominal members))
+        (λ e. (e ≡ NoMemory) ⊎ (cause ≡ Some e)) }
 {
     let mut sum = t;
     for inst in insts {
@@ -276,7 +311,15 @@ pub fn check_block(
 ) -> Result<Totals, EmitError>
     requires counted { IsCounted t }
     requires start { state.now.nominal ≡ 0 }
-    ensures { MatchResult result (λ r. (block_cause flags (declared_in sink.now) t.labels (tree_of flags state.now block.now) ≡ None) × Adds t r (fresh_labels (tree_of flags state.now block.now)) (tree_size (tree_of flags state.now block.now))) (λ e. (e ≡ NoMemory) ⊎ (block_cause flags (declared_in sink.now) t.labels (tree_of flags state.now block.now) ≡ Some e)) }
+    ensures { MatchResult result
+        (λ r.
+        (block_cause flags (declared_in sink.now) t.labels (tree_of flags state.now block.now)
+        ≡ None)
+        × Adds t r (fresh_labels (tree_of flags state.now block.now))
+        (tree_size (tree_of flags state.now block.now)))
+        (λ e. (e ≡ NoMemory)
+        ⊎ (block_cause flags (declared_in sink.now) t.labels (tree_of flags state.now block.now)
+        ≡ Some e)) }
 {
     let mut behind = *state;
     let sum = check_block_members(alloc, flags, &mut behind, sink, t, &block.insts)?;

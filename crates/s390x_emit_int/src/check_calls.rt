@@ -29,7 +29,9 @@ fn check_step(
     inst: &Inst,
 ) -> Result<Totals, EmitError>
     requires { IsCounted t }
-    ensures { Checks flags (declared_in sink.now) t depth state.now.nominal (nominal_after state.now.nominal inst.now) (Whole (resolved_instruction state.now inst.now) ∷ []) result }
+    ensures { Checks flags (declared_in sink.now) t depth state.now.nominal
+        (nominal_after state.now.nominal inst.now)
+        (Whole (resolved_instruction state.now inst.now) ∷ []) result }
 {
     check_leaf(flags, state, sink, t, depth, inst)
 }
@@ -45,7 +47,8 @@ fn check_steps(
 ) -> Result<Totals, EmitError>
     requires counted { IsCounted t }
     requires keep { AllKeepNominal insts.now }
-    ensures { Checks flags (declared_in sink.now) t depth state.now.nominal state.now.nominal (wholes state.now insts.now) result }
+    ensures { Checks flags (declared_in sink.now) t depth state.now.nominal state.now.nominal
+        (wholes state.now insts.now) result }
 {
     let mut sum = t;
     for inst in insts {
@@ -64,7 +67,8 @@ fn check_result(
     def: &CallRetPair,
 ) -> Result<Totals, EmitError>
     requires { IsCounted t }
-    ensures { Checks flags (declared_in sink.now) t depth state.now.nominal state.now.nominal (load_before state.now def.now.vreg def.now.location []) result }
+    ensures { Checks flags (declared_in sink.now) t depth state.now.nominal state.now.nominal
+        (load_before state.now def.now.vreg def.now.location []) result }
 {
     let RetLocation::Stack(_, _) = def.location else {
         return Ok(t);
@@ -85,7 +89,8 @@ fn check_results(
     defs: &[CallRetPair],
 ) -> Result<Totals, EmitError>
     requires { IsCounted t }
-    ensures { Checks flags (declared_in sink.now) t depth state.now.nominal state.now.nominal (load_bodies state.now defs.now) result }
+    ensures { Checks flags (declared_in sink.now) t depth state.now.nominal state.now.nominal
+        (load_bodies state.now defs.now) result }
 {
     let mut sum = t;
     for def in defs {
@@ -104,7 +109,9 @@ fn check_loads(
     info: &CallInfo,
 ) -> Result<Totals, EmitError>
     requires { IsCounted t }
-    ensures { (state : Emission) → behind.now ≡ behind_call state info.now.callee_pop_size → Checks flags (declared_in sink.now) t depth behind.now.nominal behind.now.nominal (result_bodies state info.now) result }
+    ensures { (state : Emission) → behind.now ≡ behind_call state info.now.callee_pop_size
+        → Checks flags (declared_in sink.now) t depth behind.now.nominal behind.now.nominal
+        (result_bodies state info.now) result }
 {
     if info.patchable {
         Ok(t)
@@ -123,7 +130,8 @@ fn check_continuation(
     info: &Option<TryCallInfo>,
 ) -> Result<Totals, EmitError>
     requires { IsCounted t }
-    ensures { Checks flags (declared_in sink.now) t depth state.now.nominal state.now.nominal (continuation_bodies info.now) result }
+    ensures { Checks flags (declared_in sink.now) t depth state.now.nominal state.now.nominal
+        (continuation_bodies info.now) result }
 {
     match info {
         Some(info) => {
@@ -148,7 +156,8 @@ pub fn check_call(
     info: &CallInfo,
 ) -> Result<Totals, EmitError>
     requires { IsCounted t }
-    ensures { ChecksTree flags (declared_in sink.now) t depth state.now.nominal (leaves (call_bodies state.now link info.now) empty) result }
+    ensures { ChecksTree flags (declared_in sink.now) t depth state.now.nominal
+        (leaves (call_bodies state.now link info.now) empty) result }
 {
     if let Some(error) = call_cause(sink.block_count(), state, depth, &link, info) {
         return Err(error);
@@ -170,7 +179,8 @@ pub fn check_tail_call(
     info: &ReturnCallInfo<CallInstDest>,
 ) -> Result<Totals, EmitError>
     requires { IsCounted t }
-    ensures { ChecksTree flags (declared_in sink.now) t depth state.now.nominal (leaves (tail_bodies state.now info.now.callee_pop_size info.now.dest) empty) result }
+    ensures { ChecksTree flags (declared_in sink.now) t depth state.now.nominal
+        (leaves (tail_bodies state.now info.now.callee_pop_size info.now.dest) empty) result }
 {
     let (insts, dest) = open_tail_call(
         alloc,

@@ -53,7 +53,9 @@ pub fn two_operands(valid: bool, opcode: u16, r1: Reg, r2: Reg) -> Result<Code, 
 /// Three registers. The encoding call asks itself whether they are general. `BadRegister` comes where a register may
 /// not stand there.
 pub fn three_operands(opcode: u16, r1: &Reg, r2: &Reg, r3: &Reg) -> Result<Code, EmitError>
-    ensures { result ≡ code_where (is_general r1.now && is_general r2.now && is_general r3.now) (rrf_ab opcode (number_of r1.now) (number_of r2.now) (number_of r3.now) 0) }
+    ensures { result
+        ≡ code_where (is_general r1.now && is_general r2.now && is_general r3.now)
+        (rrf_ab opcode (number_of r1.now) (number_of r2.now) (number_of r3.now) 0) }
 {
     read_number(r1);
     read_number(r2);
@@ -106,7 +108,8 @@ pub fn word(valid: bool, opcode: ShortOpcode, r1: Reg, imm: u32) -> Result<Code,
 /// Two registers and a mask of 4 bits. `BadRegister` comes where a register may not stand there.
 pub fn masked(valid: bool, opcode: u16, r1: Reg, r2: Reg, mask: u8) -> Result<Code, EmitError>
     requires { implies valid (is_general r1 && is_general r2) ≡ true }
-    ensures { result ≡ code_where valid (rrf_cde opcode (number_of r1) (number_of r2) (four_bits mask) 0) }
+    ensures { result
+        ≡ code_where valid (rrf_cde opcode (number_of r1) (number_of r2) (four_bits mask) 0) }
 {
     if valid {
         enc_rrf_cde(opcode, r1, r2, mask % 16, 0)
@@ -165,7 +168,8 @@ pub fn selected(
     rotated: u8,
 ) -> Result<Code, EmitError>
     requires { implies valid (is_general r1 && is_general r2) ≡ true }
-    ensures { result ≡ code_where valid (rie_f opcode (number_of r1) (number_of r2) first end rotated) }
+    ensures { result
+        ≡ code_where valid (rie_f opcode (number_of r1) (number_of r2) first end rotated) }
 {
     if valid {
         enc_rie_f(opcode, r1, r2, first, end, rotated)
@@ -185,7 +189,8 @@ pub fn shifted(
     amount: u8,
 ) -> Result<Code, EmitError>
     requires { implies valid (is_general r1 && is_general r3 && is_general b2) ≡ true }
-    ensures { result ≡ code_where valid (rsy opcode (number_of r1) (number_of r3) (number_of b2) amount) }
+    ensures { result
+        ≡ code_where valid (rsy opcode (number_of r1) (number_of r3) (number_of b2) amount) }
 {
     if valid {
         enc_rsy(opcode, r1, r3, b2, u32::from(amount))
@@ -206,7 +211,10 @@ pub fn indexed(
 ) -> Result<Code, EmitError>
     requires general { takes_general (Some opcode) ≡ true }
     requires valid { implies valid (is_general r1 && is_general b2 && is_general x2) ≡ true }
-    ensures { result ≡ code_where valid (rxy opcode (number_of r1) (number_of b2) (number_of x2) (low_displacement displacement)) }
+    ensures { result
+        ≡ code_where valid
+        (rxy opcode (number_of r1) (number_of b2) (number_of x2)
+        (low_displacement displacement)) }
 {
     if valid {
         enc_rxy(opcode, r1, b2, x2, low_displacement(displacement))

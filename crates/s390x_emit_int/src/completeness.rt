@@ -14,11 +14,17 @@ ghost use Rattle.s390x_emit_int.specs.Fragments.{apply_all};
 
 /// Where the check finds no cause, none keeps the buffer that emission makes from being finished.
 pub fn checked_functions_finish()
-    ensures { (flags : IsaFlags) (ts : List Tree) (cs : List Constant) → checked_cause flags ts cs ≡ None → finish_cause (apply_all (fresh_buffer (length (folded_trees ts)) cs) (function_fragments (length (folded_trees ts) + length cs) 0 (folded_trees ts))) ≡ None }
+    ensures { (flags : IsaFlags) (ts : List Tree) (cs : List Constant)
+        → checked_cause flags ts cs ≡ None
+        → finish_cause
+        (apply_all (fresh_buffer (length (folded_trees ts)) cs)
+        (function_fragments (length (folded_trees ts) + length cs) 0 (folded_trees ts)))
+        ≡ None }
 {}
 
 /// An instruction with a memory operand, whose registers may stand there, is what the emitter of its rows' format puts, with the registers or the
 /// immediate of a call: so the emitters and `emit` can't drift apart.
 pub fn accesses_are_emitted()
-    ensures { (i : Inst) (x : MemoryInstruction) → memory i ≡ Some x → x.operands_valid ≡ true → IsEmitted x }
+    ensures { (i : Inst) (x : MemoryInstruction) → memory i ≡ Some x → x.operands_valid ≡ true
+        → IsEmitted x }
 {}

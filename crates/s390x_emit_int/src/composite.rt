@@ -34,7 +34,8 @@ fn unless_valid(valid: bool) -> Option<EmitError>
 }
 
 fn reversal_cause(count: u64, rd: &Reg, rn: &Reg) -> Option<EmitError>
-    ensures { (d n : ℕ) → result ≡ rows_cause (reversing_rows count d n) (is_vector rd.now && is_vector rn.now) }
+    ensures { (d n : ℕ)
+        → result ≡ rows_cause (reversing_rows count d n) (is_vector rd.now && is_vector rn.now) }
 {
     let valid = real_vector(rd) && real_vector(rn);
     match count {
@@ -44,7 +45,8 @@ fn reversal_cause(count: u64, rd: &Reg, rn: &Reg) -> Option<EmitError>
 }
 
 fn comparison_cause(tmp: &Reg, rn: &Reg, rm: &Reg) -> Option<EmitError>
-    ensures { result ≡ cond (is_vector tmp.now && is_vector rn.now && is_vector rm.now) None (Some BadRegister) }
+    ensures { result
+        ≡ cond (is_vector tmp.now && is_vector rn.now && is_vector rm.now) None (Some BadRegister) }
 {
     let valid = real_vector(tmp) && real_vector(rn) && real_vector(rm);
     unless_valid(valid)
@@ -65,7 +67,8 @@ pub fn composite_cause(inst: &VecInst) -> Option<EmitError>
 
 #[tactic(auto, unfolding(s390x_format::specs::Formats::length_of))]
 fn reversal_size(count: u64) -> u64
-    ensures value { (d n : ℕ) → result ≡ parts_size (row_parts (rows_or_none (reversing_rows count d n))) }
+    ensures value { (d n : ℕ)
+        → result ≡ parts_size (row_parts (rows_or_none (reversing_rows count d n))) }
     ensures few { result < 32 }
 {
     match count {
@@ -92,8 +95,10 @@ pub fn composite_size(inst: &VecInst) -> u64
 
 // A machine instruction.
 fn put_row(sink: &mut MachBuffer, code: &Code) -> Result<(), EmitError>
-    ensures answer { (m : MachineInstruction) → code.now ≡ bytes_of m → OnOk result (sink.new ≡ apply_all sink.old (part_fragments (Row m ∷ []))) }
-    ensures lacks { (m : MachineInstruction) → code.now ≡ bytes_of m → put_cause sink.old (size_of m) ≡ None → LacksMemory result }
+    ensures answer { (m : MachineInstruction) → code.now ≡ bytes_of m
+        → OnOk result (sink.new ≡ apply_all sink.old (part_fragments (Row m ∷ []))) }
+    ensures lacks { (m : MachineInstruction) → code.now ≡ bytes_of m
+        → put_cause sink.old (size_of m) ≡ None → LacksMemory result }
     ensures kept { Extends sink.old sink.new }
 {
     sink.put_code(code)
@@ -101,8 +106,10 @@ fn put_row(sink: &mut MachBuffer, code: &Code) -> Result<(), EmitError>
 
 // The same, where its registers may stand there.
 fn put_found(sink: &mut MachBuffer, found: Result<Code, EmitError>) -> Result<(), EmitError>
-    ensures answer { (valid : Bool) (m : MachineInstruction) → found ≡ code_where valid m → OnOk result (sink.new ≡ apply_all sink.old (part_fragments (Row m ∷ []))) }
-    ensures lacks { (valid : Bool) (m : MachineInstruction) → found ≡ code_where valid m → put_cause sink.old (size_of m) ≡ None → valid ≡ true → LacksMemory result }
+    ensures answer { (valid : Bool) (m : MachineInstruction) → found ≡ code_where valid m
+        → OnOk result (sink.new ≡ apply_all sink.old (part_fragments (Row m ∷ []))) }
+    ensures lacks { (valid : Bool) (m : MachineInstruction) → found ≡ code_where valid m
+        → put_cause sink.old (size_of m) ≡ None → valid ≡ true → LacksMemory result }
     ensures kept { Extends sink.old sink.new }
 {
     match found {
@@ -113,8 +120,13 @@ fn put_found(sink: &mut MachBuffer, found: Result<Code, EmitError>) -> Result<()
 
 // The doublewords change places.
 fn exchange_doublewords(sink: &mut MachBuffer, rd: &Reg, rn: &Reg) -> Result<(), EmitError>
-    ensures answer { OnOk result (sink.new ≡ apply_all sink.old (part_fragments (Row (exchanges_doublewords (number_of rd.now) (number_of rn.now)) ∷ []))) }
-    ensures lacks { put_cause sink.old 6 ≡ None → (is_vector rd.now && is_vector rn.now) ≡ true → LacksMemory result }
+    ensures answer { OnOk result
+        (sink.new
+        ≡ apply_all sink.old
+        (part_fragments
+        (Row (exchanges_doublewords (number_of rd.now) (number_of rn.now)) ∷ []))) }
+    ensures lacks { put_cause sink.old 6 ≡ None → (is_vector rd.now && is_vector rn.now) ≡ true
+        → LacksMemory result }
     ensures kept { Extends sink.old sink.new }
 {
     let row = VectorOpcode {
@@ -129,7 +141,10 @@ fn exchange_doublewords(sink: &mut MachBuffer, rd: &Reg, rn: &Reg) -> Result<(),
 fn exchange_halves(sink: &mut MachBuffer, rd: &Reg, code: u8, half: u32) -> Result<(), EmitError>
     requires code { code < 16 }
     requires half { half < 4096 }
-    ensures answer { OnOk result (sink.new ≡ apply_all sink.old (part_fragments (Row (exchanges_halves (number_of rd.now) code half) ∷ []))) }
+    ensures answer { OnOk result
+        (sink.new
+        ≡ apply_all sink.old
+        (part_fragments (Row (exchanges_halves (number_of rd.now) code half) ∷ []))) }
     ensures lacks { put_cause sink.old 6 ≡ None → is_vector rd.now ≡ true → LacksMemory result }
     ensures kept { Extends sink.old sink.new }
 {
@@ -142,8 +157,15 @@ fn exchange_halves(sink: &mut MachBuffer, rd: &Reg, code: u8, half: u32) -> Resu
 }
 
 fn reverse_words(sink: &mut MachBuffer, rd: &Reg, rn: &Reg) -> Result<(), EmitError>
-    ensures answer { let d = number_of rd.now in OnOk result (sink.new ≡ apply_all sink.old (part_fragments (Row (exchanges_doublewords d (number_of rn.now)) ∷ Row (exchanges_halves d 3 32) ∷ []))) }
-    ensures lacks { put_cause sink.old 12 ≡ None → (is_vector rd.now && is_vector rn.now) ≡ true → LacksMemory result }
+    ensures answer { let d = number_of rd.now in
+        OnOk result
+        (sink.new
+        ≡ apply_all sink.old
+        (part_fragments
+        (Row (exchanges_doublewords d (number_of rn.now)) ∷ Row (exchanges_halves d 3 32)
+        ∷ []))) }
+    ensures lacks { put_cause sink.old 12 ≡ None → (is_vector rd.now && is_vector rn.now) ≡ true
+        → LacksMemory result }
     ensures kept { Extends sink.old sink.new }
 {
     exchange_doublewords(sink, rd, rn)?;
@@ -151,8 +173,15 @@ fn reverse_words(sink: &mut MachBuffer, rd: &Reg, rn: &Reg) -> Result<(), EmitEr
 }
 
 fn reverse_halfwords(sink: &mut MachBuffer, rd: &Reg, rn: &Reg) -> Result<(), EmitError>
-    ensures answer { let d = number_of rd.now in OnOk result (sink.new ≡ apply_all sink.old (part_fragments (Row (exchanges_doublewords d (number_of rn.now)) ∷ Row (exchanges_halves d 3 32) ∷ Row (exchanges_halves d 2 16) ∷ []))) }
-    ensures lacks { put_cause sink.old 18 ≡ None → (is_vector rd.now && is_vector rn.now) ≡ true → LacksMemory result }
+    ensures answer { let d = number_of rd.now in
+        OnOk result
+        (sink.new
+        ≡ apply_all sink.old
+        (part_fragments
+        (Row (exchanges_doublewords d (number_of rn.now)) ∷ Row (exchanges_halves d 3 32)
+        ∷ Row (exchanges_halves d 2 16) ∷ []))) }
+    ensures lacks { put_cause sink.old 18 ≡ None → (is_vector rd.now && is_vector rn.now) ≡ true
+        → LacksMemory result }
     ensures kept { Extends sink.old sink.new }
 {
     reverse_words(sink, rd, rn)?;
@@ -160,8 +189,15 @@ fn reverse_halfwords(sink: &mut MachBuffer, rd: &Reg, rn: &Reg) -> Result<(), Em
 }
 
 fn reverse_bytes(sink: &mut MachBuffer, rd: &Reg, rn: &Reg) -> Result<(), EmitError>
-    ensures answer { let d = number_of rd.now in OnOk result (sink.new ≡ apply_all sink.old (part_fragments (Row (exchanges_doublewords d (number_of rn.now)) ∷ Row (exchanges_halves d 3 32) ∷ Row (exchanges_halves d 2 16) ∷ Row (exchanges_halves d 1 8) ∷ []))) }
-    ensures lacks { put_cause sink.old 24 ≡ None → (is_vector rd.now && is_vector rn.now) ≡ true → LacksMemory result }
+    ensures answer { let d = number_of rd.now in
+        OnOk result
+        (sink.new
+        ≡ apply_all sink.old
+        (part_fragments
+        (Row (exchanges_doublewords d (number_of rn.now)) ∷ Row (exchanges_halves d 3 32)
+        ∷ Row (exchanges_halves d 2 16) ∷ Row (exchanges_halves d 1 8) ∷ []))) }
+    ensures lacks { put_cause sink.old 24 ≡ None → (is_vector rd.now && is_vector rn.now) ≡ true
+        → LacksMemory result }
     ensures kept { Extends sink.old sink.new }
 {
     reverse_halfwords(sink, rd, rn)?;
@@ -170,8 +206,15 @@ fn reverse_bytes(sink: &mut MachBuffer, rd: &Reg, rn: &Reg) -> Result<(), EmitEr
 
 // So many elements in reverse order.
 fn emit_reversal(sink: &mut MachBuffer, count: u64, rd: &Reg, rn: &Reg) -> Result<(), EmitError>
-    ensures answer { OnOk result (sink.new ≡ apply_all sink.old (part_fragments (row_parts (rows_or_none (reversing_rows count (number_of rd.now) (number_of rn.now)))))) }
-    ensures lacks { let rows = reversing_rows count (number_of rd.now) (number_of rn.now) in put_cause sink.old (parts_size (row_parts (rows_or_none rows))) ≡ None → rows_cause rows (is_vector rd.now && is_vector rn.now) ≡ None → LacksMemory result }
+    ensures answer { OnOk result
+        (sink.new
+        ≡ apply_all sink.old
+        (part_fragments
+        (row_parts
+        (rows_or_none (reversing_rows count (number_of rd.now) (number_of rn.now)))))) }
+    ensures lacks { let rows = reversing_rows count (number_of rd.now) (number_of rn.now) in
+        put_cause sink.old (parts_size (row_parts (rows_or_none rows))) ≡ None
+        → rows_cause rows (is_vector rd.now && is_vector rn.now) ≡ None → LacksMemory result }
     ensures kept { Extends sink.old sink.new }
 {
     match count {
@@ -185,8 +228,13 @@ fn emit_reversal(sink: &mut MachBuffer, count: u64, rd: &Reg, rn: &Reg) -> Resul
 
 // A comparison of the left doublewords.
 fn compare_left(sink: &mut MachBuffer, opcode: u16, rn: &Reg, rm: &Reg) -> Result<(), EmitError>
-    ensures answer { OnOk result (sink.new ≡ apply_all sink.old (part_fragments (Row (vrr_a opcode (number_of rn.now) (number_of rm.now) 3) ∷ []))) }
-    ensures lacks { put_cause sink.old 6 ≡ None → (is_vector rn.now && is_vector rm.now) ≡ true → LacksMemory result }
+    ensures answer { OnOk result
+        (sink.new
+        ≡ apply_all sink.old
+        (part_fragments
+        (Row (vrr_a opcode (number_of rn.now) (number_of rm.now) 3) ∷ []))) }
+    ensures lacks { put_cause sink.old 6 ≡ None → (is_vector rn.now && is_vector rm.now) ≡ true
+        → LacksMemory result }
     ensures kept { Extends sink.old sink.new }
 {
     let row = VectorOpcode { opcode, code: 3 };
@@ -196,8 +244,14 @@ fn compare_left(sink: &mut MachBuffer, opcode: u16, rn: &Reg, rm: &Reg) -> Resul
 
 // A comparison of all doublewords, which sets the condition code.
 fn compare_right(sink: &mut MachBuffer, tmp: &Reg, rn: &Reg, rm: &Reg) -> Result<(), EmitError>
-    ensures answer { OnOk result (sink.new ≡ apply_all sink.old (part_fragments (Row (vrr_b 0xe7f9 (number_of tmp.now) (number_of rn.now) (number_of rm.now) 3 1) ∷ []))) }
-    ensures lacks { put_cause sink.old 6 ≡ None → (is_vector tmp.now && is_vector rn.now && is_vector rm.now) ≡ true → LacksMemory result }
+    ensures answer { OnOk result
+        (sink.new
+        ≡ apply_all sink.old
+        (part_fragments
+        (Row (vrr_b 0xe7f9 (number_of tmp.now) (number_of rn.now) (number_of rm.now) 3 1)
+        ∷ []))) }
+    ensures lacks { put_cause sink.old 6 ≡ None
+        → (is_vector tmp.now && is_vector rn.now && is_vector rm.now) ≡ true → LacksMemory result }
     ensures kept { Extends sink.old sink.new }
 {
     let row = VectorOpcode {
@@ -210,8 +264,14 @@ fn compare_right(sink: &mut MachBuffer, tmp: &Reg, rn: &Reg, rm: &Reg) -> Result
 
 // The left doublewords, and a branch over the rest where they differ.
 fn compare_first(sink: &mut MachBuffer, opcode: u16, rn: &Reg, rm: &Reg) -> Result<(), EmitError>
-    ensures answer { OnOk result (sink.new ≡ apply_all sink.old (part_fragments (Row (vrr_a opcode (number_of rn.now) (number_of rm.now) 3) ∷ Row (ri_c 0xa74 7 5) ∷ []))) }
-    ensures lacks { put_cause sink.old 10 ≡ None → (is_vector rn.now && is_vector rm.now) ≡ true → LacksMemory result }
+    ensures answer { OnOk result
+        (sink.new
+        ≡ apply_all sink.old
+        (part_fragments
+        (Row (vrr_a opcode (number_of rn.now) (number_of rm.now) 3) ∷ Row (ri_c 0xa74 7 5)
+        ∷ []))) }
+    ensures lacks { put_cause sink.old 10 ≡ None → (is_vector rn.now && is_vector rm.now) ≡ true
+        → LacksMemory result }
     ensures kept { Extends sink.old sink.new }
 {
     compare_left(sink, opcode, rn, rm)?;
@@ -226,8 +286,15 @@ fn emit_comparison(
     rn: &Reg,
     rm: &Reg,
 ) -> Result<(), EmitError>
-    ensures answer { OnOk result (sink.new ≡ apply_all sink.old (part_fragments (row_parts (comparing_rows opcode (number_of tmp.now) (number_of rn.now) (number_of rm.now))))) }
-    ensures lacks { put_cause sink.old 16 ≡ None → (is_vector tmp.now && is_vector rn.now && is_vector rm.now) ≡ true → LacksMemory result }
+    ensures answer { OnOk result
+        (sink.new
+        ≡ apply_all sink.old
+        (part_fragments
+        (row_parts
+        (comparing_rows opcode (number_of tmp.now) (number_of rn.now)
+        (number_of rm.now))))) }
+    ensures lacks { put_cause sink.old 16 ≡ None
+        → (is_vector tmp.now && is_vector rn.now && is_vector rm.now) ≡ true → LacksMemory result }
     ensures kept { Extends sink.old sink.new }
 {
     compare_first(sink, opcode, rm, rn)?;
@@ -238,8 +305,10 @@ fn emit_comparison(
 /// doesn't fit (`composite_cause`); where the buffer is poisoned (`Failed`); where its code gets too long for an
 /// offset (`LabelOutOfRange`); or for want of memory (`NoMemory`).
 pub fn emit_composite(sink: &mut MachBuffer, inst: &VecInst) -> Result<(), EmitError>
-    ensures answer { OnOk result (sink.new ≡ apply_all sink.old (part_fragments (row_parts (composite_rows inst.now)))) }
-    ensures lacks { put_cause sink.old (parts_size (row_parts (composite_rows inst.now))) ≡ None → composite_cause inst.now ≡ None → LacksMemory result }
+    ensures answer { OnOk result
+        (sink.new ≡ apply_all sink.old (part_fragments (row_parts (composite_rows inst.now)))) }
+    ensures lacks { put_cause sink.old (parts_size (row_parts (composite_rows inst.now))) ≡ None
+        → composite_cause inst.now ≡ None → LacksMemory result }
     ensures kept { Extends sink.old sink.new }
 {
     match inst {

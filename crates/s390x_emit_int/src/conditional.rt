@@ -73,7 +73,8 @@ fn under_size(short: bool) -> u64
 // BRANCH RELATIVE ON CONDITION over two bytes under a mask.
 fn skip_two(sink: &mut MachBuffer, mask: u8) -> Result<(), EmitError>
     requires { mask < 16 }
-    ensures answer { OnOk result (sink.new ≡ apply_all sink.old (part_fragments (Row (ri_c 0xa74 mask 3) ∷ []))) }
+    ensures answer { OnOk result
+        (sink.new ≡ apply_all sink.old (part_fragments (Row (ri_c 0xa74 mask 3) ∷ []))) }
     ensures lacks { put_cause sink.old 4 ≡ None → LacksMemory result }
     ensures kept { Extends sink.old sink.new }
 {
@@ -85,7 +86,8 @@ fn skip_two(sink: &mut MachBuffer, mask: u8) -> Result<(), EmitError>
 /// or is poisoned, or for want of memory.
 pub fn skip_six(sink: &mut MachBuffer, mask: u8) -> Result<(), EmitError>
     requires { mask < 16 }
-    ensures answer { OnOk result (sink.new ≡ apply_all sink.old (part_fragments (Row (ri_c 0xa74 mask 5) ∷ []))) }
+    ensures answer { OnOk result
+        (sink.new ≡ apply_all sink.old (part_fragments (Row (ri_c 0xa74 mask 5) ∷ []))) }
     ensures lacks { put_cause sink.old 4 ≡ None → LacksMemory result }
     ensures kept { Extends sink.old sink.new }
 {
@@ -95,7 +97,9 @@ pub fn skip_six(sink: &mut MachBuffer, mask: u8) -> Result<(), EmitError>
 
 fn put_skip(sink: &mut MachBuffer, mask: u8, short: bool) -> Result<(), EmitError>
     requires { mask < 16 }
-    ensures answer { OnOk result (sink.new ≡ apply_all sink.old (part_fragments (Row (ri_c 0xa74 mask (cond short 3 5)) ∷ []))) }
+    ensures answer { OnOk result
+        (sink.new
+        ≡ apply_all sink.old (part_fragments (Row (ri_c 0xa74 mask (cond short 3 5)) ∷ []))) }
     ensures lacks { put_cause sink.old 4 ≡ None → LacksMemory result }
     ensures kept { Extends sink.old sink.new }
 {
@@ -109,8 +113,13 @@ fn put_skip(sink: &mut MachBuffer, mask: u8, short: bool) -> Result<(), EmitErro
 // The branch and the move.
 fn put_under(sink: &mut MachBuffer, mask: u8, short: bool, code: &Code) -> Result<(), EmitError>
     requires { mask < 16 }
-    ensures answer { (m : MachineInstruction) → code.now ≡ bytes_of m → OnOk result (sink.new ≡ apply_all sink.old (part_fragments (Row (ri_c 0xa74 mask (cond short 3 5)) ∷ Row m ∷ []))) }
-    ensures lacks { (m : MachineInstruction) → code.now ≡ bytes_of m → put_cause sink.old (4 + size_of m) ≡ None → LacksMemory result }
+    ensures answer { (m : MachineInstruction) → code.now ≡ bytes_of m
+        → OnOk result
+        (sink.new
+        ≡ apply_all sink.old
+        (part_fragments (Row (ri_c 0xa74 mask (cond short 3 5)) ∷ Row m ∷ []))) }
+    ensures lacks { (m : MachineInstruction) → code.now ≡ bytes_of m
+        → put_cause sink.old (4 + size_of m) ≡ None → LacksMemory result }
     ensures kept { Extends sink.old sink.new }
 {
     put_skip(sink, mask, short)?;
@@ -125,8 +134,13 @@ fn emit_under(
     found: Result<Code, EmitError>,
 ) -> Result<(), EmitError>
     requires { mask < 16 }
-    ensures answer { (valid : Bool) (m : MachineInstruction) → found ≡ code_where valid m → OnOk result (sink.new ≡ apply_all sink.old (part_fragments (Row (ri_c 0xa74 mask (cond short 3 5)) ∷ Row m ∷ []))) }
-    ensures lacks { (valid : Bool) (m : MachineInstruction) → found ≡ code_where valid m → put_cause sink.old (4 + size_of m) ≡ None → valid ≡ true → LacksMemory result }
+    ensures answer { (valid : Bool) (m : MachineInstruction) → found ≡ code_where valid m
+        → OnOk result
+        (sink.new
+        ≡ apply_all sink.old
+        (part_fragments (Row (ri_c 0xa74 mask (cond short 3 5)) ∷ Row m ∷ []))) }
+    ensures lacks { (valid : Bool) (m : MachineInstruction) → found ≡ code_where valid m
+        → put_cause sink.old (4 + size_of m) ≡ None → valid ≡ true → LacksMemory result }
     ensures kept { Extends sink.old sink.new }
 {
     match found {
@@ -139,8 +153,11 @@ fn emit_under(
 /// poisoned (`Failed`); where its code gets too long for an offset (`LabelOutOfRange`); or for want of memory
 /// (`NoMemory`).
 pub fn emit_move(sink: &mut MachBuffer, inst: &VecInst) -> Result<(), EmitError>
-    ensures answer { OnOk result (sink.new ≡ apply_all sink.old (part_fragments (row_parts (rows_under (move_under inst.now))))) }
-    ensures lacks { put_cause sink.old (parts_size (row_parts (rows_under (move_under inst.now)))) ≡ None → cause_under (move_under inst.now) ≡ None → LacksMemory result }
+    ensures answer { OnOk result
+        (sink.new
+        ≡ apply_all sink.old (part_fragments (row_parts (rows_under (move_under inst.now))))) }
+    ensures lacks { put_cause sink.old (parts_size (row_parts (rows_under (move_under inst.now))))
+        ≡ None → cause_under (move_under inst.now) ≡ None → LacksMemory result }
     ensures kept { Extends sink.old sink.new }
 {
     let short = is_short(inst);

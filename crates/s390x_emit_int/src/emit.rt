@@ -31,7 +31,10 @@ use std::alloc::Global;
 /// Appends bytes. Refused by `Failed` where the buffer bears the mark, and by `LabelOutOfRange` where the length would reach 2^31;
 /// the buffer is marked then (cranelift-codegen, `emit.rs`, `put`).
 pub fn put(sink: &mut MachBuffer, enc: &[u8]) -> Result<(), EmitError>
-    ensures answer { MatchResult result (λ _. (put_cause sink.old (length enc.now) ≡ None) × (sink.new ≡ apply sink.old (Put enc.now))) (λ e. FailsWith (put_cause sink.old (length enc.now)) e × (sink.new ≡ poisoned sink.old)) }
+    ensures answer { MatchResult result
+        (λ _. (put_cause sink.old (length enc.now) ≡ None)
+        × (sink.new ≡ apply sink.old (Put enc.now)))
+        (λ e. FailsWith (put_cause sink.old (length enc.now)) e × (sink.new ≡ poisoned sink.old)) }
     ensures kept { Extends sink.old sink.new }
 {
     sink.put(enc)
@@ -53,7 +56,8 @@ fn put_cause(sink: &MachBuffer, size: usize) -> Option<EmitError>
 // Appends bytes and records a trap at the last of them, where there is room for them.
 fn put_trapped(sink: &mut MachBuffer, enc: &[u8], trap_code: TrapCode) -> Result<(), EmitError>
     requires some { 0 < length enc.now }
-    ensures answer { OnOk result (sink.new ≡ apply sink.old (PutTrapping enc.now (length enc.now - 1) trap_code)) }
+    ensures answer { OnOk result
+        (sink.new ≡ apply sink.old (PutTrapping enc.now (length enc.now - 1) trap_code)) }
     ensures lacks { put_cause sink.old (length enc.now) ≡ None → LacksMemory result }
     ensures kept { Extends sink.old sink.new }
 {
@@ -71,7 +75,11 @@ pub fn put_with_trap(
     trap_code: TrapCode,
 ) -> Result<(), EmitError>
     requires { 0 < length enc.now }
-    ensures answer { MatchResult result (λ _. (put_cause sink.old (length enc.now) ≡ None) × (sink.new ≡ apply sink.old (PutTrapping enc.now (length enc.now - 1) trap_code))) (λ e. ((e ≡ NoMemory) ⊎ (put_cause sink.old (length enc.now) ≡ Some e)) × IsTrue sink.new.failed) }
+    ensures answer { MatchResult result
+        (λ _. (put_cause sink.old (length enc.now) ≡ None)
+        × (sink.new ≡ apply sink.old (PutTrapping enc.now (length enc.now - 1) trap_code)))
+        (λ e. ((e ≡ NoMemory) ⊎ (put_cause sink.old (length enc.now) ≡ Some e))
+        × IsTrue sink.new.failed) }
     ensures kept { Extends sink.old sink.new }
 {
     if let Some(error) = put_cause(sink, enc.len()) {
@@ -99,8 +107,16 @@ fn refusal(
     error: EmitError,
 ) -> EmitError
     requires counted { IsCounted used }
-    requires lacks { let step = member_of flags state.now inst.now in first_emit_cause (tree_cause flags (declared_in sink.now) used.labels state.now.nominal 0 step) (unless (nat_lt (used.bytes + tree_size step) limit) LabelOutOfRange) ≡ None → error ≡ NoMemory }
-    ensures { let step = member_of flags state.now inst.now in (result ≡ NoMemory) ⊎ (first_emit_cause (tree_cause flags (declared_in sink.now) used.labels state.now.nominal 0 step) (unless (nat_lt (used.bytes + tree_size step) limit) LabelOutOfRange) ≡ Some result) }
+    requires lacks { let step = member_of flags state.now inst.now in
+        first_emit_cause
+        (tree_cause flags (declared_in sink.now) used.labels state.now.nominal 0 step)
+        (unless (nat_lt (used.bytes + tree_size step) limit) LabelOutOfRange) ≡ None
+        → error ≡ NoMemory }
+    ensures { let step = member_of flags state.now inst.now in
+        (result ≡ NoMemory)
+        ⊎ (first_emit_cause
+        (tree_cause flags (declared_in sink.now) used.labels state.now.nominal 0 step)
+        (unless (nat_lt (used.bytes + tree_size step) limit) LabelOutOfRange) ≡ Some result) }
 {
     match check_inst(alloc, flags, state, sink, used, 0, inst) {
         Ok(sum) if sum.bytes < LIMIT => error,
@@ -118,9 +134,18 @@ fn emit_and_advance(
     inst: &Inst,
 ) -> Result<CodeOffset, EmitError>
     requires { HasRoom sink.old }
-    ensures answer { MatchResult result (λ n. (sink.new ≡ apply_all sink.old (own_fragments (length sink.old.labels) 0 (member_of flags state.old inst.now))) × (state.new ≡ state_after state.old inst.now) × (n ≡ length sink.new.bytes) × (n < limit)) (λ _. state.new ≡ state.old) }
-    ensures cause { OnOk result (tree_cause flags (declared_in sink.old) (length sink.old.labels) state.old.nominal 0 (member_of flags state.old inst.now) ≡ None) }
-    ensures lacks { TreePassed flags sink.old 0 state.old.nominal 0 (member_of flags state.old inst.now) → LacksMemory result }
+    ensures answer { MatchResult result
+        (λ n.
+        (sink.new
+        ≡ apply_all sink.old
+        (own_fragments (length sink.old.labels) 0 (member_of flags state.old inst.now)))
+        × (state.new ≡ state_after state.old inst.now) × (n ≡ length sink.new.bytes)
+        × (n < limit)) (λ _. state.new ≡ state.old) }
+    ensures cause { OnOk result
+        (tree_cause flags (declared_in sink.old) (length sink.old.labels) state.old.nominal 0
+        (member_of flags state.old inst.now) ≡ None) }
+    ensures lacks { TreePassed flags sink.old 0 state.old.nominal 0
+        (member_of flags state.old inst.now) → LacksMemory result }
     ensures kept { Extends sink.old sink.new }
 {
     emit_inst(alloc, flags, sink, state, 0, inst, MachLabel(0))?;
@@ -139,7 +164,11 @@ fn emit_in(
     requires { sink.old.failed ≡ false }
     ensures answer { let step = member_of flags state.old inst.now in
         let cause = emit_cause flags state.old.nominal sink.old step in
-        MatchResult result (λ _. (cause ≡ None) × (sink.new ≡ apply_all sink.old (own_fragments (length sink.old.labels) 0 step)) × (state.new ≡ state_after state.old inst.now)) (λ e. ((e ≡ NoMemory) ⊎ (cause ≡ Some e)) × (state.new ≡ state.old)) }
+        MatchResult result
+        (λ _. (cause ≡ None)
+        × (sink.new ≡ apply_all sink.old (own_fragments (length sink.old.labels) 0 step))
+        × (state.new ≡ state_after state.old inst.now))
+        (λ e. ((e ≡ NoMemory) ⊎ (cause ≡ Some e)) × (state.new ≡ state.old)) }
     ensures kept { Extends sink.old sink.new }
 {
     let used = Totals {
@@ -173,7 +202,12 @@ pub trait MachInstEmit {
         state: &mut EmitState,
     ) -> Result<(), EmitError>
         ensures answer { let cause = cause_of emit_info.now.isa_flags state.old sink.old self.now in
-            MatchResult result (λ _. (cause ≡ None) × (sink.new ≡ buffer_behind emit_info.now.isa_flags state.old sink.old self.now) × (state.new ≡ state_behind state.old self.now)) (λ e. ((e ≡ NoMemory) ⊎ (cause ≡ Some e)) × IsTrue sink.new.failed × (state.new ≡ state.old)) }
+            MatchResult result
+            (λ _. (cause ≡ None)
+            × (sink.new ≡ buffer_behind emit_info.now.isa_flags state.old sink.old self.now)
+            × (state.new ≡ state_behind state.old self.now))
+            (λ e. ((e ≡ NoMemory) ⊎ (cause ≡ Some e)) × IsTrue sink.new.failed
+            × (state.new ≡ state.old)) }
         ensures refused { OnErr result (IsTrue sink.new.failed × (state.new ≡ state.old)) }
         ensures kept { Extends sink.old sink.new };
 }
@@ -201,9 +235,15 @@ impl MachInstEmit for Inst {
     ) -> Result<(), EmitError>
         ensures answer { let step = member_of emit_info.now.isa_flags state.old self.now in
             let cause = emit_cause emit_info.now.isa_flags state.old.nominal sink.old step in
-            MatchResult result (λ _. (cause ≡ None) × (sink.new ≡ apply_all sink.old (own_fragments (length sink.old.labels) 0 step)) × (state.new ≡ record (state_after state.old self.now) { stack_map = None })) (λ e. ((e ≡ NoMemory) ⊎ (cause ≡ Some e)) × IsTrue sink.new.failed × (state.new ≡ state.old)) }
+            MatchResult result
+            (λ _. (cause ≡ None)
+            × (sink.new ≡ apply_all sink.old (own_fragments (length sink.old.labels) 0 step))
+            × (state.new ≡ record (state_after state.old self.now) { stack_map = None }))
+            (λ e. ((e ≡ NoMemory) ⊎ (cause ≡ Some e)) × IsTrue sink.new.failed
+            × (state.new ≡ state.old)) }
         ensures refused { OnErr result (IsTrue sink.new.failed × (state.new ≡ state.old)) }
-        ensures few { is_short self.now ≡ true → OnOk result (length sink.new.bytes ≤ length sink.old.bytes + 44) }
+        ensures few { is_short self.now ≡ true
+            → OnOk result (length sink.new.bytes ≤ length sink.old.bytes + 44) }
         ensures kept { Extends sink.old sink.new }
     {
         if sink.is_failed() {
@@ -232,7 +272,10 @@ pub fn emit_vector(
 ) -> Result<(), EmitError>
     ensures answer { let step = member_of emit_info.now.isa_flags state.now (Vector inst.now) in
         let cause = emit_cause emit_info.now.isa_flags state.now.nominal sink.old step in
-        MatchResult result (λ _. (cause ≡ None) × (sink.new ≡ apply_all sink.old (own_fragments (length sink.old.labels) 0 step))) (λ e. ((e ≡ NoMemory) ⊎ (cause ≡ Some e)) × IsTrue sink.new.failed) }
+        MatchResult result
+        (λ _. (cause ≡ None)
+        × (sink.new ≡ apply_all sink.old (own_fragments (length sink.old.labels) 0 step)))
+        (λ e. ((e ≡ NoMemory) ⊎ (cause ≡ Some e)) × IsTrue sink.new.failed) }
     ensures refused { OnErr result (IsTrue sink.new.failed) }
     ensures kept { Extends sink.old sink.new }
 {

@@ -69,7 +69,10 @@ fn check_blocks(
     requires start { state.now.nominal ≡ 0 }
     requires few { labels ≤ label_limit }
     requires numbered { length blocks.now ≤ 4294967295 }
-    ensures { let ts = map (tree_of flags state.now) blocks.now in MatchResult result (λ r. (blocks_cause flags (declared_in sink.now) labels ts ≡ None) × AreCounted r ts) (λ e. (e ≡ NoMemory) ⊎ (blocks_cause flags (declared_in sink.now) labels ts ≡ Some e)) }
+    ensures { let ts = map (tree_of flags state.now) blocks.now in
+        MatchResult result
+        (λ r. (blocks_cause flags (declared_in sink.now) labels ts ≡ None) × AreCounted r ts)
+        (λ e. (e ≡ NoMemory) ⊎ (blocks_cause flags (declared_in sink.now) labels ts ≡ Some e)) }
 {
     let mut sum = Totals { labels, bytes: 0 };
     let mut longest = 0;
@@ -89,7 +92,8 @@ fn check_blocks(
 // Whether the code ends below the limit at any time, and in the end with its constants.
 fn length_cause(lengths: Lengths, constants: &[ConstantData]) -> Option<EmitError>
     requires { lengths.longest < limit → lengths.last ≤ lengths.longest }
-    ensures { (ts : List Tree) → AreCounted lengths ts → result ≡ code_length_cause ts (map constant_of constants.now) }
+    ensures { (ts : List Tree) → AreCounted lengths ts
+        → result ≡ code_length_cause ts (map constant_of constants.now) }
 {
     if lengths.longest < 2147483648 && constants_fit(lengths.last as usize, constants) {
         None
@@ -108,9 +112,18 @@ fn emit_block_members(
     insts: &[Inst],
 ) -> Result<(), EmitError>
     requires { HasRoom sink.old }
-    ensures answer { OnOk result (sink.new ≡ apply_all sink.old (fragments (length sink.old.labels) 0 (block_members_of flags state.old insts.now))) }
-    ensures cause { OnOk result ((tree_cause flags (declared_in sink.old) (length sink.old.labels) state.old.nominal 0 (block_members_of flags state.old insts.now) ≡ None) × (state.new.nominal ≡ nominal_behind state.old.nominal (block_members_of flags state.old insts.now))) }
-    ensures lacks { TreePassed flags sink.old 0 state.old.nominal 0 (block_members_of flags state.old insts.now) → LacksMemory result }
+    ensures answer { OnOk result
+        (sink.new
+        ≡ apply_all sink.old
+        (fragments (length sink.old.labels) 0
+        (block_members_of flags state.old insts.now))) }
+    ensures cause { OnOk result
+        ((tree_cause flags (declared_in sink.old) (length sink.old.labels) state.old.nominal 0
+        (block_members_of flags state.old insts.now) ≡ None)
+        × (state.new.nominal
+        ≡ nominal_behind state.old.nominal (block_members_of flags state.old insts.now))) }
+    ensures lacks { TreePassed flags sink.old 0 state.old.nominal 0
+        (block_members_of flags state.old insts.now) → LacksMemory result }
     ensures ranges { OnOk result (AllInRange (block_members_of flags state.old insts.now)) }
     ensures kept { Extends sink.old sink.new }
 {
@@ -135,10 +148,19 @@ fn emit_block(
     requires start { state.now.nominal ≡ 0 }
     requires room { HasRoom sink.old }
     requires clear { sink.old.branches ≡ NoBranch }
-    ensures answer { OnOk result (sink.new ≡ apply_all sink.old (fragments (length sink.old.labels) 0 (folded_before (number_of_next next) (tree_of flags state.now block.now)))) }
-    ensures short { OnOk result (length sink.old.bytes + tree_size (tree_of flags state.now block.now) < limit) }
-    ensures cause { OnOk result (block_cause flags (declared_in sink.old) (length sink.old.labels) (tree_of flags state.now block.now) ≡ None) }
-    ensures lacks { MembersPassed sink.old 0 0 (tree_size (tree_of flags state.now block.now)) (block_cause flags (declared_in sink.old) (length sink.old.labels) (tree_of flags state.now block.now)) → LacksMemory result }
+    ensures answer { OnOk result
+        (sink.new
+        ≡ apply_all sink.old
+        (fragments (length sink.old.labels) 0
+        (folded_before (number_of_next next) (tree_of flags state.now block.now)))) }
+    ensures short { OnOk result
+        (length sink.old.bytes + tree_size (tree_of flags state.now block.now) < limit) }
+    ensures cause { OnOk result
+        (block_cause flags (declared_in sink.old) (length sink.old.labels)
+        (tree_of flags state.now block.now) ≡ None) }
+    ensures lacks { MembersPassed sink.old 0 0 (tree_size (tree_of flags state.now block.now))
+        (block_cause flags (declared_in sink.old) (length sink.old.labels)
+        (tree_of flags state.now block.now)) → LacksMemory result }
     ensures ranges { OnOk result (AllInRange (tree_of flags state.now block.now)) }
     ensures declared { declared_in sink.new ≡ declared_in sink.old }
 {
@@ -167,10 +189,20 @@ fn emit_blocks(
     requires room { HasRoom sink.old }
     requires free { (l : ℕ) → l < length blocks.now → get_or sink.old.labels l None ≡ None }
     requires short { length sink.old.bytes < limit }
-    ensures answer { OnOk result (sink.new ≡ apply_all sink.old (function_fragments (length sink.old.labels) 0 (folded_trees (map (tree_of flags state.now) blocks.now)))) }
-    ensures longest { OnOk result (peak_from 0 (length sink.old.bytes) (map (tree_of flags state.now) blocks.now) < limit) }
-    ensures cause { OnOk result (blocks_cause flags (declared_in sink.old) (length sink.old.labels) (map (tree_of flags state.now) blocks.now) ≡ None) }
-    ensures lacks { sink.old.failed ≡ false → peak_from 0 (length sink.old.bytes) (map (tree_of flags state.now) blocks.now) < limit → blocks_cause flags (declared_in sink.old) (length sink.old.labels) (map (tree_of flags state.now) blocks.now) ≡ None → LacksMemory result }
+    ensures answer { OnOk result
+        (sink.new
+        ≡ apply_all sink.old
+        (function_fragments (length sink.old.labels) 0
+        (folded_trees (map (tree_of flags state.now) blocks.now)))) }
+    ensures longest { OnOk result
+        (peak_from 0 (length sink.old.bytes) (map (tree_of flags state.now) blocks.now) < limit) }
+    ensures cause { OnOk result
+        (blocks_cause flags (declared_in sink.old) (length sink.old.labels)
+        (map (tree_of flags state.now) blocks.now) ≡ None) }
+    ensures lacks { sink.old.failed ≡ false
+        → peak_from 0 (length sink.old.bytes) (map (tree_of flags state.now) blocks.now) < limit
+        → blocks_cause flags (declared_in sink.old) (length sink.old.labels)
+        (map (tree_of flags state.now) blocks.now) ≡ None → LacksMemory result }
     ensures ranges { OnOk result (BlocksInRange (map (tree_of flags state.now) blocks.now)) }
     ensures declared { declared_in sink.new ≡ declared_in sink.old }
 {
@@ -185,7 +217,8 @@ fn emit_blocks(
 
 // How many blocks there are, where the count has a label for each.
 fn block_count(function: &AllocatedFunction) -> Result<u32, EmitError>
-    ensures { MatchResult result (λ n. n ≡ length function.now.blocks.items) (λ e. new_cause (length function.now.blocks.items) (constants_of function.now) ≡ Some e) }
+    ensures { MatchResult result (λ n. n ≡ length function.now.blocks.items)
+        (λ e. new_cause (length function.now.blocks.items) (constants_of function.now) ≡ Some e) }
 {
     let count = function.blocks.len();
     if count <= 4294967295 {
@@ -208,8 +241,14 @@ fn check_function(
     requires start { state.now.nominal ≡ 0 }
     requires few { length function.now.blocks.items ≤ 4294967295 }
     requires new { new_cause (length function.now.blocks.items) (constants_of function.now) ≡ None }
-    requires declared { declared_in sink.now ≡ declared_of (trees_of flags state.now function.now) (constants_of function.now) }
-    ensures { MatchResult result (λ _. checked_cause flags (trees_of flags state.now function.now) (constants_of function.now) ≡ None) (λ e. (e ≡ NoMemory) ⊎ (checked_cause flags (trees_of flags state.now function.now) (constants_of function.now) ≡ Some e)) }
+    requires declared { declared_in sink.now
+        ≡ declared_of (trees_of flags state.now function.now) (constants_of function.now) }
+    ensures { MatchResult result
+        (λ _. checked_cause flags (trees_of flags state.now function.now)
+        (constants_of function.now) ≡ None)
+        (λ e. (e ≡ NoMemory)
+        ⊎ (checked_cause flags (trees_of flags state.now function.now)
+        (constants_of function.now) ≡ Some e)) }
 {
     let labels = function.blocks.len() as u64 + function.constants.len() as u64;
     let lengths = check_blocks(alloc, flags, state, sink, labels, &function.blocks)?;
@@ -231,9 +270,13 @@ fn refusal(
     requires start { state.now.nominal ≡ 0 }
     requires few { length function.now.blocks.items ≤ 4294967295 }
     requires new { new_cause (length function.now.blocks.items) (constants_of function.now) ≡ None }
-    requires declared { declared_in sink.now ≡ declared_of (trees_of flags state.now function.now) (constants_of function.now) }
-    requires lacks { checked_cause flags (trees_of flags state.now function.now) (constants_of function.now) ≡ None → error ≡ NoMemory }
-    ensures { (result ≡ NoMemory) ⊎ (checked_cause flags (trees_of flags state.now function.now) (constants_of function.now) ≡ Some result) }
+    requires declared { declared_in sink.now
+        ≡ declared_of (trees_of flags state.now function.now) (constants_of function.now) }
+    requires lacks { checked_cause flags (trees_of flags state.now function.now)
+        (constants_of function.now) ≡ None → error ≡ NoMemory }
+    ensures { (result ≡ NoMemory)
+        ⊎ (checked_cause flags (trees_of flags state.now function.now) (constants_of function.now)
+        ≡ Some result) }
 {
     match check_function(alloc, sink, function, state, flags) {
         Ok(()) => error,
@@ -249,11 +292,24 @@ fn finish(
     flags: IsaFlags,
 ) -> Result<MachBufferFinalized, EmitError>
     requires new { new_cause (length function.now.blocks.items) (constants_of function.now) ≡ None }
-    requires emitted { let ts = folded_trees_of flags state.now function.now in let cs = constants_of function.now in sink ≡ apply_all (fresh_buffer (length ts) cs) (function_fragments (length ts + length cs) 0 ts) }
+    requires emitted { let ts = folded_trees_of flags state.now function.now in
+        let cs = constants_of function.now in
+        sink
+        ≡ apply_all (fresh_buffer (length ts) cs)
+        (function_fragments (length ts + length cs) 0 ts) }
     requires longest { peak (trees_of flags state.now function.now) < limit }
-    requires cause { let ts = trees_of flags state.now function.now in let cs = constants_of function.now in blocks_cause flags (declared_of ts cs) (length ts + length cs) ts ≡ None }
+    requires cause { let ts = trees_of flags state.now function.now in
+        let cs = constants_of function.now in
+        blocks_cause flags (declared_of ts cs) (length ts + length cs) ts ≡ None }
     requires ranges { BlocksInRange (trees_of flags state.now function.now) }
-    ensures { let cause = checked_cause flags (trees_of flags state.now function.now) (constants_of function.now) in MatchResult result (λ f. (cause ≡ None) × IsFinishedCode (folded_trees_of flags state.now function.now) (constants_of function.now) f × BlocksInRange (trees_of flags state.now function.now)) (λ e. (e ≡ NoMemory) ⊎ (cause ≡ Some e)) }
+    ensures { let cause = checked_cause flags (trees_of flags state.now function.now)
+        (constants_of function.now) in
+        MatchResult result
+        (λ f. (cause ≡ None)
+        × IsFinishedCode (folded_trees_of flags state.now function.now)
+        (constants_of function.now) f
+        × BlocksInRange (trees_of flags state.now function.now))
+        (λ e. (e ≡ NoMemory) ⊎ (cause ≡ Some e)) }
 {
     if constants_fit(sink.cur_offset() as usize, &function.constants) {
         sink.finish()
@@ -273,8 +329,16 @@ fn emit_in(
     requires start { state.now.nominal ≡ 0 }
     requires few { length function.now.blocks.items ≤ 4294967295 }
     requires new { new_cause (length function.now.blocks.items) (constants_of function.now) ≡ None }
-    requires fresh { sink ≡ fresh_buffer (length function.now.blocks.items) (constants_of function.now) }
-    ensures { let cause = checked_cause flags (trees_of flags state.now function.now) (constants_of function.now) in MatchResult result (λ f. (cause ≡ None) × IsFinishedCode (folded_trees_of flags state.now function.now) (constants_of function.now) f × BlocksInRange (trees_of flags state.now function.now)) (λ e. (e ≡ NoMemory) ⊎ (cause ≡ Some e)) }
+    requires fresh { sink
+        ≡ fresh_buffer (length function.now.blocks.items) (constants_of function.now) }
+    ensures { let cause = checked_cause flags (trees_of flags state.now function.now)
+        (constants_of function.now) in
+        MatchResult result
+        (λ f. (cause ≡ None)
+        × IsFinishedCode (folded_trees_of flags state.now function.now)
+        (constants_of function.now) f
+        × BlocksInRange (trees_of flags state.now function.now))
+        (λ e. (e ≡ NoMemory) ⊎ (cause ≡ Some e)) }
 {
     match emit_blocks(alloc, flags, &mut sink, state, &function.blocks) {
         Ok(()) => finish(sink, function, state, flags),
@@ -284,7 +348,11 @@ fn emit_in(
 
 // A buffer for the blocks and the constants.
 fn new_buffer(alloc: Global, function: &AllocatedFunction) -> Result<MachBuffer, EmitError>
-    ensures answer { MatchResult result (λ b. (new_cause (length function.now.blocks.items) (constants_of function.now) ≡ None) × (b ≡ fresh_buffer (length function.now.blocks.items) (constants_of function.now))) (λ e. (e ≡ NoMemory) ⊎ (new_cause (length function.now.blocks.items) (constants_of function.now) ≡ Some e)) }
+    ensures answer { MatchResult result
+        (λ b. (new_cause (length function.now.blocks.items) (constants_of function.now) ≡ None)
+        × (b ≡ fresh_buffer (length function.now.blocks.items) (constants_of function.now)))
+        (λ e. (e ≡ NoMemory)
+        ⊎ (new_cause (length function.now.blocks.items) (constants_of function.now) ≡ Some e)) }
     ensures few { OnOk result (length function.now.blocks.items ≤ 4294967295) }
 {
     let count = block_count(function)?;
@@ -306,7 +374,13 @@ pub fn emit_function(
     info: &EmitInfo,
     state: EmitState,
 ) -> Result<MachBufferFinalized, EmitError>
-    ensures { let trees = trees_of info.now.isa_flags state function.now in let cause = function_cause info.now.isa_flags trees (constants_of function.now) state in MatchResult result (λ f. (cause ≡ None) × IsFinishedCode (folded_trees_of info.now.isa_flags state function.now) (constants_of function.now) f × BlocksInRange trees) (λ e. (e ≡ NoMemory) ⊎ (cause ≡ Some e)) }
+    ensures { let trees = trees_of info.now.isa_flags state function.now in
+        let cause = function_cause info.now.isa_flags trees (constants_of function.now) state in
+        MatchResult result
+        (λ f. (cause ≡ None)
+        × IsFinishedCode (folded_trees_of info.now.isa_flags state function.now)
+        (constants_of function.now) f × BlocksInRange trees)
+        (λ e. (e ≡ NoMemory) ⊎ (cause ≡ Some e)) }
 {
     if let Some(error) = start_cause(&state) {
         return Err(error);

@@ -18,14 +18,22 @@ ghost use Rattle.s390x_emit_int.specs.Example.{LinkedLoopRuns, LinkedTrapRuns, L
 /// them: each step's bytes stand at its offset with its entries in the table of traps and no others, as emission has checked it, and blocks, constants and
 /// symbols stand where the layout says.
 pub fn linked_code_is_placed()
-    ensures { (flags : IsaFlags) (ts : List Tree) (cs : List Constant) (f : MachBufferFinalized) (base : ℕ) (symbols : Symbols) → checked_cause flags ts cs ≡ None → BlocksInRange ts → IsFinishedCode (folded_trees ts) cs f → link_cause f base symbols ≡ None → AllCodeAt (function_layout (linked symbols base (folded_trees ts) cs) (folded_trees ts) (linked_image f base symbols)) }
+    ensures { (flags : IsaFlags) (ts : List Tree) (cs : List Constant) (f : MachBufferFinalized)
+        (base : ℕ) (symbols : Symbols) → checked_cause flags ts cs ≡ None → BlocksInRange ts
+        → IsFinishedCode (folded_trees ts) cs f → link_cause f base symbols ≡ None
+        → AllCodeAt
+        (function_layout (linked symbols base (folded_trees ts) cs) (folded_trees ts)
+        (linked_image f base symbols)) }
 {}
 
 /// Where emission finds no cause and linking none, a machine that fetches the linked code at the base does only what the typed
 /// instructions allow, from any block's start and from any call's return place, in every state in which the code lies in memory,
 /// and under every list of others' writes, until it returns, calls, stops by a trap or at a `Debugtrap`, or a typed step is wrong.
 pub fn linked_code_runs_as_typed()
-    ensures { (flags : IsaFlags) (ts : List Tree) (cs : List Constant) (f : MachBufferFinalized) (base : ℕ) (symbols : Symbols) → checked_cause flags ts cs ≡ None → BlocksInRange ts → IsFinishedCode (folded_trees ts) cs f → link_cause f base symbols ≡ None → RunsAsTyped symbols (folded_trees ts) cs (linked_image f base symbols) }
+    ensures { (flags : IsaFlags) (ts : List Tree) (cs : List Constant) (f : MachBufferFinalized)
+        (base : ℕ) (symbols : Symbols) → checked_cause flags ts cs ≡ None → BlocksInRange ts
+        → IsFinishedCode (folded_trees ts) cs f → link_cause f base symbols ≡ None
+        → RunsAsTyped symbols (folded_trees ts) cs (linked_image f base symbols) }
 {}
 
 /// The premises can be met: by the finished code of a function of two blocks, linked at 4096 and lying in memory there, of which the

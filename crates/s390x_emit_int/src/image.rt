@@ -31,8 +31,11 @@ pub fn emit_image(
     symbols: &SymbolTable,
 ) -> Result<Image, ImageError>
     ensures base { IfOk result (λ image. image.base ≡ base) }
-    ensures image { IfOk result (λ image. IsImageOf info.now.isa_flags state function.now base symbols.now image.bytes.items) }
-    ensures refused { IfErr result (λ error. HasNoImage info.now.isa_flags state function.now base symbols.now error) }
+    ensures image { IfOk result
+        (λ image. IsImageOf info.now.isa_flags state function.now base symbols.now
+        image.bytes.items) }
+    ensures refused { IfErr result
+        (λ error. HasNoImage info.now.isa_flags state function.now base symbols.now error) }
 {
     match emit_function(alloc, function, info, state) {
         Ok(code) => match link(alloc, &code, base, symbols) {

@@ -99,8 +99,10 @@ fn put_where(sink: &mut MachBuffer, cond: Cond, label: MachLabel) -> Result<(), 
 /// there; where the buffer is poisoned (`Failed`); where its code gets too long for an offset (`LabelOutOfRange`); or
 /// for want of memory (`NoMemory`).
 pub fn emit_branch_register(sink: &mut MachBuffer, rn: Reg) -> Result<(), EmitError>
-    ensures answer { OnOk result (sink.new ≡ apply_all sink.old (part_fragments (Row (rr 0x07 15 (number_of rn)) ∷ []))) }
-    ensures lacks { put_cause sink.old 2 ≡ None → (is_general rn && is_nonzero rn) ≡ true → LacksMemory result }
+    ensures answer { OnOk result
+        (sink.new ≡ apply_all sink.old (part_fragments (Row (rr 0x07 15 (number_of rn)) ∷ []))) }
+    ensures lacks { put_cause sink.old 2 ≡ None → (is_general rn && is_nonzero rn) ≡ true
+        → LacksMemory result }
     ensures kept { Extends sink.old sink.new }
 {
     let code = enc_rr(0x07, gpr(15), rn)?;
@@ -111,7 +113,10 @@ pub fn emit_branch_register(sink: &mut MachBuffer, rn: Reg) -> Result<(), EmitEr
 /// where a register or a label may not stand there; where the buffer is poisoned (`Failed`); where its code gets too
 /// long for an offset (`LabelOutOfRange`); or for want of memory (`NoMemory`).
 pub fn emit_address(sink: &mut MachBuffer, dst: Reg, label: MachLabel) -> Result<(), EmitError>
-    ensures answer { OnOk result (sink.new ≡ apply_all sink.old (part_fragments (Relative 0xc00 (number_of dst) (ToBlock label.0) ∷ []))) }
+    ensures answer { OnOk result
+        (sink.new
+        ≡ apply_all sink.old
+        (part_fragments (Relative 0xc00 (number_of dst) (ToBlock label.0) ∷ []))) }
     ensures lacks { Passed sink.old label.0 6 None → is_general dst ≡ true → LacksMemory result }
     ensures kept { Extends sink.old sink.new }
 {
@@ -139,7 +144,8 @@ fn put_trapping(
 
 // Bytes that are no instruction, with a trap.
 fn emit_trap(sink: &mut MachBuffer, trap_code: TrapCode) -> Result<(), EmitError>
-    ensures answer { OnOk result (sink.new ≡ apply_all sink.old (part_fragments (stopping (format_e 0) trap_code ∷ []))) }
+    ensures answer { OnOk result
+        (sink.new ≡ apply_all sink.old (part_fragments (stopping (format_e 0) trap_code ∷ []))) }
     ensures lacks { put_cause sink.old 2 ≡ None → LacksMemory result }
     ensures kept { Extends sink.old sink.new }
 {
@@ -149,7 +155,10 @@ fn emit_trap(sink: &mut MachBuffer, trap_code: TrapCode) -> Result<(), EmitError
 
 // A branch under a condition to its own place plus 2, where no instruction stands and a trap is recorded.
 fn emit_trap_if(sink: &mut MachBuffer, cond: Cond, trap_code: TrapCode) -> Result<(), EmitError>
-    ensures answer { OnOk result (sink.new ≡ apply_all sink.old (part_fragments (Trapping (ril_c 0xc04 cond 1) 3 trap_code ∷ []))) }
+    ensures answer { OnOk result
+        (sink.new
+        ≡ apply_all sink.old
+        (part_fragments (Trapping (ril_c 0xc04 cond 1) 3 trap_code ∷ []))) }
     ensures lacks { put_cause sink.old 6 ≡ None → LacksMemory result }
     ensures range { IsConditionMask cond }
     ensures kept { Extends sink.old sink.new }
@@ -160,7 +169,8 @@ fn emit_trap_if(sink: &mut MachBuffer, cond: Cond, trap_code: TrapCode) -> Resul
 
 // Bytes that are no instruction, without a trap.
 fn emit_debug_trap(sink: &mut MachBuffer) -> Result<(), EmitError>
-    ensures answer { OnOk result (sink.new ≡ apply_all sink.old (part_fragments (Row (format_e 1) ∷ []))) }
+    ensures answer { OnOk result
+        (sink.new ≡ apply_all sink.old (part_fragments (Row (format_e 1) ∷ []))) }
     ensures lacks { put_cause sink.old 2 ≡ None → LacksMemory result }
     ensures kept { Extends sink.old sink.new }
 {
@@ -174,8 +184,10 @@ fn emit_two_branches(
     not_taken: MachLabel,
     cond: Cond,
 ) -> Result<(), EmitError>
-    ensures answer { OnOk result (sink.new ≡ apply_all sink.old (choice_fragments cond taken.0 not_taken.0)) }
-    ensures lacks { Passed sink.old taken.0 12 None → not_taken.0 < length sink.old.labels → LacksMemory result }
+    ensures answer { OnOk result
+        (sink.new ≡ apply_all sink.old (choice_fragments cond taken.0 not_taken.0)) }
+    ensures lacks { Passed sink.old taken.0 12 None → not_taken.0 < length sink.old.labels
+        → LacksMemory result }
     ensures range { IsConditionMask cond }
     ensures kept { Extends sink.old sink.new }
 {
@@ -185,8 +197,12 @@ fn emit_two_branches(
 
 // A branch that is always taken, where its label names a block.
 fn emit_jump(sink: &mut MachBuffer, dest: MachLabel) -> Result<(), EmitError>
-    ensures answer { OnOk result ((target_label_cause sink.old.block_count dest ≡ None) × (sink.new ≡ apply_all sink.old (jump_fragments dest.0))) }
-    ensures lacks { (after depth : ℕ) → MembersPassed sink.old after depth 6 (target_label_cause sink.old.block_count dest) → LacksMemory result }
+    ensures answer { OnOk result
+        ((target_label_cause sink.old.block_count dest ≡ None)
+        × (sink.new ≡ apply_all sink.old (jump_fragments dest.0))) }
+    ensures lacks { (after depth : ℕ)
+        → MembersPassed sink.old after depth 6 (target_label_cause sink.old.block_count dest)
+        → LacksMemory result }
     ensures kept { Extends sink.old sink.new }
 {
     match label_cause(sink.block_count(), dest) {
@@ -202,8 +218,14 @@ fn emit_choice(
     not_taken: MachLabel,
     cond: Cond,
 ) -> Result<(), EmitError>
-    ensures answer { OnOk result ((first_emit_cause (target_label_cause sink.old.block_count taken) (target_label_cause sink.old.block_count not_taken) ≡ None) × (sink.new ≡ apply_all sink.old (choice_fragments cond taken.0 not_taken.0))) }
-    ensures lacks { (after depth : ℕ) → MembersPassed sink.old after depth 12 (first_emit_cause (target_label_cause sink.old.block_count taken) (target_label_cause sink.old.block_count not_taken)) → LacksMemory result }
+    ensures answer { OnOk result
+        ((first_emit_cause (target_label_cause sink.old.block_count taken)
+        (target_label_cause sink.old.block_count not_taken) ≡ None)
+        × (sink.new ≡ apply_all sink.old (choice_fragments cond taken.0 not_taken.0))) }
+    ensures lacks { (after depth : ℕ)
+        → MembersPassed sink.old after depth 12
+        (first_emit_cause (target_label_cause sink.old.block_count taken)
+        (target_label_cause sink.old.block_count not_taken)) → LacksMemory result }
     ensures range { OnOk result (IsConditionMask cond) }
     ensures kept { Extends sink.old sink.new }
 {
@@ -228,7 +250,8 @@ fn emit_code(
     code: &Code,
     trap_code: Option<TrapCode>,
 ) -> Result<(), EmitError>
-    ensures answer { (m : MachineInstruction) → code.now ≡ bytes_of m → OnOk result (sink.new ≡ apply_all sink.old (part_fragments (row_part m trap_code ∷ []))) }
+    ensures answer { (m : MachineInstruction) → code.now ≡ bytes_of m
+        → OnOk result (sink.new ≡ apply_all sink.old (part_fragments (row_part m trap_code ∷ []))) }
     ensures lacks { put_cause sink.old (length code.now) ≡ None → LacksMemory result }
     ensures kept { Extends sink.old sink.new }
 {
@@ -242,8 +265,14 @@ fn emit_code(
 fn emit_branch(sink: &mut MachBuffer, inst: &Inst, after: MachLabel) -> Result<(), EmitError>
     requires unrecorded { branches_of inst.now ≡ None }
     requires room { HasRoom sink.old }
-    ensures answer { OnOk result (sink.new ≡ apply_all sink.old (branch_fragments (length sink.old.labels) after.0 inst.now)) }
-    ensures lacks { (depth : ℕ) → MembersPassed sink.old after.0 depth (branch_size inst.now) (branch_cause sink.old.block_count depth inst.now) → numbers_cause (length sink.old.labels) (instruction_fresh_labels inst.now) ≡ None → LacksMemory result }
+    ensures answer { OnOk result
+        (sink.new
+        ≡ apply_all sink.old (branch_fragments (length sink.old.labels) after.0 inst.now)) }
+    ensures lacks { (depth : ℕ)
+        → MembersPassed sink.old after.0 depth (branch_size inst.now)
+        (branch_cause sink.old.block_count depth inst.now)
+        → numbers_cause (length sink.old.labels) (instruction_fresh_labels inst.now) ≡ None
+        → LacksMemory result }
     ensures range { OnOk result (MaskInRange inst.now) }
     ensures kept { Extends sink.old sink.new }
 {
@@ -304,8 +333,12 @@ fn emit_found(
     found: Result<Code, EmitError>,
     trap_code: Option<TrapCode>,
 ) -> Result<(), EmitError>
-    ensures answer { (x : SingleInstruction) → found ≡ code_where x.operands_valid x.row → OnOk result ((x.operands_valid ≡ true) × (sink.new ≡ apply_all sink.old (part_fragments (row_part x.row trap_code ∷ [])))) }
-    ensures lacks { (x : SingleInstruction) → found ≡ code_where x.operands_valid x.row → put_cause sink.old (size_of x.row) ≡ None → x.operands_valid ≡ true → LacksMemory result }
+    ensures answer { (x : SingleInstruction) → found ≡ code_where x.operands_valid x.row
+        → OnOk result
+        ((x.operands_valid ≡ true)
+        × (sink.new ≡ apply_all sink.old (part_fragments (row_part x.row trap_code ∷ [])))) }
+    ensures lacks { (x : SingleInstruction) → found ≡ code_where x.operands_valid x.row
+        → put_cause sink.old (size_of x.row) ≡ None → x.operands_valid ≡ true → LacksMemory result }
     ensures kept { Extends sink.old sink.new }
 {
     match found {
@@ -321,8 +354,17 @@ pub fn emit_access(
     found: &MemoryInst,
 ) -> Result<(), EmitError>
     requires { may_encode found.now ≡ true }
-    ensures answer { OnOk result ((memory_cause (declared_in sink.old) (in_state state.now (memory_instruction_of found.now)) ≡ None) × (sink.new ≡ apply_all sink.old (part_fragments (memory_parts (in_state state.now (memory_instruction_of found.now)))))) }
-    ensures lacks { put_cause sink.old (parts_size (memory_parts (in_state state.now (memory_instruction_of found.now)))) ≡ None → memory_cause (declared_in sink.old) (in_state state.now (memory_instruction_of found.now)) ≡ None → LacksMemory result }
+    ensures answer { OnOk result
+        ((memory_cause (declared_in sink.old) (in_state state.now (memory_instruction_of found.now))
+        ≡ None)
+        × (sink.new
+        ≡ apply_all sink.old
+        (part_fragments
+        (memory_parts (in_state state.now (memory_instruction_of found.now)))))) }
+    ensures lacks { put_cause sink.old
+        (parts_size (memory_parts (in_state state.now (memory_instruction_of found.now)))) ≡ None
+        → memory_cause (declared_in sink.old) (in_state state.now (memory_instruction_of found.now))
+        ≡ None → LacksMemory result }
     ensures range { OperandInRange (resolved state.now found.now.operand) }
     ensures kept { Extends sink.old sink.new }
 {
@@ -338,8 +380,15 @@ fn emit_place(
     after: MachLabel,
 ) -> Result<(), EmitError>
     requires { HasRoom sink.old }
-    ensures answer { OnOk result ((branch_cause sink.old.block_count depth inst.now ≡ None) × (sink.new ≡ apply_all sink.old (branch_fragments (length sink.old.labels) after.0 inst.now))) }
-    ensures lacks { MembersPassed sink.old after.0 depth (branch_size inst.now) (branch_cause sink.old.block_count depth inst.now) → numbers_cause (length sink.old.labels) (instruction_fresh_labels inst.now) ≡ None → LacksMemory result }
+    ensures answer { OnOk result
+        ((branch_cause sink.old.block_count depth inst.now ≡ None)
+        × (sink.new
+        ≡ apply_all sink.old
+        (branch_fragments (length sink.old.labels) after.0 inst.now))) }
+    ensures lacks { MembersPassed sink.old after.0 depth (branch_size inst.now)
+        (branch_cause sink.old.block_count depth inst.now)
+        → numbers_cause (length sink.old.labels) (instruction_fresh_labels inst.now) ≡ None
+        → LacksMemory result }
     ensures range { OnOk result (MaskInRange inst.now) }
     ensures kept { Extends sink.old sink.new }
 {
@@ -367,8 +416,18 @@ fn emit_other(
 ) -> Result<(), EmitError>
     requires single_instruction { None ≡ single_instruction inst.now }
     requires room { HasRoom sink.old }
-    ensures answer { OnOk result ((memory_cause_or (declared_in sink.old) (memory (resolved_instruction state.now inst.now)) (branch_cause sink.old.block_count depth inst.now) ≡ None) × (sink.new ≡ apply_all sink.old (leaf_fragments (length sink.old.labels) after.0 (resolved_instruction state.now inst.now)))) }
-    ensures lacks { (flags : IsaFlags) → MembersPassed sink.old after.0 depth (instruction_size (resolved_instruction state.now inst.now)) (leaf_cause flags (declared_in sink.old) (length sink.old.labels) state.now.nominal depth (resolved_instruction state.now inst.now)) → LacksMemory result }
+    ensures answer { OnOk result
+        ((memory_cause_or (declared_in sink.old) (memory (resolved_instruction state.now inst.now))
+        (branch_cause sink.old.block_count depth inst.now) ≡ None)
+        × (sink.new
+        ≡ apply_all sink.old
+        (leaf_fragments (length sink.old.labels) after.0
+        (resolved_instruction state.now inst.now)))) }
+    ensures lacks { (flags : IsaFlags)
+        → MembersPassed sink.old after.0 depth
+        (instruction_size (resolved_instruction state.now inst.now))
+        (leaf_cause flags (declared_in sink.old) (length sink.old.labels) state.now.nominal
+        depth (resolved_instruction state.now inst.now)) → LacksMemory result }
     ensures range { OnOk result (InRange (resolved_instruction state.now inst.now)) }
     ensures kept { Extends sink.old sink.new }
 {
@@ -388,8 +447,18 @@ fn emit_load(
 ) -> Result<(), EmitError>
     requires single_instruction { None ≡ single_instruction inst.now }
     requires room { HasRoom sink.old }
-    ensures answer { OnOk result ((memory_cause_or (declared_in sink.old) (memory (resolved_instruction state.now inst.now)) (branch_cause sink.old.block_count depth inst.now) ≡ None) × (sink.new ≡ apply_all sink.old (leaf_fragments (length sink.old.labels) after.0 (resolved_instruction state.now inst.now)))) }
-    ensures lacks { (flags : IsaFlags) → MembersPassed sink.old after.0 depth (instruction_size (resolved_instruction state.now inst.now)) (leaf_cause flags (declared_in sink.old) (length sink.old.labels) state.now.nominal depth (resolved_instruction state.now inst.now)) → LacksMemory result }
+    ensures answer { OnOk result
+        ((memory_cause_or (declared_in sink.old) (memory (resolved_instruction state.now inst.now))
+        (branch_cause sink.old.block_count depth inst.now) ≡ None)
+        × (sink.new
+        ≡ apply_all sink.old
+        (leaf_fragments (length sink.old.labels) after.0
+        (resolved_instruction state.now inst.now)))) }
+    ensures lacks { (flags : IsaFlags)
+        → MembersPassed sink.old after.0 depth
+        (instruction_size (resolved_instruction state.now inst.now))
+        (leaf_cause flags (declared_in sink.old) (length sink.old.labels) state.now.nominal
+        depth (resolved_instruction state.now inst.now)) → LacksMemory result }
     ensures range { OnOk result (InRange (resolved_instruction state.now inst.now)) }
     ensures kept { Extends sink.old sink.new }
 {
@@ -409,8 +478,20 @@ fn emit_allowed(
     after: MachLabel,
 ) -> Result<(), EmitError>
     requires { HasRoom sink.old }
-    ensures answer { OnOk result ((cause_or (single_instruction inst.now) (memory_cause_or (declared_in sink.old) (memory (resolved_instruction state.now inst.now)) (branch_cause sink.old.block_count depth inst.now)) ≡ None) × (sink.new ≡ apply_all sink.old (leaf_fragments (length sink.old.labels) after.0 (resolved_instruction state.now inst.now)))) }
-    ensures lacks { (flags : IsaFlags) → MembersPassed sink.old after.0 depth (instruction_size (resolved_instruction state.now inst.now)) (leaf_cause flags (declared_in sink.old) (length sink.old.labels) state.now.nominal depth (resolved_instruction state.now inst.now)) → LacksMemory result }
+    ensures answer { OnOk result
+        ((cause_or (single_instruction inst.now)
+        (memory_cause_or (declared_in sink.old)
+        (memory (resolved_instruction state.now inst.now))
+        (branch_cause sink.old.block_count depth inst.now)) ≡ None)
+        × (sink.new
+        ≡ apply_all sink.old
+        (leaf_fragments (length sink.old.labels) after.0
+        (resolved_instruction state.now inst.now)))) }
+    ensures lacks { (flags : IsaFlags)
+        → MembersPassed sink.old after.0 depth
+        (instruction_size (resolved_instruction state.now inst.now))
+        (leaf_cause flags (declared_in sink.old) (length sink.old.labels) state.now.nominal
+        depth (resolved_instruction state.now inst.now)) → LacksMemory result }
     ensures range { OnOk result (InRange (resolved_instruction state.now inst.now)) }
     ensures kept { Extends sink.old sink.new }
 {
@@ -442,8 +523,18 @@ fn emit_register(
     requires register { IsRegister inst.now }
     requires numbers { numbers_cause (length sink.old.labels) 0 ≡ None }
     requires room { HasRoom sink.old }
-    ensures answer { (flags : IsaFlags) → (e : Emission) → OnOk result ((leaf_cause flags (declared_in sink.old) (length sink.old.labels) e.nominal depth (resolved_instruction e inst.now) ≡ None) × (sink.new ≡ apply_all sink.old (leaf_fragments (length sink.old.labels) after.0 (resolved_instruction e inst.now)))) }
-    ensures lacks { (flags : IsaFlags) → (e : Emission) → MembersPassed sink.old after.0 depth (instruction_size (resolved_instruction e inst.now)) (leaf_cause flags (declared_in sink.old) (length sink.old.labels) e.nominal depth (resolved_instruction e inst.now)) → LacksMemory result }
+    ensures answer { (flags : IsaFlags) → (e : Emission)
+        → OnOk result
+        ((leaf_cause flags (declared_in sink.old) (length sink.old.labels) e.nominal depth
+        (resolved_instruction e inst.now) ≡ None)
+        × (sink.new
+        ≡ apply_all sink.old
+        (leaf_fragments (length sink.old.labels) after.0
+        (resolved_instruction e inst.now)))) }
+    ensures lacks { (flags : IsaFlags) → (e : Emission)
+        → MembersPassed sink.old after.0 depth (instruction_size (resolved_instruction e inst.now))
+        (leaf_cause flags (declared_in sink.old) (length sink.old.labels) e.nominal depth
+        (resolved_instruction e inst.now)) → LacksMemory result }
     ensures range { (e : Emission) → OnOk result (InRange (resolved_instruction e inst.now)) }
     ensures kept { Extends sink.old sink.new }
 {
@@ -472,8 +563,17 @@ pub fn emit_leaf(
     after: MachLabel,
 ) -> Result<(), EmitError>
     requires { HasRoom sink.old }
-    ensures answer { OnOk result ((leaf_cause flags (declared_in sink.old) (length sink.old.labels) state.now.nominal depth (resolved_instruction state.now inst.now) ≡ None) × (sink.new ≡ apply_all sink.old (leaf_fragments (length sink.old.labels) after.0 (resolved_instruction state.now inst.now)))) }
-    ensures lacks { MembersPassed sink.old after.0 depth (instruction_size (resolved_instruction state.now inst.now)) (leaf_cause flags (declared_in sink.old) (length sink.old.labels) state.now.nominal depth (resolved_instruction state.now inst.now)) → LacksMemory result }
+    ensures answer { OnOk result
+        ((leaf_cause flags (declared_in sink.old) (length sink.old.labels) state.now.nominal depth
+        (resolved_instruction state.now inst.now) ≡ None)
+        × (sink.new
+        ≡ apply_all sink.old
+        (leaf_fragments (length sink.old.labels) after.0
+        (resolved_instruction state.now inst.now)))) }
+    ensures lacks { MembersPassed sink.old after.0 depth
+        (instruction_size (resolved_instruction state.now inst.now))
+        (leaf_cause flags (declared_in sink.old) (length sink.old.labels) state.now.nominal depth
+        (resolved_instruction state.now inst.now)) → LacksMemory result }
     ensures range { OnOk result (InRange (resolved_instruction state.now inst.now)) }
     ensures kept { Extends sink.old sink.new }
 {

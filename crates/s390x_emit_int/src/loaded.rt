@@ -32,7 +32,8 @@ use s390x_inst::{EmitState, Inst, IsaFlags};
 
 // An access by its other rows, where it has one that is relative to the instruction and takes its operand.
 fn find_other_rows(inst: &Inst) -> Option<MemoryInst>
-    ensures row { option_map memory_instruction_of result ≡ cond (accesses_relative (memory inst.now)) (loaded_memory inst.now) None }
+    ensures row { option_map memory_instruction_of result
+        ≡ cond (accesses_relative (memory inst.now)) (loaded_memory inst.now) None }
     ensures encodes { IfSome result (λ x. may_encode x ≡ true) }
 {
     match find_memory(inst) {
@@ -64,8 +65,16 @@ fn emit_loaded(
 ) -> Result<(), EmitError>
     requires row { Some (memory_instruction_of found.now) ≡ loaded_memory inst.now }
     requires encodes { may_encode found.now ≡ true }
-    ensures answer { let b = Loaded (resolved_instruction state.now inst.now) in OnOk result ((loaded_cause flags (declared_in sink.old) (length sink.old.labels) (resolved_instruction state.now inst.now) ≡ None) × (sink.new ≡ apply_all sink.old (body_fragments (length sink.old.labels) 0 b))) }
-    ensures lacks { (after : ℕ) → MembersPassed sink.old after depth (body_size (Loaded (resolved_instruction state.now inst.now))) (loaded_cause flags (declared_in sink.old) (length sink.old.labels) (resolved_instruction state.now inst.now)) → LacksMemory result }
+    ensures answer { let b = Loaded (resolved_instruction state.now inst.now) in
+        OnOk result
+        ((loaded_cause flags (declared_in sink.old) (length sink.old.labels)
+        (resolved_instruction state.now inst.now) ≡ None)
+        × (sink.new ≡ apply_all sink.old (body_fragments (length sink.old.labels) 0 b))) }
+    ensures lacks { (after : ℕ)
+        → MembersPassed sink.old after depth
+        (body_size (Loaded (resolved_instruction state.now inst.now)))
+        (loaded_cause flags (declared_in sink.old) (length sink.old.labels)
+        (resolved_instruction state.now inst.now)) → LacksMemory result }
     ensures range { OnOk result (InRange (resolved_instruction state.now inst.now)) }
     ensures kept { Extends sink.old sink.new }
 {
@@ -85,7 +94,8 @@ fn emit_without_relative(
     after: MachLabel,
 ) -> Result<(), EmitError>
     requires { HasRoom sink.old }
-    ensures { EmitsOwn flags sink.old sink.new after.0 depth state.now.nominal (leaf (body_for flags (Whole (resolved_instruction state.now inst.now))) empty) result }
+    ensures { EmitsOwn flags sink.old sink.new after.0 depth state.now.nominal
+        (leaf (body_for flags (Whole (resolved_instruction state.now inst.now))) empty) result }
 {
     match find_loaded(flags, inst) {
         Some(found) => emit_loaded(flags, sink, state, depth, inst, &found),
@@ -105,7 +115,8 @@ pub fn emit_on_machine(
     after: MachLabel,
 ) -> Result<(), EmitError>
     requires { HasRoom sink.old }
-    ensures { EmitsOwn flags sink.old sink.new after.0 depth state.now.nominal (leaf (body_for flags (Whole (resolved_instruction state.now inst.now))) empty) result }
+    ensures { EmitsOwn flags sink.old sink.new after.0 depth state.now.nominal
+        (leaf (body_for flags (Whole (resolved_instruction state.now inst.now))) empty) result }
 {
     if !flags.no_relative_memory {
         emit_leaf(flags, sink, state, depth, inst, after)
@@ -123,7 +134,10 @@ fn access_cause(
     found: &MemoryInst,
 ) -> Option<EmitError>
     requires { Some (memory_instruction_of found.now) ≡ loaded_memory inst.now }
-    ensures { let i = resolved_instruction state.now inst.now in result ≡ first_emit_cause (facility_cause flags i) (memory_cause_or (declared_in sink.now) (loaded_memory i) (Some BadOperator)) }
+    ensures { let i = resolved_instruction state.now inst.now in
+        result
+        ≡ first_emit_cause (facility_cause flags i)
+        (memory_cause_or (declared_in sink.now) (loaded_memory i) (Some BadOperator)) }
 {
     match facility_cause(flags, inst) {
         Some(error) => Some(error),
@@ -142,7 +156,10 @@ fn check_loaded(
 ) -> Result<Totals, EmitError>
     requires row { Some (memory_instruction_of found.now) ≡ loaded_memory inst.now }
     requires counted { IsCounted t }
-    ensures { let i = resolved_instruction state.now inst.now in let cause = loaded_cause flags (declared_in sink.now) t.labels i in MatchResult result (λ r. (cause ≡ None) × Adds t r 0 (body_size (Loaded i))) (λ e. cause ≡ Some e) }
+    ensures { let i = resolved_instruction state.now inst.now in
+        let cause = loaded_cause flags (declared_in sink.now) t.labels i in
+        MatchResult result (λ r. (cause ≡ None) × Adds t r 0 (body_size (Loaded i)))
+        (λ e. cause ≡ Some e) }
 {
     match access_cause(flags, state, sink, inst, found) {
         Some(error) => Err(error),
@@ -160,7 +177,8 @@ pub fn check_on_machine(
     inst: &Inst,
 ) -> Result<Totals, EmitError>
     requires { IsCounted t }
-    ensures { ChecksTree flags (declared_in sink.now) t depth state.now.nominal (leaf (body_for flags (Whole (resolved_instruction state.now inst.now))) empty) result }
+    ensures { ChecksTree flags (declared_in sink.now) t depth state.now.nominal
+        (leaf (body_for flags (Whole (resolved_instruction state.now inst.now))) empty) result }
 {
     match find_loaded(flags, inst) {
         Some(found) => check_loaded(flags, state, sink, t, inst, &found),

@@ -25,7 +25,8 @@ fn access(
     operand: &MemArg,
 ) -> MemoryInst
     requires { (rows_take_general rx && rows_take_general rxy && has_12_bits ril) ≡ true }
-    ensures row { Some (memory_instruction_of result) ≡ if stores then store register rx rxy ril operand.now else load register rx rxy ril operand.now }
+    ensures row { Some (memory_instruction_of result) ≡ if stores
+        then store register rx rxy ril operand.now else load register rx rxy ril operand.now }
     ensures encodes { may_encode result ≡ true }
 {
     MemoryInst {
@@ -77,7 +78,8 @@ fn store(
 // The address of the operand.
 #[tactic(auto, using(crate::proofs::Storing::register_encodes))]
 fn load_address(rd: &Writable<Reg>, operand: &MemArg) -> Option<MemoryInst>
-    ensures row { option_map memory_instruction_of result ≡ memory (Inst.LoadAddr rd.now operand.now) }
+    ensures row { option_map memory_instruction_of result
+        ≡ memory (Inst.LoadAddr rd.now operand.now) }
     ensures encodes { IfSome result (λ x. may_encode x ≡ true) }
 {
     let register = rd.to_reg();
@@ -98,7 +100,8 @@ fn load_address(rd: &Writable<Reg>, operand: &MemArg) -> Option<MemoryInst>
 // A store of an immediate.
 fn store_immediate(rows: StorageRows, operand: &MemArg) -> Option<MemoryInst>
     requires { (relative_encodes rows && rows_encode rows) ≡ true }
-    ensures row { option_map memory_instruction_of result ≡ store_immediate (storage_form_of rows) operand.now }
+    ensures row { option_map memory_instruction_of result
+        ≡ store_immediate (storage_form_of rows) operand.now }
     ensures encodes { IfSome result (λ x. may_encode x ≡ true) }
 {
     Some(MemoryInst {
@@ -111,7 +114,8 @@ fn store_immediate(rows: StorageRows, operand: &MemArg) -> Option<MemoryInst>
 }
 
 fn store_halfword(imm: i16, sil: u16, operand: &MemArg) -> Option<MemoryInst>
-    ensures row { option_map memory_instruction_of result ≡ store_immediate (SilForm (low_halfword imm) sil) operand.now }
+    ensures row { option_map memory_instruction_of result
+        ≡ store_immediate (SilForm (low_halfword imm) sil) operand.now }
     ensures encodes { IfSome result (λ x. may_encode x ≡ true) }
 {
     store_immediate(StorageRows::Halfword { imm, sil }, operand)
@@ -119,7 +123,8 @@ fn store_halfword(imm: i16, sil: u16, operand: &MemArg) -> Option<MemoryInst>
 
 // A store of a byte.
 fn store_byte(imm: u8, operand: &MemArg) -> Option<MemoryInst>
-    ensures row { option_map memory_instruction_of result ≡ store_immediate (SiForm (low_byte imm) 0x92 0xeb52) operand.now }
+    ensures row { option_map memory_instruction_of result
+        ≡ store_immediate (SiForm (low_byte imm) 0x92 0xeb52) operand.now }
     ensures encodes { IfSome result (λ x. may_encode x ≡ true) }
 {
     store_immediate(
@@ -257,7 +262,8 @@ fn atomic_rsy(op: ALUOp) -> Option<u16>
 // An operator on a register and an operand in memory, where it has a row.
 #[tactic(auto, using(crate::proofs::Storing::reused_encodes))]
 fn operate(op: ALUOp, rd: &Writable<Reg>, ri: &Reg, operand: &MemArg) -> Option<MemoryInst>
-    ensures row { option_map memory_instruction_of result ≡ memory (Inst.AluRX op rd.now ri.now operand.now) }
+    ensures row { option_map memory_instruction_of result
+        ≡ memory (Inst.AluRX op rd.now ri.now operand.now) }
     ensures encodes { IfSome result (λ x. may_encode x ≡ true) }
 {
     let rx = alu_rx(op);
@@ -283,7 +289,8 @@ fn operate(op: ALUOp, rd: &Writable<Reg>, ri: &Reg, operand: &MemArg) -> Option<
 // A comparison of a register with an operand in memory.
 #[tactic(auto, using(crate::proofs::Storing::register_encodes))]
 fn compare(op: CmpOp, rn: &Reg, operand: &MemArg) -> Option<MemoryInst>
-    ensures row { option_map memory_instruction_of result ≡ memory (Inst.CmpRX op rn.now operand.now) }
+    ensures row { option_map memory_instruction_of result
+        ≡ memory (Inst.CmpRX op rn.now operand.now) }
     ensures encodes { IfSome result (λ x. may_encode x ≡ true) }
 {
     Some(MemoryInst {
@@ -316,7 +323,8 @@ fn multiple(
     reads_scratch: bool,
     operand: &MemArg,
 ) -> Option<MemoryInst>
-    ensures row { option_map memory_instruction_of result ≡ multiple rt rt2 rsy reads_scratch operand.now }
+    ensures row { option_map memory_instruction_of result
+        ≡ multiple rt rt2 rsy reads_scratch operand.now }
     ensures encodes { IfSome result (λ x. may_encode x ≡ true) }
 {
     Some(MemoryInst {
@@ -334,14 +342,16 @@ fn multiple(
 }
 
 fn load_multiple(rt: &Writable<Reg>, rt2: &Writable<Reg>, operand: &MemArg) -> Option<MemoryInst>
-    ensures row { option_map memory_instruction_of result ≡ memory (Inst.LoadMultiple64 rt.now rt2.now operand.now) }
+    ensures row { option_map memory_instruction_of result
+        ≡ memory (Inst.LoadMultiple64 rt.now rt2.now operand.now) }
     ensures encodes { IfSome result (λ x. may_encode x ≡ true) }
 {
     multiple(rt.to_reg(), rt2.to_reg(), 0xeb04, false, operand)
 }
 
 fn store_multiple(rt: &Reg, rt2: &Reg, operand: &MemArg) -> Option<MemoryInst>
-    ensures row { option_map memory_instruction_of result ≡ memory (Inst.StoreMultiple64 rt.now rt2.now operand.now) }
+    ensures row { option_map memory_instruction_of result
+        ≡ memory (Inst.StoreMultiple64 rt.now rt2.now operand.now) }
     ensures encodes { IfSome result (λ x. may_encode x ≡ true) }
 {
     multiple(*rt, *rt2, 0xeb24, holds_scratch(rt, rt2), operand)
@@ -350,7 +360,8 @@ fn store_multiple(rt: &Reg, rt2: &Reg, operand: &MemArg) -> Option<MemoryInst>
 // An operand in memory that is changed in one access, where the operator has a row.
 #[tactic(auto, using(crate::proofs::Storing::two_encode))]
 fn load_and_operate(op: ALUOp, rd: &Writable<Reg>, rn: &Reg, operand: &MemArg) -> Option<MemoryInst>
-    ensures row { option_map memory_instruction_of result ≡ load_and_operate (atomic_rsy op) rd.now rn.now operand.now }
+    ensures row { option_map memory_instruction_of result
+        ≡ load_and_operate (atomic_rsy op) rd.now rn.now operand.now }
     ensures encodes { IfSome result (λ x. may_encode x ≡ true) }
 {
     let first = rd.to_reg();
@@ -381,7 +392,8 @@ fn compare_and_swap(
     rn: &Reg,
     operand: &MemArg,
 ) -> Option<MemoryInst>
-    ensures row { option_map memory_instruction_of result ≡ compare_and_swap rs rsy rd.now ri.now rn.now operand.now }
+    ensures row { option_map memory_instruction_of result
+        ≡ compare_and_swap rs rsy rd.now ri.now rn.now operand.now }
     ensures encodes { IfSome result (λ x. may_encode x ≡ true) }
 {
     let first = rd.to_reg();
@@ -401,7 +413,8 @@ fn compare_and_swap(
 
 // A load of one register.
 fn find_load(inst: &Inst) -> Option<MemoryInst>
-    ensures row { option_map memory_instruction_of result ≡ by_load load_memory None (as_load inst.now) }
+    ensures row { option_map memory_instruction_of result
+        ≡ by_load load_memory None (as_load inst.now) }
     ensures encodes { IfSome result (λ x. may_encode x ≡ true) }
 {
     match inst.as_load() {

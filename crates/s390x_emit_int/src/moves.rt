@@ -126,7 +126,10 @@ fn extract_access(valid: bool, rd: Reg, ar: u8) -> Result<Code, EmitError>
 /// there is no such access register.
 #[tactic(auto, using(crate::proofs::Encoding::first_general))]
 pub fn load_access_row(rd: &Writable<Reg>, ar: u8) -> Option<Result<Code, EmitError>>
-    ensures { result ≡ single_code (single_with (is_general rd.now && is_access ar) (Some (two_operands 0xb24f (number_of rd.now) (four_bits ar)))) }
+    ensures { result
+        ≡ single_code
+        (single_with (is_general rd.now && is_access ar)
+        (Some (two_operands 0xb24f (number_of rd.now) (four_bits ar)))) }
 {
     let output = rd.to_reg();
     Some(extract_access(general(&output) && is_access(ar), output, ar))
@@ -136,7 +139,10 @@ pub fn load_access_row(rd: &Writable<Reg>, ar: u8) -> Option<Result<Code, EmitEr
 /// output, or one is not general.
 #[tactic(auto, using(crate::proofs::Encoding::reused_tested_general))]
 pub fn insert_access_row(rd: &Writable<Reg>, ri: &Reg, ar: u8) -> Option<Result<Code, EmitError>>
-    ensures { result ≡ single_code (single_with (reuses rd.now ri.now && is_access ar) (Some (two_operands 0xb24f (number_of rd.now) (four_bits ar)))) }
+    ensures { result
+        ≡ single_code
+        (single_with (reuses rd.now ri.now && is_access ar)
+        (Some (two_operands 0xb24f (number_of rd.now) (four_bits ar)))) }
 {
     let output = rd.to_reg();
     Some(extract_access(is_reused(&output, ri) && is_access(ar), output, ar))
@@ -152,7 +158,10 @@ pub fn conditional_row(
     rm: &Reg,
     cond: Cond,
 ) -> Option<Result<Code, EmitError>>
-    ensures { result ≡ single_code (single_with (reuses rd.now ri.now && is_general rm.now) (Some (rrf_cde opcode (number_of rd.now) (number_of rm.now) (four_bits cond) 0))) }
+    ensures { result
+        ≡ single_code
+        (single_with (reuses rd.now ri.now && is_general rm.now)
+        (Some (rrf_cde opcode (number_of rd.now) (number_of rm.now) (four_bits cond) 0))) }
 {
     let output = rd.to_reg();
     Some(masked(
@@ -174,7 +183,10 @@ pub fn conditional_immediate_row(
     imm: &i16,
     cond: Cond,
 ) -> Option<Result<Code, EmitError>>
-    ensures { result ≡ single_code (single_with (reuses rd.now ri.now) (Some (rie_g opcode (number_of rd.now) (low_halfword imm.now) (four_bits cond)))) }
+    ensures { result
+        ≡ single_code
+        (single_with (reuses rd.now ri.now)
+        (Some (rie_g opcode (number_of rd.now) (low_halfword imm.now) (four_bits cond)))) }
 {
     let output = rd.to_reg();
     Some(conditional_halfword(
@@ -197,7 +209,11 @@ pub fn indexed_row(
     displacement: SImm20,
 ) -> Option<Result<Code, EmitError>>
     requires { takes_general opcode ≡ true }
-    ensures { result ≡ single_code (single_with (is_general rd.now && is_general base.now && is_general index.now) (indexed_row opcode (number_of rd.now) (number_of base.now) (number_of index.now) (low_displacement displacement))) }
+    ensures { result
+        ≡ single_code
+        (single_with (is_general rd.now && is_general base.now && is_general index.now)
+        (indexed_row opcode (number_of rd.now) (number_of base.now) (number_of index.now)
+        (low_displacement displacement))) }
 {
     let output = rd.to_reg();
     match opcode {

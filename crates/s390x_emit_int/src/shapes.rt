@@ -19,7 +19,10 @@ use s390x_typed_steps::{bits_of_halfword, bits_of_word};
 #[tactic(auto, using(crate::proofs::Encoding::itself))]
 pub fn two_row(opcode: Option<u16>, r1: &Reg, r2: &Reg) -> Option<Result<Code, EmitError>>
     requires { takes_general opcode ≡ true }
-    ensures { result ≡ single_code (single_with (is_general r1.now && is_general r2.now) (two_row opcode (number_of r1.now) (number_of r2.now))) }
+    ensures { result
+        ≡ single_code
+        (single_with (is_general r1.now && is_general r2.now)
+        (two_row opcode (number_of r1.now) (number_of r2.now))) }
 {
     match opcode {
         Some(opcode) => Some(two_operands(two_general(r1, r2), opcode, *r1, *r2)),
@@ -35,7 +38,10 @@ pub fn into_row(
     rn: &Reg,
 ) -> Option<Result<Code, EmitError>>
     requires { takes_general opcode ≡ true }
-    ensures { result ≡ single_code (single_with (is_general rd.now && is_general rn.now) (two_row opcode (number_of rd.now) (number_of rn.now))) }
+    ensures { result
+        ≡ single_code
+        (single_with (is_general rd.now && is_general rn.now)
+        (two_row opcode (number_of rd.now) (number_of rn.now))) }
 {
     two_row(opcode, &rd.to_reg(), rn)
 }
@@ -50,7 +56,10 @@ pub fn reused_row(
     rm: &Reg,
 ) -> Option<Result<Code, EmitError>>
     requires { takes_general opcode ≡ true }
-    ensures { result ≡ single_code (single_with (reuses rd.now ri.now && is_general rm.now) (two_row opcode (number_of rd.now) (number_of rm.now))) }
+    ensures { result
+        ≡ single_code
+        (single_with (reuses rd.now ri.now && is_general rm.now)
+        (two_row opcode (number_of rd.now) (number_of rm.now))) }
 {
     let output = rd.to_reg();
     match opcode {
@@ -72,7 +81,10 @@ pub fn halfword_row(
     r1: &Reg,
     imm: u16,
 ) -> Option<Result<Code, EmitError>>
-    ensures { result ≡ single_code (single_with (is_general r1.now) (halfword_row (option_map opcode_of opcode) (number_of r1.now) imm)) }
+    ensures { result
+        ≡ single_code
+        (single_with (is_general r1.now)
+        (halfword_row (option_map opcode_of opcode) (number_of r1.now) imm)) }
 {
     match opcode {
         Some(opcode) => Some(halfword(general(r1), opcode, *r1, imm)),
@@ -87,7 +99,10 @@ pub fn into_halfword_row(
     rd: &Writable<Reg>,
     imm: u16,
 ) -> Option<Result<Code, EmitError>>
-    ensures { result ≡ single_code (single_with (is_general rd.now) (halfword_row (option_map opcode_of opcode) (number_of rd.now) imm)) }
+    ensures { result
+        ≡ single_code
+        (single_with (is_general rd.now)
+        (halfword_row (option_map opcode_of opcode) (number_of rd.now) imm)) }
 {
     halfword_row(opcode, &rd.to_reg(), imm)
 }
@@ -99,7 +114,11 @@ pub fn into_signed_halfword_row(
     rd: &Writable<Reg>,
     imm: &i16,
 ) -> Option<Result<Code, EmitError>>
-    ensures { result ≡ single_code (single_with (is_general rd.now) (halfword_row (option_map opcode_of opcode) (number_of rd.now) (low_halfword imm.now))) }
+    ensures { result
+        ≡ single_code
+        (single_with (is_general rd.now)
+        (halfword_row (option_map opcode_of opcode) (number_of rd.now)
+        (low_halfword imm.now))) }
 {
     into_halfword_row(opcode, rd, bits_of_halfword(*imm))
 }
@@ -113,7 +132,10 @@ pub fn reused_halfword_row(
     ri: &Reg,
     imm: u16,
 ) -> Option<Result<Code, EmitError>>
-    ensures { result ≡ single_code (single_with (reuses rd.now ri.now) (halfword_row (option_map opcode_of opcode) (number_of rd.now) imm)) }
+    ensures { result
+        ≡ single_code
+        (single_with (reuses rd.now ri.now)
+        (halfword_row (option_map opcode_of opcode) (number_of rd.now) imm)) }
 {
     let output = rd.to_reg();
     match opcode {
@@ -126,7 +148,10 @@ pub fn reused_halfword_row(
 /// `BadRegister` comes where a register is not general, or an input that has to be the output isn't it.
 #[tactic(auto, using(crate::proofs::Encoding::itself))]
 pub fn word_row(opcode: Option<ShortOpcode>, r1: &Reg, imm: u32) -> Option<Result<Code, EmitError>>
-    ensures { result ≡ single_code (single_with (is_general r1.now) (word_row (option_map opcode_of opcode) (number_of r1.now) imm)) }
+    ensures { result
+        ≡ single_code
+        (single_with (is_general r1.now)
+        (word_row (option_map opcode_of opcode) (number_of r1.now) imm)) }
 {
     match opcode {
         Some(opcode) => Some(word(general(r1), opcode, *r1, imm)),
@@ -141,7 +166,10 @@ pub fn into_word_row(
     rd: &Writable<Reg>,
     imm: u32,
 ) -> Option<Result<Code, EmitError>>
-    ensures { result ≡ single_code (single_with (is_general rd.now) (word_row (option_map opcode_of opcode) (number_of rd.now) imm)) }
+    ensures { result
+        ≡ single_code
+        (single_with (is_general rd.now)
+        (word_row (option_map opcode_of opcode) (number_of rd.now) imm)) }
 {
     word_row(opcode, &rd.to_reg(), imm)
 }
@@ -153,7 +181,10 @@ pub fn into_signed_word_row(
     rd: &Writable<Reg>,
     imm: &i32,
 ) -> Option<Result<Code, EmitError>>
-    ensures { result ≡ single_code (single_with (is_general rd.now) (word_row (option_map opcode_of opcode) (number_of rd.now) (low_word imm.now))) }
+    ensures { result
+        ≡ single_code
+        (single_with (is_general rd.now)
+        (word_row (option_map opcode_of opcode) (number_of rd.now) (low_word imm.now))) }
 {
     into_word_row(opcode, rd, bits_of_word(*imm))
 }
@@ -167,7 +198,10 @@ pub fn reused_word_row(
     ri: &Reg,
     imm: u32,
 ) -> Option<Result<Code, EmitError>>
-    ensures { result ≡ single_code (single_with (reuses rd.now ri.now) (word_row (option_map opcode_of opcode) (number_of rd.now) imm)) }
+    ensures { result
+        ≡ single_code
+        (single_with (reuses rd.now ri.now)
+        (word_row (option_map opcode_of opcode) (number_of rd.now) imm)) }
 {
     let output = rd.to_reg();
     match opcode {

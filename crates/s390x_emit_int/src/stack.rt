@@ -25,7 +25,8 @@ pub fn stack_cause(state: &EmitState, depth: u32, inst: &Inst) -> Option<EmitErr
 
 // The nominal size behind an instruction. Refused where it allocates arguments and some are allocated already.
 fn nominal_after(nominal: u32, inst: &Inst) -> Result<u32, EmitError>
-    ensures { MatchResult result (λ behind. behind ≡ nominal_after nominal inst.now) (λ e. (depth : ℕ) → stack_cause nominal depth inst.now ≡ Some e) }
+    ensures { MatchResult result (λ behind. behind ≡ nominal_after nominal inst.now)
+        (λ e. (depth : ℕ) → stack_cause nominal depth inst.now ≡ Some e) }
 {
     match inst {
         Inst::AllocateArgs { .. } if nominal != 0 => Err(EmitError::BadStackState),
@@ -61,7 +62,9 @@ fn outgoing_behind(outgoing: u32, insts: &[Inst]) -> u32
 
 // Goes on behind an instruction that may change the stack sizes.
 fn advance_sizes(state: &mut EmitState, inst: &Inst) -> Result<(), EmitError>
-    ensures { MatchResult result (λ _. state.new ≡ state_after state.old inst.now) (λ e. ((depth : ℕ) → stack_cause state.old.nominal depth inst.now ≡ Some e) × (state.new ≡ state.old)) }
+    ensures { MatchResult result (λ _. state.new ≡ state_after state.old inst.now)
+        (λ e. ((depth : ℕ) → stack_cause state.old.nominal depth inst.now ≡ Some e)
+        × (state.new ≡ state.old)) }
 {
     let nominal = nominal_after(state.nominal(), inst)?;
     let outgoing = outgoing_after(state.outgoing(), inst);
@@ -75,7 +78,9 @@ fn advance_sizes(state: &mut EmitState, inst: &Inst) -> Result<(), EmitError>
 /// state stays then.
 #[inline(always)]
 pub fn advance(state: &mut EmitState, inst: &Inst) -> Result<(), EmitError>
-    ensures { MatchResult result (λ _. state.new ≡ state_after state.old inst.now) (λ e. ((depth : ℕ) → stack_cause state.old.nominal depth inst.now ≡ Some e) × (state.new ≡ state.old)) }
+    ensures { MatchResult result (λ _. state.new ≡ state_after state.old inst.now)
+        (λ e. ((depth : ℕ) → stack_cause state.old.nominal depth inst.now ≡ Some e)
+        × (state.new ≡ state.old)) }
 {
     match inst {
         Inst::AllocateArgs { .. } | Inst::Call { .. } | Inst::Loop { .. } => {

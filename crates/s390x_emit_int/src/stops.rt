@@ -58,7 +58,10 @@ pub fn masked_row(
     rm: &Reg,
     cond: Cond,
 ) -> Option<Result<Code, EmitError>>
-    ensures { result ≡ single_code (single_with (is_general rn.now && is_general rm.now) (masked_row opcode (number_of rn.now) (number_of rm.now) (four_bits cond))) }
+    ensures { result
+        ≡ single_code
+        (single_with (is_general rn.now && is_general rm.now)
+        (masked_row opcode (number_of rn.now) (number_of rm.now) (four_bits cond))) }
 {
     match opcode {
         Some(opcode) => Some(masked(two_general(rn, rm), opcode, *rn, *rm, cond.bits())),
@@ -75,7 +78,10 @@ pub fn masked_halfword_row(
     imm: u16,
     cond: Cond,
 ) -> Option<Result<Code, EmitError>>
-    ensures { result ≡ single_code (single_with (is_general rn.now) (masked_halfword_row opcode (number_of rn.now) imm (four_bits cond))) }
+    ensures { result
+        ≡ single_code
+        (single_with (is_general rn.now)
+        (masked_halfword_row opcode (number_of rn.now) imm (four_bits cond))) }
 {
     match opcode {
         Some(opcode) => Some(masked_halfword(general(rn), opcode, *rn, imm, cond.bits())),
@@ -93,7 +99,11 @@ pub fn reused_pair_row(
     rn: &Reg,
 ) -> Option<Result<Code, EmitError>>
     requires { takes_general (Some opcode) ≡ true }
-    ensures { result ≡ single_code (single_with (is_even_pair rd.now.hi rd.now.lo && reuses_pair rd.now ri.now && is_general rn.now) (Some (two_operands opcode (number_of rd.now.hi) (number_of rn.now)))) }
+    ensures { result
+        ≡ single_code
+        (single_with
+        (is_even_pair rd.now.hi rd.now.lo && reuses_pair rd.now ri.now && is_general rn.now)
+        (Some (two_operands opcode (number_of rd.now.hi) (number_of rn.now)))) }
 {
     Some(two_operands(
         is_even_pair(rd) && is_reused_pair(rd, ri) && general(rn),

@@ -21,7 +21,8 @@ use s390x_inst::SymbolReloc;
 
 // BRANCH RELATIVE AND SAVE over the doubleword behind it, whose address goes into `%r1`.
 fn put_branch_over(sink: &mut MachBuffer) -> Result<(), EmitError>
-    ensures answer { OnOk result (sink.new ≡ apply_all sink.old (part_fragments (Row (ri_b 0xa75 1 6) ∷ []))) }
+    ensures answer { OnOk result
+        (sink.new ≡ apply_all sink.old (part_fragments (Row (ri_b 0xa75 1 6) ∷ []))) }
     ensures lacks { put_cause sink.old 4 ≡ None → LacksMemory result }
     ensures kept { Extends sink.old sink.new }
 {
@@ -31,7 +32,8 @@ fn put_branch_over(sink: &mut MachBuffer) -> Result<(), EmitError>
 
 // A doubleword of zeros, which linking fills with a symbol's address plus an offset.
 fn put_symbol(sink: &mut MachBuffer, name: ExternalName, offset: i64) -> Result<(), EmitError>
-    ensures answer { OnOk result (sink.new ≡ apply sink.old (PutReloc (to_be_bytes w64 0) 0 Abs8 name offset)) }
+    ensures answer { OnOk result
+        (sink.new ≡ apply sink.old (PutReloc (to_be_bytes w64 0) 0 Abs8 name offset)) }
     ensures lacks { put_cause sink.old 8 ≡ None → LacksMemory result }
     ensures kept { Extends sink.old sink.new }
 {
@@ -41,7 +43,11 @@ fn put_symbol(sink: &mut MachBuffer, name: ExternalName, offset: i64) -> Result<
 
 // The doubleword that a relocation fills.
 fn put_reloc(sink: &mut MachBuffer, symbol_reloc: &SymbolReloc) -> Result<(), EmitError>
-    ensures answer { OnOk result (sink.new ≡ apply sink.old (PutReloc (to_be_bytes w64 0) 0 Abs8 (name_in symbol_reloc.now) (offset_in symbol_reloc.now))) }
+    ensures answer { OnOk result
+        (sink.new
+        ≡ apply sink.old
+        (PutReloc (to_be_bytes w64 0) 0 Abs8 (name_in symbol_reloc.now)
+        (offset_in symbol_reloc.now))) }
     ensures lacks { put_cause sink.old 8 ≡ None → LacksMemory result }
     ensures kept { Extends sink.old sink.new }
 {
@@ -52,7 +58,9 @@ fn put_reloc(sink: &mut MachBuffer, symbol_reloc: &SymbolReloc) -> Result<(), Em
 
 // LOAD (64) of the doubleword at the address in `%r1`.
 fn put_load(sink: &mut MachBuffer, rd: Reg) -> Result<(), EmitError>
-    ensures answer { OnOk result (sink.new ≡ apply_all sink.old (part_fragments (Row (rxy 0xe304 (number_of rd) 1 0 0) ∷ []))) }
+    ensures answer { OnOk result
+        (sink.new
+        ≡ apply_all sink.old (part_fragments (Row (rxy 0xe304 (number_of rd) 1 0 0) ∷ []))) }
     ensures lacks { put_cause sink.old 6 ≡ None → is_general rd ≡ true → LacksMemory result }
     ensures kept { Extends sink.old sink.new }
 {
@@ -68,7 +76,9 @@ pub fn emit_symbol_load(
     rd: Reg,
     symbol_reloc: &SymbolReloc,
 ) -> Result<(), EmitError>
-    ensures answer { OnOk result (sink.new ≡ apply_all sink.old (part_fragments (symbol_parts (number_of rd) symbol_reloc.now))) }
+    ensures answer { OnOk result
+        (sink.new
+        ≡ apply_all sink.old (part_fragments (symbol_parts (number_of rd) symbol_reloc.now))) }
     ensures lacks { put_cause sink.old 18 ≡ None → is_general rd ≡ true → LacksMemory result }
     ensures kept { Extends sink.old sink.new }
 {

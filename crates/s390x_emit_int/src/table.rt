@@ -32,8 +32,11 @@ fn put_word(sink: &mut MachBuffer, before: u32, label: MachLabel) -> Result<(), 
 
 // The words of a table that begins here.
 fn put_words(sink: &mut MachBuffer, targets: &[MachLabel]) -> Result<(), EmitError>
-    ensures answer { OnOk result (sink.new ≡ apply_all sink.old (part_fragments (table_words 0 targets.now))) }
-    ensures lacks { (after : ℕ) → Passed sink.old after (4 * length targets.now) (labels_cause sink.old.block_count targets.now) → LacksMemory result }
+    ensures answer { OnOk result
+        (sink.new ≡ apply_all sink.old (part_fragments (table_words 0 targets.now))) }
+    ensures lacks { (after : ℕ)
+        → Passed sink.old after (4 * length targets.now)
+        (labels_cause sink.old.block_count targets.now) → LacksMemory result }
     ensures kept { Extends sink.old sink.new }
 {
     let table = sink.cur_offset();
@@ -46,7 +49,9 @@ fn put_words(sink: &mut MachBuffer, targets: &[MachLabel]) -> Result<(), EmitErr
 
 // ADD (64 from 32 bits) of the word at an index behind `%r1` to `%r1`.
 fn put_word_sum(sink: &mut MachBuffer, index: Reg) -> Result<(), EmitError>
-    ensures answer { OnOk result (sink.new ≡ apply_all sink.old (part_fragments (Row (rxy 0xe318 1 1 (number_of index) 0) ∷ []))) }
+    ensures answer { OnOk result
+        (sink.new
+        ≡ apply_all sink.old (part_fragments (Row (rxy 0xe318 1 1 (number_of index) 0) ∷ []))) }
     ensures lacks { put_cause sink.old 6 ≡ None → is_general index ≡ true → LacksMemory result }
     ensures kept { Extends sink.old sink.new }
 {
@@ -63,8 +68,10 @@ fn put_table_rows(
     other: MachLabel,
 ) -> Result<(), EmitError>
     requires { mask < 16 }
-    ensures answer { OnOk result (sink.new ≡ apply_all sink.old (table_rows table.0 (number_of index) mask other.0)) }
-    ensures lacks { Passed sink.old other.0 20 None → table.0 < length sink.old.labels → is_general index ≡ true → LacksMemory result }
+    ensures answer { OnOk result
+        (sink.new ≡ apply_all sink.old (table_rows table.0 (number_of index) mask other.0)) }
+    ensures lacks { Passed sink.old other.0 20 None → table.0 < length sink.old.labels
+        → is_general index ≡ true → LacksMemory result }
     ensures kept { Extends sink.old sink.new }
 {
     put_branch(sink, mask, other)?;
@@ -84,8 +91,15 @@ pub fn emit_table(
     targets: &[MachLabel],
 ) -> Result<(), EmitError>
     requires { HasRoom sink.old }
-    ensures answer { OnOk result (sink.new ≡ apply_all sink.old (table_fragments (length sink.old.labels) (number_of index) cond other.0 targets.now)) }
-    ensures lacks { (after : ℕ) → Passed sink.old after (20 + 4 * length targets.now) (table_cause sink.old.block_count index other targets.now) → numbers_cause (length sink.old.labels) 1 ≡ None → LacksMemory result }
+    ensures answer { OnOk result
+        (sink.new
+        ≡ apply_all sink.old
+        (table_fragments (length sink.old.labels) (number_of index) cond other.0
+        targets.now)) }
+    ensures lacks { (after : ℕ)
+        → Passed sink.old after (20 + 4 * length targets.now)
+        (table_cause sink.old.block_count index other targets.now)
+        → numbers_cause (length sink.old.labels) 1 ≡ None → LacksMemory result }
     ensures range { IsConditionMask cond }
     ensures kept { Extends sink.old sink.new }
 {

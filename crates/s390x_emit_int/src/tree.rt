@@ -24,7 +24,8 @@ use std::alloc::Global;
 
 // Why no loop can stand inside so many others: its nesting, or the numbers of its two labels.
 fn loop_cause(sink: &MachBuffer, depth: u32) -> Option<EmitError>
-    ensures cause { result ≡ first_emit_cause (nesting_cause depth) (numbers_cause (length sink.now.labels) 2) }
+    ensures cause { result
+        ≡ first_emit_cause (nesting_cause depth) (numbers_cause (length sink.now.labels) 2) }
     ensures few { result ≡ None → depth < 8 }
 {
     let used = Totals {
@@ -47,9 +48,18 @@ pub fn emit_members(
     after: MachLabel,
 ) -> Result<(), EmitError>
     requires { HasRoom sink.old }
-    ensures answer { OnOk result (sink.new ≡ apply_all sink.old (fragments (length sink.old.labels) after.0 (members_of flags state.old insts.now))) }
-    ensures cause { OnOk result ((tree_cause flags (declared_in sink.old) (length sink.old.labels) state.old.nominal depth (members_of flags state.old insts.now) ≡ None) × (state.new.nominal ≡ nominal_behind state.old.nominal (members_of flags state.old insts.now))) }
-    ensures lacks { TreePassed flags sink.old after.0 state.old.nominal depth (members_of flags state.old insts.now) → LacksMemory result }
+    ensures answer { OnOk result
+        (sink.new
+        ≡ apply_all sink.old
+        (fragments (length sink.old.labels) after.0
+        (members_of flags state.old insts.now))) }
+    ensures cause { OnOk result
+        ((tree_cause flags (declared_in sink.old) (length sink.old.labels) state.old.nominal depth
+        (members_of flags state.old insts.now) ≡ None)
+        × (state.new.nominal
+        ≡ nominal_behind state.old.nominal (members_of flags state.old insts.now))) }
+    ensures lacks { TreePassed flags sink.old after.0 state.old.nominal depth
+        (members_of flags state.old insts.now) → LacksMemory result }
     ensures ranges { OnOk result (AllInRange (members_of flags state.old insts.now)) }
     ensures kept { Extends sink.old sink.new }
 {
@@ -74,9 +84,16 @@ pub fn emit_inst(
     after: MachLabel,
 ) -> Result<(), EmitError>
     requires { HasRoom sink.old }
-    ensures answer { OnOk result (sink.new ≡ apply_all sink.old (own_fragments (length sink.old.labels) after.0 (member_of flags state.now inst.now))) }
-    ensures cause { OnOk result (tree_cause flags (declared_in sink.old) (length sink.old.labels) state.now.nominal depth (member_of flags state.now inst.now) ≡ None) }
-    ensures lacks { TreePassed flags sink.old after.0 state.now.nominal depth (member_of flags state.now inst.now) → LacksMemory result }
+    ensures answer { OnOk result
+        (sink.new
+        ≡ apply_all sink.old
+        (own_fragments (length sink.old.labels) after.0
+        (member_of flags state.now inst.now))) }
+    ensures cause { OnOk result
+        (tree_cause flags (declared_in sink.old) (length sink.old.labels) state.now.nominal depth
+        (member_of flags state.now inst.now) ≡ None) }
+    ensures lacks { TreePassed flags sink.old after.0 state.now.nominal depth
+        (member_of flags state.now inst.now) → LacksMemory result }
     ensures ranges { OnOk result (AllInRange (member_of flags state.now inst.now)) }
     ensures kept { Extends sink.old sink.new }
 {
@@ -103,10 +120,20 @@ fn emit_loop(
     body: &[Inst],
 ) -> Result<(), EmitError>
     requires { HasRoom sink.old }
-    ensures answer { OnOk result (sink.new ≡ apply_all sink.old (own_fragments (length sink.old.labels) 0 (loop_node cond (members_of flags (without_map state.now) body.now) empty))) }
-    ensures cause { OnOk result (tree_cause flags (declared_in sink.old) (length sink.old.labels) state.now.nominal depth (loop_node cond (members_of flags (without_map state.now) body.now) empty) ≡ None) }
-    ensures lacks { (after : ℕ) → TreePassed flags sink.old after state.now.nominal depth (loop_node cond (members_of flags (without_map state.now) body.now) empty) → LacksMemory result }
-    ensures ranges { OnOk result (AllInRange (loop_node cond (members_of flags (without_map state.now) body.now) empty)) }
+    ensures answer { OnOk result
+        (sink.new
+        ≡ apply_all sink.old
+        (own_fragments (length sink.old.labels) 0
+        (loop_node cond (members_of flags (without_map state.now) body.now) empty))) }
+    ensures cause { OnOk result
+        (tree_cause flags (declared_in sink.old) (length sink.old.labels) state.now.nominal depth
+        (loop_node cond (members_of flags (without_map state.now) body.now) empty) ≡ None) }
+    ensures lacks { (after : ℕ)
+        → TreePassed flags sink.old after state.now.nominal depth
+        (loop_node cond (members_of flags (without_map state.now) body.now) empty)
+        → LacksMemory result }
+    ensures ranges { OnOk result
+        (AllInRange (loop_node cond (members_of flags (without_map state.now) body.now) empty)) }
     ensures kept { Extends sink.old sink.new }
 {
     if let Some(error) = loop_cause(sink, depth) {

@@ -79,7 +79,8 @@ pub fn reuses(output: &Reg, input: &Reg) -> bool
 
 /// Those of an element that is inserted into a register that is also an input.
 pub fn reuse_insert_valid(output: &Reg, input: &Reg, r3: &Reg, base: &Reg) -> bool
-    ensures { result ≡ reuses_vector output.now input.now && is_general r3.now && is_general base.now }
+    ensures { result
+        ≡ reuses_vector output.now input.now && is_general r3.now && is_general base.now }
 {
     reuses(output, input) && general(r3) && general(base)
 }
@@ -108,7 +109,9 @@ fn join_valid(a: &Reg, b: &Reg, c: &Reg) -> bool
 /// there.
 pub fn two_vectors(row: VectorOpcode, v1: Reg, v2: Reg) -> Result<Code, EmitError>
     requires { row.code < 16 }
-    ensures { result ≡ code_where (is_vector v1 && is_vector v2) (vrr_a row.opcode (number_of v1) (number_of v2) row.code) }
+    ensures { result
+        ≡ code_where (is_vector v1 && is_vector v2)
+        (vrr_a row.opcode (number_of v1) (number_of v2) row.code) }
 {
     let valid = two_valid(&v1, &v2);
     if valid {
@@ -122,7 +125,9 @@ pub fn two_vectors(row: VectorOpcode, v1: Reg, v2: Reg) -> Result<Code, EmitErro
 /// there.
 pub fn three_vectors(row: VectorOpcode, v1: Reg, v2: Reg, v3: Reg) -> Result<Code, EmitError>
     requires { row.code < 16 }
-    ensures { result ≡ code_where (is_vector v1 && is_vector v2 && is_vector v3) (vrr_c row.opcode (number_of v1) (number_of v2) (number_of v3) row.code) }
+    ensures { result
+        ≡ code_where (is_vector v1 && is_vector v2 && is_vector v3)
+        (vrr_c row.opcode (number_of v1) (number_of v2) (number_of v3) row.code) }
 {
     let valid = three_valid(&v1, &v2, &v3);
     if valid {
@@ -143,7 +148,9 @@ pub fn compared_vectors(
 ) -> Result<Code, EmitError>
     requires code { row.code < 16 }
     requires sets_code { sets_code < 16 }
-    ensures { result ≡ code_where (is_vector v1 && is_vector v2 && is_vector v3) (vrr_b row.opcode (number_of v1) (number_of v2) (number_of v3) row.code sets_code) }
+    ensures { result
+        ≡ code_where (is_vector v1 && is_vector v2 && is_vector v3)
+        (vrr_b row.opcode (number_of v1) (number_of v2) (number_of v3) row.code sets_code) }
 {
     let valid = three_valid(&v1, &v2, &v3);
     if valid {
@@ -155,7 +162,9 @@ pub fn compared_vectors(
 
 /// Four vector registers, of a selection or a permutation. `BadRegister` comes where a register may not stand there.
 pub fn four_vectors(opcode: u16, v1: Reg, v2: Reg, v3: Reg, v4: Reg) -> Result<Code, EmitError>
-    ensures { result ≡ code_where (is_vector v1 && is_vector v2 && is_vector v3 && is_vector v4) (vrr_e opcode (number_of v1) (number_of v2) (number_of v3) (number_of v4)) }
+    ensures { result
+        ≡ code_where (is_vector v1 && is_vector v2 && is_vector v3 && is_vector v4)
+        (vrr_e opcode (number_of v1) (number_of v2) (number_of v3) (number_of v4)) }
 {
     let valid = four_valid(&v1, &v2, &v3, &v4);
     if valid {
@@ -167,7 +176,9 @@ pub fn four_vectors(opcode: u16, v1: Reg, v2: Reg, v3: Reg, v4: Reg) -> Result<C
 
 /// Four vector registers, of bytes that are blended. `BadRegister` comes where a register may not stand there.
 pub fn blended_vectors(v1: Reg, v2: Reg, v3: Reg, v4: Reg) -> Result<Code, EmitError>
-    ensures { result ≡ code_where (is_vector v1 && is_vector v2 && is_vector v3 && is_vector v4) (vrr_d 0xe789 (number_of v1) (number_of v2) (number_of v3) (number_of v4) 0) }
+    ensures { result
+        ≡ code_where (is_vector v1 && is_vector v2 && is_vector v3 && is_vector v4)
+        (vrr_d 0xe789 (number_of v1) (number_of v2) (number_of v3) (number_of v4) 0) }
 {
     let valid = four_valid(&v1, &v2, &v3, &v4);
     if valid {
@@ -179,7 +190,9 @@ pub fn blended_vectors(v1: Reg, v2: Reg, v3: Reg, v4: Reg) -> Result<Code, EmitE
 
 /// Four vector registers and a truth table. `BadRegister` comes where a register may not stand there.
 pub fn evaluated_vectors(imm: u8, v1: Reg, v2: Reg, v3: Reg, v4: Reg) -> Result<Code, EmitError>
-    ensures { result ≡ code_where (is_vector v1 && is_vector v2 && is_vector v3 && is_vector v4) (vri_k 0xe788 imm (number_of v1) (number_of v2) (number_of v3) (number_of v4)) }
+    ensures { result
+        ≡ code_where (is_vector v1 && is_vector v2 && is_vector v3 && is_vector v4)
+        (vri_k 0xe788 imm (number_of v1) (number_of v2) (number_of v3) (number_of v4)) }
 {
     let valid = four_valid(&v1, &v2, &v3, &v4);
     if valid {
@@ -199,7 +212,9 @@ pub fn shifted_vector(
 ) -> Result<Code, EmitError>
     requires code { row.code < 16 }
     requires amount { amount < 4096 }
-    ensures { result ≡ code_where (is_vector v1 && is_vector v3 && is_general register) (vrs_a row.opcode (number_of v1) (number_of register) (number_of v3) row.code amount) }
+    ensures { result
+        ≡ code_where (is_vector v1 && is_vector v3 && is_general register)
+        (vrs_a row.opcode (number_of v1) (number_of register) (number_of v3) row.code amount) }
 {
     let valid = shift_valid(&v1, &v3, &register);
     if valid {
@@ -211,7 +226,9 @@ pub fn shifted_vector(
 
 /// A vector register and two general ones. `BadRegister` comes where a register may not stand there.
 pub fn joined_registers(v1: Reg, r2: Reg, r3: Reg) -> Result<Code, EmitError>
-    ensures { result ≡ code_where (is_vector v1 && is_general r2 && is_general r3) (vrr_f 0xe762 (number_of v1) (number_of r2) (number_of r3)) }
+    ensures { result
+        ≡ code_where (is_vector v1 && is_general r2 && is_general r3)
+        (vrr_f 0xe762 (number_of v1) (number_of r2) (number_of r3)) }
 {
     let valid = join_valid(&v1, &r2, &r3);
     if valid {
@@ -262,7 +279,8 @@ pub fn inserted_element(
 ) -> Result<Code, EmitError>
     requires code { code < 16 }
     requires real { valid ≡ true → (is_vector v1 && is_general r3 && is_general base) ≡ true }
-    ensures { result ≡ code_where valid (vrs_b 0xe722 (number_of v1) (number_of base) (number_of r3) code lane) }
+    ensures { result
+        ≡ code_where valid (vrs_b 0xe722 (number_of v1) (number_of base) (number_of r3) code lane) }
 {
     if valid {
         enc_vrs_b(0xe722, v1, base, lane as u32, r3, code)
@@ -283,7 +301,8 @@ pub fn extracted_element(
 ) -> Result<Code, EmitError>
     requires code { code < 16 }
     requires real { valid ≡ true → (is_general r1 && is_vector v3 && is_general base) ≡ true }
-    ensures { result ≡ code_where valid (vrs_c 0xe721 (number_of r1) (number_of base) (number_of v3) code lane) }
+    ensures { result
+        ≡ code_where valid (vrs_c 0xe721 (number_of r1) (number_of base) (number_of v3) code lane) }
 {
     if valid {
         enc_vrs_c(0xe721, r1, base, lane as u32, v3, code)
@@ -329,7 +348,9 @@ pub fn from_float(valid: bool, r1: Reg, v2: Reg) -> Result<Code, EmitError>
 /// register may not stand there.
 pub fn replicated_lane(code: u8, v1: Reg, v3: Reg, lane: u16) -> Result<Code, EmitError>
     requires { code < 16 }
-    ensures { result ≡ code_where (is_vector v1 && is_vector v3) (vri_c 0xe74d (number_of v1) (number_of v3) lane code) }
+    ensures { result
+        ≡ code_where (is_vector v1 && is_vector v3)
+        (vri_c 0xe74d (number_of v1) (number_of v3) lane code) }
 {
     let valid = two_valid(&v1, &v3);
     if valid {
@@ -365,7 +386,8 @@ fn moved_float(opcode: u16, v1: Reg, v2: Reg) -> Result<Code, EmitError>
     requires first { is_first_float opcode ≡ true }
     requires second { is_second_float opcode ≡ true }
     requires low { (nat_lt (number_of v1) 16 && nat_lt (number_of v2) 16) ≡ true }
-    ensures { result ≡ code_where (is_vector v1 && is_vector v2) (rr opcode (number_of v1) (number_of v2)) }
+    ensures { result
+        ≡ code_where (is_vector v1 && is_vector v2) (rr opcode (number_of v1) (number_of v2)) }
 {
     let valid = two_valid(&v1, &v2);
     if valid {
@@ -387,7 +409,9 @@ pub fn reused_left(opcode: u16, v1: Reg, input: Reg, v2: Reg) -> Result<Code, Em
     requires short { opcode < 256 }
     requires first { is_first_float opcode ≡ true }
     requires second { is_second_float opcode ≡ true }
-    ensures { result ≡ code_where (reuses_vector v1 input && is_vector v2) (move_left_row opcode (number_of v1) (number_of v2)) }
+    ensures { result
+        ≡ code_where (reuses_vector v1 input && is_vector v2)
+        (move_left_row opcode (number_of v1) (number_of v2)) }
 {
     let valid = reused_valid(&v1, &input, &v2);
     if valid {
@@ -400,7 +424,9 @@ pub fn reused_left(opcode: u16, v1: Reg, input: Reg, v2: Reg) -> Result<Code, Em
 /// A move of a whole register into one that is also an input. `BadRegister` comes where a register may not stand
 /// there.
 pub fn reused_whole(v1: Reg, input: Reg, v2: Reg) -> Result<Code, EmitError>
-    ensures { result ≡ code_where (reuses_vector v1 input && is_vector v2) (vrr_a 0xe756 (number_of v1) (number_of v2) 0) }
+    ensures { result
+        ≡ code_where (reuses_vector v1 input && is_vector v2)
+        (vrr_a 0xe756 (number_of v1) (number_of v2) 0) }
 {
     let valid = reused_valid(&v1, &input, &v2);
     if valid {
@@ -420,7 +446,9 @@ pub fn moved_left(opcode: u16, v1: Reg, v2: Reg) -> Result<Code, EmitError>
     requires short { opcode < 256 }
     requires first { is_first_float opcode ≡ true }
     requires second { is_second_float opcode ≡ true }
-    ensures { result ≡ code_where (is_vector v1 && is_vector v2) (move_left_row opcode (number_of v1) (number_of v2)) }
+    ensures { result
+        ≡ code_where (is_vector v1 && is_vector v2)
+        (move_left_row opcode (number_of v1) (number_of v2)) }
 {
     let low = both_low(&v1, &v2);
     if low {

@@ -44,7 +44,10 @@ fn bits_of_lane(lane: u8) -> u16
 /// One element for all. None where there is no row; `BadRegister` comes where a register is not general, or an input
 /// that has to be the output isn't it.
 pub fn replicated_lane_of(size: u32, v1: Reg, v3: Reg, lane: u8) -> Option<Result<Code, EmitError>>
-    ensures { result ≡ single_code (single_with (is_vector v1 && is_vector v3) (replicate_lane_row (element_code size) size (number_of v1) (number_of v3) lane)) }
+    ensures { result
+        ≡ single_code
+        (single_with (is_vector v1 && is_vector v3)
+        (replicate_lane_row (element_code size) size (number_of v1) (number_of v3) lane)) }
 {
     match element_code(size) {
         Some(code) => {
@@ -90,7 +93,11 @@ fn inserted_where(
     lane: u8,
 ) -> Option<Result<Code, EmitError>>
     requires { valid ≡ true → is_vector v1 ≡ true }
-    ensures { result ≡ single_code (single_with valid (insert_immediate_row (element_code size) size (number_of v1) (low_halfword imm) lane)) }
+    ensures { result
+        ≡ single_code
+        (single_with valid
+        (insert_immediate_row (element_code size) size (number_of v1) (low_halfword imm)
+        lane)) }
 {
     match element_code(size) {
         Some(code) => {
@@ -107,7 +114,11 @@ fn inserted_where(
 /// An immediate in one element, where the others may become any. None where there is no row; `BadRegister` comes
 /// where a register is not general, or an input that has to be the output isn't it.
 pub fn inserted(size: u32, v1: Reg, imm: i16, lane: u8) -> Option<Result<Code, EmitError>>
-    ensures { result ≡ single_code (single_with (is_vector v1) (insert_immediate_row (element_code size) size (number_of v1) (low_halfword imm) lane)) }
+    ensures { result
+        ≡ single_code
+        (single_with (is_vector v1)
+        (insert_immediate_row (element_code size) size (number_of v1) (low_halfword imm)
+        lane)) }
 {
     let valid = vector(&v1);
     inserted_where(valid, size, v1, imm, lane)
@@ -122,7 +133,11 @@ pub fn inserted_into(
     imm: i16,
     lane: u8,
 ) -> Option<Result<Code, EmitError>>
-    ensures { result ≡ single_code (single_with (reuses_vector v1 input) (insert_immediate_row (element_code size) size (number_of v1) (low_halfword imm) lane)) }
+    ensures { result
+        ≡ single_code
+        (single_with (reuses_vector v1 input)
+        (insert_immediate_row (element_code size) size (number_of v1) (low_halfword imm)
+        lane)) }
 {
     let valid = reuses(&v1, &input);
     inserted_where(valid, size, v1, imm, lane)
@@ -138,7 +153,11 @@ fn lane_inserted_where(
     base: Reg,
 ) -> Option<Result<Code, EmitError>>
     requires { valid ≡ true → (is_vector v1 && is_general r3 && is_general base) ≡ true }
-    ensures { result ≡ single_code (single_with valid (insert_lane_row (element_code size) size (number_of v1) (number_of r3) (number_of base) lane)) }
+    ensures { result
+        ≡ single_code
+        (single_with valid
+        (insert_lane_row (element_code size) size (number_of v1) (number_of r3) (number_of base)
+        lane)) }
 {
     match element_code(size) {
         Some(code) => {
@@ -162,7 +181,11 @@ pub fn lane_inserted_into(
     lane: u8,
     base: Reg,
 ) -> Option<Result<Code, EmitError>>
-    ensures { result ≡ single_code (single_with (reuses_vector v1 input && is_general r3 && is_general base) (insert_lane_row (element_code size) size (number_of v1) (number_of r3) (number_of base) lane)) }
+    ensures { result
+        ≡ single_code
+        (single_with (reuses_vector v1 input && is_general r3 && is_general base)
+        (insert_lane_row (element_code size) size (number_of v1) (number_of r3) (number_of base)
+        lane)) }
 {
     let valid = reuse_insert_valid(&v1, &input, &r3, &base);
     lane_inserted_where(valid, size, v1, r3, lane, base)
@@ -177,7 +200,10 @@ pub fn lane_inserted(
     lane: u8,
     base: Reg,
 ) -> Option<Result<Code, EmitError>>
-    ensures { result ≡ single_code (single_with (is_vector v1 && is_general r3 && is_general base) (insert_alone_row size (number_of v1) (number_of r3) (number_of base) lane)) }
+    ensures { result
+        ≡ single_code
+        (single_with (is_vector v1 && is_general r3 && is_general base)
+        (insert_alone_row size (number_of v1) (number_of r3) (number_of base) lane)) }
 {
     let valid = insert_valid(&v1, &r3, &base);
     if is_float_doubleword(size, number(&v1), number(&base), lane) {
@@ -197,7 +223,11 @@ fn lane_extracted_where(
     base: Reg,
 ) -> Option<Result<Code, EmitError>>
     requires { valid ≡ true → (is_general r1 && is_vector v3 && is_general base) ≡ true }
-    ensures { result ≡ single_code (single_with valid (extract_lane_row (element_code size) size (number_of r1) (number_of v3) (number_of base) lane)) }
+    ensures { result
+        ≡ single_code
+        (single_with valid
+        (extract_lane_row (element_code size) size (number_of r1) (number_of v3)
+        (number_of base) lane)) }
 {
     match element_code(size) {
         Some(code) => {
@@ -220,7 +250,10 @@ pub fn lane_extracted(
     lane: u8,
     base: Reg,
 ) -> Option<Result<Code, EmitError>>
-    ensures { result ≡ single_code (single_with (is_general r1 && is_vector v3 && is_general base) (extract_row size (number_of r1) (number_of v3) (number_of base) lane)) }
+    ensures { result
+        ≡ single_code
+        (single_with (is_general r1 && is_vector v3 && is_general base)
+        (extract_row size (number_of r1) (number_of v3) (number_of base) lane)) }
 {
     let valid = extract_valid(&r1, &v3, &base);
     if is_float_doubleword(size, number(&v3), number(&base), lane) {

@@ -88,7 +88,8 @@ fn reversed_code(size: u32) -> Option<u8>
 // An access by a row, where its register may stand there.
 fn accessed(valid: bool, rows: StorageRows, operand: &MemArg) -> Option<MemoryInst>
     requires { (relative_encodes rows && (not valid || rows_encode rows)) ≡ true }
-    ensures row { option_map memory_instruction_of result ≡ access_vector valid (storage_form_of rows) operand.now }
+    ensures row { option_map memory_instruction_of result
+        ≡ access_vector valid (storage_form_of rows) operand.now }
     ensures encodes { IfSome result (λ x. may_encode x ≡ true) }
 {
     Some(MemoryInst {
@@ -104,7 +105,8 @@ fn accessed(valid: bool, rows: StorageRows, operand: &MemArg) -> Option<MemoryIn
 fn masked(valid: bool, register: Reg, opcode: u16, mask: u8, operand: &MemArg) -> Option<MemoryInst>
     requires valid { valid ≡ true → is_vector register ≡ true }
     requires mask { mask < 16 }
-    ensures row { option_map memory_instruction_of result ≡ access_vector valid (VrxForm (number_of register) opcode mask) operand.now }
+    ensures row { option_map memory_instruction_of result
+        ≡ access_vector valid (VrxForm (number_of register) opcode mask) operand.now }
     ensures encodes { IfSome result (λ x. may_encode x ≡ true) }
 {
     accessed(
@@ -121,7 +123,8 @@ fn masked(valid: bool, register: Reg, opcode: u16, mask: u8, operand: &MemArg) -
 // A register and its elements, by the code of their size.
 fn elements(opcode: u16, register: Reg, code: Option<u8>, operand: &MemArg) -> Option<MemoryInst>
     requires { IfSome code (λ c. c < 16) }
-    ensures row { option_map memory_instruction_of result ≡ access_elements opcode register code operand.now }
+    ensures row { option_map memory_instruction_of result
+        ≡ access_elements opcode register code operand.now }
     ensures encodes { IfSome result (λ x. may_encode x ≡ true) }
 {
     match code {
@@ -146,7 +149,8 @@ fn one_lane(
 ) -> Option<MemoryInst>
     requires valid { valid ≡ true → is_vector register ≡ true }
     requires size { IfSome code (λ _. 8 ≤ size) }
-    ensures row { option_map memory_instruction_of result ≡ access_lane valid (lane_opcode access) (number_of register) code size lane operand.now }
+    ensures row { option_map memory_instruction_of result
+        ≡ access_lane valid (lane_opcode access) (number_of register) code size lane operand.now }
     ensures encodes { IfSome result (λ x. may_encode x ≡ true) }
 {
     match code {
@@ -173,7 +177,9 @@ fn reused_lane(
     operand: &MemArg,
 ) -> Option<MemoryInst>
     requires { IfSome code (λ _. 8 ≤ size) }
-    ensures row { option_map memory_instruction_of result ≡ access_lane (reuses_vector register input) (lane_opcode access) (number_of register) code size lane operand.now }
+    ensures row { option_map memory_instruction_of result
+        ≡ access_lane (reuses_vector register input) (lane_opcode access) (number_of register) code
+        size lane operand.now }
     ensures encodes { IfSome result (λ x. may_encode x ≡ true) }
 {
     let valid = reuses(&register, &input);
@@ -190,7 +196,9 @@ fn lane_of(
     operand: &MemArg,
 ) -> Option<MemoryInst>
     requires { IfSome code (λ _. 8 ≤ size) }
-    ensures row { option_map memory_instruction_of result ≡ access_lane (is_vector register) (lane_opcode access) (number_of register) code size lane operand.now }
+    ensures row { option_map memory_instruction_of result
+        ≡ access_lane (is_vector register) (lane_opcode access) (number_of register) code size lane
+        operand.now }
     ensures encodes { IfSome result (λ x. may_encode x ≡ true) }
 {
     let valid = vector(&register);
@@ -208,7 +216,8 @@ fn is_left_lane(size: u32, lane: u8, register: &Reg) -> bool
 fn float(register: Reg, rx: u8, rxy: u16, operand: &MemArg) -> Option<MemoryInst>
     requires floats { (is_first_float rx && is_first_float rxy) ≡ true }
     requires low { number_of register < 16 }
-    ensures row { option_map memory_instruction_of result ≡ access_vector (is_vector register) (FloatForm (number_of register) rx rxy) operand.now }
+    ensures row { option_map memory_instruction_of result
+        ≡ access_vector (is_vector register) (FloatForm (number_of register) rx rxy) operand.now }
     ensures encodes { IfSome result (λ x. may_encode x ≡ true) }
 {
     let valid = vector(&register);
@@ -217,7 +226,8 @@ fn float(register: Reg, rx: u8, rxy: u16, operand: &MemArg) -> Option<MemoryInst
 
 fn load_left(size: u32, register: Reg, operand: &MemArg) -> Option<MemoryInst>
     requires { number_of register < 16 }
-    ensures row { option_map memory_instruction_of result ≡ access_vector (is_vector register) (load_left size (number_of register)) operand.now }
+    ensures row { option_map memory_instruction_of result
+        ≡ access_vector (is_vector register) (load_left size (number_of register)) operand.now }
     ensures encodes { IfSome result (λ x. may_encode x ≡ true) }
 {
     if size == 32 {
@@ -229,7 +239,8 @@ fn load_left(size: u32, register: Reg, operand: &MemArg) -> Option<MemoryInst>
 
 fn store_left(size: u32, register: Reg, operand: &MemArg) -> Option<MemoryInst>
     requires { number_of register < 16 }
-    ensures row { option_map memory_instruction_of result ≡ access_vector (is_vector register) (store_left size (number_of register)) operand.now }
+    ensures row { option_map memory_instruction_of result
+        ≡ access_vector (is_vector register) (store_left size (number_of register)) operand.now }
     ensures encodes { IfSome result (λ x. may_encode x ≡ true) }
 {
     if size == 32 {
@@ -242,7 +253,8 @@ fn store_left(size: u32, register: Reg, operand: &MemArg) -> Option<MemoryInst>
 // One element, where the others may become any.
 #[tactic(auto, using(crate::proofs::Accessing::left_low))]
 fn load_alone(size: u32, register: Reg, lane: u8, operand: &MemArg) -> Option<MemoryInst>
-    ensures row { option_map memory_instruction_of result ≡ vector_memory (VecInst.VecLoadLaneUndef size register operand.now lane) }
+    ensures row { option_map memory_instruction_of result
+        ≡ vector_memory (VecInst.VecLoadLaneUndef size register operand.now lane) }
     ensures encodes { IfSome result (λ x. may_encode x ≡ true) }
 {
     if is_left_lane(size, lane, &register) {
@@ -255,7 +267,8 @@ fn load_alone(size: u32, register: Reg, lane: u8, operand: &MemArg) -> Option<Me
 
 #[tactic(auto, using(crate::proofs::Accessing::left_low))]
 fn store_lane(size: u32, register: Reg, lane: u8, operand: &MemArg) -> Option<MemoryInst>
-    ensures row { option_map memory_instruction_of result ≡ vector_memory (VecInst.VecStoreLane size register operand.now lane) }
+    ensures row { option_map memory_instruction_of result
+        ≡ vector_memory (VecInst.VecStoreLane size register operand.now lane) }
     ensures encodes { IfSome result (λ x. may_encode x ≡ true) }
 {
     if is_left_lane(size, lane, &register) {

@@ -30,7 +30,10 @@ fn displacement_of(imm: u8) -> u32
 
 // Two doublewords, by their numbers 0 and 1.
 fn doublewords(v1: Reg, v2: Reg, v3: Reg, first: u8, second: u8) -> Option<Result<Code, EmitError>>
-    ensures { result ≡ single_code (single_with (is_vector v1 && is_vector v2 && is_vector v3) (doublewords_row (number_of v1) (number_of v2) (number_of v3) first second)) }
+    ensures { result
+        ≡ single_code
+        (single_with (is_vector v1 && is_vector v2 && is_vector v3)
+        (doublewords_row (number_of v1) (number_of v2) (number_of v3) first second)) }
 {
     if first < 2 && second < 2 {
         let row = VectorOpcode {
@@ -45,7 +48,10 @@ fn doublewords(v1: Reg, v2: Reg, v3: Reg, first: u8, second: u8) -> Option<Resul
 
 // An immediate in each element.
 fn replicated(size: u32, v1: Reg, imm: i16) -> Option<Result<Code, EmitError>>
-    ensures { result ≡ single_code (single_with (is_vector v1) (replicate_row (element_code size) (number_of v1) (low_halfword imm))) }
+    ensures { result
+        ≡ single_code
+        (single_with (is_vector v1)
+        (replicate_row (element_code size) (number_of v1) (low_halfword imm))) }
 {
     match element_code(size) {
         Some(code) => {
@@ -61,7 +67,10 @@ fn replicated(size: u32, v1: Reg, imm: i16) -> Option<Result<Code, EmitError>>
 
 // Ones from a bit to another one in each element.
 fn bit_mask_of(size: u32, v1: Reg, start: u8, end: u8) -> Option<Result<Code, EmitError>>
-    ensures { result ≡ single_code (single_with (is_vector v1) (bit_mask_row (element_code size) size (number_of v1) start end)) }
+    ensures { result
+        ≡ single_code
+        (single_with (is_vector v1)
+        (bit_mask_row (element_code size) size (number_of v1) start end)) }
 {
     match element_code(size) {
         Some(code) => {
@@ -78,7 +87,8 @@ fn bit_mask_of(size: u32, v1: Reg, start: u8, end: u8) -> Option<Result<Code, Em
 /// The code of a vector instruction that is one machine instruction; None for any other. `BadRegister` exactly where a register
 /// isn't a real one of the row's class, or an input that has to be the output isn't it.
 pub fn find_vector(inst: &VecInst) -> Option<Result<Code, EmitError>>
-    ensures { result ≡ single_code (single_with (vector_operands_valid inst.now) (vector_row inst.now)) }
+    ensures { result
+        ≡ single_code (single_with (vector_operands_valid inst.now) (vector_row inst.now)) }
 {
     match inst {
         VecInst::VecRRR { op, rd, rn, rm } => {

@@ -26,7 +26,8 @@ use s390x_base::{Code, EmitError, Reg};
 /// opcode
 /// ```
 pub fn enc_e(opcode: u16) -> Result<Code, EmitError>
-    ensures { MatchResult result (λ code. IsCode FormatKind.E (slots opcode [] [] 0 0) code) (λ _. ⊥) }
+    ensures { MatchResult result (λ code. IsCode FormatKind.E (slots opcode [] [] 0 0) code)
+        (λ _. ⊥) }
 {
     Ok(two(upper(opcode), lower(opcode)))
 }
@@ -39,7 +40,11 @@ pub fn enc_e(opcode: u16) -> Result<Code, EmitError>
 /// ```
 pub fn enc_ri_a(opcode: u16, r1: Reg, i2: u16) -> Result<Code, EmitError>
     requires { opcode < 2 ^ 12 }
-    ensures { let ok = is_general_class r1 in MatchResult result (λ code. (ok ≡ true) × IsCode FormatKind.RiA (slots opcode (number_of r1 ∷ []) [] i2 0) code) (λ e. (e ≡ EmitError.BadRegister) × (ok ≡ false)) }
+    ensures { let ok = is_general_class r1 in
+        MatchResult result
+        (λ code. (ok ≡ true)
+        × IsCode FormatKind.RiA (slots opcode (number_of r1 ∷ []) [] i2 0) code)
+        (λ e. (e ≡ EmitError.BadRegister) × (ok ≡ false)) }
 {
     let n1 = general(r1)?;
     Ok(four(
@@ -61,7 +66,11 @@ pub fn enc_ri_b(opcode: u16, r1: Reg, ri2: i32) -> Result<Code, EmitError>
     requires low { negsuc 65535 ≤ℤ ri2 }
     requires high { ri2 ≤ℤ pos 65534 }
     requires even { int_rem ri2 (pos 2) ≡ pos 0 }
-    ensures { let ok = is_general_class r1 in MatchResult result (λ code. (ok ≡ true) × IsCode FormatKind.RiB (slots opcode (number_of r1 ∷ []) [] (half_of w16 ri2) 0) code) (λ e. (e ≡ EmitError.BadRegister) × (ok ≡ false)) }
+    ensures { let ok = is_general_class r1 in
+        MatchResult result
+        (λ code. (ok ≡ true)
+        × IsCode FormatKind.RiB (slots opcode (number_of r1 ∷ []) [] (half_of w16 ri2) 0) code)
+        (λ e. (e ≡ EmitError.BadRegister) × (ok ≡ false)) }
 {
     let n1 = general(r1)?;
     let half = half16(ri2);
@@ -85,7 +94,9 @@ pub fn enc_ri_c(opcode: u16, m1: u8, ri2: i32) -> Result<Code, EmitError>
     requires low { negsuc 65535 ≤ℤ ri2 }
     requires high { ri2 ≤ℤ pos 65534 }
     requires even { int_rem ri2 (pos 2) ≡ pos 0 }
-    ensures { MatchResult result (λ code. IsCode FormatKind.RiC (slots opcode [] (m1 ∷ []) (half_of w16 ri2) 0) code) (λ _. ⊥) }
+    ensures { MatchResult result
+        (λ code. IsCode FormatKind.RiC (slots opcode [] (m1 ∷ []) (half_of w16 ri2) 0) code)
+        (λ _. ⊥) }
 {
     let half = half16(ri2);
     Ok(four(
@@ -104,7 +115,11 @@ pub fn enc_ri_c(opcode: u16, m1: u8, ri2: i32) -> Result<Code, EmitError>
 /// ```
 pub fn enc_rie_a(opcode: u16, r1: Reg, i2: u16, m3: u8) -> Result<Code, EmitError>
     requires { m3 < 16 }
-    ensures { let ok = is_general_class r1 in MatchResult result (λ code. (ok ≡ true) × IsCode FormatKind.RieA (slots opcode (number_of r1 ∷ []) (m3 ∷ []) i2 0) code) (λ e. (e ≡ EmitError.BadRegister) × (ok ≡ false)) }
+    ensures { let ok = is_general_class r1 in
+        MatchResult result
+        (λ code. (ok ≡ true)
+        × IsCode FormatKind.RieA (slots opcode (number_of r1 ∷ []) (m3 ∷ []) i2 0) code)
+        (λ e. (e ≡ EmitError.BadRegister) × (ok ≡ false)) }
 {
     let n1 = general(r1)?;
     Ok(six([
@@ -124,7 +139,11 @@ pub fn enc_rie_a(opcode: u16, r1: Reg, i2: u16, m3: u8) -> Result<Code, EmitErro
 /// opcode  r1  r3  i2      0   opcode
 /// ```
 pub fn enc_rie_d(opcode: u16, r1: Reg, r3: Reg, i2: u16) -> Result<Code, EmitError>
-    ensures { let ok = is_general_class r1 && is_general_class r3 in MatchResult result (λ code. (ok ≡ true) × IsCode FormatKind.RieD (slots opcode (number_of r1 ∷ number_of r3 ∷ []) [] i2 0) code) (λ e. (e ≡ EmitError.BadRegister) × (ok ≡ false)) }
+    ensures { let ok = is_general_class r1 && is_general_class r3 in
+        MatchResult result
+        (λ code. (ok ≡ true)
+        × IsCode FormatKind.RieD (slots opcode (number_of r1 ∷ number_of r3 ∷ []) [] i2 0) code)
+        (λ e. (e ≡ EmitError.BadRegister) × (ok ≡ false)) }
 {
     let n1 = general(r1)?;
     let n3 = general(r3)?;
@@ -145,7 +164,12 @@ pub fn enc_rie_d(opcode: u16, r1: Reg, r3: Reg, i2: u16) -> Result<Code, EmitErr
 /// opcode  r1  r2  i3  i4  i5  opcode
 /// ```
 pub fn enc_rie_f(opcode: u16, r1: Reg, r2: Reg, i3: u8, i4: u8, i5: u8) -> Result<Code, EmitError>
-    ensures { let ok = is_general_class r1 && is_general_class r2 in MatchResult result (λ code. (ok ≡ true) × IsCode FormatKind.RieF (slots opcode (number_of r1 ∷ number_of r2 ∷ []) (i3 ∷ i4 ∷ i5 ∷ []) 0 0) code) (λ e. (e ≡ EmitError.BadRegister) × (ok ≡ false)) }
+    ensures { let ok = is_general_class r1 && is_general_class r2 in
+        MatchResult result
+        (λ code. (ok ≡ true)
+        × IsCode FormatKind.RieF
+        (slots opcode (number_of r1 ∷ number_of r2 ∷ []) (i3 ∷ i4 ∷ i5 ∷ []) 0 0) code)
+        (λ e. (e ≡ EmitError.BadRegister) × (ok ≡ false)) }
 {
     let n1 = general(r1)?;
     let n2 = general(r2)?;
@@ -160,7 +184,11 @@ pub fn enc_rie_f(opcode: u16, r1: Reg, r2: Reg, i3: u8, i4: u8, i5: u8) -> Resul
 /// ```
 pub fn enc_rie_g(opcode: u16, r1: Reg, i2: u16, m3: u8) -> Result<Code, EmitError>
     requires { m3 < 16 }
-    ensures { let ok = is_general_class r1 in MatchResult result (λ code. (ok ≡ true) × IsCode FormatKind.RieG (slots opcode (number_of r1 ∷ []) (m3 ∷ []) i2 0) code) (λ e. (e ≡ EmitError.BadRegister) × (ok ≡ false)) }
+    ensures { let ok = is_general_class r1 in
+        MatchResult result
+        (λ code. (ok ≡ true)
+        × IsCode FormatKind.RieG (slots opcode (number_of r1 ∷ []) (m3 ∷ []) i2 0) code)
+        (λ e. (e ≡ EmitError.BadRegister) × (ok ≡ false)) }
 {
     let n1 = general(r1)?;
     Ok(six([
@@ -181,7 +209,11 @@ pub fn enc_rie_g(opcode: u16, r1: Reg, i2: u16, m3: u8) -> Result<Code, EmitErro
 /// ```
 pub fn enc_ril_a(opcode: u16, r1: Reg, i2: u32) -> Result<Code, EmitError>
     requires { opcode < 2 ^ 12 }
-    ensures { let ok = is_general_class r1 in MatchResult result (λ code. (ok ≡ true) × IsCode FormatKind.RilA (slots opcode (number_of r1 ∷ []) [] i2 0) code) (λ e. (e ≡ EmitError.BadRegister) × (ok ≡ false)) }
+    ensures { let ok = is_general_class r1 in
+        MatchResult result
+        (λ code. (ok ≡ true)
+        × IsCode FormatKind.RilA (slots opcode (number_of r1 ∷ []) [] i2 0) code)
+        (λ e. (e ≡ EmitError.BadRegister) × (ok ≡ false)) }
 {
     let n1 = general(r1)?;
     Ok(six([
@@ -203,7 +235,11 @@ pub fn enc_ril_a(opcode: u16, r1: Reg, i2: u32) -> Result<Code, EmitError>
 pub fn enc_ril_b(opcode: u16, r1: Reg, ri2: u32) -> Result<Code, EmitError>
     requires opcode { opcode < 2 ^ 12 }
     requires even { ri2 % 2 ≡ 0 }
-    ensures { let ok = is_general_class r1 in MatchResult result (λ code. (ok ≡ true) × IsCode FormatKind.RilB (slots opcode (number_of r1 ∷ []) [] (ri2 / 2) 0) code) (λ e. (e ≡ EmitError.BadRegister) × (ok ≡ false)) }
+    ensures { let ok = is_general_class r1 in
+        MatchResult result
+        (λ code. (ok ≡ true)
+        × IsCode FormatKind.RilB (slots opcode (number_of r1 ∷ []) [] (ri2 / 2) 0) code)
+        (λ e. (e ≡ EmitError.BadRegister) × (ok ≡ false)) }
 {
     let n1 = general(r1)?;
     let half = half32(ri2);
@@ -227,7 +263,8 @@ pub fn enc_ril_c(opcode: u16, m1: u8, ri2: u32) -> Result<Code, EmitError>
     requires opcode { opcode < 2 ^ 12 }
     requires m1 { m1 < 16 }
     requires even { ri2 % 2 ≡ 0 }
-    ensures { MatchResult result (λ code. IsCode FormatKind.RilC (slots opcode [] (m1 ∷ []) (ri2 / 2) 0) code) (λ _. ⊥) }
+    ensures { MatchResult result
+        (λ code. IsCode FormatKind.RilC (slots opcode [] (m1 ∷ []) (ri2 / 2) 0) code) (λ _. ⊥) }
 {
     let half = half32(ri2);
     Ok(six([
@@ -248,7 +285,11 @@ pub fn enc_ril_c(opcode: u16, m1: u8, ri2: u32) -> Result<Code, EmitError>
 /// ```
 pub fn enc_rr(opcode: u16, r1: Reg, r2: Reg) -> Result<Code, EmitError>
     requires { opcode < 2 ^ 8 }
-    ensures { let ok = may_stand_first opcode r1 && may_stand_second opcode r2 in MatchResult result (λ code. (ok ≡ true) × IsCode FormatKind.Rr (slots opcode (number_of r1 ∷ number_of r2 ∷ []) [] 0 0) code) (λ e. (e ≡ EmitError.BadRegister) × (ok ≡ false)) }
+    ensures { let ok = may_stand_first opcode r1 && may_stand_second opcode r2 in
+        MatchResult result
+        (λ code. (ok ≡ true)
+        × IsCode FormatKind.Rr (slots opcode (number_of r1 ∷ number_of r2 ∷ []) [] 0 0) code)
+        (λ e. (e ≡ EmitError.BadRegister) × (ok ≡ false)) }
 {
     let n1 = first(opcode, r1)?;
     let n2 = second(opcode, r2)?;
@@ -262,7 +303,11 @@ pub fn enc_rr(opcode: u16, r1: Reg, r2: Reg) -> Result<Code, EmitError>
 /// opcode  0   r1  r2
 /// ```
 pub fn enc_rre(opcode: u16, r1: Reg, r2: Reg) -> Result<Code, EmitError>
-    ensures { let ok = may_stand_first opcode r1 && may_stand_second opcode r2 in MatchResult result (λ code. (ok ≡ true) × IsCode FormatKind.Rre (slots opcode (number_of r1 ∷ number_of r2 ∷ []) [] 0 0) code) (λ e. (e ≡ EmitError.BadRegister) × (ok ≡ false)) }
+    ensures { let ok = may_stand_first opcode r1 && may_stand_second opcode r2 in
+        MatchResult result
+        (λ code. (ok ≡ true)
+        × IsCode FormatKind.Rre (slots opcode (number_of r1 ∷ number_of r2 ∷ []) [] 0 0) code)
+        (λ e. (e ≡ EmitError.BadRegister) × (ok ≡ false)) }
 {
     let n1 = first(opcode, r1)?;
     let n2 = second(opcode, r2)?;
@@ -277,7 +322,12 @@ pub fn enc_rre(opcode: u16, r1: Reg, r2: Reg) -> Result<Code, EmitError>
 /// ```
 pub fn enc_rrf_ab(opcode: u16, r1: Reg, r2: Reg, r3: Reg, m4: u8) -> Result<Code, EmitError>
     requires { m4 < 16 }
-    ensures { let ok = is_general_class r1 && is_general_class r2 && is_general_class r3 in MatchResult result (λ code. (ok ≡ true) × IsCode FormatKind.RrfAb (slots opcode (number_of r1 ∷ number_of r2 ∷ number_of r3 ∷ []) (m4 ∷ []) 0 0) code) (λ e. (e ≡ EmitError.BadRegister) × (ok ≡ false)) }
+    ensures { let ok = is_general_class r1 && is_general_class r2 && is_general_class r3 in
+        MatchResult result
+        (λ code. (ok ≡ true)
+        × IsCode FormatKind.RrfAb
+        (slots opcode (number_of r1 ∷ number_of r2 ∷ number_of r3 ∷ []) (m4 ∷ []) 0 0) code)
+        (λ e. (e ≡ EmitError.BadRegister) × (ok ≡ false)) }
 {
     let n1 = general(r1)?;
     let n2 = general(r2)?;
@@ -299,7 +349,12 @@ pub fn enc_rrf_ab(opcode: u16, r1: Reg, r2: Reg, r3: Reg, m4: u8) -> Result<Code
 pub fn enc_rrf_cde(opcode: u16, r1: Reg, r2: Reg, m3: u8, m4: u8) -> Result<Code, EmitError>
     requires m3 { m3 < 16 }
     requires m4 { m4 < 16 }
-    ensures { let ok = is_general_class r1 && is_general_class r2 in MatchResult result (λ code. (ok ≡ true) × IsCode FormatKind.RrfCde (slots opcode (number_of r1 ∷ number_of r2 ∷ []) (m3 ∷ m4 ∷ []) 0 0) code) (λ e. (e ≡ EmitError.BadRegister) × (ok ≡ false)) }
+    ensures { let ok = is_general_class r1 && is_general_class r2 in
+        MatchResult result
+        (λ code. (ok ≡ true)
+        × IsCode FormatKind.RrfCde
+        (slots opcode (number_of r1 ∷ number_of r2 ∷ []) (m3 ∷ m4 ∷ []) 0 0) code)
+        (λ e. (e ≡ EmitError.BadRegister) × (ok ≡ false)) }
 {
     let n1 = general(r1)?;
     let n2 = general(r2)?;

@@ -8,7 +8,9 @@ use s390x_base::{EmitError, Reg, RegClass};
 
 /// The number of a general register. `BadRegister` comes where a register is not one of the operand's class.
 pub fn general(r: Reg) -> Result<u8, EmitError>
-    ensures { MatchResult result (λ n. (is_general_class r ≡ true) × (n ≡ number_of r) × (n < 2 ^ 4)) (λ e. (e ≡ EmitError.BadRegister) × (is_general_class r ≡ false)) }
+    ensures { MatchResult result
+        (λ n. (is_general_class r ≡ true) × (n ≡ number_of r) × (n < 2 ^ 4))
+        (λ e. (e ≡ EmitError.BadRegister) × (is_general_class r ≡ false)) }
 {
     match r {
         Reg::Real(preg) => {
@@ -24,7 +26,8 @@ pub fn general(r: Reg) -> Result<u8, EmitError>
 
 /// The number of a vector register. `BadRegister` comes where a register is not one of the operand's class.
 pub fn vector(r: Reg) -> Result<u8, EmitError>
-    ensures { MatchResult result (λ n. (is_vector r ≡ true) × (n ≡ number_of r) × (n < 2 ^ 5)) (λ e. (e ≡ EmitError.BadRegister) × (is_vector r ≡ false)) }
+    ensures { MatchResult result (λ n. (is_vector r ≡ true) × (n ≡ number_of r) × (n < 2 ^ 5))
+        (λ e. (e ≡ EmitError.BadRegister) × (is_vector r ≡ false)) }
 {
     match r {
         Reg::Real(preg) => {
@@ -41,7 +44,8 @@ pub fn vector(r: Reg) -> Result<u8, EmitError>
 /// The number of a float register: a Float register below 16. `BadRegister` comes where a register is not one of the
 /// operand's class.
 pub fn float(r: Reg) -> Result<u8, EmitError>
-    ensures { MatchResult result (λ n. (is_float r ≡ true) × (n ≡ number_of r) × (n < 2 ^ 4)) (λ e. (e ≡ EmitError.BadRegister) × (is_float r ≡ false)) }
+    ensures { MatchResult result (λ n. (is_float r ≡ true) × (n ≡ number_of r) × (n < 2 ^ 4))
+        (λ e. (e ≡ EmitError.BadRegister) × (is_float r ≡ false)) }
 {
     match r {
         Reg::Real(preg) => {
@@ -88,7 +92,9 @@ fn second_is_float(opcode: u16) -> bool
 /// The number of the first operand of an instruction on general and float registers. `BadRegister` comes where a
 /// register is not one of the operand's class.
 pub fn first(opcode: u16, r: Reg) -> Result<u8, EmitError>
-    ensures { MatchResult result (λ n. (may_stand_first opcode r ≡ true) × (n ≡ number_of r) × (n < 2 ^ 4)) (λ e. (e ≡ EmitError.BadRegister) × (may_stand_first opcode r ≡ false)) }
+    ensures { MatchResult result
+        (λ n. (may_stand_first opcode r ≡ true) × (n ≡ number_of r) × (n < 2 ^ 4))
+        (λ e. (e ≡ EmitError.BadRegister) × (may_stand_first opcode r ≡ false)) }
 {
     if first_is_float(opcode) {
         float(r)
@@ -100,7 +106,9 @@ pub fn first(opcode: u16, r: Reg) -> Result<u8, EmitError>
 /// The number of the second operand of an instruction on general and float registers. `BadRegister` comes where a
 /// register is not one of the operand's class.
 pub fn second(opcode: u16, r: Reg) -> Result<u8, EmitError>
-    ensures { MatchResult result (λ n. (may_stand_second opcode r ≡ true) × (n ≡ number_of r) × (n < 2 ^ 4)) (λ e. (e ≡ EmitError.BadRegister) × (may_stand_second opcode r ≡ false)) }
+    ensures { MatchResult result
+        (λ n. (may_stand_second opcode r ≡ true) × (n ≡ number_of r) × (n < 2 ^ 4))
+        (λ e. (e ≡ EmitError.BadRegister) × (may_stand_second opcode r ≡ false)) }
 {
     if second_is_float(opcode) {
         float(r)

@@ -27,7 +27,12 @@ use s390x_base::{Code, EmitError, Reg};
 pub fn enc_rs(opcode: u16, r1: Reg, r3: Reg, b2: Reg, d2: u32) -> Result<Code, EmitError>
     requires opcode { opcode < 2 ^ 8 }
     requires d2 { d2 < 4096 }
-    ensures { let ok = is_general_class r1 && is_general_class r3 && is_general_class b2 in MatchResult result (λ code. (ok ≡ true) × IsCode FormatKind.Rs (slots opcode (number_of r1 ∷ number_of r3 ∷ number_of b2 ∷ []) [] 0 d2) code) (λ e. (e ≡ EmitError.BadRegister) × (ok ≡ false)) }
+    ensures { let ok = is_general_class r1 && is_general_class r3 && is_general_class b2 in
+        MatchResult result
+        (λ code. (ok ≡ true)
+        × IsCode FormatKind.Rs
+        (slots opcode (number_of r1 ∷ number_of r3 ∷ number_of b2 ∷ []) [] 0 d2) code)
+        (λ e. (e ≡ EmitError.BadRegister) × (ok ≡ false)) }
 {
     let n1 = general(r1)?;
     let n3 = general(r3)?;
@@ -48,7 +53,12 @@ pub fn enc_rs(opcode: u16, r1: Reg, r3: Reg, b2: Reg, d2: u32) -> Result<Code, E
 /// ```
 pub fn enc_rsy(opcode: u16, r1: Reg, r3: Reg, b2: Reg, d2: u32) -> Result<Code, EmitError>
     requires { d2 < 1048576 }
-    ensures { let ok = is_general_class r1 && is_general_class r3 && is_general_class b2 in MatchResult result (λ code. (ok ≡ true) × IsCode FormatKind.Rsy (slots opcode (number_of r1 ∷ number_of r3 ∷ number_of b2 ∷ []) [] 0 d2) code) (λ e. (e ≡ EmitError.BadRegister) × (ok ≡ false)) }
+    ensures { let ok = is_general_class r1 && is_general_class r3 && is_general_class b2 in
+        MatchResult result
+        (λ code. (ok ≡ true)
+        × IsCode FormatKind.Rsy
+        (slots opcode (number_of r1 ∷ number_of r3 ∷ number_of b2 ∷ []) [] 0 d2) code)
+        (λ e. (e ≡ EmitError.BadRegister) × (ok ≡ false)) }
 {
     let n1 = general(r1)?;
     let n3 = general(r3)?;
@@ -72,7 +82,12 @@ pub fn enc_rsy(opcode: u16, r1: Reg, r3: Reg, b2: Reg, d2: u32) -> Result<Code, 
 pub fn enc_rx(opcode: u16, r1: Reg, b2: Reg, x2: Reg, d2: u32) -> Result<Code, EmitError>
     requires opcode { opcode < 2 ^ 8 }
     requires d2 { d2 < 4096 }
-    ensures { let ok = may_stand_first opcode r1 && is_general_class b2 && is_general_class x2 in MatchResult result (λ code. (ok ≡ true) × IsCode FormatKind.Rx (slots opcode (number_of r1 ∷ number_of b2 ∷ number_of x2 ∷ []) [] 0 d2) code) (λ e. (e ≡ EmitError.BadRegister) × (ok ≡ false)) }
+    ensures { let ok = may_stand_first opcode r1 && is_general_class b2 && is_general_class x2 in
+        MatchResult result
+        (λ code. (ok ≡ true)
+        × IsCode FormatKind.Rx
+        (slots opcode (number_of r1 ∷ number_of b2 ∷ number_of x2 ∷ []) [] 0 d2) code)
+        (λ e. (e ≡ EmitError.BadRegister) × (ok ≡ false)) }
 {
     let n1 = first(opcode, r1)?;
     let base = general(b2)?;
@@ -93,7 +108,12 @@ pub fn enc_rx(opcode: u16, r1: Reg, b2: Reg, x2: Reg, d2: u32) -> Result<Code, E
 /// ```
 pub fn enc_rxy(opcode: u16, r1: Reg, b2: Reg, x2: Reg, d2: u32) -> Result<Code, EmitError>
     requires { d2 < 1048576 }
-    ensures { let ok = may_stand_first opcode r1 && is_general_class b2 && is_general_class x2 in MatchResult result (λ code. (ok ≡ true) × IsCode FormatKind.Rxy (slots opcode (number_of r1 ∷ number_of b2 ∷ number_of x2 ∷ []) [] 0 d2) code) (λ e. (e ≡ EmitError.BadRegister) × (ok ≡ false)) }
+    ensures { let ok = may_stand_first opcode r1 && is_general_class b2 && is_general_class x2 in
+        MatchResult result
+        (λ code. (ok ≡ true)
+        × IsCode FormatKind.Rxy
+        (slots opcode (number_of r1 ∷ number_of b2 ∷ number_of x2 ∷ []) [] 0 d2) code)
+        (λ e. (e ≡ EmitError.BadRegister) × (ok ≡ false)) }
 {
     let n1 = first(opcode, r1)?;
     let base = general(b2)?;
@@ -117,7 +137,11 @@ pub fn enc_rxy(opcode: u16, r1: Reg, b2: Reg, x2: Reg, d2: u32) -> Result<Code, 
 pub fn enc_si(opcode: u16, b1: Reg, d1: u32, i2: u8) -> Result<Code, EmitError>
     requires opcode { opcode < 2 ^ 8 }
     requires d1 { d1 < 4096 }
-    ensures { let ok = is_general_class b1 in MatchResult result (λ code. (ok ≡ true) × IsCode FormatKind.Si (slots opcode (number_of b1 ∷ []) (i2 ∷ []) 0 d1) code) (λ e. (e ≡ EmitError.BadRegister) × (ok ≡ false)) }
+    ensures { let ok = is_general_class b1 in
+        MatchResult result
+        (λ code. (ok ≡ true)
+        × IsCode FormatKind.Si (slots opcode (number_of b1 ∷ []) (i2 ∷ []) 0 d1) code)
+        (λ e. (e ≡ EmitError.BadRegister) × (ok ≡ false)) }
 {
     let base = general(b1)?;
     Ok(four(
@@ -136,7 +160,11 @@ pub fn enc_si(opcode: u16, b1: Reg, d1: u32, i2: u8) -> Result<Code, EmitError>
 /// ```
 pub fn enc_sil(opcode: u16, b1: Reg, d1: u32, i2: i16) -> Result<Code, EmitError>
     requires { d1 < 4096 }
-    ensures { let ok = is_general_class b1 in MatchResult result (λ code. (ok ≡ true) × IsCode FormatKind.Sil (slots opcode (number_of b1 ∷ []) [] (cast_unsigned w16 i2) d1) code) (λ e. (e ≡ EmitError.BadRegister) × (ok ≡ false)) }
+    ensures { let ok = is_general_class b1 in
+        MatchResult result
+        (λ code. (ok ≡ true)
+        × IsCode FormatKind.Sil (slots opcode (number_of b1 ∷ []) [] (cast_unsigned w16 i2) d1)
+        code) (λ e. (e ≡ EmitError.BadRegister) × (ok ≡ false)) }
 {
     let base = general(b1)?;
     let bits = i2.cast_unsigned();
@@ -158,7 +186,11 @@ pub fn enc_sil(opcode: u16, b1: Reg, d1: u32, i2: i16) -> Result<Code, EmitError
 /// ```
 pub fn enc_siy(opcode: u16, b1: Reg, d1: u32, i2: u8) -> Result<Code, EmitError>
     requires { d1 < 1048576 }
-    ensures { let ok = is_general_class b1 in MatchResult result (λ code. (ok ≡ true) × IsCode FormatKind.Siy (slots opcode (number_of b1 ∷ []) (i2 ∷ []) 0 d1) code) (λ e. (e ≡ EmitError.BadRegister) × (ok ≡ false)) }
+    ensures { let ok = is_general_class b1 in
+        MatchResult result
+        (λ code. (ok ≡ true)
+        × IsCode FormatKind.Siy (slots opcode (number_of b1 ∷ []) (i2 ∷ []) 0 d1) code)
+        (λ e. (e ≡ EmitError.BadRegister) × (ok ≡ false)) }
 {
     let base = general(b1)?;
     Ok(six([

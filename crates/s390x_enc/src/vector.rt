@@ -24,7 +24,11 @@ use s390x_base::{Code, EmitError, Reg};
 /// ```
 pub fn enc_vri_a(opcode: u16, v1: Reg, i2: u16, m3: u8) -> Result<Code, EmitError>
     requires { m3 < 16 }
-    ensures { let ok = is_vector v1 in MatchResult result (λ code. (ok ≡ true) × IsCode FormatKind.VriA (slots opcode (number_of v1 ∷ []) (m3 ∷ []) i2 0) code) (λ e. (e ≡ EmitError.BadRegister) × (ok ≡ false)) }
+    ensures { let ok = is_vector v1 in
+        MatchResult result
+        (λ code. (ok ≡ true)
+        × IsCode FormatKind.VriA (slots opcode (number_of v1 ∷ []) (m3 ∷ []) i2 0) code)
+        (λ e. (e ≡ EmitError.BadRegister) × (ok ≡ false)) }
 {
     let n1 = vector(v1)?;
     let x = high_bits(n1, 0, 0, 0);
@@ -46,7 +50,11 @@ pub fn enc_vri_a(opcode: u16, v1: Reg, i2: u16, m3: u8) -> Result<Code, EmitErro
 /// ```
 pub fn enc_vri_b(opcode: u16, v1: Reg, i2: u8, i3: u8, m4: u8) -> Result<Code, EmitError>
     requires { m4 < 16 }
-    ensures { let ok = is_vector v1 in MatchResult result (λ code. (ok ≡ true) × IsCode FormatKind.VriB (slots opcode (number_of v1 ∷ []) (i2 ∷ i3 ∷ m4 ∷ []) 0 0) code) (λ e. (e ≡ EmitError.BadRegister) × (ok ≡ false)) }
+    ensures { let ok = is_vector v1 in
+        MatchResult result
+        (λ code. (ok ≡ true)
+        × IsCode FormatKind.VriB (slots opcode (number_of v1 ∷ []) (i2 ∷ i3 ∷ m4 ∷ []) 0 0)
+        code) (λ e. (e ≡ EmitError.BadRegister) × (ok ≡ false)) }
 {
     let n1 = vector(v1)?;
     let x = high_bits(n1, 0, 0, 0);
@@ -68,7 +76,12 @@ pub fn enc_vri_b(opcode: u16, v1: Reg, i2: u8, i3: u8, m4: u8) -> Result<Code, E
 /// ```
 pub fn enc_vri_c(opcode: u16, v1: Reg, i2: u16, v3: Reg, m4: u8) -> Result<Code, EmitError>
     requires { m4 < 16 }
-    ensures { let ok = is_vector v1 && is_vector v3 in MatchResult result (λ code. (ok ≡ true) × IsCode FormatKind.VriC (slots opcode (number_of v1 ∷ number_of v3 ∷ []) (m4 ∷ []) i2 0) code) (λ e. (e ≡ EmitError.BadRegister) × (ok ≡ false)) }
+    ensures { let ok = is_vector v1 && is_vector v3 in
+        MatchResult result
+        (λ code. (ok ≡ true)
+        × IsCode FormatKind.VriC
+        (slots opcode (number_of v1 ∷ number_of v3 ∷ []) (m4 ∷ []) i2 0) code)
+        (λ e. (e ≡ EmitError.BadRegister) × (ok ≡ false)) }
 {
     let n1 = vector(v1)?;
     let n3 = vector(v3)?;
@@ -90,7 +103,12 @@ pub fn enc_vri_c(opcode: u16, v1: Reg, i2: u16, v3: Reg, m4: u8) -> Result<Code,
 /// opcode  v1  v2  v3  0   i5  v4  rxb  opcode
 /// ```
 pub fn enc_vri_k(opcode: u16, i5: u8, v1: Reg, v2: Reg, v3: Reg, v4: Reg) -> Result<Code, EmitError>
-    ensures { let ok = is_vector v1 && is_vector v2 && is_vector v3 && is_vector v4 in MatchResult result (λ code. (ok ≡ true) × IsCode FormatKind.VriK (slots opcode (number_of v1 ∷ number_of v2 ∷ number_of v3 ∷ number_of v4 ∷ []) (i5 ∷ []) 0 0) code) (λ e. (e ≡ EmitError.BadRegister) × (ok ≡ false)) }
+    ensures { let ok = is_vector v1 && is_vector v2 && is_vector v3 && is_vector v4 in
+        MatchResult result
+        (λ code. (ok ≡ true)
+        × IsCode FormatKind.VriK
+        (slots opcode (number_of v1 ∷ number_of v2 ∷ number_of v3 ∷ number_of v4 ∷ [])
+        (i5 ∷ []) 0 0) code) (λ e. (e ≡ EmitError.BadRegister) × (ok ≡ false)) }
 {
     let n1 = vector(v1)?;
     let n2 = vector(v2)?;
@@ -117,7 +135,12 @@ pub fn enc_vrr_a(opcode: u16, v1: Reg, v2: Reg, m3: u8, m4: u8, m5: u8) -> Resul
     requires m3 { m3 < 16 }
     requires m4 { m4 < 16 }
     requires m5 { m5 < 16 }
-    ensures { let ok = is_vector v1 && is_vector v2 in MatchResult result (λ code. (ok ≡ true) × IsCode FormatKind.VrrA (slots opcode (number_of v1 ∷ number_of v2 ∷ []) (m3 ∷ m4 ∷ m5 ∷ []) 0 0) code) (λ e. (e ≡ EmitError.BadRegister) × (ok ≡ false)) }
+    ensures { let ok = is_vector v1 && is_vector v2 in
+        MatchResult result
+        (λ code. (ok ≡ true)
+        × IsCode FormatKind.VrrA
+        (slots opcode (number_of v1 ∷ number_of v2 ∷ []) (m3 ∷ m4 ∷ m5 ∷ []) 0 0) code)
+        (λ e. (e ≡ EmitError.BadRegister) × (ok ≡ false)) }
 {
     let n1 = vector(v1)?;
     let n2 = vector(v2)?;
@@ -141,7 +164,12 @@ pub fn enc_vrr_a(opcode: u16, v1: Reg, v2: Reg, m3: u8, m4: u8, m5: u8) -> Resul
 pub fn enc_vrr_b(opcode: u16, v1: Reg, v2: Reg, v3: Reg, m4: u8, m5: u8) -> Result<Code, EmitError>
     requires m4 { m4 < 16 }
     requires m5 { m5 < 16 }
-    ensures { let ok = is_vector v1 && is_vector v2 && is_vector v3 in MatchResult result (λ code. (ok ≡ true) × IsCode FormatKind.VrrB (slots opcode (number_of v1 ∷ number_of v2 ∷ number_of v3 ∷ []) (m4 ∷ m5 ∷ []) 0 0) code) (λ e. (e ≡ EmitError.BadRegister) × (ok ≡ false)) }
+    ensures { let ok = is_vector v1 && is_vector v2 && is_vector v3 in
+        MatchResult result
+        (λ code. (ok ≡ true)
+        × IsCode FormatKind.VrrB
+        (slots opcode (number_of v1 ∷ number_of v2 ∷ number_of v3 ∷ []) (m4 ∷ m5 ∷ []) 0 0)
+        code) (λ e. (e ≡ EmitError.BadRegister) × (ok ≡ false)) }
 {
     let n1 = vector(v1)?;
     let n2 = vector(v2)?;
@@ -175,7 +203,12 @@ pub fn enc_vrr_c(
     requires m4 { m4 < 16 }
     requires m5 { m5 < 16 }
     requires m6 { m6 < 16 }
-    ensures { let ok = is_vector v1 && is_vector v2 && is_vector v3 in MatchResult result (λ code. (ok ≡ true) × IsCode FormatKind.VrrC (slots opcode (number_of v1 ∷ number_of v2 ∷ number_of v3 ∷ []) (m4 ∷ m5 ∷ m6 ∷ []) 0 0) code) (λ e. (e ≡ EmitError.BadRegister) × (ok ≡ false)) }
+    ensures { let ok = is_vector v1 && is_vector v2 && is_vector v3 in
+        MatchResult result
+        (λ code. (ok ≡ true)
+        × IsCode FormatKind.VrrC
+        (slots opcode (number_of v1 ∷ number_of v2 ∷ number_of v3 ∷ []) (m4 ∷ m5 ∷ m6 ∷ [])
+        0 0) code) (λ e. (e ≡ EmitError.BadRegister) × (ok ≡ false)) }
 {
     let n1 = vector(v1)?;
     let n2 = vector(v2)?;
@@ -208,7 +241,12 @@ pub fn enc_vrr_d(
 ) -> Result<Code, EmitError>
     requires m5 { m5 < 16 }
     requires m6 { m6 < 16 }
-    ensures { let ok = is_vector v1 && is_vector v2 && is_vector v3 && is_vector v4 in MatchResult result (λ code. (ok ≡ true) × IsCode FormatKind.VrrD (slots opcode (number_of v1 ∷ number_of v2 ∷ number_of v3 ∷ number_of v4 ∷ []) (m5 ∷ m6 ∷ []) 0 0) code) (λ e. (e ≡ EmitError.BadRegister) × (ok ≡ false)) }
+    ensures { let ok = is_vector v1 && is_vector v2 && is_vector v3 && is_vector v4 in
+        MatchResult result
+        (λ code. (ok ≡ true)
+        × IsCode FormatKind.VrrD
+        (slots opcode (number_of v1 ∷ number_of v2 ∷ number_of v3 ∷ number_of v4 ∷ [])
+        (m5 ∷ m6 ∷ []) 0 0) code) (λ e. (e ≡ EmitError.BadRegister) × (ok ≡ false)) }
 {
     let n1 = vector(v1)?;
     let n2 = vector(v2)?;
@@ -242,7 +280,12 @@ pub fn enc_vrr_e(
 ) -> Result<Code, EmitError>
     requires m5 { m5 < 16 }
     requires m6 { m6 < 16 }
-    ensures { let ok = is_vector v1 && is_vector v2 && is_vector v3 && is_vector v4 in MatchResult result (λ code. (ok ≡ true) × IsCode FormatKind.VrrE (slots opcode (number_of v1 ∷ number_of v2 ∷ number_of v3 ∷ number_of v4 ∷ []) (m5 ∷ m6 ∷ []) 0 0) code) (λ e. (e ≡ EmitError.BadRegister) × (ok ≡ false)) }
+    ensures { let ok = is_vector v1 && is_vector v2 && is_vector v3 && is_vector v4 in
+        MatchResult result
+        (λ code. (ok ≡ true)
+        × IsCode FormatKind.VrrE
+        (slots opcode (number_of v1 ∷ number_of v2 ∷ number_of v3 ∷ number_of v4 ∷ [])
+        (m5 ∷ m6 ∷ []) 0 0) code) (λ e. (e ≡ EmitError.BadRegister) × (ok ≡ false)) }
 {
     let n1 = vector(v1)?;
     let n2 = vector(v2)?;
@@ -266,7 +309,12 @@ pub fn enc_vrr_e(
 /// opcode  v1  r2  r3  0   0   0   rxb  opcode
 /// ```
 pub fn enc_vrr_f(opcode: u16, v1: Reg, r2: Reg, r3: Reg) -> Result<Code, EmitError>
-    ensures { let ok = is_vector v1 && is_general_class r2 && is_general_class r3 in MatchResult result (λ code. (ok ≡ true) × IsCode FormatKind.VrrF (slots opcode (number_of v1 ∷ number_of r2 ∷ number_of r3 ∷ []) [] 0 0) code) (λ e. (e ≡ EmitError.BadRegister) × (ok ≡ false)) }
+    ensures { let ok = is_vector v1 && is_general_class r2 && is_general_class r3 in
+        MatchResult result
+        (λ code. (ok ≡ true)
+        × IsCode FormatKind.VrrF
+        (slots opcode (number_of v1 ∷ number_of r2 ∷ number_of r3 ∷ []) [] 0 0) code)
+        (λ e. (e ≡ EmitError.BadRegister) × (ok ≡ false)) }
 {
     let n1 = vector(v1)?;
     let n2 = general(r2)?;
@@ -291,7 +339,12 @@ pub fn enc_vrr_f(opcode: u16, v1: Reg, r2: Reg, r3: Reg) -> Result<Code, EmitErr
 pub fn enc_vrs_a(opcode: u16, v1: Reg, b2: Reg, d2: u32, v3: Reg, m4: u8) -> Result<Code, EmitError>
     requires d2 { d2 < 4096 }
     requires m4 { m4 < 16 }
-    ensures { let ok = is_vector v1 && is_general_class b2 && is_vector v3 in MatchResult result (λ code. (ok ≡ true) × IsCode FormatKind.VrsA (slots opcode (number_of v1 ∷ number_of b2 ∷ number_of v3 ∷ []) (m4 ∷ []) 0 d2) code) (λ e. (e ≡ EmitError.BadRegister) × (ok ≡ false)) }
+    ensures { let ok = is_vector v1 && is_general_class b2 && is_vector v3 in
+        MatchResult result
+        (λ code. (ok ≡ true)
+        × IsCode FormatKind.VrsA
+        (slots opcode (number_of v1 ∷ number_of b2 ∷ number_of v3 ∷ []) (m4 ∷ []) 0 d2)
+        code) (λ e. (e ≡ EmitError.BadRegister) × (ok ≡ false)) }
 {
     let n1 = vector(v1)?;
     let base = general(b2)?;
@@ -316,7 +369,12 @@ pub fn enc_vrs_a(opcode: u16, v1: Reg, b2: Reg, d2: u32, v3: Reg, m4: u8) -> Res
 pub fn enc_vrs_b(opcode: u16, v1: Reg, b2: Reg, d2: u32, r3: Reg, m4: u8) -> Result<Code, EmitError>
     requires d2 { d2 < 4096 }
     requires m4 { m4 < 16 }
-    ensures { let ok = is_vector v1 && is_general_class b2 && is_general_class r3 in MatchResult result (λ code. (ok ≡ true) × IsCode FormatKind.VrsB (slots opcode (number_of v1 ∷ number_of b2 ∷ number_of r3 ∷ []) (m4 ∷ []) 0 d2) code) (λ e. (e ≡ EmitError.BadRegister) × (ok ≡ false)) }
+    ensures { let ok = is_vector v1 && is_general_class b2 && is_general_class r3 in
+        MatchResult result
+        (λ code. (ok ≡ true)
+        × IsCode FormatKind.VrsB
+        (slots opcode (number_of v1 ∷ number_of b2 ∷ number_of r3 ∷ []) (m4 ∷ []) 0 d2)
+        code) (λ e. (e ≡ EmitError.BadRegister) × (ok ≡ false)) }
 {
     let n1 = vector(v1)?;
     let base = general(b2)?;
@@ -341,7 +399,12 @@ pub fn enc_vrs_b(opcode: u16, v1: Reg, b2: Reg, d2: u32, r3: Reg, m4: u8) -> Res
 pub fn enc_vrs_c(opcode: u16, r1: Reg, b2: Reg, d2: u32, v3: Reg, m4: u8) -> Result<Code, EmitError>
     requires d2 { d2 < 4096 }
     requires m4 { m4 < 16 }
-    ensures { let ok = is_general_class r1 && is_general_class b2 && is_vector v3 in MatchResult result (λ code. (ok ≡ true) × IsCode FormatKind.VrsC (slots opcode (number_of r1 ∷ number_of b2 ∷ number_of v3 ∷ []) (m4 ∷ []) 0 d2) code) (λ e. (e ≡ EmitError.BadRegister) × (ok ≡ false)) }
+    ensures { let ok = is_general_class r1 && is_general_class b2 && is_vector v3 in
+        MatchResult result
+        (λ code. (ok ≡ true)
+        × IsCode FormatKind.VrsC
+        (slots opcode (number_of r1 ∷ number_of b2 ∷ number_of v3 ∷ []) (m4 ∷ []) 0 d2)
+        code) (λ e. (e ≡ EmitError.BadRegister) × (ok ≡ false)) }
 {
     let n1 = general(r1)?;
     let base = general(b2)?;
@@ -366,7 +429,12 @@ pub fn enc_vrs_c(opcode: u16, r1: Reg, b2: Reg, d2: u32, v3: Reg, m4: u8) -> Res
 pub fn enc_vrx(opcode: u16, v1: Reg, b2: Reg, x2: Reg, d2: u32, m3: u8) -> Result<Code, EmitError>
     requires d2 { d2 < 4096 }
     requires m3 { m3 < 16 }
-    ensures { let ok = is_vector v1 && is_general_class b2 && is_general_class x2 in MatchResult result (λ code. (ok ≡ true) × IsCode FormatKind.Vrx (slots opcode (number_of v1 ∷ number_of b2 ∷ number_of x2 ∷ []) (m3 ∷ []) 0 d2) code) (λ e. (e ≡ EmitError.BadRegister) × (ok ≡ false)) }
+    ensures { let ok = is_vector v1 && is_general_class b2 && is_general_class x2 in
+        MatchResult result
+        (λ code. (ok ≡ true)
+        × IsCode FormatKind.Vrx
+        (slots opcode (number_of v1 ∷ number_of b2 ∷ number_of x2 ∷ []) (m3 ∷ []) 0 d2)
+        code) (λ e. (e ≡ EmitError.BadRegister) × (ok ≡ false)) }
 {
     let n1 = vector(v1)?;
     let base = general(b2)?;

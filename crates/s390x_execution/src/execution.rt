@@ -29,7 +29,8 @@ pub struct Execution {
 /// the place of the instruction, and `NoRow` where the next instruction is at a row that `Machine::step` doesn't compute.
 /// Machine and memory are then as the steps that went left them.
 pub fn execute<M: Memory>(machine: &mut Machine, memory: &mut M, steps: u32) -> Execution
-    ensures { IsExecution steps (state_of machine.old (M.held memory.old) (M.byte memory.old)) (state_of machine.new (M.held memory.new) (M.byte memory.new)) result }
+    ensures { IsExecution steps (state_of machine.old (M.held memory.old) (M.byte memory.old))
+        (state_of machine.new (M.held memory.new) (M.byte memory.new)) result }
 {
     for went in 0..steps {
         match step_end(machine, memory) {
@@ -45,7 +46,8 @@ pub fn execute<M: Memory>(machine: &mut Machine, memory: &mut M, steps: u32) -> 
 
 // Takes one step, and tells how the execution ends where it doesn't go.
 fn step_end<M: Memory>(machine: &mut Machine, memory: &mut M) -> Option<End>
-    ensures { IsStepped (state_of machine.old (M.held memory.old) (M.byte memory.old)) (state_of machine.new (M.held memory.new) (M.byte memory.new)) result }
+    ensures { IsStepped (state_of machine.old (M.held memory.old) (M.byte memory.old))
+        (state_of machine.new (M.held memory.new) (M.byte memory.new)) result }
 {
     match machine.step(memory) {
         StepEnd::Went => None,

@@ -37,7 +37,9 @@ pub fn run_text(
 ) -> Result<String, NoMemory>
     requires job { IsJob job.now }
     requires image { image.now.base + length image.now.bytes.items ≤ 2 ^ 64 }
-    ensures { IfOk result (λ text. IsRunText image.now.base steps job.now code.now image.now.bytes.items (string_bytes text)) }
+    ensures { IfOk result
+        (λ text. IsRunText image.now.base steps job.now code.now image.now.bytes.items
+        (string_bytes text)) }
 {
     let mut memory = start_memory(alloc, &job.memory, image)?;
     let mut machine = start_machine(image.base, &job.registers);
@@ -67,7 +69,10 @@ fn reported<M: Memory>(
     memory: &M,
 ) -> Result<String, AllocError>
     requires { AllHeld (M.held memory.now) regions.now }
-    ensures { IfOk result (λ text. string_bytes text ≡ execution_text base code.now regions.now execution.now (state_of machine.now (M.held memory.now) (M.byte memory.now))) }
+    ensures { IfOk result
+        (λ text. string_bytes text
+        ≡ execution_text base code.now regions.now execution.now
+        (state_of machine.now (M.held memory.now) (M.byte memory.now))) }
 {
     let mut out = String::new(alloc);
     put_went(&mut out, execution.went)?;
@@ -91,7 +96,8 @@ fn put_end(
     code: &MachBufferFinalized,
     end: End,
 ) -> Result<(), AllocError>
-    ensures { OnOk result (string_bytes out.new ≡ string_bytes out.old ++ execution_end_line base code.now end) }
+    ensures { OnOk result
+        (string_bytes out.new ≡ string_bytes out.old ++ execution_end_line base code.now end) }
 {
     match end {
         End::Limit => out.push_str("limit\n"),
@@ -121,7 +127,9 @@ fn kind_name(kind: StopKind) -> &'static str
 // The code of a stop at a place, in code that stands at a base.
 #[tactic(auto, using(crate::proofs::TrapCodes::code_below, crate::proofs::TrapCodes::code_moved, crate::proofs::TrapCodes::code_far))]
 fn stop_code(base: u64, code: &MachBufferFinalized, kind: StopKind, place: u64) -> Option<TrapCode>
-    ensures { result ≡ trap_code_at (record { base = base; bytes = code.now.bytes.items }) code.now.traps.items place kind }
+    ensures { result
+        ≡ trap_code_at (record { base = base; bytes = code.now.bytes.items }) code.now.traps.items
+        place kind }
 {
     if place < base {
         return None;
@@ -159,7 +167,10 @@ fn put_code(out: &mut String, code: Option<TrapCode>) -> Result<(), AllocError>
 
 // The place and the condition code.
 fn put_status(out: &mut String, machine: &Machine) -> Result<(), AllocError>
-    ensures { (held : ℕ → Bool) (byte : ℕ → ℕ) → OnOk result (string_bytes out.new ≡ string_bytes out.old ++ status_lines (state_of machine.now held byte)) }
+    ensures { (held : ℕ → Bool) (byte : ℕ → ℕ)
+        → OnOk result
+        (string_bytes out.new
+        ≡ string_bytes out.old ++ status_lines (state_of machine.now held byte)) }
 {
     let place = machine.place;
     let code = code_number(machine.condition_code());
@@ -187,7 +198,12 @@ fn put_contents<M: Memory>(
     memory: &M,
 ) -> Result<(), AllocError>
     requires { AllHeld (M.held memory.now) regions.now }
-    ensures { OnOk result (string_bytes out.new ≡ string_bytes out.old ++ lines_text (content_lines regions.now (state_of machine.now (M.held memory.now) (M.byte memory.now)))) }
+    ensures { OnOk result
+        (string_bytes out.new
+        ≡ string_bytes out.old
+        ++ lines_text
+        (content_lines regions.now
+        (state_of machine.now (M.held memory.now) (M.byte memory.now)))) }
 {
     let general = machine.regs;
     let vector = machine.vregs;
@@ -204,7 +220,12 @@ fn put_regions<M: Memory>(
     memory: &M,
 ) -> Result<(), AllocError>
     requires { AllHeld (M.held memory.now) regions.now }
-    ensures { OnOk result (string_bytes out.new ≡ string_bytes out.old ++ lines_text (map (region_line (memory_of (M.held memory.now) (M.byte memory.now))) regions.now)) }
+    ensures { OnOk result
+        (string_bytes out.new
+        ≡ string_bytes out.old
+        ++ lines_text
+        (map (region_line (memory_of (M.held memory.now) (M.byte memory.now)))
+        regions.now)) }
 {
     for region in regions {
         let bytes = bytes_held(alloc, memory, region.address, region.bytes.len())?;

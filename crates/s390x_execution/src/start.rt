@@ -31,7 +31,9 @@ pub fn start_memory(
 ) -> Result<FlatMemory, NoMemory>
     requires regions { AllRegionsFit regions.now }
     requires image { image.now.base + length image.now.bytes.items ≤ 2 ^ 64 }
-    ensures { IfOk result (λ m. memory_of (is_held m) (byte_of m) ≡ start_memory regions.now image.now.base image.now.bytes.items) }
+    ensures { IfOk result
+        (λ m. memory_of (is_held m) (byte_of m)
+        ≡ start_memory regions.now image.now.base image.now.bytes.items) }
 {
     let mut memory = FlatMemory::new(alloc);
     for region in regions {

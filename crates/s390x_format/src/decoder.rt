@@ -58,7 +58,8 @@ pub fn decode_counted<L: Ledger>(bytes: &[u8], steps: &mut Steps<L>) -> Option<D
     ensures sound { IfSome result (λ d. IsFetch bytes.now d) }
     ensures complete { (d : Decoded) → IsFetch bytes.now d → result ≡ Some d }
     ensures steps { steps.old ≤ steps.new }
-    ensures few_steps { 2 ^ (steps.new - steps.old) ≤ 2 * rows_with (slice_index bytes.now 0) machine_rows + 1 }
+    ensures few_steps { 2 ^ (steps.new - steps.old)
+        ≤ 2 * rows_with (slice_index bytes.now 0) machine_rows + 1 }
     ensures no_bytes { length bytes.now ≡ 0 → steps.new ≡ steps.old }
 {
     decoded_in(locate_counted(bytes, steps))
@@ -79,7 +80,8 @@ fn locate_counted<L: Ledger>(bytes: &[u8], steps: &mut Steps<L>) -> Option<Locat
     ensures sound { IfSome result (λ l. IsLocated bytes.now l) }
     ensures complete { (d : Decoded) → IsFetch bytes.now d → decoded_in result ≡ Some d }
     ensures steps { steps.old ≤ steps.new }
-    ensures few_steps { 2 ^ (steps.new - steps.old) ≤ 2 * rows_with (slice_index bytes.now 0) machine_rows + 1 }
+    ensures few_steps { 2 ^ (steps.new - steps.old)
+        ≤ 2 * rows_with (slice_index bytes.now 0) machine_rows + 1 }
     ensures no_bytes { length bytes.now ≡ 0 → steps.new ≡ steps.old }
 {
     located_row(
@@ -91,7 +93,8 @@ fn locate_counted<L: Ledger>(bytes: &[u8], steps: &mut Steps<L>) -> Option<Locat
 /// A reading of the bytes as an instruction.
 fn located_row(bytes: &[u8], placed: &Option<PlacedReading>) -> Option<Located>
     requires sound { IfSome placed.now (λ p. IsPlacedReading machine_rows bytes.now p) }
-    requires complete { (r : Reading) → IsReading machine_rows bytes.now r → reading_in placed.now ≡ Some r }
+    requires complete { (r : Reading) → IsReading machine_rows bytes.now r
+        → reading_in placed.now ≡ Some r }
     ensures sound { IfSome result (λ l. IsLocated bytes.now l) }
     ensures complete { (d : Decoded) → IsFetch bytes.now d → decoded_in result ≡ Some d }
 {

@@ -33,8 +33,10 @@ fn code_of(n: u64, length: usize) -> Code
 fn read_slots(kind: FormatKind, n: u64) -> Option<[u32; 10]>
     ensures fit { IfSome result (λ slots. SlotsFit (layout_of kind) slots) }
     ensures number_is { IfSome result (λ slots. number (layout_of kind) slots ≡ n) }
-    ensures complete { (slots : List ℕ) → SlotsFit (layout_of kind) slots → number (layout_of kind) slots ≡ n → result ≡ Some slots }
-    ensures exact { n < 2 ^ (8 * length_of kind) → IsSome result ↔ zero_bits (layout_of kind) n ≡ true }
+    ensures complete { (slots : List ℕ) → SlotsFit (layout_of kind) slots
+        → number (layout_of kind) slots ≡ n → result ≡ Some slots }
+    ensures exact { n < 2 ^ (8 * length_of kind)
+        → IsSome result ↔ zero_bits (layout_of kind) n ≡ true }
 {
     let parts = layout(kind);
     let slots = unpack(parts, 8 * length(kind) as u8, n).slots;
@@ -74,7 +76,8 @@ pub trait Format {
     final fn to_code(&self) -> Code
         ensures code { result ≡ encode kind_is (slots_of self.now) }
         ensures zero_bits { zero_bits (layout_of kind_is) (be_number result) ≡ true }
-        ensures length { IsEncoded machine_rows kind_is (slots_of self.now) → fetch_length_of (slice_index result 0) ≡ length result }
+        ensures length { IsEncoded machine_rows kind_is (slots_of self.now)
+            → fetch_length_of (slice_index result 0) ≡ length result }
     {
         let kind = Self::kind();
         code_of(pack(layout(kind), &self.slots()), length(kind))
@@ -85,7 +88,9 @@ pub trait Format {
     final fn from_code(code: &Code) -> Option<Self>
         ensures sound { IfSome result (λ s. code.now ≡ encode kind_is (slots_of s)) }
         ensures complete { (s : Self) → code.now ≡ encode kind_is (slots_of s) → result ≡ Some s }
-        ensures exact { IsSome result ↔ ((length code.now ≡ length_of kind_is) × (zero_bits (layout_of kind_is) (be_number code.now) ≡ true)) }
+        ensures exact { IsSome result ↔
+            ((length code.now ≡ length_of kind_is)
+            × (zero_bits (layout_of kind_is) (be_number code.now) ≡ true)) }
     {
         let kind = Self::kind();
         let bytes = code.bytes();

@@ -50,7 +50,8 @@ pub fn search<L: Ledger>(
     requires index { is_index rows.now firsts.now ≡ true }
     requires rising { rises 0 rows.now ≡ true }
     requires few { length rows.now < 2 ^ 16 }
-    ensures row { MatchOption result (LacksRow rows.now first opcode) (λ i. HasOpcode rows.now opcode i) }
+    ensures row { MatchOption result (LacksRow rows.now first opcode)
+        (λ i. HasOpcode rows.now opcode i) }
     ensures steps { steps.old ≤ steps.new }
     ensures few_steps { 2 ^ (steps.new - steps.old) ≤ 2 * rows_with first rows.now + 1 }
 {

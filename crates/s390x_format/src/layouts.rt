@@ -80,9 +80,12 @@ fn digit_of(n: u64, rest: u8, width: u8) -> u64
 fn add_digit(slots: &mut [u32; 10], part: Part, digit: u64)
     requires low { part.low ≤ 31 }
     requires digit { digit < 2 ^ 32 }
-    requires fits { part.slot < 10 → slice_index slots.old part.slot + digit * 2 ^ part.low < 2 ^ 32 }
+    requires fits { part.slot < 10
+        → slice_index slots.old part.slot + digit * 2 ^ part.low < 2 ^ 32 }
     ensures ten { length slots.new ≡ 10 }
-    ensures values { (k : ℕ) → k < 10 → slice_index slots.new k ≡ (if part.slot == k then digit * 2 ^ part.low else 0) + slice_index slots.old k }
+    ensures values { (k : ℕ) → k < 10
+        → slice_index slots.new k
+        ≡ (if part.slot == k then digit * 2 ^ part.low else 0) + slice_index slots.old k }
 {
     let slot = part.slot as usize;
     if slot < 10 {

@@ -122,7 +122,8 @@ pub struct LeadingBytes {
 
 /// As many bytes as the first one tells; `None` exactly where there are fewer.
 fn leading_bytes(bytes: &[u8]) -> Option<LeadingBytes>
-    ensures { MatchOption result (length bytes.now < fetch_length_of (get_or bytes.now 0 0)) (λ l. IsLeading bytes.now l) }
+    ensures { MatchOption result (length bytes.now < fetch_length_of (get_or bytes.now 0 0))
+        (λ l. IsLeading bytes.now l) }
 {
     if bytes.is_empty() {
         return None;
@@ -172,8 +173,10 @@ fn read_as(row: &MachineRow, bytes: usize, n: u64) -> Option<Reading>
 fn read_at(rows: &[MachineRow], at: usize, bytes: usize, n: u64) -> Option<PlacedReading>
     requires below { n < 2 ^ (8 * bytes) }
     requires place { at < length rows.now }
-    ensures sound { IfSome result (λ p. (p.at ≡ at) × IsReadAs (get_or rows.now at no_row) bytes n p.reading) }
-    ensures complete { (d : Reading) → IsReadAs (get_or rows.now at no_row) bytes n d → reading_in result ≡ Some d }
+    ensures sound { IfSome result
+        (λ p. (p.at ≡ at) × IsReadAs (get_or rows.now at no_row) bytes n p.reading) }
+    ensures complete { (d : Reading) → IsReadAs (get_or rows.now at no_row) bytes n d
+        → reading_in result ≡ Some d }
 {
     match read_as(&rows[at], bytes, n) {
         Some(reading) => Some(PlacedReading { at, reading }),
@@ -224,7 +227,8 @@ pub fn read_counted<L: Ledger>(
     ensures sound { IfSome result (λ p. IsPlacedReading rows.now bytes.now p) }
     ensures complete { (d : Reading) → IsReading rows.now bytes.now d → reading_in result ≡ Some d }
     ensures steps { steps.old ≤ steps.new }
-    ensures few_steps { 2 ^ (steps.new - steps.old) ≤ 2 * rows_with (slice_index bytes.now 0) rows.now + 1 }
+    ensures few_steps { 2 ^ (steps.new - steps.old)
+        ≤ 2 * rows_with (slice_index bytes.now 0) rows.now + 1 }
     ensures no_bytes { length bytes.now ≡ 0 → steps.new ≡ steps.old }
 {
     match leading_bytes(bytes) {

@@ -11,7 +11,10 @@ ghost use Rattle.s390x_generator.specs.Generator.{generated_trees};
 /// machine has, a block has at most 24 bytes, and nothing is left for linking.
 pub fn generated_functions_are_valid()
     ensures count { (e : Emission) (n start : ℕ) → length (generated_trees e n start) ≡ n }
-    ensures valid { (flags : IsaFlags) (e : Emission) (n start : ℕ) → n ≤ 100000 → blocks_cause flags (declared_of (generated_trees e n start) []) n (generated_trees e n start) ≡ None }
+    ensures valid { (flags : IsaFlags) (e : Emission) (n start : ℕ) → n ≤ 100000
+        → blocks_cause flags (declared_of (generated_trees e n start) []) n
+        (generated_trees e n start) ≡ None }
     ensures size { (e : Emission) (n start : ℕ) → blocks_size (generated_trees e n start) ≤ 24 * n }
-    ensures relocs { (e : Emission) (n start : ℕ) → function_relocs (generated_trees e n start) ≡ [] }
+    ensures relocs { (e : Emission) (n start : ℕ)
+        → function_relocs (generated_trees e n start) ≡ [] }
 {}

@@ -27,7 +27,8 @@ fn distance(base: u64, symbol: u64, reloc: RelocEntry) -> i128
 
 /// A target as an address.
 fn absolute(target: i128) -> Result<u64, LinkError>
-    ensures { MatchResult result (λ a. (absolute_cause target ≡ None) × (target ≡ pos a)) (λ e. absolute_cause target ≡ Some e) }
+    ensures { MatchResult result (λ a. (absolute_cause target ≡ None) × (target ≡ pos a))
+        (λ e. absolute_cause target ≡ Some e) }
 {
     match u64::try_from(target) {
         Ok(address) => Ok(address),
@@ -37,7 +38,9 @@ fn absolute(target: i128) -> Result<u64, LinkError>
 
 /// Half of a distance as a signed word.
 fn half(distance: i128) -> Result<i32, LinkError>
-    ensures { MatchResult result (λ h. (half_cause distance ≡ None) × (h ≡ int_div distance (pos 2))) (λ e. half_cause distance ≡ Some e) }
+    ensures { MatchResult result
+        (λ h. (half_cause distance ≡ None) × (h ≡ int_div distance (pos 2)))
+        (λ e. half_cause distance ≡ Some e) }
 {
     if distance % 2 != 0 {
         return Err(LinkError::OddSymbol);
@@ -51,7 +54,9 @@ fn half(distance: i128) -> Result<i32, LinkError>
 /// Half of the distance to a target as a signed word; the address that it counts from is 2 below
 /// the field's.
 fn relative(target: i128, distance: i128) -> Result<i32, LinkError>
-    ensures { MatchResult result (λ h. (relative_cause target distance ≡ None) × (h ≡ int_div distance (pos 2))) (λ e. relative_cause target distance ≡ Some e) }
+    ensures { MatchResult result
+        (λ h. (relative_cause target distance ≡ None) × (h ≡ int_div distance (pos 2)))
+        (λ e. relative_cause target distance ≡ Some e) }
 {
     if target < 2 || target > i128::from(u64::MAX) + 2 {
         return Err(LinkError::AddressOverflow);
@@ -76,7 +81,10 @@ fn fill_relative(
     distance: i128,
 ) -> Result<(), LinkError>
     requires { offset + 4 ≤ length bytes.old }
-    ensures { MatchResult result (λ _. (relative_cause target distance ≡ None) × (bytes.new ≡ stored bytes.old offset (half_field distance))) (λ e. relative_cause target distance ≡ Some e) }
+    ensures { MatchResult result
+        (λ _. (relative_cause target distance ≡ None)
+        × (bytes.new ≡ stored bytes.old offset (half_field distance)))
+        (λ e. relative_cause target distance ≡ Some e) }
 {
     let field = relative(target, distance)?.to_be_bytes();
     store(bytes, offset, &field);
@@ -86,7 +94,10 @@ fn fill_relative(
 /// Fills eight bytes with a target.
 fn fill_absolute(bytes: &mut [u8], offset: u32, target: i128) -> Result<(), LinkError>
     requires { offset + 8 ≤ length bytes.old }
-    ensures { MatchResult result (λ _. (absolute_cause target ≡ None) × (bytes.new ≡ stored bytes.old offset (target_field target))) (λ e. absolute_cause target ≡ Some e) }
+    ensures { MatchResult result
+        (λ _. (absolute_cause target ≡ None)
+        × (bytes.new ≡ stored bytes.old offset (target_field target)))
+        (λ e. absolute_cause target ≡ Some e) }
 {
     let field = absolute(target)?.to_be_bytes();
     store(bytes, offset, &field);
@@ -96,7 +107,10 @@ fn fill_absolute(bytes: &mut [u8], offset: u32, target: i128) -> Result<(), Link
 /// Fills the field of a relocation whose symbol has an address.
 fn fill_field(bytes: &mut [u8], base: u64, symbol: u64, reloc: RelocEntry) -> Result<(), LinkError>
     requires { LiesIn (length bytes.old) reloc }
-    ensures { MatchResult result (λ _. (symbol_cause base reloc (Some symbol) ≡ None) × (bytes.new ≡ fill base symbol reloc bytes.old)) (λ e. symbol_cause base reloc (Some symbol) ≡ Some e) }
+    ensures { MatchResult result
+        (λ _. (symbol_cause base reloc (Some symbol) ≡ None)
+        × (bytes.new ≡ fill base symbol reloc bytes.old))
+        (λ e. symbol_cause base reloc (Some symbol) ≡ Some e) }
 {
     let sum = target(symbol, reloc);
     let away = distance(base, symbol, reloc);
@@ -115,7 +129,11 @@ fn fill_one(
     reloc: RelocEntry,
 ) -> Result<(), LinkError>
     requires { LiesIn (length bytes.old) reloc }
-    ensures { MatchResult result (λ _. (reloc_cause base symbols.now reloc ≡ None) × (bytes.new ≡ fill base (address_or_zero (address_of symbols.now reloc.name)) reloc bytes.old)) (λ e. reloc_cause base symbols.now reloc ≡ Some e) }
+    ensures { MatchResult result
+        (λ _. (reloc_cause base symbols.now reloc ≡ None)
+        × (bytes.new
+        ≡ fill base (address_or_zero (address_of symbols.now reloc.name)) reloc bytes.old))
+        (λ e. reloc_cause base symbols.now reloc ≡ Some e) }
 {
     match symbols.get(reloc.name) {
         Some(symbol) => fill_field(bytes, base, symbol, reloc),
@@ -131,7 +149,10 @@ pub fn fill_all(
     relocs: &[RelocEntry],
 ) -> Result<(), LinkError>
     requires { All (LiesIn (length bytes.old)) relocs.now }
-    ensures { MatchResult result (λ _. (relocs_cause base symbols.now relocs.now ≡ None) × (bytes.new ≡ filled base symbols.now relocs.now bytes.old)) (λ e. relocs_cause base symbols.now relocs.now ≡ Some e) }
+    ensures { MatchResult result
+        (λ _. (relocs_cause base symbols.now relocs.now ≡ None)
+        × (bytes.new ≡ filled base symbols.now relocs.now bytes.old))
+        (λ e. relocs_cause base symbols.now relocs.now ≡ Some e) }
 {
     for reloc in relocs {
         fill_one(bytes, base, symbols, *reloc)?;

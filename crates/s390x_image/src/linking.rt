@@ -13,7 +13,8 @@ use std::alloc::Global;
 
 /// Whether code of some bytes with an alignment may stand at a base.
 fn check_base(base: u64, alignment: u32, size: usize) -> Result<(), LinkError>
-    ensures { MatchResult result (λ _. base_cause alignment size base ≡ None) (λ e. base_cause alignment size base ≡ Some e) }
+    ensures { MatchResult result (λ _. base_cause alignment size base ≡ None)
+        (λ e. base_cause alignment size base ≡ Some e) }
 {
     if !base.is_multiple_of(u64::from(alignment)) {
         return Err(LinkError::MisalignedBase);
@@ -35,10 +36,17 @@ pub fn link(
     symbols: &SymbolTable,
 ) -> Result<Image, LinkError>
     requires { All (LiesIn (length code.now.bytes.items)) code.now.relocs.items }
-    ensures answer { MatchResult result (λ image. (link_cause code.now base symbols.now ≡ None) × (image.base ≡ base) × (image.bytes.items ≡ filled base symbols.now code.now.relocs.items code.now.bytes.items)) (λ e. (e ≡ LinkError.NoMemory) ⊎ (link_cause code.now base symbols.now ≡ Some e)) }
+    ensures answer { MatchResult result
+        (λ image. (link_cause code.now base symbols.now ≡ None) × (image.base ≡ base)
+        × (image.bytes.items
+        ≡ filled base symbols.now code.now.relocs.items code.now.bytes.items))
+        (λ e. (e ≡ LinkError.NoMemory) ⊎ (link_cause code.now base symbols.now ≡ Some e)) }
     ensures size { IfOk result (λ image. length image.bytes.items ≡ length code.now.bytes.items) }
-    ensures others { IfOk result (λ image. (k : ℕ) → All (IsOutside k) code.now.relocs.items → slice_index image.bytes.items k ≡ slice_index code.now.bytes.items k) }
-    ensures unlinked { IfOk result (λ image. code.now.relocs.items ≡ [] → image.bytes.items ≡ code.now.bytes.items) }
+    ensures others { IfOk result
+        (λ image. (k : ℕ) → All (IsOutside k) code.now.relocs.items
+        → slice_index image.bytes.items k ≡ slice_index code.now.bytes.items k) }
+    ensures unlinked { IfOk result
+        (λ image. code.now.relocs.items ≡ [] → image.bytes.items ≡ code.now.bytes.items) }
 {
     check_base(base, code.alignment, code.bytes.len())?;
     let mut bytes = Vec::new(alloc);

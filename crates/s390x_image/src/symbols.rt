@@ -42,8 +42,12 @@ impl SymbolTable {
 
     /// Gives a name an address, in place of an earlier one. `NoMemory` leaves the table as it was.
     pub fn insert(&mut self, name: ExternalName, address: u64) -> Result<(), NoMemory>
-        ensures table { MatchResult result (λ _. self.new ≡ with_address self.old name address) (λ _. self.new ≡ self.old) }
-        ensures addresses { IfOk result (λ _. (other : Name) → address_of self.new other ≡ cond (nat_eq other.0 name.0) (Some address) (address_of self.old other)) }
+        ensures table { MatchResult result (λ _. self.new ≡ with_address self.old name address)
+            (λ _. self.new ≡ self.old) }
+        ensures addresses { IfOk result
+            (λ _. (other : Name)
+            → address_of self.new other
+            ≡ cond (nat_eq other.0 name.0) (Some address) (address_of self.old other)) }
     {
         match self.addresses.insert(name.0, address) {
             Ok(_) => Ok(()),

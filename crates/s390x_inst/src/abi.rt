@@ -75,7 +75,9 @@ fn is_target_lost(reg: Reg) -> bool
 
 /// Copies a target that the epilogue may load, and tells where it then stands.
 fn copy_target(insts: &mut Vec<Inst>, dest: &CallInstDest) -> Result<Option<Reg>, AllocError>
-    ensures { IfOk result (λ copied. (copied ≡ copied_target dest.now) × (insts.new.items ≡ insts.old.items ++ target_copy dest.now)) }
+    ensures { IfOk result
+        (λ copied. (copied ≡ copied_target dest.now)
+        × (insts.new.items ≡ insts.old.items ++ target_copy dest.now)) }
 {
     let CallInstDest::Indirect { reg } = dest else {
         return Ok(None);
@@ -123,7 +125,11 @@ fn load_if_saved(
     requires number { number < 16 }
     requires start { start < 2 ^ 40 }
     requires count { count < 16 }
-    ensures { IfOk result (λ next. (next ≡ cond (is_saved set number) (count + 1) count) × (insts.new.items ≡ insts.old.items ++ cond (is_saved set number) (float_load number (start + 8 * count) ∷ []) [])) }
+    ensures { IfOk result
+        (λ next. (next ≡ cond (is_saved set number) (count + 1) count)
+        × (insts.new.items
+        ≡ insts.old.items
+        ++ cond (is_saved set number) (float_load number (start + 8 * count) ∷ []) [])) }
 {
     if !is_float_saved(set, number) {
         return Ok(count);
@@ -135,7 +141,8 @@ fn load_if_saved(
 /// Loads the float registers of the set, rising, from consecutive doublewords.
 fn load_floats(insts: &mut Vec<Inst>, set: u16, start: u64) -> Result<(), AllocError>
     requires { start < 2 ^ 40 }
-    ensures { IfOk result (λ _. insts.new.items ≡ insts.old.items ++ float_loads start 0 (saved_floats set)) }
+    ensures { IfOk result
+        (λ _. insts.new.items ≡ insts.old.items ++ float_loads start 0 (saved_floats set)) }
 {
     let mut count = 0;
     for number in 0..16u8 {
@@ -152,7 +159,8 @@ fn load_generals(
 ) -> Result<(), AllocError>
     requires first { IsFirstSaved first_saved_gpr }
     requires caller { caller < 2 ^ 40 }
-    ensures { IfOk result (λ _. insts.new.items ≡ insts.old.items ++ general_load caller first_saved_gpr) }
+    ensures { IfOk result
+        (λ _. insts.new.items ≡ insts.old.items ++ general_load caller first_saved_gpr) }
 {
     if let Some(first) = first_saved_gpr {
         insts.push(Inst::LoadMultiple64 {
@@ -166,7 +174,9 @@ fn load_generals(
 
 /// Sets the stack pointer so far above itself.
 fn raise_stack(insts: &mut Vec<Inst>, off: i64) -> Result<(), AllocError>
-    ensures { IfOk result (λ _. insts.new.items ≡ insts.old.items ++ Inst.LoadAddr (Reg.Real (general 15)) (above_stack off) ∷ []) }
+    ensures { IfOk result
+        (λ _. insts.new.items
+        ≡ insts.old.items ++ Inst.LoadAddr (Reg.Real (general 15)) (above_stack off) ∷ []) }
 {
     insts.push(Inst::LoadAddr {
         rd: writable_stack_reg(),
@@ -183,7 +193,9 @@ fn put_epilogue(
     dest: &CallInstDest,
 ) -> Result<Option<Reg>, AllocError>
     requires { IsFirstSaved layout.now.first_saved_gpr }
-    ensures { IfOk result (λ copied. (copied ≡ copied_target dest.now) × (insts.new.items ≡ insts.old.items ++ epilogue layout.now callee_pop_size dest.now)) }
+    ensures { IfOk result
+        (λ copied. (copied ≡ copied_target dest.now)
+        × (insts.new.items ≡ insts.old.items ++ epilogue layout.now callee_pop_size dest.now)) }
 {
     let floats = u64::from(layout.outgoing_args_size) + u64::from(layout.fixed_frame_storage_size);
     let caller = layout.sp_to_fp();
@@ -213,7 +225,9 @@ pub fn gen_tail_epilogue(
     dest: &CallInstDest,
 ) -> Result<(Vec<Inst>, Option<Reg>), NoMemory>
     requires { IsFirstSaved layout.now.first_saved_gpr }
-    ensures { IfOk result (λ r. (r.0.items ≡ epilogue layout.now callee_pop_size dest.now) × (r.1 ≡ copied_target dest.now)) }
+    ensures { IfOk result
+        (λ r. (r.0.items ≡ epilogue layout.now callee_pop_size dest.now)
+        × (r.1 ≡ copied_target dest.now)) }
 {
     let mut insts = Vec::new(alloc);
     match put_epilogue(&mut insts, layout, callee_pop_size, dest) {

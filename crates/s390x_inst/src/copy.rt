@@ -25,7 +25,8 @@ fn copy_handlers(
 
 // A call.
 fn copy_call(alloc: Global, link: Writable<Reg>, info: &CallInfo) -> Result<Inst, AllocError>
-    ensures { IfOk result (λ copied. first_portion copied ≡ first_portion (Inst.Call link info.now)) }
+    ensures { IfOk result
+        (λ copied. first_portion copied ≡ first_portion (Inst.Call link info.now)) }
 {
     let uses = Vec::from_slice(alloc, &info.uses)?;
     let defs = Vec::from_slice(alloc, &info.defs)?;

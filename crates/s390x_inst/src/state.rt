@@ -28,7 +28,9 @@ pub struct FrameLayout {
 impl FrameLayout {
     /// The distance from the stack pointer to the frame pointer: outgoing arguments, fixed storage and clobbers.
     pub fn sp_to_fp(&self) -> u64
-        ensures { result ≡ self.now.outgoing_args_size + self.now.fixed_frame_storage_size + self.now.clobber_size }
+        ensures { result
+            ≡ self.now.outgoing_args_size + self.now.fixed_frame_storage_size
+            + self.now.clobber_size }
     {
         u64::from(self.outgoing_args_size)
             + u64::from(self.fixed_frame_storage_size)

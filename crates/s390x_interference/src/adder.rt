@@ -13,7 +13,8 @@ use std::alloc::{AllocError, Global};
 /// A loop that adds `%r3` to the word at `%r5`, which other processors may change meanwhile. `%r2` is what the word is taken to hold at first, and
 /// then what it was found to hold; `%r4` is the sum.
 pub fn adding_loop(alloc: Global) -> Result<Inst, AllocError>
-    ensures { IfOk result (λ i. (e : Emission) (rest : Tree) → prepend e i rest ≡ loop_node 4 adding_members rest) }
+    ensures { IfOk result
+        (λ i. (e : Emission) (rest : Tree) → prepend e i rest ≡ loop_node 4 adding_members rest) }
 {
     let body = vec![in alloc;
         Inst::AluRRR {
@@ -37,7 +38,8 @@ pub fn adding_loop(alloc: Global) -> Result<Inst, AllocError>
 
 /// A function of one block: that loop, and then a return to `%r14`.
 pub fn adding_function(alloc: Global) -> Result<AllocatedFunction, AllocError>
-    ensures trees { IfOk result (λ f. (flags : IsaFlags) (e : Emission) → trees_of flags e f ≡ adding_trees) }
+    ensures trees { IfOk result
+        (λ f. (flags : IsaFlags) (e : Emission) → trees_of flags e f ≡ adding_trees) }
     ensures constants { IfOk result (λ f. constants_of f ≡ []) }
 {
     let insts = vec![in alloc; adding_loop(alloc)?, Inst::Ret { link: gpr(14) }]?;

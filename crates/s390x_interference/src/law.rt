@@ -25,18 +25,22 @@ pub fn retry_loops()
 
 /// What `retry_loops` says of every schedule holds of every call of `run_schedule`, by its contract alone.
 pub fn scheduled_retry_loops()
-    ensures { (w v : World) (ps : List ℕ) (end : ScheduleEnd) → EndsAs w ps end v → Guarded w ps end v }
+    ensures { (w v : World) (ps : List ℕ) (end : ScheduleEnd) → EndsAs w ps end v
+        → Guarded w ps end v }
 {}
 
 /// Each instruction without an operand in memory that can't stop and goes on to the next one is register work.
 pub fn listed_instructions_are_register_work()
-    ensures { (L : Layout) (i : Inst) → IsTrue (is_register_work i) → IsRegisterWork (instruction_kind L i) }
+    ensures { (L : Layout) (i : Inst) → IsTrue (is_register_work i)
+        → IsRegisterWork (instruction_kind L i) }
 {}
 
 /// A loop of a function whose members are register work and breaks, and last a compare and swap, and whose mask lacks the bit of code 0, is a retry loop of
 /// its typed steps.
 pub fn loops_are_retry_loops()
-    ensures { (environment : LinkEnvironment) (ts : List Tree) (image : CodeImage) (n : ℕ) (r : RetryAt ts n) → (R : Retry (function_layout environment ts image)) × (R.opening ≡ n) × (R.mask ≡ r.mask) }
+    ensures { (environment : LinkEnvironment) (ts : List Tree) (image : CodeImage) (n : ℕ)
+        (r : RetryAt ts n)
+        → (R : Retry (function_layout environment ts image)) × (R.opening ≡ n) × (R.mask ≡ r.mask) }
 {}
 
 /// The end of a block folds no loop and moves none: where one opens among a function's blocks, the same opens among the blocks as their ends leave them.

@@ -23,14 +23,21 @@ use std::alloc::Global;
 /// Where emission finds no cause and linking none, the retry loops of the linked code store by their swaps alone, under every schedule of processors
 /// that don't store into it.
 pub fn linked_retry_loops()
-    ensures { (flags : IsaFlags) (ts : List Tree) (cs : List Constant) (f : MachBufferFinalized) (base : ℕ) (symbols : Symbols) → checked_cause flags ts cs ≡ None → BlocksInRange ts → IsFinishedCode (folded_trees ts) cs f → link_cause f base symbols ≡ None → GuardsFunction symbols (folded_trees ts) cs (linked_image f base symbols) }
+    ensures { (flags : IsaFlags) (ts : List Tree) (cs : List Constant) (f : MachBufferFinalized)
+        (base : ℕ) (symbols : Symbols) → checked_cause flags ts cs ≡ None → BlocksInRange ts
+        → IsFinishedCode (folded_trees ts) cs f → link_cause f base symbols ≡ None
+        → GuardsFunction symbols (folded_trees ts) cs (linked_image f base symbols) }
 {}
 
 /// The retry loops of a function's image, whoever made it, store by their swaps alone, under every schedule of
 /// processors that don't store into it. The function's numbers lie in their ranges, as those of a value of the
 /// program do.
 pub fn image_retry_loops()
-    ensures { (flags : IsaFlags) (state : Emission) (f : Allocated) (base : ℕ) (symbols : Symbols) (bytes : List ℕ) → BlocksInRange (trees_of flags state f) → IsImageOf flags state f base symbols bytes → GuardsFunction symbols (folded_trees_of flags state f) (constants_of f) (record { base = base; bytes = bytes }) }
+    ensures { (flags : IsaFlags) (state : Emission) (f : Allocated) (base : ℕ) (symbols : Symbols)
+        (bytes : List ℕ) → BlocksInRange (trees_of flags state f)
+        → IsImageOf flags state f base symbols bytes
+        → GuardsFunction symbols (folded_trees_of flags state f) (constants_of f)
+        (record { base = base; bytes = bytes }) }
 {}
 
 /// The image of a function for several processors: `emit_function` and then `link` at the base, with these symbols.
@@ -46,9 +53,14 @@ pub fn emit_guarded_image(
     symbols: &SymbolTable,
 ) -> Result<Image, ImageError>
     ensures base { IfOk result (λ image. image.base ≡ base) }
-    ensures image { IfOk result (λ image. IsImageOf info.now.isa_flags state function.now base symbols.now image.bytes.items) }
-    ensures guards { IfOk result (λ image. GuardsFunction symbols.now (folded_trees_of info.now.isa_flags state function.now) (constants_of function.now) (record { base = base; bytes = image.bytes.items })) }
-    ensures refused { IfErr result (λ error. HasNoImage info.now.isa_flags state function.now base symbols.now error) }
+    ensures image { IfOk result
+        (λ image. IsImageOf info.now.isa_flags state function.now base symbols.now
+        image.bytes.items) }
+    ensures guards { IfOk result
+        (λ image. GuardsFunction symbols.now (folded_trees_of info.now.isa_flags state function.now)
+        (constants_of function.now) (record { base = base; bytes = image.bytes.items })) }
+    ensures refused { IfErr result
+        (λ error. HasNoImage info.now.isa_flags state function.now base symbols.now error) }
 {
     match emit_function(alloc, function, info, state) {
         Ok(code) => match link(alloc, &code, base, symbols) {

@@ -138,7 +138,9 @@ fn head_flags(
     flags: IsaFlags,
 ) -> Result<Option<Progress>, AllocError>
     requires { IsBegun (rank_of stage) bound b.old }
-    ensures { IfOk result (Follows b.new (beginning_lines b.old.beginning) (Header (rank_of stage) bound) (flags_line flags)) }
+    ensures { IfOk result
+        (Follows b.new (beginning_lines b.old.beginning) (Header (rank_of stage) bound)
+        (flags_line flags)) }
 {
     if is_plain_flags(alloc, flags)? || !may_stand(stage, bound, Stage::Flags, 0) {
         return Ok(None);
@@ -155,7 +157,9 @@ fn head_frame(
     frame: Frame,
 ) -> Result<Option<Progress>, AllocError>
     requires { IsBegun (rank_of stage) bound b.old }
-    ensures { IfOk result (Follows b.new (beginning_lines b.old.beginning) (Header (rank_of stage) bound) (frame_line frame.conv frame.layout)) }
+    ensures { IfOk result
+        (Follows b.new (beginning_lines b.old.beginning) (Header (rank_of stage) bound)
+        (frame_line frame.conv frame.layout)) }
 {
     if is_plain_frame(alloc, frame.conv, &frame.layout)?
         || !may_stand(stage, bound, Stage::Frame, 0)
@@ -174,7 +178,9 @@ fn head_constant(
     constant: ConstantData,
 ) -> Result<Option<Progress>, AllocError>
     requires { IsBegun (rank_of stage) bound b.old }
-    ensures { IfOk result (Follows b.new (beginning_lines b.old.beginning) (Header (rank_of stage) bound) (constant_line constant)) }
+    ensures { IfOk result
+        (Follows b.new (beginning_lines b.old.beginning) (Header (rank_of stage) bound)
+        (constant_line constant)) }
 {
     if !may_stand(stage, bound, Stage::Constants, 0) {
         return Ok(None);
@@ -190,7 +196,9 @@ fn head_symbol(
     symbol: SymbolLine,
 ) -> Result<Option<Progress>, AllocError>
     requires { IsBegun (rank_of stage) bound b.old }
-    ensures { IfOk result (Follows b.new (beginning_lines b.old.beginning) (Header (rank_of stage) bound) (symbol_line symbol)) }
+    ensures { IfOk result
+        (Follows b.new (beginning_lines b.old.beginning) (Header (rank_of stage) bound)
+        (symbol_line symbol)) }
 {
     let number = u128::from(symbol.name.0);
     if !may_stand(stage, bound, Stage::Symbols, number) {
@@ -203,7 +211,8 @@ fn head_symbol(
 fn head_general(b: &mut Body, stage: Stage, bound: u128, start: GeneralStart) -> Option<Progress>
     requires number { start.number < 16 }
     requires beginning { IsBegun (rank_of stage) bound b.old }
-    ensures { Follows b.new (beginning_lines b.old.beginning) (Header (rank_of stage) bound) (register_line (general start.number) start.value) result }
+    ensures { Follows b.new (beginning_lines b.old.beginning) (Header (rank_of stage) bound)
+        (register_line (general start.number) start.value) result }
 {
     let place = u128::from(start.number);
     if start.value == 0 || !may_stand(stage, bound, Stage::Registers, place) {
@@ -216,7 +225,8 @@ fn head_general(b: &mut Body, stage: Stage, bound: u128, start: GeneralStart) ->
 fn head_vector(b: &mut Body, stage: Stage, bound: u128, start: VectorStart) -> Option<Progress>
     requires number { start.number < 32 }
     requires beginning { IsBegun (rank_of stage) bound b.old }
-    ensures { Follows b.new (beginning_lines b.old.beginning) (Header (rank_of stage) bound) (register_line (vector start.number) start.value) result }
+    ensures { Follows b.new (beginning_lines b.old.beginning) (Header (rank_of stage) bound)
+        (register_line (vector start.number) start.value) result }
 {
     let place = 16 + u128::from(start.number);
     if !may_stand(stage, bound, Stage::Registers, place) || start.value == 0 {
@@ -233,7 +243,9 @@ fn head_memory(
     region: MemLine,
 ) -> Result<Option<Progress>, AllocError>
     requires { IsBegun (rank_of stage) bound b.old }
-    ensures { IfOk result (Follows b.new (beginning_lines b.old.beginning) (Header (rank_of stage) bound) (memory_line region)) }
+    ensures { IfOk result
+        (Follows b.new (beginning_lines b.old.beginning) (Header (rank_of stage) bound)
+        (memory_line region)) }
 {
     let address = u128::from(region.address);
     let bytes: &[u8] = &region.bytes;
@@ -281,7 +293,9 @@ fn head(
 ) -> Result<Option<Progress>, AllocError>
     requires item { IsItem i }
     requires beginning { IsBegun (rank_of stage) bound b.old }
-    ensures { IfOk result (Follows b.new (beginning_lines b.old.beginning) (Header (rank_of stage) bound) (item_line i)) }
+    ensures { IfOk result
+        (Follows b.new (beginning_lines b.old.beginning) (Header (rank_of stage) bound)
+        (item_line i)) }
 {
     match i {
         Item::Flags(flags) => head_flags(alloc, b, stage, bound, flags),
@@ -303,8 +317,12 @@ fn head(
 fn shut(alloc: Global, b: &mut Body) -> Result<(), AllocError>
     requires none { b.old.loops.items ≡ [] }
     requires full { IsFullBody b.old }
-    ensures more { OnOk result (IsNext (body_lines b.old) (Within (length b.old.loops.items)) block_line Progress.Inside b.new) }
-    ensures done { OnOk result (IsNext (body_lines b.old) (Within (length b.old.loops.items)) end_line Progress.Done b.new) }
+    ensures more { OnOk result
+        (IsNext (body_lines b.old) (Within (length b.old.loops.items)) block_line Progress.Inside
+        b.new) }
+    ensures done { OnOk result
+        (IsNext (body_lines b.old) (Within (length b.old.loops.items)) end_line Progress.Done
+        b.new) }
 {
     let insts = mem::replace(&mut b.here, Vec::new(alloc));
     b.blocks.push(Block { insts })?;
@@ -314,7 +332,9 @@ fn shut(alloc: Global, b: &mut Body) -> Result<(), AllocError>
 fn open(alloc: Global, b: &mut Body, cond: Cond) -> Result<(), AllocError>
     requires few { length b.old.loops.items < 9 }
     requires full { IsFullBody b.old }
-    ensures { OnOk result (IsNext (body_lines b.old) (Within (length b.old.loops.items)) (loop_line cond) Progress.Inside b.new) }
+    ensures { OnOk result
+        (IsNext (body_lines b.old) (Within (length b.old.loops.items)) (loop_line cond)
+        Progress.Inside b.new) }
 {
     let before = mem::replace(&mut b.here, Vec::new(alloc));
     b.loops.push(OpenLoop { cond, before })?;
@@ -324,7 +344,9 @@ fn open(alloc: Global, b: &mut Body, cond: Cond) -> Result<(), AllocError>
 fn close(b: &mut Body) -> Result<(), AllocError>
     requires some { 0 < length b.old.loops.items }
     requires full { IsFullBody b.old }
-    ensures { OnOk result (IsNext (body_lines b.old) (Within (length b.old.loops.items)) close_line Progress.Inside b.new) }
+    ensures { OnOk result
+        (IsNext (body_lines b.old) (Within (length b.old.loops.items)) close_line Progress.Inside
+        b.new) }
 {
     match b.loops.pop() {
         Some(top) => {
@@ -340,7 +362,9 @@ fn close(b: &mut Body) -> Result<(), AllocError>
 fn add(b: &mut Body, x: Inst) -> Result<(), AllocError>
     requires one { class (inst_line x) ≡ Instruction }
     requires full { IsFullBody b.old }
-    ensures { OnOk result (IsNext (body_lines b.old) (Within (length b.old.loops.items)) (inst_line x) Progress.Inside b.new) }
+    ensures { OnOk result
+        (IsNext (body_lines b.old) (Within (length b.old.loops.items)) (inst_line x) Progress.Inside
+        b.new) }
 {
     b.here.push(x)?;
     Ok(())
@@ -349,7 +373,8 @@ fn add(b: &mut Body, x: Inst) -> Result<(), AllocError>
 fn inside(alloc: Global, b: &mut Body, i: Item) -> Result<Option<Progress>, AllocError>
     requires item { IsItem i }
     requires full { IsFullBody b.old }
-    ensures { IfOk result (Follows b.new (body_lines b.old) (Within (length b.old.loops.items)) (item_line i)) }
+    ensures { IfOk result
+        (Follows b.new (body_lines b.old) (Within (length b.old.loops.items)) (item_line i)) }
 {
     match i {
         Item::Block => {
@@ -407,7 +432,8 @@ pub fn push(
 ) -> Result<Option<Progress>, AllocError>
     requires item { IsItem i }
     requires state { IsAt progress b.old }
-    ensures { IfOk result (Follows b.new (lines_at progress b.old) (place_at progress b.old) (item_line i)) }
+    ensures { IfOk result
+        (Follows b.new (lines_at progress b.old) (place_at progress b.old) (item_line i)) }
 {
     match progress {
         Progress::Head(stage, bound) => head(alloc, b, stage, bound, i),

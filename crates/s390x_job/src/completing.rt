@@ -112,7 +112,8 @@ pub trait Completes {
 
     /// Whether the bytes, which are lines completed, are such a text.
     fn is_whole(alloc: Global, bytes: &[u8]) -> Result<bool, AllocError>
-        requires { (vs : List (List ℕ)) × (length (joined vs) < limit) × (bytes.now ≡ completed vs) }
+        requires { (vs : List (List ℕ)) × (length (joined vs) < limit)
+            × (bytes.now ≡ completed vs) }
         ensures { IfOk result (λ b. Decides b (IsWhole bytes.now)) };
 }
 
@@ -134,8 +135,10 @@ fn first_wrong_of_lines<T: Completes>(
 ) -> Result<usize, AllocError>
     requires small { top ≤ length ws.now }
     requires short { length (joined (map (λ w. w.now) ws.now)) < T.limit }
-    requires above { (m : ℕ) → top < m → m ≤ length ws.now → T.IsWhole (T.completed (take m (map (λ w. w.now) ws.now))) → ⊥ }
-    ensures { IfOk result (λ n. IsFirstWrongLine (λ vs. T.IsWhole (T.completed vs)) (map (λ w. w.now) ws.now) n) }
+    requires above { (m : ℕ) → top < m → m ≤ length ws.now
+        → T.IsWhole (T.completed (take m (map (λ w. w.now) ws.now))) → ⊥ }
+    ensures { IfOk result
+        (λ n. IsFirstWrongLine (λ vs. T.IsWhole (T.completed vs)) (map (λ w. w.now) ws.now) n) }
 {
     let mut k = top;
     while k > 0 {
@@ -152,7 +155,8 @@ pub fn first_wrong<T: Completes>(alloc: Global, bytes: &[u8], top: usize) -> Res
     requires fits { length bytes.now < 4294967295 }
     requires short { length bytes.now < T.limit }
     requires stuck { IsStuck T.IsWhole T.completed bytes.now top }
-    ensures { IfOk result (λ n. IsFirstWrongLine (λ vs. T.IsWhole (T.completed vs)) (pieces bytes.now) n) }
+    ensures { IfOk result
+        (λ n. IsFirstWrongLine (λ vs. T.IsWhole (T.completed vs)) (pieces bytes.now) n) }
 {
     let ws = split_lines(alloc, bytes)?;
     let n = first_wrong_of_lines::<T>(alloc, &ws, top)?;

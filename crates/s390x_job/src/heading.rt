@@ -12,7 +12,14 @@ use std::alloc::{AllocError, Global};
 
 /// Appends the sizes of a frame.
 fn put_sizes(alloc: Global, out: &mut String, layout: &FrameLayout) -> Result<(), AllocError>
-    ensures { let l = layout.now in OnOk result (string_bytes out.new ≡ string_bytes out.old ++ spelled (FNatural W32 l.incoming_args_size ∷ FNatural W32 l.tail_args_size ∷ FNatural W32 l.clobber_size ∷ FNatural W32 l.fixed_frame_storage_size ∷ FNatural W32 l.stackslots_size ∷ FNatural W32 l.outgoing_args_size ∷ [])) }
+    ensures { let l = layout.now in
+        OnOk result
+        (string_bytes out.new
+        ≡ string_bytes out.old
+        ++ spelled
+        (FNatural W32 l.incoming_args_size ∷ FNatural W32 l.tail_args_size
+        ∷ FNatural W32 l.clobber_size ∷ FNatural W32 l.fixed_frame_storage_size
+        ∷ FNatural W32 l.stackslots_size ∷ FNatural W32 l.outgoing_args_size ∷ [])) }
 {
     layout.incoming_args_size.put(alloc, out)?;
     layout.tail_args_size.put(alloc, out)?;
@@ -24,7 +31,11 @@ fn put_sizes(alloc: Global, out: &mut String, layout: &FrameLayout) -> Result<()
 
 /// Appends the registers that a frame saves.
 fn put_saved(alloc: Global, out: &mut String, layout: &FrameLayout) -> Result<(), AllocError>
-    ensures { let l = layout.now in OnOk result (string_bytes out.new ≡ string_bytes out.old ++ spelled (FOption W8 l.first_saved_gpr ∷ FNatural W16 l.saved_fprs ∷ [])) }
+    ensures { let l = layout.now in
+        OnOk result
+        (string_bytes out.new
+        ≡ string_bytes out.old
+        ++ spelled (FOption W8 l.first_saved_gpr ∷ FNatural W16 l.saved_fprs ∷ [])) }
 {
     layout.first_saved_gpr.put(alloc, out)?;
     layout.saved_fprs.put(alloc, out)
@@ -37,7 +48,9 @@ pub fn put_frame(
     conv: CallConv,
     layout: &FrameLayout,
 ) -> Result<(), AllocError>
-    ensures { OnOk result (string_bytes out.new ≡ string_bytes out.old ++ spelled (frame_line conv layout.now).fields) }
+    ensures { OnOk result
+        (string_bytes out.new
+        ≡ string_bytes out.old ++ spelled (frame_line conv layout.now).fields) }
 {
     conv.put(alloc, out)?;
     put_sizes(alloc, out, layout)?;
@@ -59,7 +72,10 @@ pub fn is_plain_frame(
     conv: CallConv,
     layout: &FrameLayout,
 ) -> Result<bool, AllocError>
-    ensures { IfOk result (λ b. b ≡ bytes_eq (spelled (frame_line conv layout.now).fields) (codes " SystemV 0 0 0 0 0 0 - 0")) }
+    ensures { IfOk result
+        (λ b. b
+        ≡ bytes_eq (spelled (frame_line conv layout.now).fields)
+        (codes " SystemV 0 0 0 0 0 0 - 0")) }
 {
     let mut text = String::new(alloc);
     put_frame(alloc, &mut text, conv, layout)?;

@@ -17,14 +17,17 @@ use s390x_job_lines::{LineName, line0, line1, line2, put_inst};
 use std::alloc::{AllocError, Global};
 
 fn put_name_line(out: &mut String, name: LineName) -> Result<(), AllocError>
-    ensures { OnOk result (string_bytes out.new ≡ string_bytes out.old ++ lines_text (record { name = name; fields = [] } ∷ [])) }
+    ensures { OnOk result
+        (string_bytes out.new
+        ≡ string_bytes out.old ++ lines_text (record { name = name; fields = [] } ∷ [])) }
 {
     line0(out, name)?;
     put(out, "\n")
 }
 
 fn put_one(alloc: Global, out: &mut String, i: &Inst) -> Result<(), AllocError>
-    ensures { OnOk result (string_bytes out.new ≡ string_bytes out.old ++ lines_text (inst_line i.now ∷ [])) }
+    ensures { OnOk result
+        (string_bytes out.new ≡ string_bytes out.old ++ lines_text (inst_line i.now ∷ [])) }
 {
     put_inst(alloc, out, i)?;
     put(out, "\n")
@@ -32,7 +35,8 @@ fn put_one(alloc: Global, out: &mut String, i: &Inst) -> Result<(), AllocError>
 
 #[cycle(trees)]
 fn put_insts(alloc: Global, out: &mut String, is: &[Inst]) -> Result<(), AllocError>
-    ensures { OnOk result (string_bytes out.new ≡ string_bytes out.old ++ lines_text (insts_lines is.now)) }
+    ensures { OnOk result
+        (string_bytes out.new ≡ string_bytes out.old ++ lines_text (insts_lines is.now)) }
 {
     for i in is {
         put_tree(alloc, out, i)?;
@@ -43,7 +47,8 @@ fn put_insts(alloc: Global, out: &mut String, is: &[Inst]) -> Result<(), AllocEr
 /// An instruction, with the members of a loop.
 #[cycle(trees)]
 fn put_tree(alloc: Global, out: &mut String, i: &Inst) -> Result<(), AllocError>
-    ensures { OnOk result (string_bytes out.new ≡ string_bytes out.old ++ lines_text (inst_lines i.now)) }
+    ensures { OnOk result
+        (string_bytes out.new ≡ string_bytes out.old ++ lines_text (inst_lines i.now)) }
 {
     put_one(alloc, out, i)?;
     match i {
@@ -57,7 +62,8 @@ fn put_tree(alloc: Global, out: &mut String, i: &Inst) -> Result<(), AllocError>
 }
 
 fn put_blocks(alloc: Global, out: &mut String, bs: &[Block]) -> Result<(), AllocError>
-    ensures { OnOk result (string_bytes out.new ≡ string_bytes out.old ++ lines_text (blocks_lines bs.now)) }
+    ensures { OnOk result
+        (string_bytes out.new ≡ string_bytes out.old ++ lines_text (blocks_lines bs.now)) }
 {
     for b in bs {
         put_name_line(out, LineName::BlockLine)?;
@@ -67,7 +73,8 @@ fn put_blocks(alloc: Global, out: &mut String, bs: &[Block]) -> Result<(), Alloc
 }
 
 fn put_flags(alloc: Global, out: &mut String, flags: IsaFlags) -> Result<(), AllocError>
-    ensures { OnOk result (string_bytes out.new ≡ string_bytes out.old ++ lines_text (flags_lines flags)) }
+    ensures { OnOk result
+        (string_bytes out.new ≡ string_bytes out.old ++ lines_text (flags_lines flags)) }
 {
     if is_plain_flags(alloc, flags)? {
         return Ok(());
@@ -82,7 +89,8 @@ fn put_frames(
     conv: CallConv,
     layout: &FrameLayout,
 ) -> Result<(), AllocError>
-    ensures { OnOk result (string_bytes out.new ≡ string_bytes out.old ++ lines_text (frame_lines conv layout.now)) }
+    ensures { OnOk result
+        (string_bytes out.new ≡ string_bytes out.old ++ lines_text (frame_lines conv layout.now)) }
 {
     if is_plain_frame(alloc, conv, layout)? {
         return Ok(());
@@ -92,7 +100,8 @@ fn put_frames(
 }
 
 fn put_constants(alloc: Global, out: &mut String, cs: &[ConstantData]) -> Result<(), AllocError>
-    ensures { OnOk result (string_bytes out.new ≡ string_bytes out.old ++ lines_text (map constant_line cs.now)) }
+    ensures { OnOk result
+        (string_bytes out.new ≡ string_bytes out.old ++ lines_text (map constant_line cs.now)) }
 {
     for c in cs {
         line2(alloc, out, LineName::ConstantLine, &c.align, &c.bytes)?;
@@ -102,7 +111,8 @@ fn put_constants(alloc: Global, out: &mut String, cs: &[ConstantData]) -> Result
 }
 
 fn put_symbols(alloc: Global, out: &mut String, ss: &[SymbolLine]) -> Result<(), AllocError>
-    ensures { OnOk result (string_bytes out.new ≡ string_bytes out.old ++ lines_text (map symbol_line ss.now)) }
+    ensures { OnOk result
+        (string_bytes out.new ≡ string_bytes out.old ++ lines_text (map symbol_line ss.now)) }
 {
     for s in ss {
         line2(alloc, out, LineName::SymbolLine, &s.name, &s.address)?;
@@ -112,7 +122,8 @@ fn put_symbols(alloc: Global, out: &mut String, ss: &[SymbolLine]) -> Result<(),
 }
 
 fn put_regions(alloc: Global, out: &mut String, ms: &[MemLine]) -> Result<(), AllocError>
-    ensures { OnOk result (string_bytes out.new ≡ string_bytes out.old ++ lines_text (map memory_line ms.now)) }
+    ensures { OnOk result
+        (string_bytes out.new ≡ string_bytes out.old ++ lines_text (map memory_line ms.now)) }
 {
     for m in ms {
         line2(alloc, out, LineName::MemoryLine, &m.address, &m.bytes)?;
@@ -122,7 +133,9 @@ fn put_regions(alloc: Global, out: &mut String, ms: &[MemLine]) -> Result<(), Al
 }
 
 fn put_general(alloc: Global, out: &mut String, number: u8, value: u64) -> Result<(), AllocError>
-    ensures { OnOk result (string_bytes out.new ≡ string_bytes out.old ++ lines_text (start_lines general number (value ∷ []))) }
+    ensures { OnOk result
+        (string_bytes out.new
+        ≡ string_bytes out.old ++ lines_text (start_lines general number (value ∷ []))) }
 {
     if value == 0 {
         return Ok(());
@@ -133,7 +146,9 @@ fn put_general(alloc: Global, out: &mut String, number: u8, value: u64) -> Resul
 }
 
 fn put_vector(alloc: Global, out: &mut String, number: u8, value: u128) -> Result<(), AllocError>
-    ensures { OnOk result (string_bytes out.new ≡ string_bytes out.old ++ lines_text (start_lines vector number (value ∷ []))) }
+    ensures { OnOk result
+        (string_bytes out.new
+        ≡ string_bytes out.old ++ lines_text (start_lines vector number (value ∷ []))) }
 {
     if value == 0 {
         return Ok(());
@@ -145,7 +160,9 @@ fn put_vector(alloc: Global, out: &mut String, number: u8, value: u128) -> Resul
 
 fn put_generals(alloc: Global, out: &mut String, values: &[u64]) -> Result<(), AllocError>
     requires { length values.now ≤ 16 }
-    ensures { OnOk result (string_bytes out.new ≡ string_bytes out.old ++ lines_text (start_lines general 0 values.now)) }
+    ensures { OnOk result
+        (string_bytes out.new
+        ≡ string_bytes out.old ++ lines_text (start_lines general 0 values.now)) }
 {
     for (n, value) in values.iter().enumerate() {
         put_general(alloc, out, n as u8, *value)?;
@@ -155,7 +172,9 @@ fn put_generals(alloc: Global, out: &mut String, values: &[u64]) -> Result<(), A
 
 fn put_vectors(alloc: Global, out: &mut String, values: &[u128]) -> Result<(), AllocError>
     requires { length values.now ≤ 32 }
-    ensures { OnOk result (string_bytes out.new ≡ string_bytes out.old ++ lines_text (start_lines vector 0 values.now)) }
+    ensures { OnOk result
+        (string_bytes out.new
+        ≡ string_bytes out.old ++ lines_text (start_lines vector 0 values.now)) }
 {
     for (n, value) in values.iter().enumerate() {
         put_vector(alloc, out, n as u8, *value)?;
@@ -169,7 +188,9 @@ pub fn put_registers(
     out: &mut String,
     registers: &StartRegs,
 ) -> Result<(), AllocError>
-    ensures { OnOk result (string_bytes out.new ≡ string_bytes out.old ++ lines_text (registers_lines registers.now)) }
+    ensures { OnOk result
+        (string_bytes out.new
+        ≡ string_bytes out.old ++ lines_text (registers_lines registers.now)) }
 {
     put_generals(alloc, out, &registers.general)?;
     put_vectors(alloc, out, &registers.vector)
@@ -177,7 +198,13 @@ pub fn put_registers(
 
 /// Appends the lines before the blocks.
 fn put_head(alloc: Global, out: &mut String, job: &Job) -> Result<(), AllocError>
-    ensures { OnOk result (string_bytes out.new ≡ string_bytes out.old ++ lines_text (let j = job.now in head_lines j.info.isa_flags j.conv j.state.layout j.function.constants.items j.symbols.items j.registers j.memory.items)) }
+    ensures { OnOk result
+        (string_bytes out.new
+        ≡ string_bytes out.old
+        ++ lines_text
+        (let j = job.now in
+        head_lines j.info.isa_flags j.conv j.state.layout j.function.constants.items
+        j.symbols.items j.registers j.memory.items)) }
 {
     put_flags(alloc, out, job.info.isa_flags)?;
     put_frames(alloc, out, job.conv, job.state.frame_layout())?;

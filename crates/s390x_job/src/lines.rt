@@ -102,7 +102,8 @@ pub fn find_job(alloc: Global, bytes: &[u8]) -> Result<Found, AllocError>
 
 fn read_inner(alloc: Global, bytes: &[u8]) -> Result<Result<Job, LineError>, AllocError>
     requires { length bytes.now < 4294967295 }
-    ensures { IfOk result (λ r. MatchResult r (λ j. IsJob j × (text_of_job j ≡ bytes.now)) (IsError bytes.now)) }
+    ensures { IfOk result
+        (λ r. MatchResult r (λ j. IsJob j × (text_of_job j ≡ bytes.now)) (IsError bytes.now)) }
 {
     match find_job(alloc, bytes)? {
         Found::Whole(j) => Ok(Ok(j)),

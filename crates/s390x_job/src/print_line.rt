@@ -16,7 +16,8 @@ pub fn put_frame_line(
     conv: CallConv,
     layout: &FrameLayout,
 ) -> Result<(), AllocError>
-    ensures { OnOk result (string_bytes out.new ≡ string_bytes out.old ++ line_text (frame_line conv layout.now)) }
+    ensures { OnOk result
+        (string_bytes out.new ≡ string_bytes out.old ++ line_text (frame_line conv layout.now)) }
 {
     line0(out, LineName::FrameLine)?;
     put_frame(alloc, out, conv, layout)
@@ -24,7 +25,8 @@ pub fn put_frame_line(
 
 /// Appends the line of a part of a job, without the line feed.
 pub fn put_item(alloc: Global, out: &mut String, i: &Item) -> Result<(), AllocError>
-    ensures { OnOk result (string_bytes out.new ≡ string_bytes out.old ++ line_text (item_line i.now)) }
+    ensures { OnOk result
+        (string_bytes out.new ≡ string_bytes out.old ++ line_text (item_line i.now)) }
 {
     match i {
         Item::Flags(flags) => line1(alloc, out, LineName::FlagsLine, flags),

@@ -33,7 +33,8 @@ fn parse(alloc: Global, w: &[u8]) -> Result<Item, AllocError>
 
 /// The part of a job whose line this is, where it is a frequent one; none says nothing.
 fn exact_item(w: &[u8]) -> Option<Item>
-    ensures { IfSome result (λ i. IsItem i × IsLine (item_line i) × (line_text (item_line i) ≡ w.now)) }
+    ensures { IfSome result
+        (λ i. IsItem i × IsLine (item_line i) × (line_text (item_line i) ≡ w.now)) }
 {
     if w == b"block".as_slice() {
         return Some(Item::Block);
@@ -44,7 +45,9 @@ fn exact_item(w: &[u8]) -> Option<Item>
 
 /// As `read_item`: the line is read, printed and compared.
 fn printed_item(alloc: Global, text: &mut String, w: &[u8]) -> Result<Option<Item>, AllocError>
-    ensures { IfOk result (λ o. MatchOption o ((l : Line) → IsLine l → line_text l ≢ w.now) (λ i. IsItem i × IsLine (item_line i) × (line_text (item_line i) ≡ w.now))) }
+    ensures { IfOk result
+        (λ o. MatchOption o ((l : Line) → IsLine l → line_text l ≢ w.now)
+        (λ i. IsItem i × IsLine (item_line i) × (line_text (item_line i) ≡ w.now))) }
 {
     let i = parse(alloc, w)?;
     text.clear();
@@ -58,7 +61,9 @@ fn printed_item(alloc: Global, text: &mut String, w: &[u8]) -> Result<Option<Ite
 
 /// The part of a job whose line this is, or none where it is no line of a job. The text is room for printing.
 pub fn read_item(alloc: Global, text: &mut String, w: &[u8]) -> Result<Option<Item>, AllocError>
-    ensures { IfOk result (λ o. MatchOption o ((l : Line) → IsLine l → line_text l ≢ w.now) (λ i. IsItem i × IsLine (item_line i) × (line_text (item_line i) ≡ w.now))) }
+    ensures { IfOk result
+        (λ o. MatchOption o ((l : Line) → IsLine l → line_text l ≢ w.now)
+        (λ i. IsItem i × IsLine (item_line i) × (line_text (item_line i) ≡ w.now))) }
 {
     match exact_item(w) {
         Some(i) => Ok(Some(i)),

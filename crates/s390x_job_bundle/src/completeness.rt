@@ -79,7 +79,8 @@ fn put_job_ending(out: &mut Vec<u8>, ws: &[&[u8]]) -> Result<(), AllocError>
 
 // A line `close`, where none of the lines is one.
 fn put_close_ending(out: &mut Vec<u8>, ws: &[&[u8]]) -> Result<(), AllocError>
-    ensures { OnOk result (out.new.items ≡ out.old.items ++ close_ending (map (λ w. w.now) ws.now)) }
+    ensures { OnOk result
+        (out.new.items ≡ out.old.items ++ close_ending (map (λ w. w.now) ws.now)) }
 {
     if is_closed(ws) {
         return Ok(());

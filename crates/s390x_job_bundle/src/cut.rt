@@ -50,7 +50,8 @@ pub fn job_size(bytes: &[u8]) -> usize
 /// The job whose text this is, else the number of its first wrong line; an error for want of memory alone.
 pub fn read_job(alloc: Global, part: &[u8]) -> Result<Result<Job, u32>, AllocError>
     requires { length part.now < 4294967295 }
-    ensures { IfOk result (λ r. MatchResult r (λ j. IsJob j × (text_of_job j ≡ part.now)) (HasNoJob part.now)) }
+    ensures { IfOk result
+        (λ r. MatchResult r (λ j. IsJob j × (text_of_job j ≡ part.now)) (HasNoJob part.now)) }
 {
     match read_lines(alloc, part) {
         Ok(job) => Ok(Ok(job)),

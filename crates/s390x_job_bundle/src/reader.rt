@@ -38,7 +38,9 @@ fn read_inner(
     bytes: &[u8],
 ) -> Result<Result<Vec<NamedJob>, BundleTextError>, AllocError>
     requires { length bytes.now < 268435456 }
-    ensures { IfOk result (λ r. MatchResult r (λ functions. AreFunctionsOf bytes.now functions.items) (HasNoFunctions bytes.now)) }
+    ensures { IfOk result
+        (λ r. MatchResult r (λ functions. AreFunctionsOf bytes.now functions.items)
+        (HasNoFunctions bytes.now)) }
 {
     match find_functions(alloc, bytes)? {
         Found::Whole(functions) => Ok(Ok(functions)),

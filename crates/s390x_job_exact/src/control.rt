@@ -9,7 +9,8 @@ use s390x_job_lines::{ControlName, LineName};
 
 #[tactic(auto, using(crate::proofs::Lines::one))]
 fn jump(cursor: &mut ExactCursor) -> Option<Inst>
-    ensures { IfSome result (λ x. TakesFields (LineName.Control ControlName.Jump) (inst_line x) cursor.old cursor.new) }
+    ensures { IfSome result
+        (λ x. TakesFields (LineName.Control ControlName.Jump) (inst_line x) cursor.old cursor.new) }
 {
     let dest = cursor.label()?;
     Some(Inst::Jump { dest })
@@ -17,7 +18,9 @@ fn jump(cursor: &mut ExactCursor) -> Option<Inst>
 
 #[tactic(auto, using(crate::proofs::Lines::three))]
 fn branch(cursor: &mut ExactCursor) -> Option<Inst>
-    ensures { IfSome result (λ x. TakesFields (LineName.Control ControlName.CondBr) (inst_line x) cursor.old cursor.new) }
+    ensures { IfSome result
+        (λ x. TakesFields (LineName.Control ControlName.CondBr) (inst_line x) cursor.old
+        cursor.new) }
 {
     let taken = cursor.label()?;
     let not_taken = cursor.label()?;
@@ -31,7 +34,8 @@ fn branch(cursor: &mut ExactCursor) -> Option<Inst>
 
 #[tactic(auto, using(crate::proofs::Lines::one))]
 fn ret(cursor: &mut ExactCursor) -> Option<Inst>
-    ensures { IfSome result (λ x. TakesFields (LineName.Control ControlName.Ret) (inst_line x) cursor.old cursor.new) }
+    ensures { IfSome result
+        (λ x. TakesFields (LineName.Control ControlName.Ret) (inst_line x) cursor.old cursor.new) }
 {
     let link = cursor.reg()?;
     Some(Inst::Ret { link })
@@ -39,7 +43,8 @@ fn ret(cursor: &mut ExactCursor) -> Option<Inst>
 
 /// Takes the fields of an instruction of this name, where it is a frequent branch.
 pub fn control(name: ControlName, cursor: &mut ExactCursor) -> Option<Inst>
-    ensures { IfSome result (λ x. TakesFields (LineName.Control name) (inst_line x) cursor.old cursor.new) }
+    ensures { IfSome result
+        (λ x. TakesFields (LineName.Control name) (inst_line x) cursor.old cursor.new) }
 {
     match name {
         ControlName::Jump => jump(cursor),

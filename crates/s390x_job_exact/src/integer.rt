@@ -10,7 +10,8 @@ use s390x_job_lines::{IntegerName, LineName};
 /// Takes the fields of an operation with an output of its own.
 #[tactic(auto, using(crate::proofs::Lines::four))]
 fn alu_three(name: IntegerName, cursor: &mut ExactCursor) -> Option<Inst>
-    ensures { IfSome result (λ x. TakesFields (LineName.Integer name) (inst_line x) cursor.old cursor.new) }
+    ensures { IfSome result
+        (λ x. TakesFields (LineName.Integer name) (inst_line x) cursor.old cursor.new) }
 {
     let alu_op = cursor.alu()?;
     let rd = cursor.written()?;
@@ -36,7 +37,8 @@ fn alu_three(name: IntegerName, cursor: &mut ExactCursor) -> Option<Inst>
 /// Takes the fields of an operation whose output is its first input, with a register or memory.
 #[tactic(auto, using(crate::proofs::Lines::four))]
 fn alu_two(name: IntegerName, cursor: &mut ExactCursor) -> Option<Inst>
-    ensures { IfSome result (λ x. TakesFields (LineName.Integer name) (inst_line x) cursor.old cursor.new) }
+    ensures { IfSome result
+        (λ x. TakesFields (LineName.Integer name) (inst_line x) cursor.old cursor.new) }
 {
     let alu_op = cursor.alu()?;
     let rd = cursor.written()?;
@@ -62,7 +64,8 @@ fn alu_two(name: IntegerName, cursor: &mut ExactCursor) -> Option<Inst>
 /// Takes the fields of an operation whose output is its first input, with a number.
 #[tactic(auto, using(crate::proofs::Lines::four))]
 fn alu_immediate(name: IntegerName, cursor: &mut ExactCursor) -> Option<Inst>
-    ensures { IfSome result (λ x. TakesFields (LineName.Integer name) (inst_line x) cursor.old cursor.new) }
+    ensures { IfSome result
+        (λ x. TakesFields (LineName.Integer name) (inst_line x) cursor.old cursor.new) }
 {
     let alu_op = cursor.alu()?;
     let rd = cursor.written()?;
@@ -102,7 +105,8 @@ fn alu_immediate(name: IntegerName, cursor: &mut ExactCursor) -> Option<Inst>
 /// Takes the fields of an instruction of this name, where they are a comparison, a register and one more field.
 #[tactic(auto, using(crate::proofs::Lines::three))]
 fn compare(name: IntegerName, cursor: &mut ExactCursor) -> Option<Inst>
-    ensures { IfSome result (λ x. TakesFields (LineName.Integer name) (inst_line x) cursor.old cursor.new) }
+    ensures { IfSome result
+        (λ x. TakesFields (LineName.Integer name) (inst_line x) cursor.old cursor.new) }
 {
     let op = cursor.cmp()?;
     let rn = cursor.reg()?;
@@ -134,7 +138,8 @@ fn compare(name: IntegerName, cursor: &mut ExactCursor) -> Option<Inst>
 /// Takes the fields of an instruction of this name, where they are a register and one more field.
 #[tactic(auto, using(crate::proofs::Lines::two))]
 fn moved(name: IntegerName, cursor: &mut ExactCursor) -> Option<Inst>
-    ensures { IfSome result (λ x. TakesFields (LineName.Integer name) (inst_line x) cursor.old cursor.new) }
+    ensures { IfSome result
+        (λ x. TakesFields (LineName.Integer name) (inst_line x) cursor.old cursor.new) }
 {
     let rd = cursor.written()?;
     match name {
@@ -169,7 +174,9 @@ fn moved(name: IntegerName, cursor: &mut ExactCursor) -> Option<Inst>
 /// Takes the fields of a shift.
 #[tactic(auto, using(crate::proofs::Lines::five))]
 fn shift(cursor: &mut ExactCursor) -> Option<Inst>
-    ensures { IfSome result (λ x. TakesFields (LineName.Integer IntegerName.ShiftRR) (inst_line x) cursor.old cursor.new) }
+    ensures { IfSome result
+        (λ x. TakesFields (LineName.Integer IntegerName.ShiftRR) (inst_line x) cursor.old
+        cursor.new) }
 {
     let shift_op = cursor.shift_op()?;
     let rd = cursor.written()?;
@@ -188,7 +195,9 @@ fn shift(cursor: &mut ExactCursor) -> Option<Inst>
 /// Takes the fields of an operation on one register.
 #[tactic(auto, using(crate::proofs::Lines::three))]
 fn unary(cursor: &mut ExactCursor) -> Option<Inst>
-    ensures { IfSome result (λ x. TakesFields (LineName.Integer IntegerName.UnaryRR) (inst_line x) cursor.old cursor.new) }
+    ensures { IfSome result
+        (λ x. TakesFields (LineName.Integer IntegerName.UnaryRR) (inst_line x) cursor.old
+        cursor.new) }
 {
     let op = cursor.unary()?;
     let rd = cursor.written()?;
@@ -198,7 +207,8 @@ fn unary(cursor: &mut ExactCursor) -> Option<Inst>
 
 /// Takes the fields of an instruction of this name, where it is a frequent one.
 pub fn integer(name: IntegerName, cursor: &mut ExactCursor) -> Option<Inst>
-    ensures { IfSome result (λ x. TakesFields (LineName.Integer name) (inst_line x) cursor.old cursor.new) }
+    ensures { IfSome result
+        (λ x. TakesFields (LineName.Integer name) (inst_line x) cursor.old cursor.new) }
 {
     match name {
         IntegerName::AluRRR | IntegerName::AluRRSImm16 => alu_three(name, cursor),

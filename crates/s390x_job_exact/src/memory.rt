@@ -11,7 +11,8 @@ use s390x_job_lines::{LineName, MemoryName};
 /// Takes the fields of an instruction of this name, where they are a register and an operand.
 #[tactic(auto, using(crate::proofs::Lines::two))]
 pub fn memory(name: MemoryName, cursor: &mut ExactCursor) -> Option<Inst>
-    ensures { IfSome result (λ x. TakesFields (LineName.Memory name) (inst_line x) cursor.old cursor.new) }
+    ensures { IfSome result
+        (λ x. TakesFields (LineName.Memory name) (inst_line x) cursor.old cursor.new) }
 {
     let reg = cursor.reg()?;
     let mem = cursor.memory()?;
@@ -33,7 +34,8 @@ pub fn memory(name: MemoryName, cursor: &mut ExactCursor) -> Option<Inst>
 
 /// Takes the fields of a load.
 pub fn load(op: LoadOp, cursor: &mut ExactCursor) -> Option<Inst>
-    ensures { IfSome result (λ x. TakesFields (LineName.Load op) (inst_line x) cursor.old cursor.new) }
+    ensures { IfSome result
+        (λ x. TakesFields (LineName.Load op) (inst_line x) cursor.old cursor.new) }
 {
     let rd = cursor.written()?;
     let mem = cursor.memory()?;

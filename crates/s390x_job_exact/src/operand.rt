@@ -127,7 +127,8 @@ impl<'a> ExactCursor<'a> {
     /// Takes an offset in parentheses behind this text.
     #[inline(always)]
     fn offset(&mut self, form: &[u8]) -> Option<i64>
-        ensures text { IfSome result (λ z. self.old ≡ form.now ++ (signed_decimal z ++ (41 ∷ self.new))) }
+        ensures text { IfSome result
+            (λ z. self.old ≡ form.now ++ (signed_decimal z ++ (41 ∷ self.new))) }
         ensures below { IfSome result (IsBelow (2 ^ 63)) }
     {
         self.text(form)?;

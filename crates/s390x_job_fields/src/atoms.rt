@@ -34,7 +34,8 @@ pub fn put_reg(out: &mut String, r: Reg) -> Result<(), AllocError>
 }
 
 fn put_virtual(out: &mut String, num: u32, class: RegClass) -> Result<(), AllocError>
-    ensures { OnOk result (string_bytes out.new ≡ string_bytes out.old ++ reg_text (Reg.Virtual num class)) }
+    ensures { OnOk result
+        (string_bytes out.new ≡ string_bytes out.old ++ reg_text (Reg.Virtual num class)) }
 {
     match class {
         RegClass::Int => put(out, "%i")?,

@@ -35,7 +35,8 @@ pub fn bytes(alloc: Global, w: &[u8]) -> Result<Vec<u8>, AllocError>
 
 fn put_hex_digit(out: &mut String, digit: u8) -> Result<(), AllocError>
     requires { digit < 16 }
-    ensures { OnOk result (string_bytes out.new ≡ string_bytes out.old ++ slice_index lower_digits digit ∷ []) }
+    ensures { OnOk result
+        (string_bytes out.new ≡ string_bytes out.old ++ slice_index lower_digits digit ∷ []) }
 {
     put(out, DIGITS[digit as usize])
 }
@@ -83,7 +84,8 @@ pub fn hex_number(w: &[u8]) -> u128
 }
 
 fn put_facility(out: &mut String, is_set: bool, name: &str) -> Result<(), AllocError>
-    ensures { OnOk result (string_bytes out.new ≡ string_bytes out.old ++ facility_text is_set name.now) }
+    ensures { OnOk result
+        (string_bytes out.new ≡ string_bytes out.old ++ facility_text is_set name.now) }
 {
     if is_set {
         put(out, " ")?;

@@ -233,7 +233,8 @@ impl Element for TryCallHandler {
 
 /// Appends where a call goes on, and its handlers.
 pub fn put_try(out: &mut String, info: &Option<TryCallInfo>) -> Result<(), AllocError>
-    ensures { OnOk result (string_bytes out.new ≡ string_bytes out.old ++ try_text (try_part info.now)) }
+    ensures { OnOk result
+        (string_bytes out.new ≡ string_bytes out.old ++ try_text (try_part info.now)) }
 {
     match info {
         None => put(out, "-"),

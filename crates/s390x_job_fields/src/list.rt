@@ -22,7 +22,8 @@ pub trait Element: Copy {
 }
 
 fn put_more<T: Element>(out: &mut String, xs: &[T]) -> Result<(), AllocError>
-    ensures { OnOk result (string_bytes out.new ≡ string_bytes out.old ++ more_text T.spelling xs.now) }
+    ensures { OnOk result
+        (string_bytes out.new ≡ string_bytes out.old ++ more_text T.spelling xs.now) }
 {
     for x in xs {
         put(out, ",")?;
@@ -32,7 +33,8 @@ fn put_more<T: Element>(out: &mut String, xs: &[T]) -> Result<(), AllocError>
 }
 
 fn put_open<T: Element>(out: &mut String, xs: &[T]) -> Result<(), AllocError>
-    ensures { OnOk result (string_bytes out.new ≡ string_bytes out.old ++ open_text T.spelling xs.now) }
+    ensures { OnOk result
+        (string_bytes out.new ≡ string_bytes out.old ++ open_text T.spelling xs.now) }
 {
     match xs {
         [] => put(out, "["),
@@ -46,7 +48,8 @@ fn put_open<T: Element>(out: &mut String, xs: &[T]) -> Result<(), AllocError>
 
 /// Appends a list in brackets.
 pub fn put_list<T: Element>(out: &mut String, xs: &[T]) -> Result<(), AllocError>
-    ensures { OnOk result (string_bytes out.new ≡ string_bytes out.old ++ list_text T.spelling xs.now) }
+    ensures { OnOk result
+        (string_bytes out.new ≡ string_bytes out.old ++ list_text T.spelling xs.now) }
 {
     put_open(out, xs)?;
     put(out, "]")

@@ -64,7 +64,9 @@ fn form_named(word: &[u8]) -> MemoryForm
 
 /// Appends base, index and the beginning of the displacement's place.
 fn put_indexed(out: &mut String, base: Reg, index: Reg) -> Result<(), AllocError>
-    ensures { OnOk result (string_bytes out.new ≡ string_bytes out.old ++ (reg_text base ++ (44 ∷ (reg_text index ++ (44 ∷ []))))) }
+    ensures { OnOk result
+        (string_bytes out.new
+        ≡ string_bytes out.old ++ (reg_text base ++ (44 ∷ (reg_text index ++ (44 ∷ []))))) }
 {
     put_reg(out, base)?;
     put_char(out, ',')?;
@@ -80,7 +82,9 @@ fn put_end(out: &mut String, flags: MachMemFlags) -> Result<(), AllocError>
 }
 
 fn put_offset(out: &mut String, off: i64, flags: MachMemFlags) -> Result<(), AllocError>
-    ensures { OnOk result (string_bytes out.new ≡ string_bytes out.old ++ 44 ∷ (signed_decimal off ++ (44 ∷ access_text flags))) }
+    ensures { OnOk result
+        (string_bytes out.new
+        ≡ string_bytes out.old ++ 44 ∷ (signed_decimal off ++ (44 ∷ access_text flags))) }
 {
     put_char(out, ',')?;
     put_integer(out, off)?;

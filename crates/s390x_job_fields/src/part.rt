@@ -10,5 +10,6 @@ pub trait Part {
 
     /// Appends the field, with the space before it.
     fn put(&self, alloc: Global, out: &mut String) -> Result<(), AllocError>
-        ensures { OnOk result (string_bytes out.new ≡ string_bytes out.old ++ spell (field self.now)) };
+        ensures { OnOk result
+            (string_bytes out.new ≡ string_bytes out.old ++ spell (field self.now)) };
 }

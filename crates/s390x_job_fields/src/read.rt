@@ -290,7 +290,8 @@ impl<'a> Cursor<'a> {
     /// The pair of registers of the next two words, the high one first.
     #[inline(always)]
     pub fn pair(&mut self) -> RegPair
-        ensures value { result ≡ record { hi = reg_of (word self.old); lo = reg_of (word (after_word self.old)) } }
+        ensures value { result
+            ≡ record { hi = reg_of (word self.old); lo = reg_of (word (after_word self.old)) } }
         ensures after { self.new ≡ after_word (after_word self.old) }
     {
         let hi = self.reg();
@@ -301,7 +302,8 @@ impl<'a> Cursor<'a> {
     /// The pair of registers of the next two words, as one that is written.
     #[inline(always)]
     pub fn written_pair(&mut self) -> WritableRegPair
-        ensures value { result ≡ record { hi = reg_of (word self.old); lo = reg_of (word (after_word self.old)) } }
+        ensures value { result
+            ≡ record { hi = reg_of (word self.old); lo = reg_of (word (after_word self.old)) } }
         ensures after { self.new ≡ after_word (after_word self.old) }
     {
         let hi = self.written();
@@ -312,7 +314,11 @@ impl<'a> Cursor<'a> {
     /// The 16 bits of the next word, at the 16-bit part that the word behind it numbers.
     #[inline(always)]
     pub fn shifted16(&mut self) -> UImm16Shifted
-        ensures value { result ≡ record { bits = natural_of W16 (word self.old); shift = natural_of W8 (word (after_word self.old)) } }
+        ensures value { result
+            ≡ record {
+              bits = natural_of W16 (word self.old);
+              shift = natural_of W8 (word (after_word self.old));
+            } }
         ensures after { self.new ≡ after_word (after_word self.old) }
     {
         let bits = self.u16();
@@ -323,7 +329,11 @@ impl<'a> Cursor<'a> {
     /// The 32 bits of the next word, at the half that the word behind it numbers.
     #[inline(always)]
     pub fn shifted32(&mut self) -> UImm32Shifted
-        ensures value { result ≡ record { bits = natural_of W32 (word self.old); shift = natural_of W8 (word (after_word self.old)) } }
+        ensures value { result
+            ≡ record {
+              bits = natural_of W32 (word self.old);
+              shift = natural_of W8 (word (after_word self.old));
+            } }
         ensures after { self.new ≡ after_word (after_word self.old) }
     {
         let bits = self.u32();
@@ -412,7 +422,8 @@ impl<'a> Cursor<'a> {
 
     /// The list of real registers that comes next. An error comes for want of memory alone.
     pub fn reals(&mut self, alloc: Global) -> Result<Vec<PReg>, AllocError>
-        ensures value { IfOk result (λ v. v.items ≡ list_of (λ s. real_register_of (word s)) (drop 1 self.old)) }
+        ensures value { IfOk result
+            (λ v. v.items ≡ list_of (λ s. real_register_of (word s)) (drop 1 self.old)) }
         ensures after { self.new ≡ past 93 self.old }
     {
         let value = list(alloc, tail(self.rest(), 1));
@@ -422,7 +433,9 @@ impl<'a> Cursor<'a> {
 
     /// The set of real registers that comes next, as a list. An error comes for want of memory alone.
     pub fn set(&mut self, alloc: Global) -> Result<PRegSet, AllocError>
-        ensures value { IfOk result (λ p. members_of (has p) ≡ members_of (is_in (list_of (λ s. real_register_of (word s)) (drop 1 self.old)))) }
+        ensures value { IfOk result
+            (λ p. members_of (has p)
+            ≡ members_of (is_in (list_of (λ s. real_register_of (word s)) (drop 1 self.old)))) }
         ensures after { self.new ≡ past 93 self.old }
     {
         let members = self.reals(alloc)?;

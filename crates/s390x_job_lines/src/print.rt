@@ -19,7 +19,8 @@ use std::alloc::{AllocError, Global};
 /// Appends an instruction's own line, without the line feed.
 #[rattlefmt::skip]
 pub fn put_inst(alloc: Global, out: &mut String, i: &Inst) -> Result<(), AllocError>
-    ensures { OnOk result (string_bytes out.new ≡ string_bytes out.old ++ line_text (inst_line i.now)) }
+    ensures { OnOk result
+        (string_bytes out.new ≡ string_bytes out.old ++ line_text (inst_line i.now)) }
 {
     match i {
         Inst::AluRRR { alu_op, rd, rn, rm } => line4(alloc, out, Integer(AluRRR), alu_op, rd, rn, rm),

@@ -21,7 +21,9 @@ pub fn put_call(
     link: &Writable<Reg>,
     info: &CallInfo,
 ) -> Result<(), AllocError>
-    ensures { OnOk result (string_bytes out.new ≡ string_bytes out.old ++ line_text (inst_line (Inst.Call link.now info.now))) }
+    ensures { OnOk result
+        (string_bytes out.new
+        ≡ string_bytes out.old ++ line_text (inst_line (Inst.Call link.now info.now))) }
 {
     line5(
         alloc,
@@ -38,7 +40,13 @@ pub fn put_call(
 
 /// Appends the fields of a call from the popped size on.
 fn put_conventions(alloc: Global, out: &mut String, info: &CallInfo) -> Result<(), AllocError>
-    ensures { OnOk result (string_bytes out.new ≡ string_bytes out.old ++ spelled (FNatural W32 info.now.callee_pop_size ∷ FConvention info.now.caller_conv ∷ FConvention info.now.callee_conv ∷ FTry (try_part info.now.try_call_info) ∷ FBool info.now.patchable ∷ FOption W32 info.now.stack_map ∷ [])) }
+    ensures { OnOk result
+        (string_bytes out.new
+        ≡ string_bytes out.old
+        ++ spelled
+        (FNatural W32 info.now.callee_pop_size ∷ FConvention info.now.caller_conv
+        ∷ FConvention info.now.callee_conv ∷ FTry (try_part info.now.try_call_info)
+        ∷ FBool info.now.patchable ∷ FOption W32 info.now.stack_map ∷ [])) }
 {
     info.callee_pop_size.put(alloc, out)?;
     info.caller_conv.put(alloc, out)?;
@@ -54,7 +62,9 @@ pub fn put_return_call(
     out: &mut String,
     info: &ReturnCallInfo<CallInstDest>,
 ) -> Result<(), AllocError>
-    ensures { OnOk result (string_bytes out.new ≡ string_bytes out.old ++ line_text (inst_line (Inst.ReturnCall info.now))) }
+    ensures { OnOk result
+        (string_bytes out.new
+        ≡ string_bytes out.old ++ line_text (inst_line (Inst.ReturnCall info.now))) }
 {
     line3(
         alloc,

@@ -12,7 +12,8 @@ use std::alloc::{AllocError, Global};
 /// Appends the line of an instruction on vector or float registers, without the line feed.
 #[rattlefmt::skip]
 pub fn put_vector(alloc: Global, out: &mut String, v: &VecInst) -> Result<(), AllocError>
-    ensures { OnOk result (string_bytes out.new ≡ string_bytes out.old ++ line_text (vector_line v.now)) }
+    ensures { OnOk result
+        (string_bytes out.new ≡ string_bytes out.old ++ line_text (vector_line v.now)) }
 {
     match v {
         VecInst::VecRRR { op, rd, rn, rm } => line4(alloc, out, Vector(VectorName::VecRRR), op, rd, rn, rm),

@@ -10,7 +10,9 @@ use std::alloc::{AllocError, Global};
 
 /// Appends a line of a name alone.
 pub fn line0(out: &mut String, name: LineName) -> Result<(), AllocError>
-    ensures { OnOk result (string_bytes out.new ≡ string_bytes out.old ++ line_text (record { name = name; fields = [] })) }
+    ensures { OnOk result
+        (string_bytes out.new
+        ≡ string_bytes out.old ++ line_text (record { name = name; fields = [] })) }
 {
     put(out, name.text())
 }
@@ -22,7 +24,10 @@ pub fn line1<A: Part>(
     name: LineName,
     a: &A,
 ) -> Result<(), AllocError>
-    ensures { OnOk result (string_bytes out.new ≡ string_bytes out.old ++ line_text (record { name = name; fields = A.field a.now ∷ [] })) }
+    ensures { OnOk result
+        (string_bytes out.new
+        ≡ string_bytes out.old
+        ++ line_text (record { name = name; fields = A.field a.now ∷ [] })) }
 {
     line0(out, name)?;
     a.put(alloc, out)
@@ -36,7 +41,10 @@ pub fn line2<A: Part, B: Part>(
     a: &A,
     b: &B,
 ) -> Result<(), AllocError>
-    ensures { OnOk result (string_bytes out.new ≡ string_bytes out.old ++ line_text (record { name = name; fields = A.field a.now ∷ B.field b.now ∷ [] })) }
+    ensures { OnOk result
+        (string_bytes out.new
+        ≡ string_bytes out.old
+        ++ line_text (record { name = name; fields = A.field a.now ∷ B.field b.now ∷ [] })) }
 {
     line1(alloc, out, name, a)?;
     b.put(alloc, out)
@@ -51,7 +59,14 @@ pub fn line3<A: Part, B: Part, C: Part>(
     b: &B,
     c: &C,
 ) -> Result<(), AllocError>
-    ensures { OnOk result (string_bytes out.new ≡ string_bytes out.old ++ line_text (record { name = name; fields = A.field a.now ∷ B.field b.now ∷ C.field c.now ∷ [] })) }
+    ensures { OnOk result
+        (string_bytes out.new
+        ≡ string_bytes out.old
+        ++ line_text
+        (record {
+          name = name;
+          fields = A.field a.now ∷ B.field b.now ∷ C.field c.now ∷ [];
+        })) }
 {
     line2(alloc, out, name, a, b)?;
     c.put(alloc, out)
@@ -67,7 +82,15 @@ pub fn line4<A: Part, B: Part, C: Part, D: Part>(
     c: &C,
     d: &D,
 ) -> Result<(), AllocError>
-    ensures { OnOk result (string_bytes out.new ≡ string_bytes out.old ++ line_text (record { name = name; fields = A.field a.now ∷ B.field b.now ∷ C.field c.now ∷ D.field d.now ∷ [] })) }
+    ensures { OnOk result
+        (string_bytes out.new
+        ≡ string_bytes out.old
+        ++ line_text
+        (record {
+          name = name;
+          fields = A.field a.now ∷ B.field b.now ∷ C.field c.now ∷ D.field d.now
+              ∷ [];
+        })) }
 {
     line3(alloc, out, name, a, b, c)?;
     d.put(alloc, out)
@@ -84,7 +107,15 @@ pub fn line5<A: Part, B: Part, C: Part, D: Part, E: Part>(
     d: &D,
     e: &E,
 ) -> Result<(), AllocError>
-    ensures { OnOk result (string_bytes out.new ≡ string_bytes out.old ++ line_text (record { name = name; fields = A.field a.now ∷ B.field b.now ∷ C.field c.now ∷ D.field d.now ∷ E.field e.now ∷ [] })) }
+    ensures { OnOk result
+        (string_bytes out.new
+        ≡ string_bytes out.old
+        ++ line_text
+        (record {
+          name = name;
+          fields = A.field a.now ∷ B.field b.now ∷ C.field c.now ∷ D.field d.now
+              ∷ E.field e.now ∷ [];
+        })) }
 {
     line4(alloc, out, name, a, b, c, d)?;
     e.put(alloc, out)
@@ -102,7 +133,15 @@ pub fn line6<A: Part, B: Part, C: Part, D: Part, E: Part, F: Part>(
     e: &E,
     f: &F,
 ) -> Result<(), AllocError>
-    ensures { OnOk result (string_bytes out.new ≡ string_bytes out.old ++ line_text (record { name = name; fields = A.field a.now ∷ B.field b.now ∷ C.field c.now ∷ D.field d.now ∷ E.field e.now ∷ F.field f.now ∷ [] })) }
+    ensures { OnOk result
+        (string_bytes out.new
+        ≡ string_bytes out.old
+        ++ line_text
+        (record {
+          name = name;
+          fields = A.field a.now ∷ B.field b.now ∷ C.field c.now ∷ D.field d.now
+              ∷ E.field e.now ∷ F.field f.now ∷ [];
+        })) }
 {
     line5(alloc, out, name, a, b, c, d, e)?;
     f.put(alloc, out)
@@ -121,7 +160,15 @@ pub fn line7<A: Part, B: Part, C: Part, D: Part, E: Part, F: Part, G: Part>(
     f: &F,
     g: &G,
 ) -> Result<(), AllocError>
-    ensures { OnOk result (string_bytes out.new ≡ string_bytes out.old ++ line_text (record { name = name; fields = A.field a.now ∷ B.field b.now ∷ C.field c.now ∷ D.field d.now ∷ E.field e.now ∷ F.field f.now ∷ G.field g.now ∷ [] })) }
+    ensures { OnOk result
+        (string_bytes out.new
+        ≡ string_bytes out.old
+        ++ line_text
+        (record {
+          name = name;
+          fields = A.field a.now ∷ B.field b.now ∷ C.field c.now ∷ D.field d.now
+              ∷ E.field e.now ∷ F.field f.now ∷ G.field g.now ∷ [];
+        })) }
 {
     line6(alloc, out, name, a, b, c, d, e, f)?;
     g.put(alloc, out)

@@ -41,7 +41,8 @@ fn call(alloc: Global, c: &mut Cursor) -> Result<Inst, AllocError>
 }
 
 fn return_call(alloc: Global, c: &mut Cursor) -> Result<Inst, AllocError>
-    ensures { IfOk result (λ i. inst_line i ≡ line_with (LineName.Control ControlName.ReturnCall) c.old) }
+    ensures { IfOk result
+        (λ i. inst_line i ≡ line_with (LineName.Control ControlName.ReturnCall) c.old) }
 {
     let dest = c.target();
     let uses = c.uses(alloc)?;

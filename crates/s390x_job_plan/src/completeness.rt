@@ -38,7 +38,8 @@ fn put_job_ending(out: &mut Vec<u8>, ws: &[&[u8]]) -> Result<(), AllocError>
 
 // This line, where none of the lines is one.
 fn put_line_ending(out: &mut Vec<u8>, line: &[u8], ws: &[&[u8]]) -> Result<(), AllocError>
-    ensures { OnOk result (out.new.items ≡ out.old.items ++ line_ending line.now (map (λ w. w.now) ws.now)) }
+    ensures { OnOk result
+        (out.new.items ≡ out.old.items ++ line_ending line.now (map (λ w. w.now) ws.now)) }
 {
     if has_line(line, ws) {
         return Ok(());

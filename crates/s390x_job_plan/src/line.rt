@@ -41,7 +41,8 @@ fn put_place(out: &mut String, place: Place) -> Result<(), AllocError>
 }
 
 fn put_more(out: &mut String, regs: &[Reg]) -> Result<(), AllocError>
-    ensures { OnOk result (string_bytes out.new ≡ string_bytes out.old ++ more_text reg_text regs.now) }
+    ensures { OnOk result
+        (string_bytes out.new ≡ string_bytes out.old ++ more_text reg_text regs.now) }
 {
     for r in regs {
         put(out, ",")?;
@@ -51,7 +52,8 @@ fn put_more(out: &mut String, regs: &[Reg]) -> Result<(), AllocError>
 }
 
 fn put_open(out: &mut String, regs: &[Reg]) -> Result<(), AllocError>
-    ensures { OnOk result (string_bytes out.new ≡ string_bytes out.old ++ open_text reg_text regs.now) }
+    ensures { OnOk result
+        (string_bytes out.new ≡ string_bytes out.old ++ open_text reg_text regs.now) }
 {
     match regs {
         [] => put(out, "["),
@@ -64,14 +66,16 @@ fn put_open(out: &mut String, regs: &[Reg]) -> Result<(), AllocError>
 }
 
 fn put_registers(out: &mut String, regs: &[Reg]) -> Result<(), AllocError>
-    ensures { OnOk result (string_bytes out.new ≡ string_bytes out.old ++ list_text reg_text regs.now) }
+    ensures { OnOk result
+        (string_bytes out.new ≡ string_bytes out.old ++ list_text reg_text regs.now) }
 {
     put_open(out, regs)?;
     put(out, "]")
 }
 
 fn put_pair(out: &mut String, pair: EntryPair) -> Result<(), AllocError>
-    ensures { OnOk result (string_bytes out.new ≡ string_bytes out.old ++ line_text (line_value (Line.Entry pair))) }
+    ensures { OnOk result
+        (string_bytes out.new ≡ string_bytes out.old ++ line_text (line_value (Line.Entry pair))) }
 {
     put(out, "entry ")?;
     put_place(out, pair.place)?;
@@ -80,7 +84,9 @@ fn put_pair(out: &mut String, pair: EntryPair) -> Result<(), AllocError>
 }
 
 fn put_move(out: &mut String, to: Place, from: Place) -> Result<(), AllocError>
-    ensures { OnOk result (string_bytes out.new ≡ string_bytes out.old ++ line_text (line_value (Line.Edit (Edit.Move to from)))) }
+    ensures { OnOk result
+        (string_bytes out.new
+        ≡ string_bytes out.old ++ line_text (line_value (Line.Edit (Edit.Move to from)))) }
 {
     put(out, "move ")?;
     put_place(out, to)?;
@@ -89,7 +95,8 @@ fn put_move(out: &mut String, to: Place, from: Place) -> Result<(), AllocError>
 }
 
 fn put_step(out: &mut String, regs: &[Reg]) -> Result<(), AllocError>
-    ensures { OnOk result (string_bytes out.new ≡ string_bytes out.old ++ line_text (Stepping regs.now)) }
+    ensures { OnOk result
+        (string_bytes out.new ≡ string_bytes out.old ++ line_text (Stepping regs.now)) }
 {
     put(out, "step ")?;
     put_registers(out, regs)
@@ -97,7 +104,8 @@ fn put_step(out: &mut String, regs: &[Reg]) -> Result<(), AllocError>
 
 /// Appends a line of a plan, without the line feed.
 pub fn put_line(out: &mut String, line: &Line) -> Result<(), AllocError>
-    ensures { OnOk result (string_bytes out.new ≡ string_bytes out.old ++ line_text (line_value line.now)) }
+    ensures { OnOk result
+        (string_bytes out.new ≡ string_bytes out.old ++ line_text (line_value line.now)) }
 {
     match line {
         Line::Plan => put(out, "plan"),
@@ -154,7 +162,11 @@ fn registers(alloc: Global, s: &[u8]) -> Result<Vec<Reg>, AllocError>
 }
 
 fn pair(w: &[u8]) -> EntryPair
-    ensures { result ≡ record { place = place_of (word (drop 5 w.now)); vreg = reg_of (word (after_word (drop 5 w.now))) } }
+    ensures { result
+        ≡ record {
+          place = place_of (word (drop 5 w.now));
+          vreg = reg_of (word (after_word (drop 5 w.now)));
+        } }
 {
     let fields = tail(w, 5);
     EntryPair {
@@ -164,7 +176,8 @@ fn pair(w: &[u8]) -> EntryPair
 }
 
 fn movement(w: &[u8]) -> Edit
-    ensures { result ≡ Edit.Move (place_of (word (drop 4 w.now))) (place_of (word (after_word (drop 4 w.now)))) }
+    ensures { result
+        ≡ Edit.Move (place_of (word (drop 4 w.now))) (place_of (word (after_word (drop 4 w.now)))) }
 {
     let fields = tail(w, 4);
     Edit::Move {

@@ -16,7 +16,8 @@ use crate::size::ElementSize;
 /// Whether some lanes compare.
 #[tactic(auto, using(crate::proofs::LaneTests::some_none, crate::proofs::LaneTests::some_more))]
 pub(crate) fn some_compare(comparison: Comparison, size: ElementSize, x: u128, y: u128) -> bool
-    ensures { result ≡ some_lane (lane_count size) (lane_compares comparison (element_bits size) x y) }
+    ensures { result
+        ≡ some_lane (lane_count size) (lane_compares comparison (element_bits size) x y) }
 {
     let mut some = false;
     for i in 0..size.lane_count() {
@@ -33,7 +34,8 @@ pub(crate) fn some_compare(comparison: Comparison, size: ElementSize, x: u128, y
 /// Whether all lanes compare.
 #[tactic(auto, using(crate::proofs::LaneTests::every_none, crate::proofs::LaneTests::every_more))]
 pub(crate) fn every_compare(comparison: Comparison, size: ElementSize, x: u128, y: u128) -> bool
-    ensures { result ≡ every_lane (lane_count size) (lane_compares comparison (element_bits size) x y) }
+    ensures { result
+        ≡ every_lane (lane_count size) (lane_compares comparison (element_bits size) x y) }
 {
     let mut every = true;
     for i in 0..size.lane_count() {
@@ -62,7 +64,9 @@ pub(crate) fn lanes_code(comparison: Comparison, size: ElementSize, x: u128, y: 
 
 /// The code of two elements: 0 equal, 1 first low, 2 first high.
 pub(crate) fn order_code(sign: Signedness, size: ElementSize, x: u128, y: u128) -> u8
-    ensures { result ≡ order_code_of sign (element_bits size) (lane_of (element_bits size) x 0) (lane_of (element_bits size) y 0) }
+    ensures { result
+        ≡ order_code_of sign (element_bits size) (lane_of (element_bits size) x 0)
+        (lane_of (element_bits size) y 0) }
 {
     let a = element(size, x, 0);
     let b = element(size, y, 0);

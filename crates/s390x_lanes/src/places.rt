@@ -57,7 +57,8 @@ pub(crate) fn multiply_pair(
 pub(crate) fn pack(narrowing: Narrowing, size: ElementSize, x: u128, y: u128, i: u32) -> u128
     requires narrow { element_bits size ≤ 64 }
     requires inside { i < lane_count size }
-    ensures value { result ≡ packed_lane narrowing (element_bits size) (lane_count (wider size)) x y i }
+    ensures value { result
+        ≡ packed_lane narrowing (element_bits size) (lane_count (wider size)) x y i }
     ensures fits { result < 2 ^ element_bits size }
 {
     let lanes = size.wider().lane_count();
@@ -88,7 +89,8 @@ pub(crate) fn merge(half: Half, size: ElementSize, x: u128, y: u128, i: u32) -> 
 pub(crate) fn unpack(sign: Signedness, half: Half, size: ElementSize, x: u128, i: u32) -> u128
     requires narrow { element_bits size ≤ 64 }
     requires inside { i < lane_count (wider size) }
-    ensures value { result ≡ unpacked_lane sign half (element_bits size) (lane_count (wider size)) x i }
+    ensures value { result
+        ≡ unpacked_lane sign half (element_bits size) (lane_count (wider size)) x i }
     ensures fits { result < 2 ^ element_bits (wider size) }
 {
     let k = i + first_lane(half, size.wider().lane_count());

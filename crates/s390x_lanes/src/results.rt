@@ -61,7 +61,9 @@ pub(crate) fn compared_lane(
     i: u32,
 ) -> u128
     requires { i < lane_count size }
-    ensures value { result ≡ (if elements_compare comparison (element_bits size) (lane_of (element_bits size) x i) (lane_of (element_bits size) y i) then 2 ^ element_bits size - 1 else 0) }
+    ensures value { result
+        ≡ (if elements_compare comparison (element_bits size) (lane_of (element_bits size) x i)
+        (lane_of (element_bits size) y i) then 2 ^ element_bits size - 1 else 0) }
     ensures fits { result < 2 ^ element_bits size }
 {
     if compare(
@@ -79,7 +81,9 @@ pub(crate) fn compared_lane(
 /// The immediate at `index`, else lane `i` of `x`.
 pub(crate) fn inserted_lane(size: ElementSize, value: u16, index: u32, x: u128, i: u32) -> u128
     requires { i < lane_count size }
-    ensures value { result ≡ (if i == index then immediate_of (element_bits size) value else lane_of (element_bits size) x i) }
+    ensures value { result
+        ≡ (if i == index then immediate_of (element_bits size) value
+        else lane_of (element_bits size) x i) }
     ensures fits { result < 2 ^ element_bits size }
 {
     if i == index {

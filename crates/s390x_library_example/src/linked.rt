@@ -40,8 +40,12 @@ pub fn emit_and_link(
     base: u64,
     symbols: &SymbolTable,
 ) -> Result<Linked, Failure>
-    ensures code { IfOk result (λ it. IsFinishedCode (folded_trees_of info.now.isa_flags state function.now) (constants_of function.now) it.code) }
-    ensures runs { IfOk result (λ it. RunsAsTyped symbols.now (folded_trees_of info.now.isa_flags state function.now) (constants_of function.now) (record { base = base; bytes = it.image.bytes.items })) }
+    ensures code { IfOk result
+        (λ it. IsFinishedCode (folded_trees_of info.now.isa_flags state function.now)
+        (constants_of function.now) it.code) }
+    ensures runs { IfOk result
+        (λ it. RunsAsTyped symbols.now (folded_trees_of info.now.isa_flags state function.now)
+        (constants_of function.now) (record { base = base; bytes = it.image.bytes.items })) }
 {
     match emit_function(alloc, function, info, state) {
         Ok(code) => match link(alloc, &code, base, symbols) {

@@ -21,7 +21,10 @@ use std::alloc::{AllocError, Global};
 /// An error comes exactly where the operands of an instruction aren't reported, by the first cause in their order, or for
 /// want of memory.
 pub fn listed_operands(alloc: Global, blocks: &[Block]) -> Result<String, OperandError>
-    ensures { MatchResult result (λ text. ((operands_listing blocks.now).cause ≡ None) × (string_bytes text ≡ (operands_listing blocks.now).bytes)) (λ e. IsCause (operands_listing blocks.now).cause e) }
+    ensures { MatchResult result
+        (λ text. ((operands_listing blocks.now).cause ≡ None)
+        × (string_bytes text ≡ (operands_listing blocks.now).bytes))
+        (λ e. IsCause (operands_listing blocks.now).cause e) }
 {
     let mut out = String::new(alloc);
     put_blocks(alloc, &mut out, blocks)?;
@@ -30,7 +33,8 @@ pub fn listed_operands(alloc: Global, blocks: &[Block]) -> Result<String, Operan
 
 // The blocks.
 fn put_blocks(alloc: Global, out: &mut String, blocks: &[Block]) -> Result<(), OperandError>
-    ensures { Appends result (string_bytes out.old) (string_bytes out.new) (each block_operands 0 blocks.now) }
+    ensures { Appends result (string_bytes out.old) (string_bytes out.new)
+        (each block_operands 0 blocks.now) }
 {
     for (number, block) in blocks.iter().enumerate() {
         put_block(alloc, out, number, block)?;
@@ -45,7 +49,8 @@ fn put_block(
     number: usize,
     block: &Block,
 ) -> Result<(), OperandError>
-    ensures { Appends result (string_bytes out.old) (string_bytes out.new) (block_operands number block.now) }
+    ensures { Appends result (string_bytes out.old) (string_bytes out.new)
+        (block_operands number block.now) }
 {
     match put_head(out, number) {
         Ok(()) => put_insts(alloc, out, &block.insts),
@@ -55,7 +60,8 @@ fn put_block(
 
 // A line for each instruction.
 fn put_insts(alloc: Global, out: &mut String, insts: &[Inst]) -> Result<(), OperandError>
-    ensures { Appends result (string_bytes out.old) (string_bytes out.new) (each (λ n i. operands_line i) 0 insts.now) }
+    ensures { Appends result (string_bytes out.old) (string_bytes out.new)
+        (each (λ n i. operands_line i) 0 insts.now) }
 {
     for inst in insts {
         put_inst(alloc, out, inst)?;
@@ -65,7 +71,8 @@ fn put_insts(alloc: Global, out: &mut String, insts: &[Inst]) -> Result<(), Oper
 
 // The line of an instruction.
 fn put_inst(alloc: Global, out: &mut String, inst: &Inst) -> Result<(), OperandError>
-    ensures { Appends result (string_bytes out.old) (string_bytes out.new) (operands_line inst.now) }
+    ensures { Appends result (string_bytes out.old) (string_bytes out.new)
+        (operands_line inst.now) }
 {
     let mut list = OperandList::new(alloc);
     inst.get_operands(&mut list)?;
@@ -77,7 +84,8 @@ fn put_inst(alloc: Global, out: &mut String, inst: &Inst) -> Result<(), OperandE
 
 // The items, and a line feed.
 fn put_line(alloc: Global, out: &mut String, items: &[Reported]) -> Result<(), AllocError>
-    ensures { OnOk result (string_bytes out.new ≡ string_bytes out.old ++ (items_text items.now ++ 10 ∷ [])) }
+    ensures { OnOk result
+        (string_bytes out.new ≡ string_bytes out.old ++ (items_text items.now ++ 10 ∷ [])) }
 {
     put_items(alloc, out, items)?;
     put(out, "\n")
@@ -137,7 +145,8 @@ fn put_operand(
     constraint: OperandConstraint,
     kind: OperandKind,
 ) -> Result<(), AllocError>
-    ensures { OnOk result (string_bytes out.new ≡ string_bytes out.old ++ operand_text constraint kind reg) }
+    ensures { OnOk result
+        (string_bytes out.new ≡ string_bytes out.old ++ operand_text constraint kind reg) }
 {
     match constraint {
         OperandConstraint::Reg => {
@@ -158,7 +167,9 @@ fn put_operand(
 
 // An operand in a register that it has to have.
 fn put_fixed(out: &mut String, reg: Reg, preg: PReg, kind: OperandKind) -> Result<(), AllocError>
-    ensures { OnOk result (string_bytes out.new ≡ string_bytes out.old ++ (kind_text kind ++ (reg_text reg ++ 61 ∷ real_text preg))) }
+    ensures { OnOk result
+        (string_bytes out.new
+        ≡ string_bytes out.old ++ (kind_text kind ++ (reg_text reg ++ 61 ∷ real_text preg))) }
 {
     put(out, kind_name(kind))?;
     put_reg(out, reg)?;

@@ -20,7 +20,10 @@ pub fn listed_texts(
     state: EmitState,
     blocks: &[Block],
 ) -> Result<String, TextError>
-    ensures { MatchResult result (λ text. ((texts_listing info.now.isa_flags state blocks.now).cause ≡ None) × (string_bytes text ≡ (texts_listing info.now.isa_flags state blocks.now).bytes)) (λ e. RefusedBy (texts_listing info.now.isa_flags state blocks.now).cause e) }
+    ensures { MatchResult result
+        (λ text. ((texts_listing info.now.isa_flags state blocks.now).cause ≡ None)
+        × (string_bytes text ≡ (texts_listing info.now.isa_flags state blocks.now).bytes))
+        (λ e. RefusedBy (texts_listing info.now.isa_flags state blocks.now).cause e) }
 {
     let mut out = String::new(alloc);
     put_blocks(alloc, &mut out, info, state, blocks)?;
@@ -35,7 +38,8 @@ fn put_blocks(
     state: EmitState,
     blocks: &[Block],
 ) -> Result<(), TextError>
-    ensures { Prints result (string_bytes out.old) (string_bytes out.new) (blocks_texts info.now.isa_flags state 0 blocks.now) }
+    ensures { Prints result (string_bytes out.old) (string_bytes out.new)
+        (blocks_texts info.now.isa_flags state 0 blocks.now) }
 {
     for (number, block) in blocks.iter().enumerate() {
         put_block(alloc, out, info, state, number, block)?;
@@ -52,7 +56,8 @@ fn put_block(
     number: usize,
     block: &Block,
 ) -> Result<(), TextError>
-    ensures { Prints result (string_bytes out.old) (string_bytes out.new) (block_texts info.now.isa_flags state number block.now) }
+    ensures { Prints result (string_bytes out.old) (string_bytes out.new)
+        (block_texts info.now.isa_flags state number block.now) }
 {
     match put_head(out, number) {
         Ok(()) => put_insts(alloc, out, info, state, &block.insts),
@@ -68,7 +73,8 @@ fn put_insts(
     start: EmitState,
     insts: &[Inst],
 ) -> Result<(), TextError>
-    ensures { Prints result (string_bytes out.old) (string_bytes out.new) (inst_texts info.now.isa_flags start insts.now) }
+    ensures { Prints result (string_bytes out.old) (string_bytes out.new)
+        (inst_texts info.now.isa_flags start insts.now) }
 {
     let mut state = start;
     for inst in insts {
@@ -85,7 +91,8 @@ fn put_inst(
     state: &mut EmitState,
     inst: &Inst,
 ) -> Result<(), TextError>
-    ensures answer { Prints result (string_bytes out.old) (string_bytes out.new) (text_line info.now.isa_flags state.old inst.now) }
+    ensures answer { Prints result (string_bytes out.old) (string_bytes out.new)
+        (text_line info.now.isa_flags state.old inst.now) }
     ensures after { IfOk result (λ _. state.new ≡ after state.old inst.now) }
 {
     let text = pretty_print_inst(alloc, inst, info, state)?;

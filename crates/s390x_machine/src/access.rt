@@ -59,7 +59,9 @@ pub fn store_multiple<M: Memory>(memory: &mut M, values: &[u64; 16], address: u6
     requires few { count ≤ 16 }
     requires there { IsTrue (reaches (M.held memory.old) address (8 * count)) }
     ensures same { M.held memory.new ≡ M.held memory.old }
-    ensures written { M.byte memory.new ≡ write_get (bytes_to address (8 * count) (joined_doublewords values.now count)) (M.byte memory.old) }
+    ensures written { M.byte memory.new
+        ≡ write_get (bytes_to address (8 * count) (joined_doublewords values.now count))
+        (M.byte memory.old) }
 {
     for i in (0..count).rev() {
         let value = values[i as usize];
@@ -84,7 +86,8 @@ pub fn size_in_bytes(size: Size) -> u64
 #[tactic(auto, using(crate::proofs::Numbers::whole_bytes))]
 pub fn found<M: Memory>(memory: &M, size: Size, address: u64) -> u64
     requires { IsTrue (reaches (M.held memory.now) address (bytes (width_of size))) }
-    ensures value { result ≡ found size (memory_of (M.held memory.now) (M.byte memory.now)) address }
+    ensures value { result
+        ≡ found size (memory_of (M.held memory.now) (M.byte memory.now)) address }
     ensures below { result < whole size }
 {
     load(memory, address, size_in_bytes(size))
@@ -115,7 +118,8 @@ fn reach_fault<M: Memory>(memory: &M, misaligned: bool, address: u64, n: u64) ->
 fn operand_fault<M: Memory>(memory: &M, operand: Source, n: u64) -> Option<StopKind>
     requires { 0 < n }
     ensures read { result ≡ fault (source_access operand n) (M.held memory.now) }
-    ensures stored { (value : ℕ) → result ≡ fault (store_access operand n value) (M.held memory.now) }
+    ensures stored { (value : ℕ)
+        → result ≡ fault (store_access operand n value) (M.held memory.now) }
 {
     match operand {
         Source::Value(_) => None,
@@ -126,7 +130,9 @@ fn operand_fault<M: Memory>(memory: &M, operand: Source, n: u64) -> Option<StopK
 
 /// The fault of a locked access.
 fn locked_fault<M: Memory>(memory: &M, size: Size, address: u64) -> Option<StopKind>
-    ensures { result ≡ reach_fault (is_misaligned true address (bytes (width_of size))) (M.held memory.now) address (bytes (width_of size)) }
+    ensures { result
+        ≡ reach_fault (is_misaligned true address (bytes (width_of size))) (M.held memory.now)
+        address (bytes (width_of size)) }
 {
     let n = size_in_bytes(size);
     reach_fault(memory, is_misaligned(address, n), address, n)

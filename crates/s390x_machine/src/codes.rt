@@ -38,7 +38,9 @@ fn offset_of(bytes: &[u8], place: u32, kind: StopKind) -> u64
 /// None where there is no such entry or no such place.
 #[tactic(auto, using(crate::proofs::TrapCodes::code_here, crate::proofs::TrapCodes::code_past))]
 pub fn code_at(code: &MachBufferFinalized, place: u32, kind: StopKind) -> Option<TrapCode>
-    ensures { result ≡ trap_code_at (record { base = 0; bytes = code.now.bytes.items }) code.now.traps.items place kind }
+    ensures { result
+        ≡ trap_code_at (record { base = 0; bytes = code.now.bytes.items }) code.now.traps.items
+        place kind }
 {
     if place as usize >= code.bytes.len() {
         return None;

@@ -101,7 +101,8 @@ fn shifted_immediate(fields: &Fields, n: u8) -> u64
 pub fn source(machine: &Machine, operand_source: OperandSource, fields: &Fields) -> Source
     requires general { AreGeneral fields.now }
     requires room { ShiftFits operand_source fields.now }
-    ensures { result ≡ source operand_source fields.now (registers_of machine.now) machine.now.place }
+    ensures { result
+        ≡ source operand_source fields.now (registers_of machine.now) machine.now.place }
 {
     match operand_source {
         OperandSource::Register => Source::Value(machine.general(fields.regs[1])),

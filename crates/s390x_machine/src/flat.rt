@@ -46,7 +46,9 @@ impl Region {
     fn bytes_from(&self, address: u64) -> [u8; 6]
         requires { ContainsAll self.now address 6 }
         ensures six { length result ≡ 6 }
-        ensures bytes { (i : ℕ) → i < 6 → slice_index result i ≡ slice_index self.now.bytes.items (address + i - self.now.start) }
+        ensures bytes { (i : ℕ) → i < 6
+            → slice_index result i
+            ≡ slice_index self.now.bytes.items (address + i - self.now.start) }
     {
         let mut bytes = [0u8; 6];
         for i in 0..6 {
@@ -79,7 +81,8 @@ fn copy_of(alloc: Global, bytes: &[u8]) -> Result<Vec<u8>, NoMemory>
 
 /// The region comes before the others.
 fn put_first(regions: &mut Vec<Region>, region: Region) -> Result<(), NoMemory>
-    ensures { MatchResult result (λ _. regions.new.items ≡ region ∷ regions.old.items) (λ _. regions.new.items ≡ regions.old.items) }
+    ensures { MatchResult result (λ _. regions.new.items ≡ region ∷ regions.old.items)
+        (λ _. regions.new.items ≡ regions.old.items) }
 {
     match regions.insert(0, region) {
         Ok(()) => Ok(()),
@@ -89,8 +92,11 @@ fn put_first(regions: &mut Vec<Region>, region: Region) -> Result<(), NoMemory>
 
 /// The bytes from a start on get their places by address; those past the last address have none.
 fn put_bytes(older: &mut BTreeMap<u64, u8>, start: u64, bytes: &[u8]) -> Result<(), NoMemory>
-    ensures outside { (address : ℕ) → has_address start bytes.now address ≡ false → get nat_cmp older.new address ≡ get nat_cmp older.old address }
-    ensures inside { OnOk result ((address : ℕ) → has_address start bytes.now address ≡ true → get nat_cmp older.new address ≡ Some (slice_index bytes.now (address - start))) }
+    ensures outside { (address : ℕ) → has_address start bytes.now address ≡ false
+        → get nat_cmp older.new address ≡ get nat_cmp older.old address }
+    ensures inside { OnOk result
+        ((address : ℕ) → has_address start bytes.now address ≡ true
+        → get nat_cmp older.new address ≡ Some (slice_index bytes.now (address - start))) }
 {
     for i in 0..bytes.len() {
         match start.checked_add(i as u64) {
@@ -107,7 +113,9 @@ fn put_bytes(older: &mut BTreeMap<u64, u8>, start: u64, bytes: &[u8]) -> Result<
 /// The byte that an address has becomes this one.
 fn replace_byte(older: &mut BTreeMap<u64, u8>, address: u64, value: u8)
     requires { IsSome (get nat_cmp older.old address) }
-    ensures { (other : ℕ) → get nat_cmp older.new other ≡ (if other == address then Some value else get nat_cmp older.old other) }
+    ensures { (other : ℕ)
+        → get nat_cmp older.new other
+        ≡ (if other == address then Some value else get nat_cmp older.old other) }
 {
     match older.insert(address, value) {
         Ok(_) => {}
@@ -117,7 +125,8 @@ fn replace_byte(older: &mut BTreeMap<u64, u8>, address: u64, value: u8)
 
 /// Where as many regions are whole as may be, the last of them goes to the older bytes.
 fn fold_last(regions: &mut Vec<Region>, older: &mut BTreeMap<u64, u8>) -> Result<(), NoMemory>
-    ensures { (address : ℕ) → IsFolded regions.old.items older.old regions.new.items older.new address }
+    ensures { (address : ℕ)
+        → IsFolded regions.old.items older.old regions.new.items older.new address }
 {
     let count = regions.len();
     if count < MOST_REGIONS {
@@ -144,9 +153,17 @@ impl FlatMemory {
     /// Makes the addresses from a start on accessible, as many as there are bytes, and puts these there. `NoMemory` leaves the memory as it was.
     pub fn add_region(&mut self, start: u64, bytes: &[u8]) -> Result<(), NoMemory>
         requires { start + length bytes.now ≤ 2 ^ 64 }
-        ensures added { IfOk result (λ _. (address : ℕ) → is_held self.new address ≡ (covers start bytes.now address || is_held self.old address)) }
-        ensures filled { IfOk result (λ _. (address : ℕ) → byte_of self.new address ≡ (if covers start bytes.now address then slice_index bytes.now (address - start) else byte_of self.old address)) }
-        ensures kept { IfErr result (λ _. (is_held self.new ≡ is_held self.old) × (byte_of self.new ≡ byte_of self.old)) }
+        ensures added { IfOk result
+            (λ _. (address : ℕ)
+            → is_held self.new address
+            ≡ (covers start bytes.now address || is_held self.old address)) }
+        ensures filled { IfOk result
+            (λ _. (address : ℕ)
+            → byte_of self.new address
+            ≡ (if covers start bytes.now address then slice_index bytes.now (address - start)
+            else byte_of self.old address)) }
+        ensures kept { IfErr result
+            (λ _. (is_held self.new ≡ is_held self.old) × (byte_of self.new ≡ byte_of self.old)) }
     {
         let bytes = copy_of(self.alloc, bytes)?;
         fold_last(&mut self.regions, &mut self.older)?;
@@ -156,7 +173,11 @@ impl FlatMemory {
 
     /// The number of the whole region to which an address belongs.
     fn holder(&self, address: u64) -> Option<usize>
-        ensures { MatchOption result (held_in self.now.regions.items address ≡ false) (λ i. (i < length self.now.regions.items) × ((z : Region) → contains (get_or self.now.regions.items i z) address ≡ true) × ((k : ℕ) → (z : Region) → k < i → contains (get_or self.now.regions.items k z) address ≡ false)) }
+        ensures { MatchOption result (held_in self.now.regions.items address ≡ false)
+            (λ i. (i < length self.now.regions.items)
+            × ((z : Region) → contains (get_or self.now.regions.items i z) address ≡ true)
+            × ((k : ℕ) → (z : Region) → k < i
+            → contains (get_or self.now.regions.items k z) address ≡ false)) }
     {
         for i in 0..self.regions.len() {
             if self.regions[i].contains(address) {
@@ -168,7 +189,8 @@ impl FlatMemory {
 
     /// The byte at an address; `None` exactly where it isn't accessible.
     fn byte_found(&self, address: u64) -> Option<u8>
-        ensures { MatchOption result (is_held self.now address ≡ false) (λ b. (is_held self.now address ≡ true) × (b ≡ byte_of self.now address)) }
+        ensures { MatchOption result (is_held self.now address ≡ false)
+            (λ b. (is_held self.now address ≡ true) × (b ≡ byte_of self.now address)) }
     {
         match self.holder(address) {
             Some(i) => {
@@ -190,7 +212,8 @@ impl FlatMemory {
     #[tactic(auto, using(crate::proofs::Reaching::reaches_none, crate::proofs::Reaching::reaches_next))]
     fn bytes_one_by_one(&self, address: u64, n: u64) -> Option<[u8; 6]>
         requires { n ≤ 6 }
-        ensures { MatchOption result (reaches (is_held self.now) address n ≡ false) (λ bytes. AreBytes (is_held self.now) (byte_of self.now) address n bytes) }
+        ensures { MatchOption result (reaches (is_held self.now) address n ≡ false)
+            (λ bytes. AreBytes (is_held self.now) (byte_of self.now) address n bytes) }
     {
         let mut bytes = [0u8; 6];
         for i in 0..n {

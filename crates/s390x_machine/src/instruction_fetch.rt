@@ -53,7 +53,8 @@ fn fetched_in(fetched: &FetchedRow) -> Fetched
 
 /// What `fetch` answers, with the place of the row in the table of machine rows.
 pub fn fetch_row<M: Memory>(memory: &M, place: u64) -> FetchedRow
-    ensures fetches { Fetches (memory_of (M.held memory.now) (M.byte memory.now)) place (fetched_in result) }
+    ensures fetches { Fetches (memory_of (M.held memory.now) (M.byte memory.now)) place
+        (fetched_in result) }
     ensures row { StandsInTable result }
 {
     if place % 2 == 1 {

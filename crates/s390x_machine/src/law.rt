@@ -33,37 +33,53 @@ ghost use Rattle.s390x_machine.specs.Helpers.{IsAddressable, HelpersKeep, TakesO
 
 /// Wherever a step's bytes lie in an image at their address, every machine run from there is allowed by at most that step, or begins with a group of transitions that is that step.
 pub fn each_step()
-    ensures { (L : Layout) → AllCodeAt L → (k : ℕ) (s : Step) → slice_get L.steps k ≡ Some s → StepHolds L k }
+    ensures { (L : Layout) → AllCodeAt L → (k : ℕ) (s : Step) → slice_get L.steps k ≡ Some s
+        → StepHolds L k }
 {}
 
 /// Wherever a step's bytes lie in an image at their address, every machine run from there is allowed by at most that
 /// step, or begins with a group of transitions that is that step, with all that it stores and every stop.
 pub fn each_step_tells()
-    ensures { (L : Layout) → AllCodeAt L → (k : ℕ) (s : Step) → slice_get L.steps k ≡ Some s → StepRuns L k }
+    ensures { (L : Layout) → AllCodeAt L → (k : ℕ) (s : Step) → slice_get L.steps k ≡ Some s
+        → StepRuns L k }
 {}
 
 /// So does a step whose own bytes stand at its place, whatever stands around them: of other steps and of blocks the places alone are told. Each step of placed code stands so.
 pub fn each_step_anywhere()
     ensures holds { (L : Layout) (k : ℕ) (s : Step) → StepAt L k s → StepHolds L k }
     ensures tells { (L : Layout) (k : ℕ) (s : Step) → StepAt L k s → StepRuns L k }
-    ensures placed { (L : Layout) → AllCodeAt L → (k : ℕ) (s : Step) → slice_get L.steps k ≡ Some s → StepAt L k s }
+    ensures placed { (L : Layout) → AllCodeAt L → (k : ℕ) (s : Step) → slice_get L.steps k ≡ Some s
+        → StepAt L k s }
 {}
 
 /// Where an image begins with a function's code, and emission lets each step pass, the premises hold of the function's layout.
 pub fn code_is_placed()
-    ensures { (environment : LinkEnvironment) (ts : List Tree) (image : CodeImage) → StandsAsCode environment ts image → AllCodeAt (function_layout environment ts image) }
+    ensures { (environment : LinkEnvironment) (ts : List Tree) (image : CodeImage)
+        → StandsAsCode environment ts image → AllCodeAt (function_layout environment ts image) }
 {}
 
 /// Emission lets each step pass of a function that has no cause of refusal, with n labels in use.
 pub fn checked_steps_are_valid()
-    ensures { (flags : IsaFlags) (environment : LinkEnvironment) (ts : List Tree) (n : ℕ) (image : CodeImage) → blocks_cause flags (record { blocks = length ts; aligns = environment.aligns }) n ts ≡ None → BlocksInRange ts → (k : ℕ) (s : Step) → slice_get (function_steps ts) k ≡ Some s → IsValidStep (function_layout environment ts image) s }
+    ensures { (flags : IsaFlags) (environment : LinkEnvironment) (ts : List Tree) (n : ℕ)
+        (image : CodeImage)
+        → blocks_cause flags (record { blocks = length ts; aligns = environment.aligns }) n ts
+        ≡ None → BlocksInRange ts → (k : ℕ) (s : Step) → slice_get (function_steps ts) k ≡ Some s
+        → IsValidStep (function_layout environment ts image) s }
 {}
 
 /// Emission lets each of the steps pass that the ends of blocks left of a function without a cause of refusal, and
 /// each that has lost branches leads on.
 pub fn folded_steps_are_valid()
-    ensures valid { (flags : IsaFlags) (environment : LinkEnvironment) (ts : List Tree) (n : ℕ) (image : CodeImage) → blocks_cause flags (record { blocks = length ts; aligns = environment.aligns }) n ts ≡ None → BlocksInRange ts → (k : ℕ) (s : Step) → slice_get (function_steps (folded_trees ts)) k ≡ Some s → IsValidStep (function_layout environment (folded_trees ts) image) s }
-    ensures folded { (environment : LinkEnvironment) (ts : List Tree) (image : CodeImage) → BlocksInRange ts → (k : ℕ) (s : Step) → slice_get (function_steps (folded_trees ts)) k ≡ Some s → IsFoldedRight (function_layout environment (folded_trees ts) image) k s }
+    ensures valid { (flags : IsaFlags) (environment : LinkEnvironment) (ts : List Tree) (n : ℕ)
+        (image : CodeImage)
+        → blocks_cause flags (record { blocks = length ts; aligns = environment.aligns }) n ts
+        ≡ None → BlocksInRange ts → (k : ℕ) (s : Step)
+        → slice_get (function_steps (folded_trees ts)) k ≡ Some s
+        → IsValidStep (function_layout environment (folded_trees ts) image) s }
+    ensures folded { (environment : LinkEnvironment) (ts : List Tree) (image : CodeImage)
+        → BlocksInRange ts → (k : ℕ) (s : Step)
+        → slice_get (function_steps (folded_trees ts)) k ≡ Some s
+        → IsFoldedRight (function_layout environment (folded_trees ts) image) k s }
 {}
 
 /// Every machine run from a step's place, in every state in which the image lies in memory and under every list of others' writes, is allowed by the typed
@@ -91,7 +107,8 @@ pub fn one_instruction()
 
 /// Each row of the table has a meaning.
 pub fn each_row_has_semantics()
-    ensures { (bytes : List ℕ) (d : Decoded) → IsFetch bytes d → is_some (semantics_of d.row.opcode) ≡ true }
+    ensures { (bytes : List ℕ) (d : Decoded) → IsFetch bytes d
+        → is_some (semantics_of d.row.opcode) ≡ true }
 {}
 
 /// The premises can be met: the code of a function of two blocks in memory, and a run of it that goes round a loop, leaves it and returns.
@@ -107,36 +124,48 @@ pub fn a_constant_is_loaded()
 
 /// Helpers come before an access exactly where its step needs `%r1`.
 pub fn helpers_where_needed()
-    ensures { (mi : MemInstType) (m : MemArg) → IsTrue (operand_general m) → IsTrue (offset_fits m) → is_helped (finalized mi m).helpers ≡ needs_scratch mi m }
+    ensures { (mi : MemInstType) (m : MemArg) → IsTrue (operand_general m) → IsTrue (offset_fits m)
+        → is_helped (finalized mi m).helpers ≡ needs_scratch mi m }
 {}
 
 /// Helpers change nothing but `%r1`, and behind them the operand of the access has the address that the given one had before them.
 pub fn helpers_keep_the_address()
-    ensures { (L : Layout) (mi : MemInstType) (m : MemArg) → IsAddressable L mi m → HelpersKeep L mi m }
+    ensures { (L : Layout) (mi : MemInstType) (m : MemArg) → IsAddressable L mi m
+        → HelpersKeep L mi m }
 {}
 
 /// The operand of each step that accesses memory is one whose address helpers keep.
 pub fn operands_are_addressable()
-    ensures whole { (L : Layout) → AllCodeAt L → (k : ℕ) (i : Inst) (x : MemoryInstruction) → slice_get L.steps k ≡ Some (Plain i) → memory i ≡ Some x → IsAddressable L (type_of x.form x.accesses) x.operand }
-    ensures loaded { (L : Layout) → AllCodeAt L → (k : ℕ) (i : Inst) (x : MemoryInstruction) → slice_get L.steps k ≡ Some (LoadedStep i) → loaded_memory i ≡ Some x → IsAddressable L (type_of x.form x.accesses) x.operand }
+    ensures whole { (L : Layout) → AllCodeAt L → (k : ℕ) (i : Inst) (x : MemoryInstruction)
+        → slice_get L.steps k ≡ Some (Plain i) → memory i ≡ Some x
+        → IsAddressable L (type_of x.form x.accesses) x.operand }
+    ensures loaded { (L : Layout) → AllCodeAt L → (k : ℕ) (i : Inst) (x : MemoryInstruction)
+        → slice_get L.steps k ≡ Some (LoadedStep i) → loaded_memory i ≡ Some x
+        → IsAddressable L (type_of x.form x.accesses) x.operand }
 {}
 
 /// Where the rows have a form for an operand, the one that stands in the access is of a form that they take, and its displacement lies in its range.
 pub fn access_takes_its_operand()
-    ensures { (mi : MemInstType) (m : MemArg) → IsTrue (has_form mi m) → IsTrue (operand_general m) → IsTrue (offset_fits m) → OperandInRange m → TakesOperand mi (finalized mi m).operand × OperandInRange (finalized mi m).operand }
+    ensures { (mi : MemInstType) (m : MemArg) → IsTrue (has_form mi m) → IsTrue (operand_general m)
+        → IsTrue (offset_fits m) → OperandInRange m
+        → TakesOperand mi (finalized mi m).operand × OperandInRange (finalized mi m).operand }
 {}
 
 /// A block or a constant that an instruction names relative to itself stands on the boundary that emission asks of it.
 pub fn relative_accesses_are_aligned()
-    ensures { (L : Layout) → AllCodeAt L → (x : MemoryInstruction) → IsValidMemory L x → IsOwn x.operand → IsOnBoundary (operand_address L x.operand) (boundary x) }
+    ensures { (L : Layout) → AllCodeAt L → (x : MemoryInstruction) → IsValidMemory L x
+        → IsOwn x.operand → IsOnBoundary (operand_address L x.operand) (boundary x) }
 {}
 
 /// An access that has a row relative to the instruction reads or stores as many bytes as are told of that row's opcode.
 pub fn relative_rows_access_their_bytes()
-    ensures { (i : Inst) (opcode : ℕ) → relative_row_of (memory i) ≡ Some opcode → StepAccesses (operand_step i) (relative_bytes opcode) }
+    ensures { (i : Inst) (opcode : ℕ) → relative_row_of (memory i) ≡ Some opcode
+        → StepAccesses (operand_step i) (relative_bytes opcode) }
 {}
 
 /// The typed step of an access that has a row relative to the instruction never stops by alignment where it names a block or a constant.
 pub fn relative_accesses_never_misalign()
-    ensures { (L : Layout) → AllCodeAt L → (i : Inst) (opcode : ℕ) → relative_row_of (memory i) ≡ Some opcode → ValidMemoryOr L (memory i) ⊥ → OwnOperand (memory i) → NeverMisaligned (performed_in_memory L i) }
+    ensures { (L : Layout) → AllCodeAt L → (i : Inst) (opcode : ℕ)
+        → relative_row_of (memory i) ≡ Some opcode → ValidMemoryOr L (memory i) ⊥
+        → OwnOperand (memory i) → NeverMisaligned (performed_in_memory L i) }
 {}

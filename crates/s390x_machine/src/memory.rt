@@ -22,12 +22,14 @@ pub trait Memory {
 
     /// The byte at an address; `None` exactly where it isn't accessible.
     fn byte_at(&self, address: u64) -> Option<u8>
-        ensures { MatchOption result (held self.now address ≡ false) (λ b. (held self.now address ≡ true) × (b ≡ byte self.now address)) };
+        ensures { MatchOption result (held self.now address ≡ false)
+            (λ b. (held self.now address ≡ true) × (b ≡ byte self.now address)) };
 
     /// So many bytes from an address on, at most six; `None` exactly where one of them isn't accessible.
     fn leading_bytes(&self, address: u64, n: u64) -> Option<[u8; 6]>
         requires { n ≤ 6 }
-        ensures { MatchOption result (reaches (held self.now) address n ≡ false) (λ bytes. AreBytes (held self.now) (byte self.now) address n bytes) };
+        ensures { MatchOption result (reaches (held self.now) address n ≡ false)
+            (λ bytes. AreBytes (held self.now) (byte self.now) address n bytes) };
 
     /// The byte at an accessible address becomes this one; every other byte and what is accessible stay.
     fn set(&mut self, address: u64, value: u8)

@@ -49,7 +49,8 @@ fn raw<M: Memory>(memory: &M, source: Source, width: Width) -> u64
 /// An operand's value at a size.
 fn taken<M: Memory>(memory: &M, size: Size, y: Operand) -> u64
     requires within { IsWithin y.width size }
-    requires there { IsTrue (is_reached (source_access y.source (bytes y.width)) (M.held memory.now)) }
+    requires there { IsTrue
+        (is_reached (source_access y.source (bytes y.width)) (M.held memory.now)) }
     ensures value { result ≡ taken size y (memory_of (M.held memory.now) (M.byte memory.now)) }
     ensures below { result < whole size }
 {
@@ -136,7 +137,8 @@ fn overflows(effect: &Effect) -> bool
 #[tactic(auto, using(crate::proofs::Vectors::bytes_bits))]
 fn vector_in<M: Memory>(memory: &M, layout: VectorLayout, old: u128, address: u64) -> u128
     requires { IsTrue (reaches (M.held memory.now) address (layout_bytes layout)) }
-    ensures { result ≡ loaded layout old (number_at (M.byte memory.now) address (layout_bytes layout)) }
+    ensures { result
+        ≡ loaded layout old (number_at (M.byte memory.now) address (layout_bytes layout)) }
 {
     loaded(
         layout,
@@ -151,7 +153,8 @@ fn put_multiple<M: Memory>(machine: &mut Machine, memory: &M, first: u8, address
     requires first { first < 16 }
     requires few { count ≤ 16 }
     requires there { IsTrue (reaches (M.held memory.now) address (8 * count)) }
-    ensures registers { registers_of machine.new ≡ set_multiple (registers_of machine.old) (M.byte memory.now) first address count }
+    ensures registers { registers_of machine.new
+        ≡ set_multiple (registers_of machine.old) (M.byte memory.now) first address count }
     ensures place { machine.new.place ≡ machine.old.place }
 {
     for i in 0..count {
@@ -164,8 +167,10 @@ fn put_multiple<M: Memory>(machine: &mut Machine, memory: &M, first: u8, address
 fn put_results<M: Memory>(machine: &mut Machine, memory: &M, effect: &Effect)
     requires sound { IsSound effect.now }
     requires there { IsTrue (is_reached (access effect.now) (M.held memory.now)) }
-    ensures registers { registers_of machine.new ≡ outcome effect.now (core_of machine.old (M.held memory.now) (M.byte memory.now)) }
-    ensures fits { HasOutcome effect.now (core_of machine.old (M.held memory.now) (M.byte memory.now)) }
+    ensures registers { registers_of machine.new
+        ≡ outcome effect.now (core_of machine.old (M.held memory.now) (M.byte memory.now)) }
+    ensures fits { HasOutcome effect.now
+        (core_of machine.old (M.held memory.now) (M.byte memory.now)) }
     ensures place { machine.new.place ≡ machine.old.place }
 {
     match *effect {
@@ -281,7 +286,8 @@ fn vector_code(code: ConditionCode, number: Option<u8>) -> ConditionCode
 fn effect_code<M: Memory>(machine: &Machine, memory: &M, effect: &Effect) -> ConditionCode
     requires sound { IsSound effect.now }
     requires there { IsTrue (is_reached (access effect.now) (M.held memory.now)) }
-    ensures { result ≡ effect_code effect.now (core_of machine.now (M.held memory.now) (M.byte memory.now)) }
+    ensures { result
+        ≡ effect_code effect.now (core_of machine.now (M.held memory.now) (M.byte memory.now)) }
 {
     match *effect {
         Effect::Compute {
@@ -349,7 +355,8 @@ fn effect_code<M: Memory>(machine: &Machine, memory: &M, effect: &Effect) -> Con
 fn new_code<M: Memory>(machine: &Machine, memory: &M, op: &Operation) -> ConditionCode
     requires sound { IsSound op.now.effect }
     requires there { IsTrue (is_reached (access op.now.effect) (M.held memory.now)) }
-    ensures { CodeAfter op.now.rule op.now.effect (core_of machine.now (M.held memory.now) (M.byte memory.now)) result }
+    ensures { CodeAfter op.now.rule op.now.effect
+        (core_of machine.now (M.held memory.now) (M.byte memory.now)) result }
 {
     match op.rule {
         CodeRule::Set => effect_code(machine, memory, &op.effect),
@@ -360,9 +367,14 @@ fn new_code<M: Memory>(machine: &Machine, memory: &M, op: &Operation) -> Conditi
 
 /// The low bytes of a value go to a place in memory.
 fn store_value<M: Memory>(memory: &mut M, destination: Source, width: Width, value: u64)
-    requires { IsTrue (is_reached (store_access destination (bytes width) value) (M.held memory.old)) }
+    requires { IsTrue
+        (is_reached (store_access destination (bytes width) value) (M.held memory.old)) }
     ensures same { M.held memory.new ≡ M.held memory.old }
-    ensures written { M.byte memory.new ≡ write_get (writes_of (store_event (store_access destination (bytes width) value) (memory_of (M.held memory.old) (M.byte memory.old)))) (M.byte memory.old) }
+    ensures written { M.byte memory.new
+        ≡ write_get
+        (writes_of
+        (store_event (store_access destination (bytes width) value)
+        (memory_of (M.held memory.old) (M.byte memory.old)))) (M.byte memory.old) }
 {
     match destination {
         Source::Value(_) => {}
@@ -376,7 +388,11 @@ fn put_stored<M: Memory>(memory: &mut M, effect: &Effect)
     requires sound { IsSound effect.now }
     requires there { IsTrue (is_reached (access effect.now) (M.held memory.old)) }
     ensures same { M.held memory.new ≡ M.held memory.old }
-    ensures written { M.byte memory.new ≡ write_get (writes_of (store_event (access effect.now) (memory_of (M.held memory.old) (M.byte memory.old)))) (M.byte memory.old) }
+    ensures written { M.byte memory.new
+        ≡ write_get
+        (writes_of
+        (store_event (access effect.now) (memory_of (M.held memory.old) (M.byte memory.old))))
+        (M.byte memory.old) }
 {
     match *effect {
         Effect::Store {
@@ -430,11 +446,20 @@ fn put_stored<M: Memory>(memory: &mut M, effect: &Effect)
 fn act<M: Memory>(machine: &mut Machine, memory: &mut M, op: &Operation)
     requires sound { IsSound op.now.effect }
     requires there { IsTrue (is_reached (access op.now.effect) (M.held memory.old)) }
-    ensures registers { registers_of machine.new ≡ with_code (registers_of machine.new).code (outcome op.now.effect (core_of machine.old (M.held memory.old) (M.byte memory.old))) }
-    ensures fits { HasOutcome op.now.effect (core_of machine.old (M.held memory.old) (M.byte memory.old)) }
-    ensures code { CodeAfter op.now.rule op.now.effect (core_of machine.old (M.held memory.old) (M.byte memory.old)) (registers_of machine.new).code }
+    ensures registers { registers_of machine.new
+        ≡ with_code (registers_of machine.new).code
+        (outcome op.now.effect (core_of machine.old (M.held memory.old) (M.byte memory.old))) }
+    ensures fits { HasOutcome op.now.effect
+        (core_of machine.old (M.held memory.old) (M.byte memory.old)) }
+    ensures code { CodeAfter op.now.rule op.now.effect
+        (core_of machine.old (M.held memory.old) (M.byte memory.old))
+        (registers_of machine.new).code }
     ensures same { M.held memory.new ≡ M.held memory.old }
-    ensures written { M.byte memory.new ≡ write_get (writes_of (store_event (access op.now.effect) (memory_of (M.held memory.old) (M.byte memory.old)))) (M.byte memory.old) }
+    ensures written { M.byte memory.new
+        ≡ write_get
+        (writes_of
+        (store_event (access op.now.effect)
+        (memory_of (M.held memory.old) (M.byte memory.old)))) (M.byte memory.old) }
     ensures place { machine.new.place ≡ machine.old.place }
 {
     let code = new_code(machine, memory, op);
@@ -446,7 +471,9 @@ fn act<M: Memory>(machine: &mut Machine, memory: &mut M, op: &Operation)
 /// An operation is done, or it stops: the fault of its access comes first, then what the values bring about.
 pub fn perform<M: Memory>(machine: &mut Machine, memory: &mut M, op: &Operation) -> Option<StopKind>
     requires { IsSound op.now.effect }
-    ensures core { ExecutesOperation op.now (core_of machine.old (M.held memory.old) (M.byte memory.old)) result (core_of machine.new (M.held memory.new) (M.byte memory.new)) }
+    ensures core { ExecutesOperation op.now
+        (core_of machine.old (M.held memory.old) (M.byte memory.old)) result
+        (core_of machine.new (M.held memory.new) (M.byte memory.new)) }
     ensures place { machine.new.place ≡ machine.old.place }
 {
     let fault = access_fault(memory, &op.effect);

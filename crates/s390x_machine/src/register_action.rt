@@ -25,7 +25,9 @@ pub fn compute(
     rule: CodeRule,
 ) -> Action
     requires { FieldsFit (RowSemantics.Compute operator size second rule) fields.now }
-    ensures value { result ≡ action (RowSemantics.Compute operator size second rule) fields.now (registers_of machine.now) machine.now.place }
+    ensures value { result
+        ≡ action (RowSemantics.Compute operator size second rule) fields.now
+        (registers_of machine.now) machine.now.place }
     ensures sound { IsSoundAction result }
 {
     let first = value_in(machine, size, first_register(second.operand_source, fields));
@@ -50,7 +52,9 @@ pub fn compare(
     second: SecondOperand,
 ) -> Action
     requires { FieldsFit (RowSemantics.Compare sign size second) fields.now }
-    ensures value { result ≡ action (RowSemantics.Compare sign size second) fields.now (registers_of machine.now) machine.now.place }
+    ensures value { result
+        ≡ action (RowSemantics.Compare sign size second) fields.now (registers_of machine.now)
+        machine.now.place }
     ensures sound { IsSoundAction result }
 {
     let first = value_in(machine, size, first_register(second.operand_source, fields));
@@ -68,7 +72,9 @@ pub fn compare(
 /// Register r1 gets the second operand where the mask selects the condition code.
 pub fn move_where(machine: &Machine, fields: &Fields, size: Size, second: SecondOperand) -> Action
     requires { FieldsFit (RowSemantics.MoveWhere size second) fields.now }
-    ensures value { result ≡ action (RowSemantics.MoveWhere size second) fields.now (registers_of machine.now) machine.now.place }
+    ensures value { result
+        ≡ action (RowSemantics.MoveWhere size second) fields.now (registers_of machine.now)
+        machine.now.place }
     ensures sound { IsSoundAction result }
 {
     if is_selected(fields.masks[0], machine.condition_code()) {
@@ -101,7 +107,8 @@ fn count_operator(mode: u8) -> Operator
 /// Register r1 gets how many ones each byte of r2 has, or all of it.
 pub fn count_ones(machine: &Machine, fields: &Fields) -> Action
     requires { FieldsFit RowSemantics.CountOnes fields.now }
-    ensures value { result ≡ action RowSemantics.CountOnes fields.now (registers_of machine.now) machine.now.place }
+    ensures value { result
+        ≡ action RowSemantics.CountOnes fields.now (registers_of machine.now) machine.now.place }
     ensures sound { IsSoundAction result }
 {
     performs(
@@ -124,7 +131,9 @@ pub fn rotate_then(
     rule: CodeRule,
 ) -> Action
     requires { FieldsFit (RowSemantics.RotateThen operator rule) fields.now }
-    ensures value { result ≡ action (RowSemantics.RotateThen operator rule) fields.now (registers_of machine.now) machine.now.place }
+    ensures value { result
+        ≡ action (RowSemantics.RotateThen operator rule) fields.now (registers_of machine.now)
+        machine.now.place }
     ensures sound { IsSoundAction result }
 {
     let start = fields.masks[0];
@@ -163,7 +172,9 @@ pub fn rotate_then(
 /// The pair r1 gets the product of r2 and r3, with their signs.
 pub fn multiply_signed(machine: &Machine, fields: &Fields) -> Action
     requires { FieldsFit RowSemantics.MultiplySigned fields.now }
-    ensures value { result ≡ action RowSemantics.MultiplySigned fields.now (registers_of machine.now) machine.now.place }
+    ensures value { result
+        ≡ action RowSemantics.MultiplySigned fields.now (registers_of machine.now)
+        machine.now.place }
     ensures sound { IsSoundAction result }
 {
     performs(
@@ -180,7 +191,9 @@ pub fn multiply_signed(machine: &Machine, fields: &Fields) -> Action
 /// The pair r1 gets the product of its second register and r2, without signs.
 pub fn multiply_logical(machine: &Machine, fields: &Fields) -> Action
     requires { FieldsFit RowSemantics.MultiplyLogical fields.now }
-    ensures value { result ≡ action RowSemantics.MultiplyLogical fields.now (registers_of machine.now) machine.now.place }
+    ensures value { result
+        ≡ action RowSemantics.MultiplyLogical fields.now (registers_of machine.now)
+        machine.now.place }
     ensures sound { IsSoundAction result }
 {
     performs(
@@ -197,7 +210,9 @@ pub fn multiply_logical(machine: &Machine, fields: &Fields) -> Action
 /// The pair r1 gets the remainder and the quotient of its second register by r2, with their signs.
 pub fn divide_signed(machine: &Machine, fields: &Fields, width: Width) -> Action
     requires { FieldsFit (RowSemantics.DivideSigned width) fields.now }
-    ensures value { result ≡ action (RowSemantics.DivideSigned width) fields.now (registers_of machine.now) machine.now.place }
+    ensures value { result
+        ≡ action (RowSemantics.DivideSigned width) fields.now (registers_of machine.now)
+        machine.now.place }
     ensures sound { IsSoundAction result }
 {
     let divisor = machine.general(fields.regs[1]);
@@ -214,7 +229,9 @@ pub fn divide_signed(machine: &Machine, fields: &Fields, width: Width) -> Action
 /// The pair r1 gets the remainder and the quotient of the number in its two parts by r2.
 pub fn divide_logical(machine: &Machine, fields: &Fields, size: Size) -> Action
     requires { FieldsFit (RowSemantics.DivideLogical size) fields.now }
-    ensures value { result ≡ action (RowSemantics.DivideLogical size) fields.now (registers_of machine.now) machine.now.place }
+    ensures value { result
+        ≡ action (RowSemantics.DivideLogical size) fields.now (registers_of machine.now)
+        machine.now.place }
     ensures sound { IsSoundAction result }
 {
     performs(
@@ -232,7 +249,9 @@ pub fn divide_logical(machine: &Machine, fields: &Fields, size: Size) -> Action
 /// A stop where the first mask selects the order of r1 and r2.
 pub fn compare_and_trap(machine: &Machine, fields: &Fields, sign: Signedness, size: Size) -> Action
     requires { FieldsFit (RowSemantics.CompareAndTrap sign size) fields.now }
-    ensures value { result ≡ action (RowSemantics.CompareAndTrap sign size) fields.now (registers_of machine.now) machine.now.place }
+    ensures value { result
+        ≡ action (RowSemantics.CompareAndTrap sign size) fields.now (registers_of machine.now)
+        machine.now.place }
     ensures sound { IsSoundAction result }
 {
     performs(
@@ -255,7 +274,9 @@ pub fn compare_immediate_and_trap(
     size: Size,
 ) -> Action
     requires { FieldsFit (RowSemantics.CompareImmediateAndTrap sign size) fields.now }
-    ensures value { result ≡ action (RowSemantics.CompareImmediateAndTrap sign size) fields.now (registers_of machine.now) machine.now.place }
+    ensures value { result
+        ≡ action (RowSemantics.CompareImmediateAndTrap sign size) fields.now
+        (registers_of machine.now) machine.now.place }
     ensures sound { IsSoundAction result }
 {
     performs(
@@ -273,7 +294,9 @@ pub fn compare_immediate_and_trap(
 /// The pair r1 gets the number of leading zeros of r2, and r2 without its leftmost one.
 pub fn find_leftmost_one(machine: &Machine, fields: &Fields) -> Action
     requires { FieldsFit RowSemantics.FindLeftmostOne fields.now }
-    ensures value { result ≡ action RowSemantics.FindLeftmostOne fields.now (registers_of machine.now) machine.now.place }
+    ensures value { result
+        ≡ action RowSemantics.FindLeftmostOne fields.now (registers_of machine.now)
+        machine.now.place }
     ensures sound { IsSoundAction result }
 {
     performs(
@@ -288,7 +311,9 @@ pub fn find_leftmost_one(machine: &Machine, fields: &Fields) -> Action
 /// A branch to the address in r2 under the mask r1; none for r2 = 0.
 pub fn branch_to_register(machine: &Machine, fields: &Fields) -> Action
     requires { FieldsFit RowSemantics.BranchToRegister fields.now }
-    ensures value { result ≡ action RowSemantics.BranchToRegister fields.now (registers_of machine.now) machine.now.place }
+    ensures value { result
+        ≡ action RowSemantics.BranchToRegister fields.now (registers_of machine.now)
+        machine.now.place }
     ensures sound { IsSoundAction result }
 {
     if fields.regs[1] == 0 {
@@ -304,7 +329,9 @@ pub fn branch_to_register(machine: &Machine, fields: &Fields) -> Action
 /// Register r1 gets the address of the next instruction; a branch to the address in r2, none for r2 = 0.
 pub fn branch_and_save(machine: &Machine, fields: &Fields) -> Action
     requires { FieldsFit RowSemantics.BranchAndSaveToRegister fields.now }
-    ensures value { result ≡ action RowSemantics.BranchAndSaveToRegister fields.now (registers_of machine.now) machine.now.place }
+    ensures value { result
+        ≡ action RowSemantics.BranchAndSaveToRegister fields.now (registers_of machine.now)
+        machine.now.place }
     ensures sound { IsSoundAction result }
 {
     let target = if fields.regs[1] == 0 {

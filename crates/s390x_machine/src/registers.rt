@@ -53,7 +53,8 @@ impl Machine {
     /// A general register gets a value.
     pub fn put(&mut self, target: u8, value: u64)
         requires { target < 16 }
-        ensures registers { registers_of self.new ≡ set_general (registers_of self.old) target value }
+        ensures registers { registers_of self.new
+            ≡ set_general (registers_of self.old) target value }
         ensures place { self.new.place ≡ self.old.place }
     {
         self.regs[target as usize] = value;
@@ -71,7 +72,8 @@ impl Machine {
     pub fn put_sized(&mut self, size: Size, target: u8, value: u64)
         requires there { target < 16 }
         requires below { value < whole size }
-        ensures registers { registers_of self.new ≡ set_sized size (registers_of self.old) target value }
+        ensures registers { registers_of self.new
+            ≡ set_sized size (registers_of self.old) target value }
         ensures place { self.new.place ≡ self.old.place }
     {
         self.regs[target as usize] = merged(size, self.regs[target as usize], value);
@@ -88,7 +90,8 @@ impl Machine {
     /// A vector register gets a value.
     pub fn put_vector(&mut self, target: u8, value: u128)
         requires { target < 32 }
-        ensures registers { registers_of self.new ≡ set_vector (registers_of self.old) target value }
+        ensures registers { registers_of self.new
+            ≡ set_vector (registers_of self.old) target value }
         ensures place { self.new.place ≡ self.old.place }
     {
         self.vregs[target as usize] = value;
@@ -99,7 +102,8 @@ impl Machine {
         requires there { pair < 15 }
         requires high_below { values.high < whole size }
         requires low_below { values.low < whole size }
-        ensures registers { registers_of self.new ≡ set_pair size (registers_of self.old) pair values }
+        ensures registers { registers_of self.new
+            ≡ set_pair size (registers_of self.old) pair values }
         ensures place { self.new.place ≡ self.old.place }
     {
         self.put_sized(size, pair, values.high);
@@ -110,7 +114,8 @@ impl Machine {
     pub fn put_divided(&mut self, size: Size, pair: u8, values: Option<Pair>)
         requires there { pair < 15 }
         requires below { IsPairBelow size values }
-        ensures registers { registers_of self.new ≡ set_divided size (registers_of self.old) pair values }
+        ensures registers { registers_of self.new
+            ≡ set_divided size (registers_of self.old) pair values }
         ensures place { self.new.place ≡ self.old.place }
     {
         if let Some(values) = values {

@@ -28,7 +28,8 @@ use s390x_operations::{CodeRule, Effect};
 pub fn action(machine: &Machine, semantics: RowSemantics, fields: &Fields) -> Action
     requires determined { IsFalse (is_free semantics fields.now (registers_of machine.now)) }
     requires fit { FieldsFit semantics fields.now }
-    ensures value { result ≡ action semantics fields.now (registers_of machine.now) machine.now.place }
+    ensures value { result
+        ≡ action semantics fields.now (registers_of machine.now) machine.now.place }
     ensures sound { IsSoundAction result }
 {
     match semantics {

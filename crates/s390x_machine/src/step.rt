@@ -102,7 +102,9 @@ fn is_free(machine: &Machine, semantics: RowSemantics, fields: &Fields) -> bool
 
 /// A branch under a mask, of an instruction of so many bytes.
 fn branch(machine: &mut Machine, mask: u8, target: u64, size: u64) -> StepEnd
-    ensures { (held : ℕ → Bool) (byte : ℕ → ℕ) → Executes (Action.Branch mask target) size (state_of machine.old held byte) result (state_of machine.new held byte) }
+    ensures { (held : ℕ → Bool) (byte : ℕ → ℕ)
+        → Executes (Action.Branch mask target) size (state_of machine.old held byte) result
+        (state_of machine.new held byte) }
 {
     machine.place = if is_selected(mask, machine.condition_code()) {
         target
@@ -115,7 +117,9 @@ fn branch(machine: &mut Machine, mask: u8, target: u64, size: u64) -> StepEnd
 /// An action of an instruction of so many bytes.
 fn execute<M: Memory>(machine: &mut Machine, memory: &mut M, action: &Action, size: u64) -> StepEnd
     requires { IsSoundAction action.now }
-    ensures { Executes action.now size (state_of machine.old (M.held memory.old) (M.byte memory.old)) result (state_of machine.new (M.held memory.new) (M.byte memory.new)) }
+    ensures { Executes action.now size
+        (state_of machine.old (M.held memory.old) (M.byte memory.old)) result
+        (state_of machine.new (M.held memory.new) (M.byte memory.new)) }
 {
     let place = machine.place;
     match action {
@@ -142,9 +146,11 @@ fn semantics_step<M: Memory>(
     decoded: &Decoded,
     semantics: &RowSemantics,
 ) -> StepEnd
-    requires found { IsFound (memory_of (M.held memory.old) (M.byte memory.old)) machine.old.place decoded.now }
+    requires found { IsFound (memory_of (M.held memory.old) (M.byte memory.old)) machine.old.place
+        decoded.now }
     requires is { semantics_of decoded.now.row.opcode ≡ Some semantics.now }
-    ensures { Steps (state_of machine.old (M.held memory.old) (M.byte memory.old)) result (state_of machine.new (M.held memory.new) (M.byte memory.new)) }
+    ensures { Steps (state_of machine.old (M.held memory.old) (M.byte memory.old)) result
+        (state_of machine.new (M.held memory.new) (M.byte memory.new)) }
 {
     if is_free(machine, *semantics, &decoded.fields) {
         return StepEnd::NoRow;
@@ -159,7 +165,9 @@ fn semantics_step<M: Memory>(
 /// The step at a branch to a distance that was fetched. It is the most frequent step, and has none of the others' values.
 fn relative_step(machine: &mut Machine, decoded: &Decoded) -> StepEnd
     requires { semantics_of decoded.now.row.opcode ≡ Some RowSemantics.BranchRelative }
-    ensures { (held : ℕ → Bool) (byte : ℕ → ℕ) → IsFound (memory_of held byte) machine.old.place decoded.now → Steps (state_of machine.old held byte) result (state_of machine.new held byte) }
+    ensures { (held : ℕ → Bool) (byte : ℕ → ℕ)
+        → IsFound (memory_of held byte) machine.old.place decoded.now
+        → Steps (state_of machine.old held byte) result (state_of machine.new held byte) }
 {
     let target = relative_address(machine, &decoded.fields);
     let size = length(decoded.row.format) as u64;
@@ -168,9 +176,11 @@ fn relative_step(machine: &mut Machine, decoded: &Decoded) -> StepEnd
 
 /// The step at an instruction that was fetched.
 fn row_step<M: Memory>(machine: &mut Machine, memory: &mut M, located: &Located) -> StepEnd
-    requires found { IsFound (memory_of (M.held memory.old) (M.byte memory.old)) machine.old.place located.now.decoded }
+    requires found { IsFound (memory_of (M.held memory.old) (M.byte memory.old)) machine.old.place
+        located.now.decoded }
     requires row { HasOpcode machine_rows located.now.decoded.row.opcode located.now.at }
-    ensures { Steps (state_of machine.old (M.held memory.old) (M.byte memory.old)) result (state_of machine.new (M.held memory.new) (M.byte memory.new)) }
+    ensures { Steps (state_of machine.old (M.held memory.old) (M.byte memory.old)) result
+        (state_of machine.new (M.held memory.new) (M.byte memory.new)) }
 {
     let semantics = semantics_at(located.at);
     match semantics {
@@ -204,7 +214,8 @@ impl Machine {
     /// them about. The carried number is the instruction's place. `NoRow` comes exactly at a row whose result is free (LXA, LLXA, VBLEND, VEVAL) and
     /// at a high product of 128-bit elements, and then everything is as before.
     pub fn step<M: Memory>(&mut self, memory: &mut M) -> StepEnd
-        ensures { Steps (state_of self.old (M.held memory.old) (M.byte memory.old)) result (state_of self.new (M.held memory.new) (M.byte memory.new)) }
+        ensures { Steps (state_of self.old (M.held memory.old) (M.byte memory.old)) result
+            (state_of self.new (M.held memory.new) (M.byte memory.new)) }
     {
         match fetch_row(memory, self.place) {
             FetchedRow::Misplaced => StepEnd::Stopped(StopKind::Specification, self.place),

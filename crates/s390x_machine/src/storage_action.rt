@@ -50,7 +50,9 @@ fn values_from(machine: &Machine, first: u8) -> [u64; 16]
 /// Memory gets the lowest bits of r1.
 pub fn store(machine: &Machine, fields: &Fields, destination: SecondOperand) -> Action
     requires { FieldsFit (RowSemantics.Store destination) fields.now }
-    ensures value { result ≡ action (RowSemantics.Store destination) fields.now (registers_of machine.now) machine.now.place }
+    ensures value { result
+        ≡ action (RowSemantics.Store destination) fields.now (registers_of machine.now)
+        machine.now.place }
     ensures sound { IsSoundAction result }
 {
     let value = machine.general(fields.regs[0]);
@@ -67,7 +69,8 @@ pub fn store(machine: &Machine, fields: &Fields, destination: SecondOperand) -> 
 /// Memory gets the immediate of 8 bits.
 pub fn store_byte(machine: &Machine, fields: &Fields) -> Action
     requires { FieldsFit RowSemantics.StoreByte fields.now }
-    ensures value { result ≡ action RowSemantics.StoreByte fields.now (registers_of machine.now) machine.now.place }
+    ensures value { result
+        ≡ action RowSemantics.StoreByte fields.now (registers_of machine.now) machine.now.place }
     ensures sound { IsSoundAction result }
 {
     performs(
@@ -83,7 +86,9 @@ pub fn store_byte(machine: &Machine, fields: &Fields) -> Action
 /// Memory gets the immediate of 16 bits, extended to this width with its sign.
 pub fn store_immediate(machine: &Machine, fields: &Fields, width: Width) -> Action
     requires { FieldsFit (RowSemantics.StoreImmediate width) fields.now }
-    ensures value { result ≡ action (RowSemantics.StoreImmediate width) fields.now (registers_of machine.now) machine.now.place }
+    ensures value { result
+        ≡ action (RowSemantics.StoreImmediate width) fields.now (registers_of machine.now)
+        machine.now.place }
     ensures sound { IsSoundAction result }
 {
     performs(
@@ -99,7 +104,8 @@ pub fn store_immediate(machine: &Machine, fields: &Fields, width: Width) -> Acti
 /// The registers from r1 to r2 get the doublewords in memory.
 pub fn load_multiple(machine: &Machine, fields: &Fields) -> Action
     requires { FieldsFit RowSemantics.LoadMultiple fields.now }
-    ensures value { result ≡ action RowSemantics.LoadMultiple fields.now (registers_of machine.now) machine.now.place }
+    ensures value { result
+        ≡ action RowSemantics.LoadMultiple fields.now (registers_of machine.now) machine.now.place }
     ensures sound { IsSoundAction result }
 {
     performs(
@@ -115,7 +121,9 @@ pub fn load_multiple(machine: &Machine, fields: &Fields) -> Action
 /// The registers from r1 to r2 go to doublewords in memory.
 pub fn store_multiple(machine: &Machine, fields: &Fields) -> Action
     requires { FieldsFit RowSemantics.StoreMultiple fields.now }
-    ensures value { result ≡ action RowSemantics.StoreMultiple fields.now (registers_of machine.now) machine.now.place }
+    ensures value { result
+        ≡ action RowSemantics.StoreMultiple fields.now (registers_of machine.now)
+        machine.now.place }
     ensures sound { IsSoundAction result }
 {
     performs(
@@ -136,7 +144,9 @@ pub fn load_and_operate(
     size: Size,
 ) -> Action
     requires { FieldsFit (RowSemantics.LoadAndOperate operator size) fields.now }
-    ensures value { result ≡ action (RowSemantics.LoadAndOperate operator size) fields.now (registers_of machine.now) machine.now.place }
+    ensures value { result
+        ≡ action (RowSemantics.LoadAndOperate operator size) fields.now (registers_of machine.now)
+        machine.now.place }
     ensures sound { IsSoundAction result }
 {
     performs(
@@ -154,7 +164,9 @@ pub fn load_and_operate(
 /// The number in memory becomes r2 where it is r1, else r1 gets it.
 pub fn compare_and_swap(machine: &Machine, fields: &Fields, size: Size) -> Action
     requires { FieldsFit (RowSemantics.CompareAndSwap size) fields.now }
-    ensures value { result ≡ action (RowSemantics.CompareAndSwap size) fields.now (registers_of machine.now) machine.now.place }
+    ensures value { result
+        ≡ action (RowSemantics.CompareAndSwap size) fields.now (registers_of machine.now)
+        machine.now.place }
     ensures sound { IsSoundAction result }
 {
     performs(

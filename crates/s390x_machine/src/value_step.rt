@@ -31,7 +31,11 @@ fn compute(
     requires there { target < 16 }
     requires first_below { first < whole size }
     requires second_below { second < whole size }
-    ensures registers { registers_of machine.new ≡ with_code (code_under rule (code_of_value operator size first second) (registers_of machine.old).code) (set_sized size (registers_of machine.old) target (value operator size first second)) }
+    ensures registers { registers_of machine.new
+        ≡ with_code
+        (code_under rule (code_of_value operator size first second)
+        (registers_of machine.old).code)
+        (set_sized size (registers_of machine.old) target (value operator size first second)) }
     ensures place { machine.new.place ≡ machine.old.place }
 {
     let (value, code) = operate(operator, size, first, second);
@@ -51,10 +55,14 @@ pub fn value_step(
     rule: CodeRule,
     bits: u64,
 ) -> StepEnd
-    requires is { semantics_of decoded.now.row.opcode ≡ Some (RowSemantics.Compute operator size second rule) }
+    requires is { semantics_of decoded.now.row.opcode
+        ≡ Some (RowSemantics.Compute operator size second rule) }
     requires fit { CanPerform (RowSemantics.Compute operator size second rule) decoded.now.fields }
-    requires bits { source second.operand_source decoded.now.fields (registers_of machine.old) machine.old.place ≡ Source.Value bits }
-    ensures { (held : ℕ → Bool) (byte : ℕ → ℕ) → IsFound (memory_of held byte) machine.old.place decoded.now → Steps (state_of machine.old held byte) result (state_of machine.new held byte) }
+    requires bits { source second.operand_source decoded.now.fields (registers_of machine.old)
+        machine.old.place ≡ Source.Value bits }
+    ensures { (held : ℕ → Bool) (byte : ℕ → ℕ)
+        → IsFound (memory_of held byte) machine.old.place decoded.now
+        → Steps (state_of machine.old held byte) result (state_of machine.new held byte) }
 {
     let fields = &decoded.fields;
     let first = value_in(machine, size, first_register(second.operand_source, fields));

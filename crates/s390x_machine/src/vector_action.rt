@@ -72,7 +72,9 @@ fn on_elements(operation: Option<VectorOperation>, target: u8, values: [u128; 4]
     requires there { target < 32 }
     requires is_operation { MatchOption operation (Unit {0}) (λ o. IsTrue (is_operation o)) }
     requires is_computed { IsFalse (is_uncomputed operation) }
-    ensures value { result ≡ on_elements operation target (slice_index values 0) (slice_index values 1) (slice_index values 2) (slice_index values 3) }
+    ensures value { result
+        ≡ on_elements operation target (slice_index values 0) (slice_index values 1)
+        (slice_index values 2) (slice_index values 3) }
     ensures sound { IsSoundAction result }
 {
     match operation {
@@ -93,9 +95,12 @@ fn on_elements(operation: Option<VectorOperation>, target: u8, values: [u128; 4]
 
 /// Vector register r1 gets what the row makes of the vector registers that it names.
 pub fn elements(machine: &Machine, fields: &Fields, opcode: u16) -> Action
-    requires determined { IsFalse (is_free (RowSemantics.Elements opcode) fields.now (registers_of machine.now)) }
+    requires determined { IsFalse
+        (is_free (RowSemantics.Elements opcode) fields.now (registers_of machine.now)) }
     requires fit { FieldsFit (RowSemantics.Elements opcode) fields.now }
-    ensures value { result ≡ action (RowSemantics.Elements opcode) fields.now (registers_of machine.now) machine.now.place }
+    ensures value { result
+        ≡ action (RowSemantics.Elements opcode) fields.now (registers_of machine.now)
+        machine.now.place }
     ensures sound { IsSoundAction result }
 {
     let values = [
@@ -121,9 +126,12 @@ pub fn shift_amount(machine: &Machine, fields: &Fields) -> i64
 
 /// Vector register r1 becomes r3 with its elements shifted by the amount at base r2 plus a displacement.
 pub fn shift_elements(machine: &Machine, fields: &Fields, opcode: u16) -> Action
-    requires determined { IsFalse (is_free (RowSemantics.ShiftElements opcode) fields.now (registers_of machine.now)) }
+    requires determined { IsFalse
+        (is_free (RowSemantics.ShiftElements opcode) fields.now (registers_of machine.now)) }
     requires fit { FieldsFit (RowSemantics.ShiftElements opcode) fields.now }
-    ensures value { result ≡ action (RowSemantics.ShiftElements opcode) fields.now (registers_of machine.now) machine.now.place }
+    ensures value { result
+        ≡ action (RowSemantics.ShiftElements opcode) fields.now (registers_of machine.now)
+        machine.now.place }
     ensures sound { IsSoundAction result }
 {
     let values = [
@@ -142,7 +150,9 @@ pub fn shift_elements(machine: &Machine, fields: &Fields, opcode: u16) -> Action
 /// Vector register r1 gets what is in memory.
 pub fn load_vector(machine: &Machine, fields: &Fields, storage: VectorStorage) -> Action
     requires { FieldsFit (RowSemantics.LoadVector storage) fields.now }
-    ensures value { result ≡ action (RowSemantics.LoadVector storage) fields.now (registers_of machine.now) machine.now.place }
+    ensures value { result
+        ≡ action (RowSemantics.LoadVector storage) fields.now (registers_of machine.now)
+        machine.now.place }
     ensures sound { IsSoundAction result }
 {
     performs(
@@ -160,7 +170,9 @@ pub fn load_vector(machine: &Machine, fields: &Fields, storage: VectorStorage) -
 /// What is in vector register r1 goes to memory.
 pub fn store_vector(machine: &Machine, fields: &Fields, storage: VectorStorage) -> Action
     requires { FieldsFit (RowSemantics.StoreVector storage) fields.now }
-    ensures value { result ≡ action (RowSemantics.StoreVector storage) fields.now (registers_of machine.now) machine.now.place }
+    ensures value { result
+        ≡ action (RowSemantics.StoreVector storage) fields.now (registers_of machine.now)
+        machine.now.place }
     ensures sound { IsSoundAction result }
 {
     performs(
@@ -176,7 +188,9 @@ pub fn store_vector(machine: &Machine, fields: &Fields, storage: VectorStorage) 
 /// The leftmost element of vector register r1 gets that in memory.
 pub fn load_left(machine: &Machine, fields: &Fields, size: ElementSize) -> Action
     requires { FieldsFit (RowSemantics.LoadLeft size) fields.now }
-    ensures value { result ≡ action (RowSemantics.LoadLeft size) fields.now (registers_of machine.now) machine.now.place }
+    ensures value { result
+        ≡ action (RowSemantics.LoadLeft size) fields.now (registers_of machine.now)
+        machine.now.place }
     ensures sound { IsSoundAction result }
 {
     performs(
@@ -194,7 +208,9 @@ pub fn load_left(machine: &Machine, fields: &Fields, size: ElementSize) -> Actio
 /// The leftmost element of vector register r1 goes to memory.
 pub fn store_left(machine: &Machine, fields: &Fields, size: ElementSize) -> Action
     requires { FieldsFit (RowSemantics.StoreLeft size) fields.now }
-    ensures value { result ≡ action (RowSemantics.StoreLeft size) fields.now (registers_of machine.now) machine.now.place }
+    ensures value { result
+        ≡ action (RowSemantics.StoreLeft size) fields.now (registers_of machine.now)
+        machine.now.place }
     ensures sound { IsSoundAction result }
 {
     performs(
@@ -210,7 +226,9 @@ pub fn store_left(machine: &Machine, fields: &Fields, size: ElementSize) -> Acti
 /// The leftmost element of vector register r1 gets that of r2.
 pub fn move_left(machine: &Machine, fields: &Fields, size: ElementSize) -> Action
     requires { FieldsFit (RowSemantics.MoveLeft size) fields.now }
-    ensures value { result ≡ action (RowSemantics.MoveLeft size) fields.now (registers_of machine.now) machine.now.place }
+    ensures value { result
+        ≡ action (RowSemantics.MoveLeft size) fields.now (registers_of machine.now)
+        machine.now.place }
     ensures sound { IsSoundAction result }
 {
     puts_vector(
@@ -249,7 +267,9 @@ fn moves_value(machine: &Machine, fields: &Fields, value: u64) -> Action
 /// The leftmost 64 bits of vector register r1 get register r2.
 pub fn register_to_left(machine: &Machine, fields: &Fields) -> Action
     requires { FieldsFit RowSemantics.RegisterToLeft fields.now }
-    ensures value { result ≡ action RowSemantics.RegisterToLeft fields.now (registers_of machine.now) machine.now.place }
+    ensures value { result
+        ≡ action RowSemantics.RegisterToLeft fields.now (registers_of machine.now)
+        machine.now.place }
     ensures sound { IsSoundAction result }
 {
     let value = joined(machine.general(fields.regs[1]), 0);
@@ -268,7 +288,9 @@ fn element_of(size: ElementSize, value: u128, index: u32) -> u64
 /// Register r1 gets the leftmost 64 bits of vector register r2.
 pub fn left_to_register(machine: &Machine, fields: &Fields) -> Action
     requires { FieldsFit RowSemantics.LeftToRegister fields.now }
-    ensures value { result ≡ action RowSemantics.LeftToRegister fields.now (registers_of machine.now) machine.now.place }
+    ensures value { result
+        ≡ action RowSemantics.LeftToRegister fields.now (registers_of machine.now)
+        machine.now.place }
     ensures sound { IsSoundAction result }
 {
     let value = element_of(ElementSize::Doubleword, machine.vector(fields.regs[1]), 0);
@@ -278,7 +300,9 @@ pub fn left_to_register(machine: &Machine, fields: &Fields) -> Action
 /// Vector register r1 gets registers r2 and r3, one behind the other.
 pub fn join_registers(machine: &Machine, fields: &Fields) -> Action
     requires { FieldsFit RowSemantics.JoinRegisters fields.now }
-    ensures value { result ≡ action RowSemantics.JoinRegisters fields.now (registers_of machine.now) machine.now.place }
+    ensures value { result
+        ≡ action RowSemantics.JoinRegisters fields.now (registers_of machine.now)
+        machine.now.place }
     ensures sound { IsSoundAction result }
 {
     let value = joined(
@@ -305,7 +329,8 @@ fn low_bits(size: ElementSize, x: u64) -> u128
 /// A register that held `old`, with a number at one place.
 fn inserted(size: ElementSize, old: u128, index: u64, x: u64) -> u128
     requires { index < lane_count size }
-    ensures value { result ≡ loaded (VectorLayout.Element size index false) old (x % 2 ^ element_bits size) }
+    ensures value { result
+        ≡ loaded (VectorLayout.Element size index false) old (x % 2 ^ element_bits size) }
     ensures fits { result < 2 ^ 128 }
 {
     loaded(
@@ -318,7 +343,9 @@ fn inserted(size: ElementSize, old: u128, index: u64, x: u64) -> u128
 /// The element of vector register r1 at base r2 plus a displacement gets the lowest bits of register r3.
 pub fn insert_element(machine: &Machine, fields: &Fields) -> Action
     requires { FieldsFit RowSemantics.InsertElement fields.now }
-    ensures value { result ≡ action RowSemantics.InsertElement fields.now (registers_of machine.now) machine.now.place }
+    ensures value { result
+        ≡ action RowSemantics.InsertElement fields.now (registers_of machine.now)
+        machine.now.place }
     ensures sound { IsSoundAction result }
 {
     let size = element_size(fields);
@@ -339,7 +366,9 @@ pub fn insert_element(machine: &Machine, fields: &Fields) -> Action
 /// Register r1 gets the element of vector register r3 at base r2 plus a displacement.
 pub fn extract_element(machine: &Machine, fields: &Fields) -> Action
     requires { FieldsFit RowSemantics.ExtractElement fields.now }
-    ensures value { result ≡ action RowSemantics.ExtractElement fields.now (registers_of machine.now) machine.now.place }
+    ensures value { result
+        ≡ action RowSemantics.ExtractElement fields.now (registers_of machine.now)
+        machine.now.place }
     ensures sound { IsSoundAction result }
 {
     let size = element_size(fields);

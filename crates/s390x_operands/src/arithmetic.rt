@@ -17,7 +17,8 @@ pub fn report_arithmetic<V: OperandVisitor>(
     denied: bool,
     inst: &Inst,
 ) -> Result<(), OperandError>
-    ensures { Reports denied (leaf_requests inst.now) (V.items v.old) (V.items v.new) (V.denies v.old) (V.denies v.new) result }
+    ensures { Reports denied (leaf_requests inst.now) (V.items v.old) (V.items v.new)
+        (V.denies v.old) (V.denies v.new) result }
 {
     match inst {
         Inst::AluRRR { rd, rn, rm, .. } => { report_output(v, denied, rd, &[*rn, *rm]) }

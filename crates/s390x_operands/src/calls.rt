@@ -20,7 +20,8 @@ pub fn report_placed_use<V: OperandVisitor>(
     reg: &Reg,
     preg: &Reg,
 ) -> Result<(), OperandError>
-    ensures { Reports denied (placed_use reg.now preg.now ∷ []) (V.items v.old) (V.items v.new) (V.denies v.old) (V.denies v.new) result }
+    ensures { Reports denied (placed_use reg.now preg.now ∷ []) (V.items v.old) (V.items v.new)
+        (V.denies v.old) (V.denies v.new) result }
 {
     match preg {
         Reg::Real(preg) => v.reg_fixed_use(*reg, *preg),
@@ -35,7 +36,8 @@ pub fn report_placed_def<V: OperandVisitor>(
     reg: &Writable<Reg>,
     preg: &Reg,
 ) -> Result<(), OperandError>
-    ensures { Reports denied (placed_def reg.now preg.now ∷ []) (V.items v.old) (V.items v.new) (V.denies v.old) (V.denies v.new) result }
+    ensures { Reports denied (placed_def reg.now preg.now ∷ []) (V.items v.old) (V.items v.new)
+        (V.denies v.old) (V.denies v.new) result }
 {
     match preg {
         Reg::Real(preg) => v.reg_fixed_def(*reg, *preg),
@@ -49,7 +51,8 @@ pub fn report_argument<V: OperandVisitor>(
     denied: bool,
     pair: &CallArgPair,
 ) -> Result<(), OperandError>
-    ensures { Reports denied (argument pair.now ∷ []) (V.items v.old) (V.items v.new) (V.denies v.old) (V.denies v.new) result }
+    ensures { Reports denied (argument pair.now ∷ []) (V.items v.old) (V.items v.new)
+        (V.denies v.old) (V.denies v.new) result }
 {
     report_placed_use(v, denied, &pair.vreg, &pair.preg)
 }
@@ -60,7 +63,8 @@ pub fn report_call_result<V: OperandVisitor>(
     denied: bool,
     pair: &CallRetPair,
 ) -> Result<(), OperandError>
-    ensures { Reports denied (call_result pair.now ∷ []) (V.items v.old) (V.items v.new) (V.denies v.old) (V.denies v.new) result }
+    ensures { Reports denied (call_result pair.now ∷ []) (V.items v.old) (V.items v.new)
+        (V.denies v.old) (V.denies v.new) result }
 {
     match &pair.location {
         RetLocation::Reg(preg, _) => report_placed_def(v, denied, &pair.vreg, preg),
@@ -74,7 +78,8 @@ pub fn report_incoming<V: OperandVisitor>(
     denied: bool,
     pair: &ArgPair,
 ) -> Result<(), OperandError>
-    ensures { Reports denied (incoming pair.now ∷ []) (V.items v.old) (V.items v.new) (V.denies v.old) (V.denies v.new) result }
+    ensures { Reports denied (incoming pair.now ∷ []) (V.items v.old) (V.items v.new)
+        (V.denies v.old) (V.denies v.new) result }
 {
     report_placed_def(v, denied, &pair.vreg, &pair.preg)
 }
@@ -85,7 +90,8 @@ pub fn report_outgoing<V: OperandVisitor>(
     denied: bool,
     pair: &RetPair,
 ) -> Result<(), OperandError>
-    ensures { Reports denied (outgoing pair.now ∷ []) (V.items v.old) (V.items v.new) (V.denies v.old) (V.denies v.new) result }
+    ensures { Reports denied (outgoing pair.now ∷ []) (V.items v.old) (V.items v.new)
+        (V.denies v.old) (V.denies v.new) result }
 {
     report_placed_use(v, denied, &pair.vreg, &pair.preg)
 }
@@ -96,7 +102,8 @@ pub fn report_call_arguments<V: OperandVisitor>(
     denied: bool,
     pairs: &[CallArgPair],
 ) -> Result<(), OperandError>
-    ensures { Reports denied (map argument pairs.now) (V.items v.old) (V.items v.new) (V.denies v.old) (V.denies v.new) result }
+    ensures { Reports denied (map argument pairs.now) (V.items v.old) (V.items v.new)
+        (V.denies v.old) (V.denies v.new) result }
 {
     for pair in pairs {
         report_argument(v, denied, pair)?;
@@ -110,7 +117,8 @@ pub fn report_call_results<V: OperandVisitor>(
     denied: bool,
     pairs: &[CallRetPair],
 ) -> Result<(), OperandError>
-    ensures { Reports denied (map call_result pairs.now) (V.items v.old) (V.items v.new) (V.denies v.old) (V.denies v.new) result }
+    ensures { Reports denied (map call_result pairs.now) (V.items v.old) (V.items v.new)
+        (V.denies v.old) (V.denies v.new) result }
 {
     for pair in pairs {
         report_call_result(v, denied, pair)?;
@@ -124,7 +132,8 @@ pub fn report_arguments<V: OperandVisitor>(
     denied: bool,
     pairs: &[ArgPair],
 ) -> Result<(), OperandError>
-    ensures { Reports denied (map incoming pairs.now) (V.items v.old) (V.items v.new) (V.denies v.old) (V.denies v.new) result }
+    ensures { Reports denied (map incoming pairs.now) (V.items v.old) (V.items v.new)
+        (V.denies v.old) (V.denies v.new) result }
 {
     for pair in pairs {
         report_incoming(v, denied, pair)?;
@@ -138,7 +147,8 @@ pub fn report_results<V: OperandVisitor>(
     denied: bool,
     pairs: &[RetPair],
 ) -> Result<(), OperandError>
-    ensures { Reports denied (map outgoing pairs.now) (V.items v.old) (V.items v.new) (V.denies v.old) (V.denies v.new) result }
+    ensures { Reports denied (map outgoing pairs.now) (V.items v.old) (V.items v.new)
+        (V.denies v.old) (V.denies v.new) result }
 {
     for pair in pairs {
         report_outgoing(v, denied, pair)?;
@@ -152,7 +162,8 @@ pub fn report_destination<V: OperandVisitor>(
     denied: bool,
     dest: &CallInstDest,
 ) -> Result<(), OperandError>
-    ensures { Reports denied (destination_requests dest.now) (V.items v.old) (V.items v.new) (V.denies v.old) (V.denies v.new) result }
+    ensures { Reports denied (destination_requests dest.now) (V.items v.old) (V.items v.new)
+        (V.denies v.old) (V.denies v.new) result }
 {
     match dest {
         CallInstDest::Direct { .. } => report_nothing(v, denied),
@@ -167,7 +178,8 @@ pub fn report_clobbers<V: OperandVisitor>(
     clobbers: &PRegSet,
     link: &Reg,
 ) -> Result<(), OperandError>
-    ensures { Reports denied (clobbered clobbers.now link.now ∷ []) (V.items v.old) (V.items v.new) (V.denies v.old) (V.denies v.new) result }
+    ensures { Reports denied (clobbered clobbers.now link.now ∷ []) (V.items v.old) (V.items v.new)
+        (V.denies v.old) (V.denies v.new) result }
 {
     match link {
         Reg::Real(preg) => {
@@ -186,7 +198,8 @@ pub fn report_call<V: OperandVisitor>(
     link: &Reg,
     info: &CallInfo,
 ) -> Result<(), OperandError>
-    ensures { Reports denied (call_requests link.now info.now) (V.items v.old) (V.items v.new) (V.denies v.old) (V.denies v.new) result }
+    ensures { Reports denied (call_requests link.now info.now) (V.items v.old) (V.items v.new)
+        (V.denies v.old) (V.denies v.new) result }
 {
     report_destination(v, denied, &info.dest)?;
     report_call_arguments(v, denied, &info.uses)?;
@@ -200,7 +213,8 @@ pub fn report_return_call<V: OperandVisitor>(
     denied: bool,
     info: &ReturnCallInfo<CallInstDest>,
 ) -> Result<(), OperandError>
-    ensures { Reports denied (return_call_requests info.now) (V.items v.old) (V.items v.new) (V.denies v.old) (V.denies v.new) result }
+    ensures { Reports denied (return_call_requests info.now) (V.items v.old) (V.items v.new)
+        (V.denies v.old) (V.denies v.new) result }
 {
     report_destination(v, denied, &info.dest)?;
     report_call_arguments(v, denied, &info.uses)

@@ -17,7 +17,8 @@ pub fn report_control<V: OperandVisitor>(
     denied: bool,
     inst: &Inst,
 ) -> Result<(), OperandError>
-    ensures { Reports denied (control_requests inst.now) (V.items v.old) (V.items v.new) (V.denies v.old) (V.denies v.new) result }
+    ensures { Reports denied (control_requests inst.now) (V.items v.old) (V.items v.new)
+        (V.denies v.old) (V.denies v.new) result }
 {
     match inst {
         Inst::IndirectBr { rn, .. } => report_uses(v, denied, &[*rn]),

@@ -132,8 +132,10 @@ pub trait MachInst {
 
     /// Reports the operands to a visitor, in order.
     fn get_operands<V: OperandVisitor>(&self, collector: &mut V) -> Result<(), OperandError>
-        ensures list { OnOk result (V.items collector.new ≡ V.items collector.old ++ reported self.now) }
-        ensures prefix { OnErr result (AppendsPrefix (V.items collector.old) (V.items collector.new) (reported self.now)) }
+        ensures list { OnOk result
+            (V.items collector.new ≡ V.items collector.old ++ reported self.now) }
+        ensures prefix { OnErr result
+            (AppendsPrefix (V.items collector.old) (V.items collector.new) (reported self.now)) }
         ensures cause { IsVisitAnswer (report_cause (V.denies collector.old) self.now) result }
         ensures denies { V.denies collector.new ≡ V.denies collector.old };
 

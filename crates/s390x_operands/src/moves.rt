@@ -14,7 +14,8 @@ pub fn report_move<V: OperandVisitor>(
     denied: bool,
     inst: &Inst,
 ) -> Result<(), OperandError>
-    ensures { Reports denied (move_requests inst.now) (V.items v.old) (V.items v.new) (V.denies v.old) (V.denies v.new) result }
+    ensures { Reports denied (move_requests inst.now) (V.items v.old) (V.items v.new)
+        (V.denies v.old) (V.denies v.new) result }
 {
     match inst {
         Inst::Mov64 { rd, rm } | Inst::Mov32 { rd, rm } => { report_output(v, denied, rd, &[*rm]) }

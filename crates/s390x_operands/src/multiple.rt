@@ -18,7 +18,8 @@ pub fn report_range<V: OperandVisitor>(
     first: &Reg,
     last: &Reg,
 ) -> Result<(), OperandError>
-    ensures { Reports denied (range_requests first.now last.now) (V.items v.old) (V.items v.new) (V.denies v.old) (V.denies v.new) result }
+    ensures { Reports denied (range_requests first.now last.now) (V.items v.old) (V.items v.new)
+        (V.denies v.old) (V.denies v.new) result }
 {
     match first {
         Reg::Real(low) => match last {
@@ -37,7 +38,8 @@ pub fn report_multiple<V: OperandVisitor>(
     first: &Reg,
     last: &Reg,
 ) -> Result<(), OperandError>
-    ensures { Reports denied (memory_requests mem.now ++ range_requests first.now last.now) (V.items v.old) (V.items v.new) (V.denies v.old) (V.denies v.new) result }
+    ensures { Reports denied (memory_requests mem.now ++ range_requests first.now last.now)
+        (V.items v.old) (V.items v.new) (V.denies v.old) (V.denies v.new) result }
 {
     report_memory(v, denied, mem)?;
     report_range(v, denied, first, last)
@@ -51,7 +53,8 @@ fn report_between<V: OperandVisitor>(
     high: u8,
 ) -> Result<(), OperandError>
     requires { high < 32 }
-    ensures { Reports denied (general_between low high) (V.items v.old) (V.items v.new) (V.denies v.old) (V.denies v.new) result }
+    ensures { Reports denied (general_between low high) (V.items v.old) (V.items v.new)
+        (V.denies v.old) (V.denies v.new) result }
 {
     report_numbers(v, denied, low, (high + 1).min(16))
 }
@@ -64,7 +67,8 @@ fn report_numbers<V: OperandVisitor>(
     end: u8,
 ) -> Result<(), OperandError>
     requires { end ≤ 16 }
-    ensures { Reports denied (map fixed_general (range_with_len low (end - low))) (V.items v.old) (V.items v.new) (V.denies v.old) (V.denies v.new) result }
+    ensures { Reports denied (map fixed_general (range_with_len low (end - low))) (V.items v.old)
+        (V.items v.new) (V.denies v.old) (V.denies v.new) result }
 {
     for number in low..end {
         report_general(v, denied, number)?;
@@ -79,7 +83,8 @@ fn report_general<V: OperandVisitor>(
     number: u8,
 ) -> Result<(), OperandError>
     requires { number < 16 }
-    ensures { Reports denied (fixed_general number ∷ []) (V.items v.old) (V.items v.new) (V.denies v.old) (V.denies v.new) result }
+    ensures { Reports denied (fixed_general number ∷ []) (V.items v.old) (V.items v.new)
+        (V.denies v.old) (V.denies v.new) result }
 {
     v.reg_fixed_nonallocatable(gpr_preg(number))
 }

@@ -11,7 +11,8 @@ use s390x_inst::Inst;
 /// Reports the operands of the members of a loop, where a reuse is denied.
 #[cycle(members)]
 fn report_members<V: OperandVisitor>(v: &mut V, insts: &[Inst]) -> Result<(), OperandError>
-    ensures { Reports true (members_requests insts.now) (V.items v.old) (V.items v.new) (V.denies v.old) (V.denies v.new) result }
+    ensures { Reports true (members_requests insts.now) (V.items v.old) (V.items v.new)
+        (V.denies v.old) (V.denies v.new) result }
 {
     for inst in insts {
         report_inst(v, true, inst)?;
@@ -26,7 +27,8 @@ pub fn report_inst<V: OperandVisitor>(
     denied: bool,
     inst: &Inst,
 ) -> Result<(), OperandError>
-    ensures { Reports (is_loop inst.now || denied) (requests inst.now) (V.items v.old) (V.items v.new) (V.denies v.old) (V.denies v.new) result }
+    ensures { Reports (is_loop inst.now || denied) (requests inst.now) (V.items v.old)
+        (V.items v.new) (V.denies v.old) (V.denies v.new) result }
 {
     match inst {
         Inst::Loop { body, .. } => report_members(v, body),

@@ -14,7 +14,8 @@ use s390x_inst::MemArg;
 
 /// Reports a register that is read.
 pub fn report_use<V: OperandVisitor>(v: &mut V, denied: bool, reg: &Reg) -> Result<(), OperandError>
-    ensures { Reports denied (used reg.now ∷ []) (V.items v.old) (V.items v.new) (V.denies v.old) (V.denies v.new) result }
+    ensures { Reports denied (used reg.now ∷ []) (V.items v.old) (V.items v.new) (V.denies v.old)
+        (V.denies v.new) result }
 {
     v.reg_use(*reg)
 }
@@ -25,7 +26,8 @@ pub fn report_def<V: OperandVisitor>(
     denied: bool,
     reg: &Writable<Reg>,
 ) -> Result<(), OperandError>
-    ensures { Reports denied (defined reg.now ∷ []) (V.items v.old) (V.items v.new) (V.denies v.old) (V.denies v.new) result }
+    ensures { Reports denied (defined reg.now ∷ []) (V.items v.old) (V.items v.new) (V.denies v.old)
+        (V.denies v.new) result }
 {
     v.reg_def(*reg)
 }
@@ -36,7 +38,8 @@ pub fn report_reuse<V: OperandVisitor>(
     denied: bool,
     reg: &Writable<Reg>,
 ) -> Result<(), OperandError>
-    ensures { Reports denied (reused reg.now ∷ []) (V.items v.old) (V.items v.new) (V.denies v.old) (V.denies v.new) result }
+    ensures { Reports denied (reused reg.now ∷ []) (V.items v.old) (V.items v.new) (V.denies v.old)
+        (V.denies v.new) result }
 {
     match reg.to_reg() {
         Reg::Virtual { .. } if denied => Err(OperandError::ReuseInLoop),
@@ -46,14 +49,16 @@ pub fn report_reuse<V: OperandVisitor>(
 
 /// Reports the register that emission may overwrite.
 pub fn report_scratch<V: OperandVisitor>(v: &mut V, denied: bool) -> Result<(), OperandError>
-    ensures { Reports denied (scratch_request ∷ []) (V.items v.old) (V.items v.new) (V.denies v.old) (V.denies v.new) result }
+    ensures { Reports denied (scratch_request ∷ []) (V.items v.old) (V.items v.new) (V.denies v.old)
+        (V.denies v.new) result }
 {
     v.reg_fixed_nonallocatable(gpr_preg(1))
 }
 
 /// Reports nothing.
 pub fn report_nothing<V: OperandVisitor>(_v: &mut V, _denied: bool) -> Result<(), OperandError>
-    ensures { Reports _denied ([]) (V.items _v.old) (V.items _v.new) (V.denies _v.old) (V.denies _v.new) result }
+    ensures { Reports _denied ([]) (V.items _v.old) (V.items _v.new) (V.denies _v.old)
+        (V.denies _v.new) result }
 {
     Ok(())
 }
@@ -64,7 +69,8 @@ pub fn report_fixed<V: OperandVisitor>(
     denied: bool,
     preg: PReg,
 ) -> Result<(), OperandError>
-    ensures { Reports denied (Some (Fixed preg) ∷ []) (V.items v.old) (V.items v.new) (V.denies v.old) (V.denies v.new) result }
+    ensures { Reports denied (Some (Fixed preg) ∷ []) (V.items v.old) (V.items v.new)
+        (V.denies v.old) (V.denies v.new) result }
 {
     v.reg_fixed_nonallocatable(preg)
 }
@@ -77,7 +83,8 @@ pub fn report_fixed_use<V: OperandVisitor>(
     number: u8,
 ) -> Result<(), OperandError>
     requires { number < 16 }
-    ensures { Reports denied (fixed_use reg.now number ∷ []) (V.items v.old) (V.items v.new) (V.denies v.old) (V.denies v.new) result }
+    ensures { Reports denied (fixed_use reg.now number ∷ []) (V.items v.old) (V.items v.new)
+        (V.denies v.old) (V.denies v.new) result }
 {
     v.reg_fixed_use(*reg, gpr_preg(number))
 }
@@ -90,7 +97,8 @@ pub fn report_fixed_def<V: OperandVisitor>(
     number: u8,
 ) -> Result<(), OperandError>
     requires { number < 16 }
-    ensures { Reports denied (fixed_def reg.now number ∷ []) (V.items v.old) (V.items v.new) (V.denies v.old) (V.denies v.new) result }
+    ensures { Reports denied (fixed_def reg.now number ∷ []) (V.items v.old) (V.items v.new)
+        (V.denies v.old) (V.denies v.new) result }
 {
     v.reg_fixed_def(*reg, gpr_preg(number))
 }
@@ -101,7 +109,8 @@ pub fn report_uses<V: OperandVisitor>(
     denied: bool,
     uses: &[Reg],
 ) -> Result<(), OperandError>
-    ensures { Reports denied (map used uses.now) (V.items v.old) (V.items v.new) (V.denies v.old) (V.denies v.new) result }
+    ensures { Reports denied (map used uses.now) (V.items v.old) (V.items v.new) (V.denies v.old)
+        (V.denies v.new) result }
 {
     for reg in uses {
         report_use(v, denied, reg)?;
@@ -115,7 +124,8 @@ pub fn report_address<V: OperandVisitor>(
     denied: bool,
     registers: &[Reg],
 ) -> Result<(), OperandError>
-    ensures { Reports denied (map used registers.now ++ scratch_request ∷ []) (V.items v.old) (V.items v.new) (V.denies v.old) (V.denies v.new) result }
+    ensures { Reports denied (map used registers.now ++ scratch_request ∷ []) (V.items v.old)
+        (V.items v.new) (V.denies v.old) (V.denies v.new) result }
 {
     report_uses(v, denied, registers)?;
     report_scratch(v, denied)
@@ -127,7 +137,8 @@ pub fn report_memory<V: OperandVisitor>(
     denied: bool,
     mem: &MemArg,
 ) -> Result<(), OperandError>
-    ensures { Reports denied (memory_requests mem.now) (V.items v.old) (V.items v.new) (V.denies v.old) (V.denies v.new) result }
+    ensures { Reports denied (memory_requests mem.now) (V.items v.old) (V.items v.new)
+        (V.denies v.old) (V.denies v.new) result }
 {
     match mem {
         MemArg::BXD12 { base, index, .. } | MemArg::BXD20 { base, index, .. } => {
@@ -145,7 +156,8 @@ pub fn report_inputs<V: OperandVisitor>(
     uses: &[Reg],
     mem: &MemArg,
 ) -> Result<(), OperandError>
-    ensures { Reports denied (map used uses.now ++ memory_requests mem.now) (V.items v.old) (V.items v.new) (V.denies v.old) (V.denies v.new) result }
+    ensures { Reports denied (map used uses.now ++ memory_requests mem.now) (V.items v.old)
+        (V.items v.new) (V.denies v.old) (V.denies v.new) result }
 {
     report_uses(v, denied, uses)?;
     report_memory(v, denied, mem)
@@ -158,7 +170,8 @@ pub fn report_output<V: OperandVisitor>(
     rd: &Writable<Reg>,
     uses: &[Reg],
 ) -> Result<(), OperandError>
-    ensures { Reports denied (defined rd.now ∷ map used uses.now) (V.items v.old) (V.items v.new) (V.denies v.old) (V.denies v.new) result }
+    ensures { Reports denied (defined rd.now ∷ map used uses.now) (V.items v.old) (V.items v.new)
+        (V.denies v.old) (V.denies v.new) result }
 {
     report_def(v, denied, rd)?;
     report_uses(v, denied, uses)
@@ -172,7 +185,8 @@ pub fn report_output_from<V: OperandVisitor>(
     uses: &[Reg],
     mem: &MemArg,
 ) -> Result<(), OperandError>
-    ensures { Reports denied (defined rd.now ∷ (map used uses.now ++ memory_requests mem.now)) (V.items v.old) (V.items v.new) (V.denies v.old) (V.denies v.new) result }
+    ensures { Reports denied (defined rd.now ∷ (map used uses.now ++ memory_requests mem.now))
+        (V.items v.old) (V.items v.new) (V.denies v.old) (V.denies v.new) result }
 {
     report_def(v, denied, rd)?;
     report_inputs(v, denied, uses, mem)
@@ -185,7 +199,8 @@ pub fn report_reused<V: OperandVisitor>(
     rd: &Writable<Reg>,
     uses: &[Reg],
 ) -> Result<(), OperandError>
-    ensures { Reports denied (reused rd.now ∷ map used uses.now) (V.items v.old) (V.items v.new) (V.denies v.old) (V.denies v.new) result }
+    ensures { Reports denied (reused rd.now ∷ map used uses.now) (V.items v.old) (V.items v.new)
+        (V.denies v.old) (V.denies v.new) result }
 {
     report_reuse(v, denied, rd)?;
     report_uses(v, denied, uses)
@@ -199,7 +214,8 @@ pub fn report_reused_from<V: OperandVisitor>(
     uses: &[Reg],
     mem: &MemArg,
 ) -> Result<(), OperandError>
-    ensures { Reports denied (reused rd.now ∷ (map used uses.now ++ memory_requests mem.now)) (V.items v.old) (V.items v.new) (V.denies v.old) (V.denies v.new) result }
+    ensures { Reports denied (reused rd.now ∷ (map used uses.now ++ memory_requests mem.now))
+        (V.items v.old) (V.items v.new) (V.denies v.old) (V.denies v.new) result }
 {
     report_reuse(v, denied, rd)?;
     report_inputs(v, denied, uses, mem)
@@ -211,7 +227,8 @@ pub fn report_halves<V: OperandVisitor>(
     denied: bool,
     pair: &WritableRegPair,
 ) -> Result<(), OperandError>
-    ensures { Reports denied (fixed_def pair.now.hi 2 ∷ fixed_def pair.now.lo 3 ∷ []) (V.items v.old) (V.items v.new) (V.denies v.old) (V.denies v.new) result }
+    ensures { Reports denied (fixed_def pair.now.hi 2 ∷ fixed_def pair.now.lo 3 ∷ [])
+        (V.items v.old) (V.items v.new) (V.denies v.old) (V.denies v.new) result }
 {
     report_fixed_def(v, denied, &pair.hi, 2)?;
     report_fixed_def(v, denied, &pair.lo, 3)
@@ -224,7 +241,9 @@ pub fn report_pair<V: OperandVisitor>(
     pair: &WritableRegPair,
     uses: &[Reg],
 ) -> Result<(), OperandError>
-    ensures { Reports denied (map used uses.now ++ fixed_def pair.now.hi 2 ∷ fixed_def pair.now.lo 3 ∷ []) (V.items v.old) (V.items v.new) (V.denies v.old) (V.denies v.new) result }
+    ensures { Reports denied
+        (map used uses.now ++ fixed_def pair.now.hi 2 ∷ fixed_def pair.now.lo 3 ∷ [])
+        (V.items v.old) (V.items v.new) (V.denies v.old) (V.denies v.new) result }
 {
     report_uses(v, denied, uses)?;
     report_halves(v, denied, pair)
@@ -238,7 +257,9 @@ pub fn report_pair_low<V: OperandVisitor>(
     low: &Reg,
     rn: &Reg,
 ) -> Result<(), OperandError>
-    ensures { Reports denied (used rn.now ∷ fixed_def pair.now.hi 2 ∷ fixed_def pair.now.lo 3 ∷ fixed_use low.now 3 ∷ []) (V.items v.old) (V.items v.new) (V.denies v.old) (V.denies v.new) result }
+    ensures { Reports denied
+        (used rn.now ∷ fixed_def pair.now.hi 2 ∷ fixed_def pair.now.lo 3 ∷ fixed_use low.now 3 ∷ [])
+        (V.items v.old) (V.items v.new) (V.denies v.old) (V.denies v.new) result }
 {
     report_use(v, denied, rn)?;
     report_halves(v, denied, pair)?;
@@ -251,7 +272,8 @@ pub fn report_dividend<V: OperandVisitor>(
     denied: bool,
     pair: &RegPair,
 ) -> Result<(), OperandError>
-    ensures { Reports denied (fixed_use pair.now.hi 2 ∷ fixed_use pair.now.lo 3 ∷ []) (V.items v.old) (V.items v.new) (V.denies v.old) (V.denies v.new) result }
+    ensures { Reports denied (fixed_use pair.now.hi 2 ∷ fixed_use pair.now.lo 3 ∷ [])
+        (V.items v.old) (V.items v.new) (V.denies v.old) (V.denies v.new) result }
 {
     report_fixed_use(v, denied, &pair.hi, 2)?;
     report_fixed_use(v, denied, &pair.lo, 3)
@@ -265,7 +287,10 @@ pub fn report_pair_whole<V: OperandVisitor>(
     whole: &RegPair,
     rn: &Reg,
 ) -> Result<(), OperandError>
-    ensures { Reports denied (used rn.now ∷ fixed_def pair.now.hi 2 ∷ fixed_def pair.now.lo 3 ∷ fixed_use whole.now.hi 2 ∷ fixed_use whole.now.lo 3 ∷ []) (V.items v.old) (V.items v.new) (V.denies v.old) (V.denies v.new) result }
+    ensures { Reports denied
+        (used rn.now ∷ fixed_def pair.now.hi 2 ∷ fixed_def pair.now.lo 3 ∷ fixed_use whole.now.hi 2
+        ∷ fixed_use whole.now.lo 3 ∷ []) (V.items v.old) (V.items v.new) (V.denies v.old)
+        (V.denies v.new) result }
 {
     report_use(v, denied, rn)?;
     report_halves(v, denied, pair)?;
@@ -279,7 +304,8 @@ pub fn report_output_fixed<V: OperandVisitor>(
     rd: &Writable<Reg>,
     preg: PReg,
 ) -> Result<(), OperandError>
-    ensures { Reports denied (defined rd.now ∷ Some (Fixed preg) ∷ []) (V.items v.old) (V.items v.new) (V.denies v.old) (V.denies v.new) result }
+    ensures { Reports denied (defined rd.now ∷ Some (Fixed preg) ∷ []) (V.items v.old)
+        (V.items v.new) (V.denies v.old) (V.denies v.new) result }
 {
     report_def(v, denied, rd)?;
     report_fixed(v, denied, preg)
@@ -291,7 +317,8 @@ pub fn report_output_scratch<V: OperandVisitor>(
     denied: bool,
     rd: &Writable<Reg>,
 ) -> Result<(), OperandError>
-    ensures { Reports denied (defined rd.now ∷ scratch_request ∷ []) (V.items v.old) (V.items v.new) (V.denies v.old) (V.denies v.new) result }
+    ensures { Reports denied (defined rd.now ∷ scratch_request ∷ []) (V.items v.old) (V.items v.new)
+        (V.denies v.old) (V.denies v.new) result }
 {
     report_def(v, denied, rd)?;
     report_scratch(v, denied)
@@ -303,7 +330,8 @@ pub fn report_use_scratch<V: OperandVisitor>(
     denied: bool,
     reg: &Reg,
 ) -> Result<(), OperandError>
-    ensures { Reports denied (used reg.now ∷ scratch_request ∷ []) (V.items v.old) (V.items v.new) (V.denies v.old) (V.denies v.new) result }
+    ensures { Reports denied (used reg.now ∷ scratch_request ∷ []) (V.items v.old) (V.items v.new)
+        (V.denies v.old) (V.denies v.new) result }
 {
     report_use(v, denied, reg)?;
     report_scratch(v, denied)

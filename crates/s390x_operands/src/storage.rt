@@ -11,7 +11,8 @@ use s390x_inst::Inst;
 
 // Reports the operands of an instruction that is neither an operator nor a move, nor a load of one register.
 fn report_store<V: OperandVisitor>(v: &mut V, denied: bool, inst: &Inst) -> Result<(), OperandError>
-    ensures { Reports denied (store_requests inst.now) (V.items v.old) (V.items v.new) (V.denies v.old) (V.denies v.new) result }
+    ensures { Reports denied (store_requests inst.now) (V.items v.old) (V.items v.new)
+        (V.denies v.old) (V.denies v.new) result }
 {
     match inst {
         Inst::LoadAddr { rd, mem } => report_output_from(v, denied, rd, &[], mem),
@@ -56,7 +57,8 @@ pub fn report_storage<V: OperandVisitor>(
     denied: bool,
     inst: &Inst,
 ) -> Result<(), OperandError>
-    ensures { Reports denied (storage_requests inst.now) (V.items v.old) (V.items v.new) (V.denies v.old) (V.denies v.new) result }
+    ensures { Reports denied (storage_requests inst.now) (V.items v.old) (V.items v.new)
+        (V.denies v.old) (V.denies v.new) result }
 {
     match inst.as_load() {
         Some(load) => report_output_from(v, denied, &load.rd, &[], &load.mem),

@@ -16,7 +16,8 @@ pub fn report_vector<V: OperandVisitor>(
     denied: bool,
     inst: &VecInst,
 ) -> Result<(), OperandError>
-    ensures { Reports denied (vector_requests inst.now) (V.items v.old) (V.items v.new) (V.denies v.old) (V.denies v.new) result }
+    ensures { Reports denied (vector_requests inst.now) (V.items v.old) (V.items v.new)
+        (V.denies v.old) (V.denies v.new) result }
 {
     match inst {
         VecInst::VecLoad { rd, mem }
@@ -56,7 +57,8 @@ pub fn report_register_vector<V: OperandVisitor>(
     denied: bool,
     inst: &VecInst,
 ) -> Result<(), OperandError>
-    ensures { Reports denied (register_vector_requests inst.now) (V.items v.old) (V.items v.new) (V.denies v.old) (V.denies v.new) result }
+    ensures { Reports denied (register_vector_requests inst.now) (V.items v.old) (V.items v.new)
+        (V.denies v.old) (V.denies v.new) result }
 {
     match inst {
         VecInst::VecRRR { rd, rn, rm, .. }

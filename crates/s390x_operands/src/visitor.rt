@@ -30,22 +30,26 @@ pub trait OperandVisitor {
         kind: OperandKind,
         pos: OperandPos,
     ) -> Result<(), OperandError>
-        ensures takes { Takes (denies self.old) (Operand reg constraint kind pos) (items self.old) (items self.new) result }
+        ensures takes { Takes (denies self.old) (Operand reg constraint kind pos) (items self.old)
+            (items self.new) result }
         ensures denies { denies self.new ≡ denies self.old };
 
     /// Reports a real register that no operand stands for.
     fn reg_fixed_nonallocatable(&mut self, preg: PReg) -> Result<(), OperandError>
-        ensures takes { Takes (denies self.old) (Fixed preg) (items self.old) (items self.new) result }
+        ensures takes { Takes (denies self.old) (Fixed preg) (items self.old) (items self.new)
+            result }
         ensures denies { denies self.new ≡ denies self.old };
 
     /// Reports real registers whose values are lost.
     fn reg_clobbers(&mut self, regs: PRegSet) -> Result<(), OperandError>
-        ensures takes { Takes (denies self.old) (Clobbers regs) (items self.old) (items self.new) result }
+        ensures takes { Takes (denies self.old) (Clobbers regs) (items self.old) (items self.new)
+            result }
         ensures denies { denies self.new ≡ denies self.old };
 
     /// Reports a register that is read at the beginning; a real one as fixed.
     fn reg_use(&mut self, reg: Reg) -> Result<(), OperandError>
-        ensures takes { Takes (denies self.old) (placed_or InRegister Use Early reg) (items self.old) (items self.new) result }
+        ensures takes { Takes (denies self.old) (placed_or InRegister Use Early reg)
+            (items self.old) (items self.new) result }
         ensures denies { denies self.new ≡ denies self.old }
     {
         match reg {
@@ -61,7 +65,8 @@ pub trait OperandVisitor {
 
     /// Reports a register that is written at the end; a real one as fixed.
     fn reg_def(&mut self, reg: Writable<Reg>) -> Result<(), OperandError>
-        ensures takes { Takes (denies self.old) (placed_or InRegister Def Late reg) (items self.old) (items self.new) result }
+        ensures takes { Takes (denies self.old) (placed_or InRegister Def Late reg) (items self.old)
+            (items self.new) result }
         ensures denies { denies self.new ≡ denies self.old }
     {
         match reg.to_reg() {
@@ -77,7 +82,8 @@ pub trait OperandVisitor {
 
     /// Reports a register that is written at the end and has to be that of the operand `idx`; a real one as fixed.
     fn reg_reuse_def(&mut self, reg: Writable<Reg>, idx: usize) -> Result<(), OperandError>
-        ensures takes { Takes (denies self.old) (placed_or (Reuse idx) Def Late reg) (items self.old) (items self.new) result }
+        ensures takes { Takes (denies self.old) (placed_or (Reuse idx) Def Late reg)
+            (items self.old) (items self.new) result }
         ensures denies { denies self.new ≡ denies self.old }
     {
         match reg.to_reg() {
@@ -93,7 +99,8 @@ pub trait OperandVisitor {
 
     /// Reports a register that is read at the beginning, in the register `preg`.
     fn reg_fixed_use(&mut self, reg: Reg, preg: PReg) -> Result<(), OperandError>
-        ensures takes { Takes (denies self.old) (Operand reg (FixedReg preg) Use Early) (items self.old) (items self.new) result }
+        ensures takes { Takes (denies self.old) (Operand reg (FixedReg preg) Use Early)
+            (items self.old) (items self.new) result }
         ensures denies { denies self.new ≡ denies self.old }
     {
         self.add_operand(
@@ -106,7 +113,8 @@ pub trait OperandVisitor {
 
     /// Reports a register that is written at the end, in the register `preg`.
     fn reg_fixed_def(&mut self, reg: Writable<Reg>, preg: PReg) -> Result<(), OperandError>
-        ensures takes { Takes (denies self.old) (Operand reg (FixedReg preg) Def Late) (items self.old) (items self.new) result }
+        ensures takes { Takes (denies self.old) (Operand reg (FixedReg preg) Def Late)
+            (items self.old) (items self.new) result }
         ensures denies { denies self.new ≡ denies self.old }
     {
         self.add_operand(
@@ -119,7 +127,8 @@ pub trait OperandVisitor {
 
     /// Reports a register or a place on the stack that is written at the end.
     fn any_def(&mut self, reg: Writable<Reg>) -> Result<(), OperandError>
-        ensures takes { Takes (denies self.old) (Operand reg Any Def Late) (items self.old) (items self.new) result }
+        ensures takes { Takes (denies self.old) (Operand reg Any Def Late) (items self.old)
+            (items self.new) result }
         ensures denies { denies self.new ≡ denies self.old }
     {
         self.add_operand(

@@ -5,7 +5,8 @@ ghost use Rattle.std.specs.Prelude.{◌≡◌, ℕ, ◌+◌, ◌*◌, ◌/◌, �
 pub fn joined(high: &[u64; 32], low: &[u64; 32]) -> [u128; 32]
     ensures long { length result ≡ 32 }
     ensures halves { (length high.now ≡ 32) × (length low.now ≡ 32) }
-    ensures each { (i : ℕ) → i < 32 → slice_index result i ≡ slice_index high.now i * 2 ^ 64 + slice_index low.now i }
+    ensures each { (i : ℕ) → i < 32
+        → slice_index result i ≡ slice_index high.now i * 2 ^ 64 + slice_index low.now i }
 {
     let mut joined = [0u128; 32];
     for i in 0..32usize {

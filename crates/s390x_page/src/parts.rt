@@ -25,7 +25,8 @@ pub struct FormatPart {
 #[unsafe(no_mangle)]
 pub extern "C" fn s390x_page_part(bytes: &[u8], k: u64, out: &mut FormatPart) -> bool
     ensures found { result ≡ true → HasPart bytes.now k out.new }
-    ensures none { result ≡ false → (d : Decoded) → IsFetch bytes.now d → length (layout_of d.row.format) ≤ k }
+    ensures none { result ≡ false → (d : Decoded) → IsFetch bytes.now d
+        → length (layout_of d.row.format) ≤ k }
     ensures kept { result ≡ false → out.new ≡ out.old }
 {
     match decode(bytes) {

@@ -15,7 +15,8 @@ use s390x_operations::StopKind;
 /// and trap. But for 0 everything is as before.
 #[unsafe(no_mangle)]
 pub extern "C" fn s390x_page_step(registers: &mut Registers, storage: &mut Storage) -> u8
-    ensures { Steps (state_in registers.old storage.old) (end_numbered result registers.old.place) (state_in registers.new storage.new) }
+    ensures { Steps (state_in registers.old storage.old) (end_numbered result registers.old.place)
+        (state_in registers.new storage.new) }
 {
     let mut machine = machine_of(registers);
     let end = machine.step(storage);

@@ -57,7 +57,8 @@ fn copied(text: &Text) -> InstructionText
 
 // The text of what was found.
 fn located_text(address: u64, located: &Located) -> Text
-    ensures { fitting result.items ≡ fitting (row_text spellings address located.now.at located.now.decoded.fields) }
+    ensures { fitting result.items
+        ≡ fitting (row_text spellings address located.now.at located.now.decoded.fields) }
 {
     let mut out = Text::new();
     put_row(
@@ -72,7 +73,8 @@ fn located_text(address: u64, located: &Located) -> Text
 
 // An instruction of the row at a place.
 fn put_row(out: &mut Text, spellings: &[Spelling], address: u64, at: usize, fields: &Fields)
-    ensures { Adds out.old.items (row_text (map (λ row. plain_row row) spellings.now) address at fields.now) out.new.items }
+    ensures { Adds out.old.items
+        (row_text (map (λ row. plain_row row) spellings.now) address at fields.now) out.new.items }
 {
     if at < spellings.len() {
         put_spelled(out, address, spellings[at], fields);
@@ -84,7 +86,8 @@ fn put_row(out: &mut Text, spellings: &[Spelling], address: u64, at: usize, fiel
 // The mnemonic and the operands.
 #[tactic(auto, using(crate::proofs::Fitting::both), unfolding(s390x_disassembler::specs::Text::spelled))]
 fn put_spelled(out: &mut Text, address: u64, spelling: Spelling, fields: &Fields)
-    ensures { Adds out.old.items (spelled address (plain_row spelling.entry) fields.now) out.new.items }
+    ensures { Adds out.old.items (spelled address (plain_row spelling.entry) fields.now)
+        out.new.items }
 {
     let (stem, suffix, form) = spelling;
     let letters = letters(suffix, fields);
@@ -95,7 +98,8 @@ fn put_spelled(out: &mut Text, address: u64, spelling: Spelling, fields: &Fields
 
 // The operands, the first behind a blank and the others behind commas.
 fn put_operands(out: &mut Text, address: u64, letters: &str, fields: &Fields, operands: &[Operand])
-    ensures { Adds out.old.items (operands_text 32 address letters.now fields.now operands.now) out.new.items }
+    ensures { Adds out.old.items (operands_text 32 address letters.now fields.now operands.now)
+        out.new.items }
 {
     let mut separator = b' ';
     for operand in operands {
@@ -210,7 +214,9 @@ fn put_registers(out: &mut Text, index: u8, base: u8)
 // An index and a base.
 #[tactic(auto, using(crate::proofs::Fitting::both, crate::proofs::Fitting::byte_then))]
 fn put_both(out: &mut Text, index: u8, base: u8)
-    ensures { Adds out.old.items (40 ∷ (register_text 114 index ++ (44 ∷ (register_text 114 base ++ (41 ∷ []))))) out.new.items }
+    ensures { Adds out.old.items
+        (40 ∷ (register_text 114 index ++ (44 ∷ (register_text 114 base ++ (41 ∷ [])))))
+        out.new.items }
 {
     put_byte(out, b'(');
     put_register(out, b'r', index);

@@ -54,7 +54,9 @@ fn check_whole_block(
 ) -> Result<Checked, NoMemory>
     requires few { labels ≤ label_limit }
     requires start { state.now.nominal ≡ 0 }
-    ensures { IfOk result (λ checked. IsBlockChecked flags (declared_in sink.now) labels state.now block.now checked) }
+    ensures { IfOk result
+        (λ checked. IsBlockChecked flags (declared_in sink.now) labels state.now block.now
+        checked) }
 {
     let before = Totals { labels, bytes: 0 };
     match check_block(alloc, flags, state, sink, before, block) {
@@ -73,7 +75,8 @@ pub fn position_in_blocks(
     function: &AllocatedFunction,
 ) -> Result<Position, NoMemory>
     requires opening { opening_cause state.now function.now ≡ None }
-    requires fresh { sink.now ≡ fresh_buffer (length function.now.blocks.items) (constants_of function.now) }
+    requires fresh { sink.now
+        ≡ fresh_buffer (length function.now.blocks.items) (constants_of function.now) }
     ensures { IfOk result (λ position. IsPositionIn flags state.now function.now position) }
 {
     let mut labels = function.blocks.len() as u64 + function.constants.len() as u64;

@@ -53,7 +53,9 @@ fn check_member(
     inst: &Inst,
 ) -> Result<Checked, NoMemory>
     requires { scope.labels ≤ label_limit }
-    ensures { IfOk result (λ checked. IsChecked flags (declared_in sink.now) scope state.old state.new inst.now checked) }
+    ensures { IfOk result
+        (λ checked. IsChecked flags (declared_in sink.now) scope state.old state.new inst.now
+        checked) }
 {
     mark_member(state, scope.depth, inst);
     let before = Totals {
@@ -82,7 +84,9 @@ pub fn first_member(
     insts: &[Inst],
 ) -> Result<Option<FirstMember>, NoMemory>
     requires { scope.labels ≤ label_limit }
-    ensures { IfOk result (λ found. IsFirstMember flags (declared_in sink.now) scope state.old state.new insts.now found) }
+    ensures { IfOk result
+        (λ found. IsFirstMember flags (declared_in sink.now) scope state.old state.new insts.now
+        found) }
 {
     let depth = scope.depth;
     let mut labels = scope.labels;
@@ -112,7 +116,9 @@ fn path_to(
     inst: &Inst,
 ) -> Result<Vec<usize>, NoMemory>
     requires { scope.labels ≤ label_limit }
-    ensures { IfOk result (λ path. IsPathTo flags (declared_in sink.now) (point_of scope state.now) inst.now path.items) }
+    ensures { IfOk result
+        (λ path. IsPathTo flags (declared_in sink.now) (point_of scope state.now) inst.now
+        path.items) }
 {
     let Inst::Loop { body, .. } = inst else {
         return Ok(Vec::new(alloc));
@@ -147,7 +153,9 @@ pub fn path_among(
     insts: &[Inst],
 ) -> Result<Option<Vec<usize>>, NoMemory>
     requires { scope.labels ≤ label_limit }
-    ensures { IfOk result (λ found. IsPathAmong flags (declared_in sink.now) (point_of scope state.now) insts.now found) }
+    ensures { IfOk result
+        (λ found. IsPathAmong flags (declared_in sink.now) (point_of scope state.now) insts.now
+        found) }
 {
     let mut before = *state;
     let Some(first) = first_member(alloc, flags, sink, &mut before, scope, insts)? else {

@@ -35,7 +35,8 @@ pub fn first_refusal(
     info: &EmitInfo,
     state: EmitState,
 ) -> Result<Option<Refusal>, NoMemory>
-    ensures { IfOk result (λ refusal. IsFirstRefusal info.now.isa_flags state function.now refusal) }
+    ensures { IfOk result
+        (λ refusal. IsFirstRefusal info.now.isa_flags state function.now refusal) }
 {
     match emit_function(alloc, function, info, state) {
         Ok(_) => Ok(None),

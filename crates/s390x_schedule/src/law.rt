@@ -8,11 +8,14 @@ ghost use Rattle.s390x_schedule.specs.Schedule.{World, EndsAs, OthersLeaveImage,
 /// What `run_schedule` answers is a schedule of machine steps: one of each number in turn, and one that stops is the last. The step of `NoRow` isn't one
 /// of them.
 pub fn ends_are_schedules()
-    ensures { (w v : World) (ps : List ℕ) (end : ScheduleEnd) → EndsAs w ps end v → Taken w (taken ps end) v }
+    ensures { (w v : World) (ps : List ℕ) (end : ScheduleEnd) → EndsAs w ps end v
+        → Taken w (taken ps end) v }
 {}
 
 /// To one processor a schedule is a run of the machine under others' writes, which are what the other processors store between its steps, where
 /// none of the others stores into the image. So what is proved of every run holds under every schedule.
 pub fn others_store_as_writes()
-    ensures { (image : CodeImage) (p : ℕ) (w : World) (ps : List ℕ) (ticks : List Tick) → Scheduled w ps ticks → OthersLeaveImage image p ticks → Run image (view w p) (transitions_of p [] ticks) }
+    ensures { (image : CodeImage) (p : ℕ) (w : World) (ps : List ℕ) (ticks : List Tick)
+        → Scheduled w ps ticks → OthersLeaveImage image p ticks
+        → Run image (view w p) (transitions_of p [] ticks) }
 {}

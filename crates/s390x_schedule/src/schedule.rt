@@ -28,8 +28,15 @@ pub enum ScheduleEnd {
 fn step_one<M: Memory>(machines: &mut [Machine], memory: &mut M, number: usize) -> StepEnd
     requires { number < length machines.old }
     ensures count { length machines.new ≡ length machines.old }
-    ensures steps { Steps (view (world_of machines.old (memory_of (M.held memory.old) (M.byte memory.old))) number) result (view (world_of machines.new (memory_of (M.held memory.new) (M.byte memory.new))) number) }
-    ensures world { world_of machines.new (memory_of (M.held memory.new) (M.byte memory.new)) ≡ after_step (world_of machines.old (memory_of (M.held memory.old) (M.byte memory.old))) number (view (world_of machines.new (memory_of (M.held memory.new) (M.byte memory.new))) number) }
+    ensures steps { Steps
+        (view (world_of machines.old (memory_of (M.held memory.old) (M.byte memory.old))) number)
+        result
+        (view (world_of machines.new (memory_of (M.held memory.new) (M.byte memory.new))) number) }
+    ensures world { world_of machines.new (memory_of (M.held memory.new) (M.byte memory.new))
+        ≡ after_step (world_of machines.old (memory_of (M.held memory.old) (M.byte memory.old)))
+        number
+        (view (world_of machines.new (memory_of (M.held memory.new) (M.byte memory.new)))
+        number) }
 {
     machines[number].step(memory)
 }
@@ -46,7 +53,9 @@ pub fn run_schedule<M: Memory>(
 ) -> ScheduleEnd
     requires { NameMachines (length machines.old) schedule.now }
     ensures count { length machines.new ≡ length machines.old }
-    ensures end { EndsAs (world_of machines.old (memory_of (M.held memory.old) (M.byte memory.old))) schedule.now result (world_of machines.new (memory_of (M.held memory.new) (M.byte memory.new))) }
+    ensures end { EndsAs (world_of machines.old (memory_of (M.held memory.old) (M.byte memory.old)))
+        schedule.now result
+        (world_of machines.new (memory_of (M.held memory.new) (M.byte memory.new))) }
 {
     for at in 0..schedule.len() {
         match step_one(machines, memory, schedule[at] as usize) {

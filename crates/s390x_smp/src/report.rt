@@ -20,8 +20,10 @@ pub fn simulated(
     start: u32,
 ) -> Result<String, SmpError>
     requires { 0 < count }
-    ensures text { IfOk result (λ text. IsSimulated base word count steps start (string_bytes text)) }
-    ensures cause { MatchResult result (λ _. start_cause base word ≡ None) (λ e. (e ≡ SmpError.NoMemory) ⊎ (start_cause base word ≡ Some e)) }
+    ensures text { IfOk result
+        (λ text. IsSimulated base word count steps start (string_bytes text)) }
+    ensures cause { MatchResult result (λ _. start_cause base word ≡ None)
+        (λ e. (e ≡ SmpError.NoMemory) ⊎ (start_cause base word ≡ Some e)) }
 {
     let Ok(addends) = addends_to(alloc, count) else {
         return Err(SmpError::NoMemory);
@@ -52,7 +54,8 @@ fn summary(alloc: Global, word: u32, stores: &[u64]) -> Result<String, AllocErro
 
 // A line for each count.
 fn put_counts(out: &mut String, stores: &[u64]) -> Result<(), AllocError>
-    ensures { OnOk result (string_bytes out.new ≡ string_bytes out.old ++ count_lines 0 stores.now) }
+    ensures { OnOk result
+        (string_bytes out.new ≡ string_bytes out.old ++ count_lines 0 stores.now) }
 {
     for number in 0..stores.len() {
         put_count(out, number, stores[number])?;

@@ -53,7 +53,9 @@ fn start_cause(base: u64, word: u64) -> Option<SmpError>
 /// The code and a word that is zero.
 fn started_memory(alloc: Global, base: u64, word: u64) -> Result<FlatMemory, NoMemory>
     requires { start_cause base word ≡ None }
-    ensures { IfOk result (λ m. HasImage base word (memory_of (is_held m) (byte_of m)) × (number_at (byte_of m) word 4 ≡ 0)) }
+    ensures { IfOk result
+        (λ m. HasImage base word (memory_of (is_held m) (byte_of m))
+        × (number_at (byte_of m) word 4 ≡ 0)) }
 {
     let mut memory = FlatMemory::new(alloc);
     memory.add_region(word, &[0; 4])?;
@@ -135,7 +137,9 @@ impl Smp {
     /// image; else only by `NoMemory`.
     pub fn new(alloc: Global, base: u64, word: u64, addends: &[u32]) -> Result<Smp, SmpError>
         ensures start { IfOk result (λ smp. IsStart base word addends.now (simulation smp)) }
-        ensures cause { MatchResult result (λ _. start_cause base word ≡ None) (λ e. (start_cause base word ≡ Some e) ⊎ ((start_cause base word ≡ None) × (e ≡ SmpError.NoMemory))) }
+        ensures cause { MatchResult result (λ _. start_cause base word ≡ None)
+            (λ e. (start_cause base word ≡ Some e)
+            ⊎ ((start_cause base word ≡ None) × (e ≡ SmpError.NoMemory))) }
     {
         if let Some(cause) = start_cause(base, word) {
             return Err(cause);
@@ -185,8 +189,10 @@ impl Smp {
     pub fn run(&mut self, schedule: &[u32])
         requires { NameMachines (length (simulation self.old).addends) schedule.now }
         ensures runs { RunsAs (simulation self.old) schedule.now (simulation self.new) }
-        ensures total { word_of (simulation self.new) ≡ total (simulation self.new).addends (simulation self.new).stores % 2 ^ 32 }
-        ensures others { HasImage (simulation self.new).base (simulation self.new).word (simulation self.new).memory }
+        ensures total { word_of (simulation self.new)
+            ≡ total (simulation self.new).addends (simulation self.new).stores % 2 ^ 32 }
+        ensures others { HasImage (simulation self.new).base (simulation self.new).word
+            (simulation self.new).memory }
     {
         for at in 0..schedule.len() {
             self.step(schedule[at]);
@@ -196,7 +202,8 @@ impl Smp {
     /// The word.
     pub fn word(&self) -> u32
         ensures word { result ≡ word_of (simulation self.now) }
-        ensures total { result ≡ total (simulation self.now).addends (simulation self.now).stores % 2 ^ 32 }
+        ensures total { result
+            ≡ total (simulation self.now).addends (simulation self.now).stores % 2 ^ 32 }
     {
         let first = u32::from(self.memory.get(self.word));
         let second = u32::from(self.memory.get(self.word + 1));

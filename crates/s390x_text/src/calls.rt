@@ -17,7 +17,8 @@ use std::alloc::{AllocError, Global};
 
 // The branch of a call.
 fn put_branch_and_link(out: &mut String, link: Reg, dest: &CallInstDest) -> Result<(), AllocError>
-    ensures { OnOk result (string_bytes out.new ≡ string_bytes out.old ++ branch_and_link_text link dest.now) }
+    ensures { OnOk result
+        (string_bytes out.new ≡ string_bytes out.old ++ branch_and_link_text link dest.now) }
 {
     match dest {
         CallInstDest::Direct { name } => spelled2(out, "brasl", &link, name),
@@ -27,7 +28,9 @@ fn put_branch_and_link(out: &mut String, link: Reg, dest: &CallInstDest) -> Resu
 
 // How many bytes of arguments the callee takes.
 fn put_pop_size(out: &mut String, size: u32) -> Result<(), AllocError>
-    ensures { OnOk result (string_bytes out.new ≡ string_bytes out.old ++ (codes " ; callee_pop_size " ++ decimal size)) }
+    ensures { OnOk result
+        (string_bytes out.new
+        ≡ string_bytes out.old ++ (codes " ; callee_pop_size " ++ decimal size)) }
 {
     put(out, " ; callee_pop_size ")?;
     put_natural(out, u64::from(size))
@@ -51,7 +54,8 @@ fn put_loaded(
     state: &EmitState,
     load: &Option<Inst>,
 ) -> Result<(), TextError>
-    ensures { Prints result (string_bytes out.old) (string_bytes out.new) (loaded_text state.now load.now) }
+    ensures { Prints result (string_bytes out.old) (string_bytes out.new)
+        (loaded_text state.now load.now) }
 {
     match load {
         None => Err(TextError::NoRow),
@@ -81,7 +85,8 @@ fn put_result(
     state: &EmitState,
     def: &CallRetPair,
 ) -> Result<(), TextError>
-    ensures { Prints result (string_bytes out.old) (string_bytes out.new) (result_text state.now def.now) }
+    ensures { Prints result (string_bytes out.old) (string_bytes out.new)
+        (result_text state.now def.now) }
 {
     match def.location {
         RetLocation::Reg(_, _) => Ok(()),
@@ -98,7 +103,8 @@ fn put_results(
     state: &EmitState,
     defs: &[CallRetPair],
 ) -> Result<(), TextError>
-    ensures { Prints result (string_bytes out.old) (string_bytes out.new) (results_text state.now defs.now) }
+    ensures { Prints result (string_bytes out.old) (string_bytes out.new)
+        (results_text state.now defs.now) }
 {
     for def in defs {
         put_result(alloc, out, state, def)?;
@@ -123,7 +129,8 @@ fn put_loads(
     state: &EmitState,
     info: &CallInfo,
 ) -> Result<(), TextError>
-    ensures { Prints result (string_bytes out.old) (string_bytes out.new) (loads_text state.now info.now) }
+    ensures { Prints result (string_bytes out.old) (string_bytes out.new)
+        (loads_text state.now info.now) }
 {
     if info.patchable {
         return Ok(());
@@ -133,7 +140,8 @@ fn put_loads(
 }
 
 fn put_handler(out: &mut String, handler: &TryCallHandler) -> Result<(), AllocError>
-    ensures { OnOk result (string_bytes out.new ≡ string_bytes out.old ++ handler_text handler.now) }
+    ensures { OnOk result
+        (string_bytes out.new ≡ string_bytes out.old ++ handler_text handler.now) }
 {
     match handler {
         TryCallHandler::Tag { tag, label } => {
@@ -151,14 +159,17 @@ fn put_handler(out: &mut String, handler: &TryCallHandler) -> Result<(), AllocEr
 
 // A handler behind a comma.
 fn put_another(out: &mut String, handler: &TryCallHandler) -> Result<(), AllocError>
-    ensures { OnOk result (string_bytes out.new ≡ string_bytes out.old ++ (codes ", " ++ handler_text handler.now)) }
+    ensures { OnOk result
+        (string_bytes out.new
+        ≡ string_bytes out.old ++ (codes ", " ++ handler_text handler.now)) }
 {
     put(out, ", ")?;
     put_handler(out, handler)
 }
 
 fn put_more_handlers(out: &mut String, handlers: &[TryCallHandler]) -> Result<(), AllocError>
-    ensures { OnOk result (string_bytes out.new ≡ string_bytes out.old ++ more_handlers handlers.now) }
+    ensures { OnOk result
+        (string_bytes out.new ≡ string_bytes out.old ++ more_handlers handlers.now) }
 {
     for handler in handlers {
         put_another(out, handler)?;
@@ -167,7 +178,8 @@ fn put_more_handlers(out: &mut String, handlers: &[TryCallHandler]) -> Result<()
 }
 
 fn put_handlers(out: &mut String, handlers: &[TryCallHandler]) -> Result<(), AllocError>
-    ensures { OnOk result (string_bytes out.new ≡ string_bytes out.old ++ handlers_text handlers.now) }
+    ensures { OnOk result
+        (string_bytes out.new ≡ string_bytes out.old ++ handlers_text handlers.now) }
 {
     match handlers {
         [] => Ok(()),
@@ -196,7 +208,10 @@ fn put_try(out: &mut String, info: &Option<TryCallInfo>) -> Result<(), AllocErro
 
 // A call's branch, and the bytes that it pops.
 fn put_call_head(out: &mut String, link: Reg, info: &CallInfo) -> Result<(), AllocError>
-    ensures { OnOk result (string_bytes out.new ≡ string_bytes out.old ++ (branch_and_link_text link info.now.dest ++ popped_text info.now.callee_pop_size)) }
+    ensures { OnOk result
+        (string_bytes out.new
+        ≡ string_bytes out.old
+        ++ (branch_and_link_text link info.now.dest ++ popped_text info.now.callee_pop_size)) }
 {
     put_branch_and_link(out, link, &info.dest)?;
     put_popped(out, info.callee_pop_size)
@@ -209,7 +224,8 @@ fn put_plain_call(
     link: Reg,
     info: &CallInfo,
 ) -> Result<(), TextError>
-    ensures { Prints result (string_bytes out.old) (string_bytes out.new) (plain_call_text state.now link info.now) }
+    ensures { Prints result (string_bytes out.old) (string_bytes out.new)
+        (plain_call_text state.now link info.now) }
 {
     put_call_head(out, link, info)?;
     put_loads(alloc, out, state, info)?;
@@ -233,7 +249,8 @@ fn put_before(
     state: &EmitState,
     inst: &Inst,
 ) -> Result<(), TextError>
-    ensures { Prints result (string_bytes out.old) (string_bytes out.new) (before_semicolon (simple_text true state.now inst.now)) }
+    ensures { Prints result (string_bytes out.old) (string_bytes out.new)
+        (before_semicolon (simple_text true state.now inst.now)) }
 {
     put_simple(alloc, out, true, state, inst)?;
     Ok(put(out, " ; ")?)
@@ -245,7 +262,8 @@ fn put_simples(
     state: &EmitState,
     insts: &[Inst],
 ) -> Result<(), TextError>
-    ensures { Prints result (string_bytes out.old) (string_bytes out.new) (simple_texts state.now insts.now) }
+    ensures { Prints result (string_bytes out.old) (string_bytes out.new)
+        (simple_texts state.now insts.now) }
 {
     for inst in insts {
         put_before(alloc, out, state, inst)?;
@@ -261,7 +279,8 @@ fn put_epilogue(
     popped: u32,
     dest: &CallInstDest,
 ) -> Result<Option<Reg>, TextError>
-    ensures answer { Prints result (string_bytes out.old) (string_bytes out.new) (epilogue_text state.now popped dest.now) }
+    ensures answer { Prints result (string_bytes out.old) (string_bytes out.new)
+        (epilogue_text state.now popped dest.now) }
     ensures copied { IfOk result (λ copied. copied ≡ copied_target dest.now) }
 {
     let layout = *state.frame_layout();
@@ -283,7 +302,8 @@ fn put_tail_branch(
     dest: &CallInstDest,
     copied: Option<Reg>,
 ) -> Result<(), AllocError>
-    ensures { OnOk result (string_bytes out.new ≡ string_bytes out.old ++ tail_branch_text dest.now copied) }
+    ensures { OnOk result
+        (string_bytes out.new ≡ string_bytes out.old ++ tail_branch_text dest.now copied) }
 {
     match (dest, copied) {
         (CallInstDest::Direct { name }, _) => spelled1(out, "jg", name),
@@ -299,7 +319,9 @@ fn put_tail(
     copied: Option<Reg>,
     popped: u32,
 ) -> Result<(), AllocError>
-    ensures { OnOk result (string_bytes out.new ≡ string_bytes out.old ++ (tail_branch_text dest.now copied ++ popped_text popped)) }
+    ensures { OnOk result
+        (string_bytes out.new
+        ≡ string_bytes out.old ++ (tail_branch_text dest.now copied ++ popped_text popped)) }
 {
     put_tail_branch(out, dest, copied)?;
     put_popped(out, popped)
@@ -311,7 +333,8 @@ fn put_tail_call(
     state: &EmitState,
     info: &ReturnCallInfo<CallInstDest>,
 ) -> Result<(), TextError>
-    ensures { Prints result (string_bytes out.old) (string_bytes out.new) (tail_call_text state.now info.now) }
+    ensures { Prints result (string_bytes out.old) (string_bytes out.new)
+        (tail_call_text state.now info.now) }
 {
     let copied = put_epilogue(alloc, out, state, info.callee_pop_size, &info.dest)?;
     Ok(put_tail(out, &info.dest, copied, info.callee_pop_size)?)
@@ -325,7 +348,8 @@ pub fn put_call(
     state: &EmitState,
     inst: &Inst,
 ) -> Option<Result<(), TextError>>
-    ensures { PrintsWhere result (string_bytes out.old) (string_bytes out.new) (call_text state.now inst.now) }
+    ensures { PrintsWhere result (string_bytes out.old) (string_bytes out.new)
+        (call_text state.now inst.now) }
 {
     match inst {
         Inst::Call { link, info } => Some(put_plain_call(alloc, out, state, link.to_reg(), info)),

@@ -19,7 +19,8 @@ fn put_leaf(
     state: &EmitState,
     inst: &Inst,
 ) -> Result<(), TextError>
-    ensures { Prints result (string_bytes out.old) (string_bytes out.new) (leaf_text flags state.now inst.now) }
+    ensures { Prints result (string_bytes out.old) (string_bytes out.new)
+        (leaf_text flags state.now inst.now) }
 {
     match put_call(alloc, out, state, inst) {
         Some(answer) => answer,
@@ -49,7 +50,8 @@ fn put_one(
     state: &mut EmitState,
     inst: &Inst,
 ) -> Result<(), TextError>
-    ensures answer { Prints result (string_bytes out.old) (string_bytes out.new) (leaf_text flags state.old inst.now) }
+    ensures answer { Prints result (string_bytes out.old) (string_bytes out.new)
+        (leaf_text flags state.old inst.now) }
     ensures after { IfOk result (λ _. state.new ≡ leaf_after state.old inst.now) }
 {
     put_leaf(alloc, out, flags, state, inst)?;
@@ -79,7 +81,8 @@ fn put_members(
     depth: u32,
     insts: &[Inst],
 ) -> Result<(), TextError>
-    ensures answer { Prints result (string_bytes out.old) (string_bytes out.new) (insts_text flags depth state.old insts.now) }
+    ensures answer { Prints result (string_bytes out.old) (string_bytes out.new)
+        (insts_text flags depth state.old insts.now) }
     ensures after { IfOk result (λ _. state.new ≡ insts_after state.old insts.now) }
 {
     for inst in insts {
@@ -98,7 +101,8 @@ fn put_member(
     depth: u32,
     inst: &Inst,
 ) -> Result<(), TextError>
-    ensures answer { Prints result (string_bytes out.old) (string_bytes out.new) (before_semicolon (inst_text flags depth state.old inst.now)) }
+    ensures answer { Prints result (string_bytes out.old) (string_bytes out.new)
+        (before_semicolon (inst_text flags depth state.old inst.now)) }
     ensures after { IfOk result (λ _. state.new ≡ after state.old inst.now) }
 {
     put_inst(alloc, out, flags, state, depth, inst)?;
@@ -117,7 +121,9 @@ fn put_loop(
     cond: Cond,
     body: &[Inst],
 ) -> Result<(), TextError>
-    ensures answer { Prints result (string_bytes out.old) (string_bytes out.new) (looped depth cond (length body.now == 0) (insts_text flags (depth + 1) state.old body.now)) }
+    ensures answer { Prints result (string_bytes out.old) (string_bytes out.new)
+        (looped depth cond (length body.now == 0)
+        (insts_text flags (depth + 1) state.old body.now)) }
     ensures after { IfOk result (λ _. state.new ≡ insts_after state.old body.now) }
 {
     if depth >= 8 {
@@ -139,7 +145,8 @@ fn put_inst(
     depth: u32,
     inst: &Inst,
 ) -> Result<(), TextError>
-    ensures answer { Prints result (string_bytes out.old) (string_bytes out.new) (inst_text flags depth state.old inst.now) }
+    ensures answer { Prints result (string_bytes out.old) (string_bytes out.new)
+        (inst_text flags depth state.old inst.now) }
     ensures after { IfOk result (λ _. state.new ≡ after state.old inst.now) }
 {
     match inst {
@@ -163,7 +170,10 @@ pub fn pretty_print_inst(
     info: &EmitInfo,
     state: &mut EmitState,
 ) -> Result<String, TextError>
-    ensures answer { MatchResult result (λ s. ((inst_text info.now.isa_flags 0 state.old inst.now).cause ≡ None) × (string_bytes s ≡ (inst_text info.now.isa_flags 0 state.old inst.now).bytes)) (λ e. RefusedBy (inst_text info.now.isa_flags 0 state.old inst.now).cause e) }
+    ensures answer { MatchResult result
+        (λ s. ((inst_text info.now.isa_flags 0 state.old inst.now).cause ≡ None)
+        × (string_bytes s ≡ (inst_text info.now.isa_flags 0 state.old inst.now).bytes))
+        (λ e. RefusedBy (inst_text info.now.isa_flags 0 state.old inst.now).cause e) }
     ensures after { IfOk result (λ _. state.new ≡ after state.old inst.now) }
     ensures left { OnErr result (state.new ≡ state.old) }
 {

@@ -16,7 +16,9 @@ pub trait PrettyPrint {
 
     /// The text, or its cause of refusal (cranelift-codegen, `args.rs` and `imms.rs`).
     fn pretty_print(&self, alloc: Global) -> Result<String, TextError>
-        ensures { MatchResult result (λ s. ((text self.now).cause ≡ None) × (string_bytes s ≡ (text self.now).bytes)) (λ e. RefusedBy (text self.now).cause e) };
+        ensures { MatchResult result
+            (λ s. ((text self.now).cause ≡ None) × (string_bytes s ≡ (text self.now).bytes))
+            (λ e. RefusedBy (text self.now).cause e) };
 }
 
 /// `D(X,B)`, without a register that is `%r0`; `labelN`, `[const(N)]` or `uN + OFFSET`. `Virtual` exactly where the operand is an offset from a register or

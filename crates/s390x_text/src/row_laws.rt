@@ -12,8 +12,14 @@ ghost use Rattle.s390x_text.specs.Rows.{RowsAgreeExactly, RowsAgreeInOrder};
 /// `pretty_print_inst` answers that text or wants memory, and this state is the one in which emission meets it, but for the stack
 /// map, which no text shows. So all texts of a block, in order, aren't refused either.
 pub fn valid_blocks_have_texts()
-    ensures texts { (flags : IsaFlags) (D : Declared) (n : ℕ) (e : Emission) (blocks : List Block) → e.nominal ≡ 0 → e.outgoing ≡ 0 → blocks_cause flags D n (map (tree_of_block flags e) blocks) ≡ None → All (AllHaveTexts flags e) blocks }
-    ensures in_order { (flags : IsaFlags) (D : Declared) (n : ℕ) (e : Emission) (blocks : List Block) → e.nominal ≡ 0 → e.outgoing ≡ 0 → blocks_cause flags D n (map (tree_of_block flags e) blocks) ≡ None → All (HasTextsInOrder flags e) blocks }
+    ensures texts { (flags : IsaFlags) (D : Declared) (n : ℕ) (e : Emission) (blocks : List Block)
+        → e.nominal ≡ 0 → e.outgoing ≡ 0
+        → blocks_cause flags D n (map (tree_of_block flags e) blocks) ≡ None
+        → All (AllHaveTexts flags e) blocks }
+    ensures in_order { (flags : IsaFlags) (D : Declared) (n : ℕ) (e : Emission)
+        (blocks : List Block) → e.nominal ≡ 0 → e.outgoing ≡ 0
+        → blocks_cause flags D n (map (tree_of_block flags e) blocks) ≡ None
+        → All (HasTextsInOrder flags e) blocks }
 {}
 
 /// An instruction that is neither a loop nor a call has no row for its text exactly where it has none for its bytes: on vectors too, and of those that go elsewhere none lacks one.

@@ -36,7 +36,8 @@ pub fn one_of_four(
     third: &'static str,
     n: u8,
 ) -> Option<&'static str>
-    ensures { option_map (λ s. s.now) result ≡ one_of_four zeroth.now first.now second.now third.now n }
+    ensures { option_map (λ s. s.now) result
+        ≡ one_of_four zeroth.now first.now second.now third.now n }
 {
     match n {
         0 => Some(zeroth),
@@ -84,7 +85,8 @@ fn alu_half_name(op: ALUOp, shift: u8) -> Option<&'static str>
 
 // No row where a selected bit isn't below 64.
 fn selected_name(name: Option<&'static str>, start: u8, end: u8) -> Option<&'static str>
-    ensures { option_map (λ s. s.now) result ≡ selected_name (option_map (λ s. s.now) name.entry) start end }
+    ensures { option_map (λ s. s.now) result
+        ≡ selected_name (option_map (λ s. s.now) name.entry) start end }
 {
     if start < 64 && end < 64 { name } else { None }
 }
@@ -97,7 +99,8 @@ fn rotation(amount: i8) -> u8
 }
 
 fn put_unary(out: &mut String, op: UnaryOp, rd: &Writable<Reg>, rn: &Reg) -> Result<(), TextError>
-    ensures { Prints result (string_bytes out.old) (string_bytes out.new) (fixed (spelled (unary_name op) (unary_operands op rd.now rn.now))) }
+    ensures { Prints result (string_bytes out.old) (string_bytes out.new)
+        (fixed (spelled (unary_name op) (unary_operands op rd.now rn.now))) }
 {
     match op {
         UnaryOp::PopcntReg => fixed3(out, unary_name(op), rd, rn, &8u8),
@@ -107,7 +110,8 @@ fn put_unary(out: &mut String, op: UnaryOp, rd: &Writable<Reg>, rn: &Reg) -> Res
 
 /// Appends the text of an operator on registers and immediates; None for another instruction.
 pub fn put_arithmetic(out: &mut String, inst: &Inst) -> Option<Result<(), TextError>>
-    ensures { PrintsWhere result (string_bytes out.old) (string_bytes out.new) (arithmetic_text inst.now) }
+    ensures { PrintsWhere result (string_bytes out.old) (string_bytes out.new)
+        (arithmetic_text inst.now) }
 {
     match inst {
         Inst::AluRRR { alu_op, rd, rn, rm } => Some(three(
@@ -254,7 +258,8 @@ fn pair_row2<A: Operand>(
     rd: &WritableRegPair,
     a: &A,
 ) -> Result<(), TextError>
-    ensures { Prints result (string_bytes out.old) (string_bytes out.new) (pair_row mnemonic.now rd.now (A.shown a.now ∷ [])) }
+    ensures { Prints result (string_bytes out.old) (string_bytes out.new)
+        (pair_row mnemonic.now rd.now (A.shown a.now ∷ [])) }
 {
     let pair = rd.to_regpair();
     match pair_refusal(pair) {
@@ -270,7 +275,8 @@ fn pair_row3<A: Operand, B: Operand>(
     a: &A,
     b: &B,
 ) -> Result<(), TextError>
-    ensures { Prints result (string_bytes out.old) (string_bytes out.new) (pair_row mnemonic.now rd.now (A.shown a.now ∷ B.shown b.now ∷ [])) }
+    ensures { Prints result (string_bytes out.old) (string_bytes out.new)
+        (pair_row mnemonic.now rd.now (A.shown a.now ∷ B.shown b.now ∷ [])) }
 {
     let pair = rd.to_regpair();
     match pair_refusal(pair) {
@@ -281,7 +287,8 @@ fn pair_row3<A: Operand, B: Operand>(
 
 /// Appends the text of an instruction whose output is a pair; None for another one.
 pub fn put_pair_instruction(out: &mut String, inst: &Inst) -> Option<Result<(), TextError>>
-    ensures { PrintsWhere result (string_bytes out.old) (string_bytes out.new) (pair_instruction_text inst.now) }
+    ensures { PrintsWhere result (string_bytes out.old) (string_bytes out.new)
+        (pair_instruction_text inst.now) }
 {
     match inst {
         Inst::SMulWide { rd, rn, rm } => Some(pair_row3(out, "mgrk", rd, rn, rm)),

@@ -13,7 +13,8 @@ use s390x_inst::Inst;
 
 /// Appends the text of a comparison of registers and immediates; None for another instruction.
 pub fn put_compare(out: &mut String, inst: &Inst) -> Option<Result<(), TextError>>
-    ensures { PrintsWhere result (string_bytes out.old) (string_bytes out.new) (compare_text inst.now) }
+    ensures { PrintsWhere result (string_bytes out.old) (string_bytes out.new)
+        (compare_text inst.now) }
 {
     match inst {
         Inst::CmpRR { op, rn, rm } => Some(row2(out, cmp_two_name(*op), rn, rm)),

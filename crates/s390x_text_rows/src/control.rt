@@ -16,7 +16,8 @@ use std::alloc::AllocError;
 
 // A branch to a block under a condition.
 fn put_branch(out: &mut String, cond: Cond, label: MachLabel) -> Result<(), AllocError>
-    ensures { OnOk result (string_bytes out.new ≡ string_bytes out.old ++ branch_text cond label.0) }
+    ensures { OnOk result
+        (string_bytes out.new ≡ string_bytes out.old ++ branch_text cond label.0) }
 {
     put(out, "jg")?;
     spelled1(out, cond_name(cond), &label)
@@ -28,7 +29,11 @@ fn put_two_branches(
     taken: MachLabel,
     not_taken: MachLabel,
 ) -> Result<(), AllocError>
-    ensures { OnOk result (string_bytes out.new ≡ string_bytes out.old ++ (branch_text cond taken.0 ++ (codes " ; " ++ spelled (codes "jg") (label_text not_taken.0 ∷ [])))) }
+    ensures { OnOk result
+        (string_bytes out.new
+        ≡ string_bytes out.old
+        ++ (branch_text cond taken.0
+        ++ (codes " ; " ++ spelled (codes "jg") (label_text not_taken.0 ∷ [])))) }
 {
     put_branch(out, cond, taken)?;
     put(out, " ; ")?;
@@ -37,7 +42,9 @@ fn put_two_branches(
 
 // A branch under a condition that goes where the text behind it says.
 fn put_jump(out: &mut String, cond: Cond, end: &str) -> Result<(), AllocError>
-    ensures { OnOk result (string_bytes out.new ≡ string_bytes out.old ++ (codes "jg" ++ (cond_text cond ++ end.now))) }
+    ensures { OnOk result
+        (string_bytes out.new
+        ≡ string_bytes out.old ++ (codes "jg" ++ (cond_text cond ++ end.now))) }
 {
     put(out, "jg")?;
     put(out, cond_name(cond))?;
@@ -46,7 +53,8 @@ fn put_jump(out: &mut String, cond: Cond, end: &str) -> Result<(), AllocError>
 
 // The mnemonic of a branch under a condition.
 fn put_branch_name(out: &mut String, cond: Cond) -> Result<(), AllocError>
-    ensures { OnOk result (string_bytes out.new ≡ string_bytes out.old ++ (codes "jg" ++ cond_text cond)) }
+    ensures { OnOk result
+        (string_bytes out.new ≡ string_bytes out.old ++ (codes "jg" ++ cond_text cond)) }
 {
     put(out, "jg")?;
     put(out, cond_name(cond))
@@ -54,21 +62,27 @@ fn put_branch_name(out: &mut String, cond: Cond) -> Result<(), AllocError>
 
 // The place in a branch that traps, and the trap's code.
 fn put_trap_place(out: &mut String, code: TrapCode) -> Result<(), AllocError>
-    ensures { OnOk result (string_bytes out.new ≡ string_bytes out.old ++ (codes " .+2 # trap=" ++ trap_text code)) }
+    ensures { OnOk result
+        (string_bytes out.new ≡ string_bytes out.old ++ (codes " .+2 # trap=" ++ trap_text code)) }
 {
     put(out, " .+2 # trap=")?;
     put_trap(out, code)
 }
 
 fn put_trap_if(out: &mut String, cond: Cond, code: TrapCode) -> Result<(), AllocError>
-    ensures { OnOk result (string_bytes out.new ≡ string_bytes out.old ++ ((codes "jg" ++ (cond_text cond ++ codes " .+2 # trap=")) ++ trap_text code)) }
+    ensures { OnOk result
+        (string_bytes out.new
+        ≡ string_bytes out.old
+        ++ ((codes "jg" ++ (cond_text cond ++ codes " .+2 # trap=")) ++ trap_text code)) }
 {
     put_branch_name(out, cond)?;
     put_trap_place(out, code)
 }
 
 fn put_trap_word(out: &mut String, code: TrapCode) -> Result<(), AllocError>
-    ensures { OnOk result (string_bytes out.new ≡ string_bytes out.old ++ (codes ".word 0x0000 # trap=" ++ trap_text code)) }
+    ensures { OnOk result
+        (string_bytes out.new
+        ≡ string_bytes out.old ++ (codes ".word 0x0000 # trap=" ++ trap_text code)) }
 {
     put(out, ".word 0x0000 # trap=")?;
     put_trap(out, code)
@@ -76,7 +90,8 @@ fn put_trap_word(out: &mut String, code: TrapCode) -> Result<(), AllocError>
 
 // A label behind a space.
 fn put_label(out: &mut String, label: &MachLabel) -> Result<(), AllocError>
-    ensures { OnOk result (string_bytes out.new ≡ string_bytes out.old ++ (codes " " ++ label_text label.now.0)) }
+    ensures { OnOk result
+        (string_bytes out.new ≡ string_bytes out.old ++ (codes " " ++ label_text label.now.0)) }
 {
     put(out, " ")?;
     label.put(out)
@@ -93,14 +108,17 @@ fn put_labels(out: &mut String, labels: &[MachLabel]) -> Result<(), AllocError>
 
 // The word of a table that is added to its address.
 fn put_table_load(out: &mut String, index: Reg) -> Result<(), AllocError>
-    ensures { OnOk result (string_bytes out.new ≡ string_bytes out.old ++ (codes " ; larl %r1, 14 ; agf %r1, 0(" ++ reg_text index)) }
+    ensures { OnOk result
+        (string_bytes out.new
+        ≡ string_bytes out.old ++ (codes " ; larl %r1, 14 ; agf %r1, 0(" ++ reg_text index)) }
 {
     put(out, " ; larl %r1, 14 ; agf %r1, 0(")?;
     put_reg(out, index)
 }
 
 fn put_table_jump(out: &mut String) -> Result<(), AllocError>
-    ensures { OnOk result (string_bytes out.new ≡ string_bytes out.old ++ codes ", %r1) ; br %r1 ; jt_entries") }
+    ensures { OnOk result
+        (string_bytes out.new ≡ string_bytes out.old ++ codes ", %r1) ; br %r1 ; jt_entries") }
 {
     put(out, ", %r1) ; br %r1 ; jt_entries")
 }
@@ -120,7 +138,8 @@ fn put_table(
     cond: Cond,
     targets: &[MachLabel],
 ) -> Result<(), AllocError>
-    ensures { OnOk result (string_bytes out.new ≡ string_bytes out.old ++ table_text index other.0 cond targets.now) }
+    ensures { OnOk result
+        (string_bytes out.new ≡ string_bytes out.old ++ table_text index other.0 cond targets.now) }
 {
     put_branch(out, cond, other)?;
     put_table_sum(out, index)?;
@@ -129,7 +148,8 @@ fn put_table(
 
 // A register that holds a value, and the one that the convention wants.
 fn put_convention(out: &mut String, held: Reg, wanted: Reg) -> Result<(), AllocError>
-    ensures { OnOk result (string_bytes out.new ≡ string_bytes out.old ++ convention_text held wanted) }
+    ensures { OnOk result
+        (string_bytes out.new ≡ string_bytes out.old ++ convention_text held wanted) }
 {
     put(out, " ")?;
     put_reg(out, held)?;
@@ -138,7 +158,8 @@ fn put_convention(out: &mut String, held: Reg, wanted: Reg) -> Result<(), AllocE
 }
 
 fn put_arg(out: &mut String, arg: &ArgPair) -> Result<(), AllocError>
-    ensures { OnOk result (string_bytes out.new ≡ string_bytes out.old ++ convention_text arg.now.vreg arg.now.preg) }
+    ensures { OnOk result
+        (string_bytes out.new ≡ string_bytes out.old ++ convention_text arg.now.vreg arg.now.preg) }
 {
     put_convention(out, arg.vreg.to_reg(), arg.preg)
 }
@@ -153,7 +174,8 @@ fn put_arg_pairs(out: &mut String, args: &[ArgPair]) -> Result<(), AllocError>
 }
 
 fn put_ret(out: &mut String, ret: &RetPair) -> Result<(), AllocError>
-    ensures { OnOk result (string_bytes out.new ≡ string_bytes out.old ++ convention_text ret.now.vreg ret.now.preg) }
+    ensures { OnOk result
+        (string_bytes out.new ≡ string_bytes out.old ++ convention_text ret.now.vreg ret.now.preg) }
 {
     put_convention(out, ret.vreg, ret.preg)
 }
@@ -168,14 +190,16 @@ fn put_ret_pairs(out: &mut String, rets: &[RetPair]) -> Result<(), AllocError>
 }
 
 fn put_args(out: &mut String, args: &[ArgPair]) -> Result<(), AllocError>
-    ensures { OnOk result (string_bytes out.new ≡ string_bytes out.old ++ (codes "args" ++ args_text args.now)) }
+    ensures { OnOk result
+        (string_bytes out.new ≡ string_bytes out.old ++ (codes "args" ++ args_text args.now)) }
 {
     put(out, "args")?;
     put_arg_pairs(out, args)
 }
 
 fn put_rets(out: &mut String, rets: &[RetPair]) -> Result<(), AllocError>
-    ensures { OnOk result (string_bytes out.new ≡ string_bytes out.old ++ (codes "rets" ++ rets_text rets.now)) }
+    ensures { OnOk result
+        (string_bytes out.new ≡ string_bytes out.old ++ (codes "rets" ++ rets_text rets.now)) }
 {
     put(out, "rets")?;
     put_ret_pairs(out, rets)
@@ -212,7 +236,11 @@ fn put_symbol_load(
     rd: Writable<Reg>,
     reloc: SymbolReloc,
 ) -> Result<(), AllocError>
-    ensures { OnOk result (string_bytes out.new ≡ string_bytes out.old ++ (codes "bras %r1, 12 ; data " ++ (reloc_text reloc ++ (codes " ; lg " ++ (reg_text rd ++ codes ", 0(%r1)"))))) }
+    ensures { OnOk result
+        (string_bytes out.new
+        ≡ string_bytes out.old
+        ++ (codes "bras %r1, 12 ; data "
+        ++ (reloc_text reloc ++ (codes " ; lg " ++ (reg_text rd ++ codes ", 0(%r1)"))))) }
 {
     put(out, "bras %r1, 12 ; data ")?;
     put_reloc(out, reloc)?;
@@ -224,7 +252,8 @@ fn put_symbol_load(
 /// Appends the text of an instruction that goes elsewhere, ends a run, names a place or has no bytes; None for another one. Loops, calls and
 /// tail calls aren't among them.
 pub fn put_control(out: &mut String, inst: &Inst) -> Option<Result<(), TextError>>
-    ensures { PrintsWhere result (string_bytes out.old) (string_bytes out.new) (control_text inst.now) }
+    ensures { PrintsWhere result (string_bytes out.old) (string_bytes out.new)
+        (control_text inst.now) }
 {
     match inst {
         Inst::Fence => Some(answered(put(out, "bcr 14, 0"))),

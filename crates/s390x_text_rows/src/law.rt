@@ -28,5 +28,6 @@ pub fn rows_in_order()
     ensures vec_shift { IsInOrder the_vec_shift.the_type VEC_SHIFT_MNEMONICS.now }
     ensures vec_compare { IsInOrder the_vec_compare.the_type VEC_COMPARE_MNEMONICS.now }
     ensures vec_compare_set { IsInOrder the_vec_compare.the_type VEC_COMPARE_SET_MNEMONICS.now }
-    ensures vec_element_compare { IsInOrder the_vec_element_compare.the_type VEC_ELEMENT_COMPARE_MNEMONICS.now }
+    ensures vec_element_compare { IsInOrder the_vec_element_compare.the_type
+        VEC_ELEMENT_COMPARE_MNEMONICS.now }
 {}

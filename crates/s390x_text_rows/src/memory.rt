@@ -21,7 +21,8 @@ pub fn put_load(
     state: &EmitState,
     inst: &Inst,
 ) -> Option<Result<(), TextError>>
-    ensures { PrintsWhere result (string_bytes out.old) (string_bytes out.new) (load_text has state.now inst.now) }
+    ensures { PrintsWhere result (string_bytes out.old) (string_bytes out.new)
+        (load_text has state.now inst.now) }
 {
     match inst.as_load() {
         Some(load) => Some(rx_access(
@@ -48,7 +49,8 @@ pub fn put_store(
     state: &EmitState,
     inst: &Inst,
 ) -> Option<Result<(), TextError>>
-    ensures { PrintsWhere result (string_bytes out.old) (string_bytes out.new) (store_text has state.now inst.now) }
+    ensures { PrintsWhere result (string_bytes out.old) (string_bytes out.new)
+        (store_text has state.now inst.now) }
 {
     match inst {
         Inst::Store8 { rd, mem } => Some(rx_access(alloc, out, has, state, Some("stc"), Some("stcy"), None, rd, mem)),
@@ -76,7 +78,8 @@ pub fn put_storage_operator(
     state: &EmitState,
     inst: &Inst,
 ) -> Option<Result<(), TextError>>
-    ensures { PrintsWhere result (string_bytes out.old) (string_bytes out.new) (storage_operator_text has state.now inst.now) }
+    ensures { PrintsWhere result (string_bytes out.old) (string_bytes out.new)
+        (storage_operator_text has state.now inst.now) }
 {
     match inst {
         Inst::AluRX { alu_op, rd, ri, mem } => Some(rx_access(alloc, out, has, state, alu_short_name(*alu_op), alu_long_name(*alu_op), None, &reused(rd, ri), mem)),

@@ -80,7 +80,8 @@ fn indexed(offset: &SImm20, index: &Reg, base: &Reg) -> Indexed
 
 /// Appends the text of a move, or of an address that is summed; None for another instruction.
 pub fn put_move(out: &mut String, inst: &Inst) -> Option<Result<(), TextError>>
-    ensures { PrintsWhere result (string_bytes out.old) (string_bytes out.new) (move_text inst.now) }
+    ensures { PrintsWhere result (string_bytes out.old) (string_bytes out.new)
+        (move_text inst.now) }
 {
     match inst {
         Inst::Mov64 { rd, rm } => Some(fixed2(out, "lgr", rd, rm)),

@@ -141,7 +141,8 @@ impl Operand for Reused {
 
 // Both registers of a pair.
 fn put_halves(out: &mut String, pair: RegPair) -> Result<(), AllocError>
-    ensures { OnOk result (string_bytes out.new ≡ string_bytes out.old ++ halves_text pair.hi pair.lo) }
+    ensures { OnOk result
+        (string_bytes out.new ≡ string_bytes out.old ++ halves_text pair.hi pair.lo) }
 {
     put_reg(out, pair.hi)?;
     put(out, "/")?;

@@ -21,7 +21,8 @@ pub fn alone<T: Operand>(alloc: Global, operand: &T) -> Result<String, AllocErro
 
 /// The text of a register: `%rN` and `%vN` of a real one, `%iN` and `%xN` of a virtual one (cranelift-codegen, `regs.rs`).
 pub fn show_reg(alloc: Global, reg: Reg) -> Result<String, TextError>
-    ensures { MatchResult result (λ s. string_bytes s ≡ reg_text reg) (λ e. e ≡ TextError.NoMemory) }
+    ensures { MatchResult result (λ s. string_bytes s ≡ reg_text reg)
+        (λ e. e ≡ TextError.NoMemory) }
 {
     Ok(alone(alloc, &reg)?)
 }
@@ -38,7 +39,8 @@ pub fn is_float(reg: &Reg) -> bool
 
 // The text of a float register, where it is one.
 fn show_float(alloc: Global, reg: &Reg) -> Result<Option<String>, TextError>
-    ensures { MatchResult result (λ s. option_map string_bytes s ≡ float_of reg.now) (λ e. e ≡ TextError.NoMemory) }
+    ensures { MatchResult result (λ s. option_map string_bytes s ≡ float_of reg.now)
+        (λ e. e ≡ TextError.NoMemory) }
 {
     if is_float(reg) {
         Ok(Some(alone(alloc, &Float(*reg))?))
@@ -50,14 +52,16 @@ fn show_float(alloc: Global, reg: &Reg) -> Result<Option<String>, TextError>
 /// The text of a float register, `%fN`; None exactly where the register isn't real or isn't below 16. It is asked of registers of class
 /// Float, and looks at the number alone (cranelift-codegen, `regs.rs`).
 pub fn maybe_show_fpr(alloc: Global, reg: Reg) -> Result<Option<String>, TextError>
-    ensures { MatchResult result (λ s. option_map string_bytes s ≡ float_of reg) (λ e. e ≡ TextError.NoMemory) }
+    ensures { MatchResult result (λ s. option_map string_bytes s ≡ float_of reg)
+        (λ e. e ≡ TextError.NoMemory) }
 {
     show_float(alloc, &reg)
 }
 
 /// The text of a register, as `show_reg` (cranelift-codegen, `regs.rs`).
 pub fn pretty_print_reg(alloc: Global, reg: Reg) -> Result<String, TextError>
-    ensures { MatchResult result (λ s. string_bytes s ≡ reg_text reg) (λ e. e ≡ TextError.NoMemory) }
+    ensures { MatchResult result (λ s. string_bytes s ≡ reg_text reg)
+        (λ e. e ≡ TextError.NoMemory) }
 {
     show_reg(alloc, reg)
 }
@@ -81,7 +85,9 @@ pub fn pair_refusal(pair: RegPair) -> Option<TextError>
 /// The text of a pair: its first register, and where one is virtual both, as `%i0/%i1`. `BadPair` exactly where both are real and the number
 /// of the second isn't that of the first plus 1 (cranelift-codegen, `regs.rs`).
 pub fn pretty_print_regpair(alloc: Global, pair: RegPair) -> Result<String, TextError>
-    ensures { MatchResult result (λ s. (pair_cause pair.hi pair.lo ≡ None) × (string_bytes s ≡ pair_text pair.hi pair.lo)) (λ e. RefusedBy (pair_cause pair.hi pair.lo) e) }
+    ensures { MatchResult result
+        (λ s. (pair_cause pair.hi pair.lo ≡ None) × (string_bytes s ≡ pair_text pair.hi pair.lo))
+        (λ e. RefusedBy (pair_cause pair.hi pair.lo) e) }
 {
     match pair_refusal(pair) {
         Some(error) => Err(error),
@@ -91,7 +97,8 @@ pub fn pretty_print_regpair(alloc: Global, pair: RegPair) -> Result<String, Text
 
 /// The text of an output that is also an input: the register, or `RD<-RI` where they differ (cranelift-codegen, `regs.rs`).
 pub fn pretty_print_reg_mod(alloc: Global, rd: Writable<Reg>, ri: Reg) -> Result<String, TextError>
-    ensures { MatchResult result (λ s. string_bytes s ≡ reused_text rd ri) (λ e. e ≡ TextError.NoMemory) }
+    ensures { MatchResult result (λ s. string_bytes s ≡ reused_text rd ri)
+        (λ e. e ≡ TextError.NoMemory) }
 {
     Ok(alone(
         alloc,
@@ -109,7 +116,8 @@ pub fn pretty_print_regpair_mod(
     rd: WritableRegPair,
     ri: RegPair,
 ) -> Result<String, TextError>
-    ensures { MatchResult result (λ s. string_bytes s ≡ reused_pair_text rd.hi rd.lo ri.hi ri.lo) (λ e. e ≡ TextError.NoMemory) }
+    ensures { MatchResult result (λ s. string_bytes s ≡ reused_pair_text rd.hi rd.lo ri.hi ri.lo)
+        (λ e. e ≡ TextError.NoMemory) }
 {
     Ok(alone(
         alloc,
@@ -127,7 +135,8 @@ pub fn pretty_print_regpair_mod_lo(
     rd: WritableRegPair,
     ri: Reg,
 ) -> Result<String, TextError>
-    ensures { MatchResult result (λ s. string_bytes s ≡ reused_low_text rd.hi rd.lo ri) (λ e. e ≡ TextError.NoMemory) }
+    ensures { MatchResult result (λ s. string_bytes s ≡ reused_low_text rd.hi rd.lo ri)
+        (λ e. e ≡ TextError.NoMemory) }
 {
     Ok(alone(
         alloc,
@@ -140,7 +149,9 @@ pub fn pretty_print_regpair_mod_lo(
 
 /// The text of a register, and its text as a float register where it is one, as of `maybe_show_fpr` (cranelift-codegen, `regs.rs`).
 pub fn pretty_print_fpr(alloc: Global, reg: Reg) -> Result<(String, Option<String>), TextError>
-    ensures { MatchResult result (λ r. (string_bytes r.0 ≡ reg_text reg) × (option_map string_bytes r.1 ≡ float_of reg)) (λ e. e ≡ TextError.NoMemory) }
+    ensures { MatchResult result
+        (λ r. (string_bytes r.0 ≡ reg_text reg) × (option_map string_bytes r.1 ≡ float_of reg))
+        (λ e. e ≡ TextError.NoMemory) }
 {
     let text = alone(alloc, &reg)?;
     let float = show_float(alloc, &reg)?;

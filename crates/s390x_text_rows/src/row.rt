@@ -24,7 +24,8 @@ pub fn answered(written: Result<(), AllocError>) -> Result<(), TextError>
 
 /// Appends a row with one operand.
 pub fn spelled1<A: Operand>(out: &mut String, mnemonic: &str, a: &A) -> Result<(), AllocError>
-    ensures { OnOk result (string_bytes out.new ≡ string_bytes out.old ++ spelled mnemonic.now (A.shown a.now ∷ [])) }
+    ensures { OnOk result
+        (string_bytes out.new ≡ string_bytes out.old ++ spelled mnemonic.now (A.shown a.now ∷ [])) }
 {
     put(out, mnemonic)?;
     put(out, " ")?;
@@ -38,7 +39,9 @@ pub fn spelled2<A: Operand, B: Operand>(
     a: &A,
     b: &B,
 ) -> Result<(), AllocError>
-    ensures { OnOk result (string_bytes out.new ≡ string_bytes out.old ++ spelled mnemonic.now (A.shown a.now ∷ B.shown b.now ∷ [])) }
+    ensures { OnOk result
+        (string_bytes out.new
+        ≡ string_bytes out.old ++ spelled mnemonic.now (A.shown a.now ∷ B.shown b.now ∷ [])) }
 {
     spelled1(out, mnemonic, a)?;
     put(out, ", ")?;
@@ -53,7 +56,10 @@ pub fn spelled3<A: Operand, B: Operand, C: Operand>(
     b: &B,
     c: &C,
 ) -> Result<(), AllocError>
-    ensures { OnOk result (string_bytes out.new ≡ string_bytes out.old ++ spelled mnemonic.now (A.shown a.now ∷ B.shown b.now ∷ C.shown c.now ∷ [])) }
+    ensures { OnOk result
+        (string_bytes out.new
+        ≡ string_bytes out.old
+        ++ spelled mnemonic.now (A.shown a.now ∷ B.shown b.now ∷ C.shown c.now ∷ [])) }
 {
     spelled2(out, mnemonic, a, b)?;
     put(out, ", ")?;
@@ -69,7 +75,11 @@ pub fn spelled4<A: Operand, B: Operand, C: Operand, D: Operand>(
     c: &C,
     d: &D,
 ) -> Result<(), AllocError>
-    ensures { OnOk result (string_bytes out.new ≡ string_bytes out.old ++ spelled mnemonic.now (A.shown a.now ∷ B.shown b.now ∷ C.shown c.now ∷ D.shown d.now ∷ [])) }
+    ensures { OnOk result
+        (string_bytes out.new
+        ≡ string_bytes out.old
+        ++ spelled mnemonic.now
+        (A.shown a.now ∷ B.shown b.now ∷ C.shown c.now ∷ D.shown d.now ∷ [])) }
 {
     spelled3(out, mnemonic, a, b, c)?;
     put(out, ", ")?;
@@ -86,7 +96,12 @@ pub fn spelled5<A: Operand, B: Operand, C: Operand, D: Operand, E: Operand>(
     d: &D,
     e: &E,
 ) -> Result<(), AllocError>
-    ensures { OnOk result (string_bytes out.new ≡ string_bytes out.old ++ spelled mnemonic.now (A.shown a.now ∷ B.shown b.now ∷ C.shown c.now ∷ D.shown d.now ∷ E.shown e.now ∷ [])) }
+    ensures { OnOk result
+        (string_bytes out.new
+        ≡ string_bytes out.old
+        ++ spelled mnemonic.now
+        (A.shown a.now ∷ B.shown b.now ∷ C.shown c.now ∷ D.shown d.now ∷ E.shown e.now
+        ∷ [])) }
 {
     spelled4(out, mnemonic, a, b, c, d)?;
     put(out, ", ")?;
@@ -95,7 +110,8 @@ pub fn spelled5<A: Operand, B: Operand, C: Operand, D: Operand, E: Operand>(
 
 /// Appends a mnemonic with one operand, as an answer of a text. An error comes for want of memory alone.
 pub fn fixed1<A: Operand>(out: &mut String, mnemonic: &str, a: &A) -> Result<(), TextError>
-    ensures { Prints result (string_bytes out.old) (string_bytes out.new) (fixed (spelled mnemonic.now (A.shown a.now ∷ []))) }
+    ensures { Prints result (string_bytes out.old) (string_bytes out.new)
+        (fixed (spelled mnemonic.now (A.shown a.now ∷ []))) }
 {
     Ok(spelled1(out, mnemonic, a)?)
 }
@@ -107,7 +123,8 @@ pub fn fixed2<A: Operand, B: Operand>(
     a: &A,
     b: &B,
 ) -> Result<(), TextError>
-    ensures { Prints result (string_bytes out.old) (string_bytes out.new) (fixed (spelled mnemonic.now (A.shown a.now ∷ B.shown b.now ∷ []))) }
+    ensures { Prints result (string_bytes out.old) (string_bytes out.new)
+        (fixed (spelled mnemonic.now (A.shown a.now ∷ B.shown b.now ∷ []))) }
 {
     Ok(spelled2(out, mnemonic, a, b)?)
 }
@@ -120,7 +137,8 @@ pub fn fixed3<A: Operand, B: Operand, C: Operand>(
     b: &B,
     c: &C,
 ) -> Result<(), TextError>
-    ensures { Prints result (string_bytes out.old) (string_bytes out.new) (fixed (spelled mnemonic.now (A.shown a.now ∷ B.shown b.now ∷ C.shown c.now ∷ []))) }
+    ensures { Prints result (string_bytes out.old) (string_bytes out.new)
+        (fixed (spelled mnemonic.now (A.shown a.now ∷ B.shown b.now ∷ C.shown c.now ∷ []))) }
 {
     Ok(spelled3(out, mnemonic, a, b, c)?)
 }
@@ -132,7 +150,8 @@ pub fn row2<A: Operand, B: Operand>(
     a: &A,
     b: &B,
 ) -> Result<(), TextError>
-    ensures { Prints result (string_bytes out.old) (string_bytes out.new) (row (option_map (λ s. s.now) mnemonic.entry) (A.shown a.now ∷ B.shown b.now ∷ [])) }
+    ensures { Prints result (string_bytes out.old) (string_bytes out.new)
+        (row (option_map (λ s. s.now) mnemonic.entry) (A.shown a.now ∷ B.shown b.now ∷ [])) }
 {
     match mnemonic {
         Some(name) => fixed2(out, name, a, b),
@@ -148,7 +167,9 @@ pub fn row3<A: Operand, B: Operand, C: Operand>(
     b: &B,
     c: &C,
 ) -> Result<(), TextError>
-    ensures { Prints result (string_bytes out.old) (string_bytes out.new) (row (option_map (λ s. s.now) mnemonic.entry) (A.shown a.now ∷ B.shown b.now ∷ C.shown c.now ∷ [])) }
+    ensures { Prints result (string_bytes out.old) (string_bytes out.new)
+        (row (option_map (λ s. s.now) mnemonic.entry)
+        (A.shown a.now ∷ B.shown b.now ∷ C.shown c.now ∷ [])) }
 {
     match mnemonic {
         Some(name) => fixed3(out, name, a, b, c),
@@ -166,7 +187,9 @@ pub fn row5<A: Operand, B: Operand, C: Operand, D: Operand, E: Operand>(
     d: &D,
     e: &E,
 ) -> Result<(), TextError>
-    ensures { Prints result (string_bytes out.old) (string_bytes out.new) (row (option_map (λ s. s.now) mnemonic.entry) (A.shown a.now ∷ B.shown b.now ∷ C.shown c.now ∷ D.shown d.now ∷ E.shown e.now ∷ [])) }
+    ensures { Prints result (string_bytes out.old) (string_bytes out.new)
+        (row (option_map (λ s. s.now) mnemonic.entry)
+        (A.shown a.now ∷ B.shown b.now ∷ C.shown c.now ∷ D.shown d.now ∷ E.shown e.now ∷ [])) }
 {
     match mnemonic {
         Some(name) => Ok(spelled5(out, name, a, b, c, d, e)?),
@@ -183,7 +206,9 @@ pub fn three<T: Operand>(
     rn: Reg,
     last: &T,
 ) -> Result<(), TextError>
-    ensures { Prints result (string_bytes out.old) (string_bytes out.new) (three_text (option_map (λ s. s.now) three.entry) (option_map (λ s. s.now) two.entry) rd rn (T.shown last.now)) }
+    ensures { Prints result (string_bytes out.old) (string_bytes out.new)
+        (three_text (option_map (λ s. s.now) three.entry) (option_map (λ s. s.now) two.entry) rd rn
+        (T.shown last.now)) }
 {
     match (three, two) {
         (None, _) => Err(TextError::NoRow),
@@ -206,7 +231,10 @@ fn spelled_cond2<A: Operand, B: Operand>(
     a: &A,
     b: &B,
 ) -> Result<(), AllocError>
-    ensures { OnOk result (string_bytes out.new ≡ string_bytes out.old ++ spelled (mnemonic.now ++ cond_text cond) (A.shown a.now ∷ B.shown b.now ∷ [])) }
+    ensures { OnOk result
+        (string_bytes out.new
+        ≡ string_bytes out.old
+        ++ spelled (mnemonic.now ++ cond_text cond) (A.shown a.now ∷ B.shown b.now ∷ [])) }
 {
     put(out, mnemonic)?;
     spelled2(out, cond_name(cond), a, b)
@@ -220,7 +248,8 @@ pub fn conditional2<A: Operand, B: Operand>(
     a: &A,
     b: &B,
 ) -> Result<(), TextError>
-    ensures { Prints result (string_bytes out.old) (string_bytes out.new) (fixed (spelled (mnemonic.now ++ cond_text cond) (A.shown a.now ∷ B.shown b.now ∷ []))) }
+    ensures { Prints result (string_bytes out.old) (string_bytes out.new)
+        (fixed (spelled (mnemonic.now ++ cond_text cond) (A.shown a.now ∷ B.shown b.now ∷ []))) }
 {
     Ok(spelled_cond2(out, mnemonic, cond, a, b)?)
 }
@@ -233,7 +262,9 @@ pub fn conditional_row2<A: Operand, B: Operand>(
     a: &A,
     b: &B,
 ) -> Result<(), TextError>
-    ensures { Prints result (string_bytes out.old) (string_bytes out.new) (conditional_row (option_map (λ s. s.now) mnemonic.entry) cond (A.shown a.now ∷ B.shown b.now ∷ [])) }
+    ensures { Prints result (string_bytes out.old) (string_bytes out.new)
+        (conditional_row (option_map (λ s. s.now) mnemonic.entry) cond
+        (A.shown a.now ∷ B.shown b.now ∷ [])) }
 {
     match mnemonic {
         Some(name) => conditional2(out, name, cond, a, b),

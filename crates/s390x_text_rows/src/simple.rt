@@ -20,7 +20,8 @@ fn put_other(
     state: &EmitState,
     inst: &Inst,
 ) -> Result<(), TextError>
-    ensures { Prints result (string_bytes out.old) (string_bytes out.new) (other_text state.now inst.now) }
+    ensures { Prints result (string_bytes out.old) (string_bytes out.new)
+        (other_text state.now inst.now) }
 {
     match inst {
         Inst::Vector(vector) => put_vector(alloc, out, state, vector),
@@ -35,7 +36,8 @@ fn put_register(
     state: &EmitState,
     inst: &Inst,
 ) -> Result<(), TextError>
-    ensures { Prints result (string_bytes out.old) (string_bytes out.new) (register_text state.now inst.now) }
+    ensures { Prints result (string_bytes out.old) (string_bytes out.new)
+        (register_text state.now inst.now) }
 {
     if let Some(answer) = put_arithmetic(out, inst) {
         return answer;
@@ -64,7 +66,8 @@ pub fn put_simple(
     state: &EmitState,
     inst: &Inst,
 ) -> Result<(), TextError>
-    ensures { Prints result (string_bytes out.old) (string_bytes out.new) (simple_text has state.now inst.now) }
+    ensures { Prints result (string_bytes out.old) (string_bytes out.new)
+        (simple_text has state.now inst.now) }
 {
     if let Some(answer) = put_load(alloc, out, has, state, inst) {
         return answer;

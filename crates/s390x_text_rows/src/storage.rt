@@ -46,7 +46,8 @@ pub fn address_rows() -> Rows
 
 // A base and an index behind a displacement.
 fn put_sum(out: &mut String, base: &Reg, index: &Reg) -> Result<(), AllocError>
-    ensures { OnOk result (string_bytes out.new ≡ string_bytes out.old ++ sum_text base.now index.now) }
+    ensures { OnOk result
+        (string_bytes out.new ≡ string_bytes out.old ++ sum_text base.now index.now) }
 {
     if is_zero(base) {
         if is_zero(index) {
@@ -176,14 +177,16 @@ fn put_helper(out: &mut String, helper: &Inst) -> Result<(), AllocError>
 
 // The same, and a semicolon behind it.
 fn put_before(out: &mut String, helper: &Inst) -> Result<(), AllocError>
-    ensures { OnOk result (string_bytes out.new ≡ string_bytes out.old ++ (helper_text helper.now ++ codes " ; ")) }
+    ensures { OnOk result
+        (string_bytes out.new ≡ string_bytes out.old ++ (helper_text helper.now ++ codes " ; ")) }
 {
     put_helper(out, helper)?;
     put(out, " ; ")
 }
 
 fn put_helpers(out: &mut String, helpers: &[Inst]) -> Result<(), AllocError>
-    ensures { OnOk result (string_bytes out.new ≡ string_bytes out.old ++ helpers_text helpers.now) }
+    ensures { OnOk result
+        (string_bytes out.new ≡ string_bytes out.old ++ helpers_text helpers.now) }
 {
     for helper in helpers {
         put_before(out, helper)?;
@@ -200,8 +203,17 @@ fn open(
     state: &EmitState,
     mem: &MemArg,
 ) -> Result<MemArg, TextError>
-    ensures { MatchResult result (λ m. (access_cause has (rows_of rows.now) (resolved state.now mem.now) ≡ None) × (m ≡ (finalized (type_of_rows has (rows_of rows.now)) (resolved state.now mem.now)).operand)
-        × (string_bytes out.new ≡ string_bytes out.old ++ helpers_text (finalized (type_of_rows has (rows_of rows.now)) (resolved state.now mem.now)).helpers)) (λ e. RefusedBy (access_cause has (rows_of rows.now) (resolved state.now mem.now)) e) }
+    ensures { MatchResult result
+        (λ m. (access_cause has (rows_of rows.now) (resolved state.now mem.now) ≡ None)
+        × (m
+        ≡ (finalized (type_of_rows has (rows_of rows.now))
+        (resolved state.now mem.now)).operand)
+        × (string_bytes out.new
+        ≡ string_bytes out.old
+        ++ helpers_text
+        (finalized (type_of_rows has (rows_of rows.now))
+        (resolved state.now mem.now)).helpers))
+        (λ e. RefusedBy (access_cause has (rows_of rows.now) (resolved state.now mem.now)) e) }
 {
     if !rows.has_row() {
         return Err(TextError::NoRow);
@@ -226,7 +238,8 @@ pub fn access2<A: Operand>(
     a: &A,
     mem: &MemArg,
 ) -> Result<(), TextError>
-    ensures { Prints result (string_bytes out.old) (string_bytes out.new) (access_where has (rows_of rows.now) state.now (A.shown a.now ∷ []) mem.now []) }
+    ensures { Prints result (string_bytes out.old) (string_bytes out.new)
+        (access_where has (rows_of rows.now) state.now (A.shown a.now ∷ []) mem.now []) }
 {
     let operand = open(alloc, out, has, rows, state, mem)?;
     Ok(spelled2(out, rows.name_at(&operand), a, &operand)?)
@@ -242,7 +255,8 @@ pub fn access3<A: Operand, B: Operand>(
     b: &B,
     mem: &MemArg,
 ) -> Result<(), TextError>
-    ensures { Prints result (string_bytes out.old) (string_bytes out.new) (access (rows_of rows.now) state.now (A.shown a.now ∷ B.shown b.now ∷ []) mem.now []) }
+    ensures { Prints result (string_bytes out.old) (string_bytes out.new)
+        (access (rows_of rows.now) state.now (A.shown a.now ∷ B.shown b.now ∷ []) mem.now []) }
 {
     let operand = open(alloc, out, true, rows, state, mem)?;
     Ok(spelled3(out, rows.name_at(&operand), a, b, &operand)?)
@@ -257,7 +271,8 @@ pub fn access_then<A: Operand>(
     mem: &MemArg,
     a: &A,
 ) -> Result<(), TextError>
-    ensures { Prints result (string_bytes out.old) (string_bytes out.new) (access (rows_of rows.now) state.now [] mem.now (A.shown a.now ∷ [])) }
+    ensures { Prints result (string_bytes out.old) (string_bytes out.new)
+        (access (rows_of rows.now) state.now [] mem.now (A.shown a.now ∷ [])) }
 {
     let operand = open(alloc, out, true, rows, state, mem)?;
     Ok(spelled2(out, rows.name_at(&operand), &operand, a)?)
@@ -273,7 +288,8 @@ pub fn access_between<A: Operand, B: Operand>(
     mem: &MemArg,
     b: &B,
 ) -> Result<(), TextError>
-    ensures { Prints result (string_bytes out.old) (string_bytes out.new) (access (rows_of rows.now) state.now (A.shown a.now ∷ []) mem.now (B.shown b.now ∷ [])) }
+    ensures { Prints result (string_bytes out.old) (string_bytes out.new)
+        (access (rows_of rows.now) state.now (A.shown a.now ∷ []) mem.now (B.shown b.now ∷ [])) }
 {
     let operand = open(alloc, out, true, rows, state, mem)?;
     Ok(spelled3(out, rows.name_at(&operand), a, &operand, b)?)
@@ -291,7 +307,11 @@ pub fn rx_access<A: Operand>(
     a: &A,
     mem: &MemArg,
 ) -> Result<(), TextError>
-    ensures { Prints result (string_bytes out.old) (string_bytes out.new) (access_where has (rx (option_map (λ s. s.now) short.entry) (option_map (λ s. s.now) long.entry) (option_map (λ s. s.now) relative.entry)) state.now (A.shown a.now ∷ []) mem.now []) }
+    ensures { Prints result (string_bytes out.old) (string_bytes out.new)
+        (access_where has
+        (rx (option_map (λ s. s.now) short.entry) (option_map (λ s. s.now) long.entry)
+        (option_map (λ s. s.now) relative.entry)) state.now (A.shown a.now ∷ []) mem.now
+        []) }
 {
     let rows = Rows {
         short,
@@ -313,7 +333,9 @@ pub fn rx_access_between<A: Operand, B: Operand>(
     mem: &MemArg,
     b: &B,
 ) -> Result<(), TextError>
-    ensures { Prints result (string_bytes out.old) (string_bytes out.new) (access (rx (option_map (λ s. s.now) name.entry) None None) state.now (A.shown a.now ∷ []) mem.now (B.shown b.now ∷ [])) }
+    ensures { Prints result (string_bytes out.old) (string_bytes out.new)
+        (access (rx (option_map (λ s. s.now) name.entry) None None) state.now (A.shown a.now ∷ [])
+        mem.now (B.shown b.now ∷ [])) }
 {
     let rows = Rows {
         short: name,
@@ -336,7 +358,9 @@ pub fn rs_access3<A: Operand, B: Operand>(
     b: &B,
     mem: &MemArg,
 ) -> Result<(), TextError>
-    ensures { Prints result (string_bytes out.old) (string_bytes out.new) (access (rs (option_map (λ s. s.now) short.entry) (option_map (λ s. s.now) long.entry)) state.now (A.shown a.now ∷ B.shown b.now ∷ []) mem.now []) }
+    ensures { Prints result (string_bytes out.old) (string_bytes out.new)
+        (access (rs (option_map (λ s. s.now) short.entry) (option_map (λ s. s.now) long.entry))
+        state.now (A.shown a.now ∷ B.shown b.now ∷ []) mem.now []) }
 {
     let rows = Rows {
         short,
@@ -358,7 +382,9 @@ pub fn rs_access_then<A: Operand>(
     mem: &MemArg,
     a: &A,
 ) -> Result<(), TextError>
-    ensures { Prints result (string_bytes out.old) (string_bytes out.new) (access (rs (option_map (λ s. s.now) short.entry) (option_map (λ s. s.now) long.entry)) state.now [] mem.now (A.shown a.now ∷ [])) }
+    ensures { Prints result (string_bytes out.old) (string_bytes out.new)
+        (access (rs (option_map (λ s. s.now) short.entry) (option_map (λ s. s.now) long.entry))
+        state.now [] mem.now (A.shown a.now ∷ [])) }
 {
     let rows = Rows {
         short,

@@ -89,7 +89,10 @@ fn put_binary(
     rn: Reg,
     rm: Reg,
 ) -> Result<(), AllocError>
-    ensures { OnOk result (string_bytes out.new ≡ string_bytes out.old ++ spelled (vec_binary_name op) (vec_binary_operands op rd rn rm)) }
+    ensures { OnOk result
+        (string_bytes out.new
+        ≡ string_bytes out.old
+        ++ spelled (vec_binary_name op) (vec_binary_operands op rd rn rm)) }
 {
     match op {
         VecBinaryOp::UDiv32x4
@@ -117,7 +120,8 @@ fn put_doublewords(
     idx1: u8,
     idx2: u8,
 ) -> Result<(), TextError>
-    ensures { Prints result (string_bytes out.old) (string_bytes out.new) (doublewords_text rd rn rm idx1 idx2) }
+    ensures { Prints result (string_bytes out.old) (string_bytes out.new)
+        (doublewords_text rd rn rm idx1 idx2) }
 {
     if idx1 < 2 && idx2 < 2 {
         answered(spelled4(out, "vpdi", &rd, &rn, &rm, &(4 * idx1 + idx2)))
@@ -134,7 +138,8 @@ fn put_wide_compare(
     rn: Reg,
     rm: Reg,
 ) -> Result<(), AllocError>
-    ensures { OnOk result (string_bytes out.new ≡ string_bytes out.old ++ wide_compare_text name.now tmp rn rm) }
+    ensures { OnOk result
+        (string_bytes out.new ≡ string_bytes out.old ++ wide_compare_text name.now tmp rn rm) }
 {
     spelled2(out, name, &rm, &rn)?;
     put(out, " ; jne 10 ; ")?;
@@ -143,7 +148,8 @@ fn put_wide_compare(
 
 /// Appends the text of an operator on vectors; None for another instruction.
 pub fn put_vec_operator(out: &mut String, inst: &VecInst) -> Option<Result<(), TextError>>
-    ensures { PrintsWhere result (string_bytes out.old) (string_bytes out.new) (vec_operator_text inst.now) }
+    ensures { PrintsWhere result (string_bytes out.old) (string_bytes out.new)
+        (vec_operator_text inst.now) }
 {
     match inst {
         VecInst::VecRRR { op, rd, rn, rm } => {
@@ -225,7 +231,8 @@ fn are_floats(r: &Reg, s: &Reg) -> bool
 
 // A move of float registers, or of whole ones.
 fn put_float_move(out: &mut String, name: &str, rd: &Reg, rn: &Reg) -> Result<(), AllocError>
-    ensures { OnOk result (string_bytes out.new ≡ string_bytes out.old ++ float_move_text name.now rd.now rn.now) }
+    ensures { OnOk result
+        (string_bytes out.new ≡ string_bytes out.old ++ float_move_text name.now rd.now rn.now) }
 {
     if are_floats(rd, rn) {
         spelled2(out, name, &Float(*rd), &Float(*rn))
@@ -236,7 +243,8 @@ fn put_float_move(out: &mut String, name: &str, rd: &Reg, rn: &Reg) -> Result<()
 
 // A branch over what follows, where a condition doesn't hold.
 fn put_unless(out: &mut String, cond: Cond, over: &str) -> Result<(), AllocError>
-    ensures { OnOk result (string_bytes out.new ≡ string_bytes out.old ++ unless_text cond over.now) }
+    ensures { OnOk result
+        (string_bytes out.new ≡ string_bytes out.old ++ unless_text cond over.now) }
 {
     put(out, "j")?;
     put(out, cond_name(cond.invert()))?;
@@ -260,14 +268,21 @@ fn put_float_cmov(
     cond: Cond,
     rm: &Reg,
 ) -> Result<(), AllocError>
-    ensures { OnOk result (string_bytes out.new ≡ string_bytes out.old ++ float_cmov_text name.now rd.now cond rm.now) }
+    ensures { OnOk result
+        (string_bytes out.new
+        ≡ string_bytes out.old ++ float_cmov_text name.now rd.now cond rm.now) }
 {
     put_unless(out, cond, move_end(rd, rm))?;
     put_float_move(out, name, rd, rm)
 }
 
 fn put_vec_cmov(out: &mut String, operand: &Reused, cond: Cond, rm: Reg) -> Result<(), AllocError>
-    ensures { OnOk result (string_bytes out.new ≡ string_bytes out.old ++ (unless_text cond (codes "10") ++ spelled (codes "vlr") (reused_text operand.now.rd operand.now.ri ∷ reg_text rm ∷ []))) }
+    ensures { OnOk result
+        (string_bytes out.new
+        ≡ string_bytes out.old
+        ++ (unless_text cond (codes "10")
+        ++ spelled (codes "vlr")
+        (reused_text operand.now.rd operand.now.ri ∷ reg_text rm ∷ []))) }
 {
     put_unless(out, cond, "10")?;
     spelled2(out, "vlr", operand, &rm)
@@ -275,7 +290,8 @@ fn put_vec_cmov(out: &mut String, operand: &Reused, cond: Cond, rm: Reg) -> Resu
 
 /// Appends the text of a move of vector or float registers, or of an immediate; None for another instruction.
 pub fn put_vec_move(out: &mut String, inst: &VecInst) -> Option<Result<(), TextError>>
-    ensures { PrintsWhere result (string_bytes out.old) (string_bytes out.new) (vec_move_text inst.now) }
+    ensures { PrintsWhere result (string_bytes out.old) (string_bytes out.new)
+        (vec_move_text inst.now) }
 {
     match inst {
         VecInst::VecMov { rd, rn } => Some(fixed2(out, "vlr", rd, rn)),
@@ -341,7 +357,8 @@ fn put_insert_lane(
     rn: Reg,
     lane: &Amount,
 ) -> Result<(), TextError>
-    ensures { Prints result (string_bytes out.old) (string_bytes out.new) (insert_lane_text size rd rn lane.now.imm lane.now.reg) }
+    ensures { Prints result (string_bytes out.old) (string_bytes out.new)
+        (insert_lane_text size rd rn lane.now.imm lane.now.reg) }
 {
     if is_float_lane(size, &rd, lane) {
         fixed2(out, "ldgr", &Float(rd), &rn)
@@ -364,7 +381,8 @@ fn put_extract_lane(
     rn: Reg,
     lane: &Amount,
 ) -> Result<(), TextError>
-    ensures { Prints result (string_bytes out.old) (string_bytes out.new) (extract_lane_text size rd rn lane.now.imm lane.now.reg) }
+    ensures { Prints result (string_bytes out.old) (string_bytes out.new)
+        (extract_lane_text size rd rn lane.now.imm lane.now.reg) }
 {
     if is_float_lane(size, &rn, lane) {
         fixed2(out, "lgdr", &rd, &Float(rn))
@@ -411,7 +429,8 @@ fn put_reverse16(out: &mut String, rd: Reg, rn: Reg) -> Result<(), AllocError>
 
 // Lanes in reverse order, by their count.
 fn put_reverse(out: &mut String, rd: Reg, rn: Reg, count: u64) -> Result<(), TextError>
-    ensures { Prints result (string_bytes out.old) (string_bytes out.new) (reverse_text rd rn count) }
+    ensures { Prints result (string_bytes out.old) (string_bytes out.new)
+        (reverse_text rd rn count) }
 {
     match count {
         2 => answered(put_reverse2(out, rd, rn)),
@@ -434,7 +453,8 @@ fn amount(imm: &u8, reg: &Reg) -> Amount
 
 /// Appends the text of an instruction on a lane of registers; None for another one.
 pub fn put_vec_lane(out: &mut String, inst: &VecInst) -> Option<Result<(), TextError>>
-    ensures { PrintsWhere result (string_bytes out.old) (string_bytes out.new) (vec_lane_text inst.now) }
+    ensures { PrintsWhere result (string_bytes out.old) (string_bytes out.new)
+        (vec_lane_text inst.now) }
 {
     match inst {
         VecInst::VecInsertLane {

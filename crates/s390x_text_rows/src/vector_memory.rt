@@ -22,7 +22,8 @@ fn put_load_lane(
     mem: &MemArg,
     lane: u8,
 ) -> Result<(), TextError>
-    ensures { Prints result (string_bytes out.old) (string_bytes out.new) (load_lane_text state.now size rd mem.now lane) }
+    ensures { Prints result (string_bytes out.old) (string_bytes out.new)
+        (load_lane_text state.now size rd mem.now lane) }
 {
     let floats = is_float(&rd);
     if floats && lane == 0 && size == 32 {
@@ -65,7 +66,8 @@ fn put_store_lane(
     mem: &MemArg,
     lane: u8,
 ) -> Result<(), TextError>
-    ensures { Prints result (string_bytes out.old) (string_bytes out.new) (store_lane_text state.now size rd mem.now lane) }
+    ensures { Prints result (string_bytes out.old) (string_bytes out.new)
+        (store_lane_text state.now size rd mem.now lane) }
 {
     let floats = is_float(&rd);
     if floats && lane == 0 && size == 32 {
@@ -106,7 +108,8 @@ pub fn put_vec_whole(
     state: &EmitState,
     inst: &VecInst,
 ) -> Option<Result<(), TextError>>
-    ensures { PrintsWhere result (string_bytes out.old) (string_bytes out.new) (vec_whole_text state.now inst.now) }
+    ensures { PrintsWhere result (string_bytes out.old) (string_bytes out.new)
+        (vec_whole_text state.now inst.now) }
 {
     match inst {
         VecInst::VecLoad { rd, mem } => Some(rx_access(alloc, out, true, state, Some("vl"), None, None, rd, mem)),
@@ -137,7 +140,8 @@ pub fn put_vec_part(
     state: &EmitState,
     inst: &VecInst,
 ) -> Option<Result<(), TextError>>
-    ensures { PrintsWhere result (string_bytes out.old) (string_bytes out.new) (vec_part_text state.now inst.now) }
+    ensures { PrintsWhere result (string_bytes out.old) (string_bytes out.new)
+        (vec_part_text state.now inst.now) }
 {
     match inst {
         VecInst::VecLoadReplicate { size, rd, mem } => Some(rx_access(alloc, out, true, state, lane_name("vlrepb", "vlreph", "vlrepf", "vlrepg", *size, 0), None, None, rd, mem)),
@@ -159,7 +163,8 @@ pub fn put_vector(
     state: &EmitState,
     inst: &VecInst,
 ) -> Result<(), TextError>
-    ensures { Prints result (string_bytes out.old) (string_bytes out.new) (vector_text state.now inst.now) }
+    ensures { Prints result (string_bytes out.old) (string_bytes out.new)
+        (vector_text state.now inst.now) }
 {
     if let Some(answer) = put_vec_operator(out, inst) {
         return answer;

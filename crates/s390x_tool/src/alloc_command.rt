@@ -83,7 +83,9 @@ fn plan_refused(alloc: Global, fault: PlanFault) -> Reply
 
 // The reply with a fault of a block's instruction, edit or pair.
 fn refused_at(alloc: Global, name: &'static str, block: u32, place: u32) -> Reply
-    ensures { IsMade Status.PlanRefused (line (codes "plan " ++ numbered_fault name.entry.now (block ∷ place ∷ []))) result.status (cow_str_bytes result.text) }
+    ensures { IsMade Status.PlanRefused
+        (line (codes "plan " ++ numbered_fault name.entry.now (block ∷ place ∷ []))) result.status
+        (cow_str_bytes result.text) }
 {
     made(
         Status::PlanRefused,
@@ -93,7 +95,9 @@ fn refused_at(alloc: Global, name: &'static str, block: u32, place: u32) -> Repl
 
 // The reply with a fault of an edit's operand.
 fn refused_operand(alloc: Global, name: &'static str, block: u32, edit: u32, operand: u32) -> Reply
-    ensures { IsMade Status.PlanRefused (line (codes "plan " ++ numbered_fault name.entry.now (block ∷ edit ∷ operand ∷ []))) result.status (cow_str_bytes result.text) }
+    ensures { IsMade Status.PlanRefused
+        (line (codes "plan " ++ numbered_fault name.entry.now (block ∷ edit ∷ operand ∷ [])))
+        result.status (cow_str_bytes result.text) }
 {
     made(
         Status::PlanRefused,
@@ -109,7 +113,11 @@ fn refused_cause(
     edit: u32,
     cause: &'static str,
 ) -> Reply
-    ensures { IsMade Status.PlanRefused (line (codes "plan " ++ (numbered_fault name.entry.now (block ∷ edit ∷ []) ++ (32 ∷ cause.entry.now)))) result.status (cow_str_bytes result.text) }
+    ensures { IsMade Status.PlanRefused
+        (line
+        (codes "plan "
+        ++ (numbered_fault name.entry.now (block ∷ edit ∷ []) ++ (32 ∷ cause.entry.now))))
+        result.status (cow_str_bytes result.text) }
 {
     made(
         Status::PlanRefused,

@@ -83,7 +83,8 @@ pub fn bundle_refused(alloc: Global, error: BundleError) -> Reply
 
 // The reply with a cause and the name of a function.
 fn told(alloc: Global, cause: &'static str, name: ExternalName) -> Reply
-    ensures { IsMade Status.BundleRefused (line (named_refusal cause.entry.now name)) result.status (cow_str_bytes result.text) }
+    ensures { IsMade Status.BundleRefused (line (named_refusal cause.entry.now name)) result.status
+        (cow_str_bytes result.text) }
 {
     let number = name.0;
     made(
@@ -94,7 +95,9 @@ fn told(alloc: Global, cause: &'static str, name: ExternalName) -> Reply
 
 // The reply with a cause, the name of a function and the cause by which it is refused.
 fn told_with(alloc: Global, cause: &'static str, name: ExternalName, inner: &'static str) -> Reply
-    ensures { IsMade Status.BundleRefused (line (inner_refusal cause.entry.now name inner.entry.now)) result.status (cow_str_bytes result.text) }
+    ensures { IsMade Status.BundleRefused
+        (line (inner_refusal cause.entry.now name inner.entry.now)) result.status
+        (cow_str_bytes result.text) }
 {
     let number = name.0;
     made(

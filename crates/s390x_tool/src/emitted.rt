@@ -28,7 +28,8 @@ pub fn emitted_text(alloc: Global, code: &MachBufferFinalized) -> Result<String,
 
 // The bytes and the alignment.
 fn put_head(alloc: Global, out: &mut String, code: &MachBufferFinalized) -> Result<(), AllocError>
-    ensures { OnOk result (string_bytes out.new ≡ string_bytes out.old ++ text_of_lines (code_head_lines code.now)) }
+    ensures { OnOk result
+        (string_bytes out.new ≡ string_bytes out.old ++ text_of_lines (code_head_lines code.now)) }
 {
     let bytes = hex_word(alloc, &code.bytes)?;
     let alignment = code.alignment;
@@ -47,7 +48,9 @@ fn hex_word(alloc: Global, bytes: &[u8]) -> Result<String, AllocError>
 
 // The places of the blocks and of the constants.
 fn put_starts(out: &mut String, code: &MachBufferFinalized) -> Result<(), AllocError>
-    ensures { OnOk result (string_bytes out.new ≡ string_bytes out.old ++ text_of_lines (start_offset_lines code.now)) }
+    ensures { OnOk result
+        (string_bytes out.new
+        ≡ string_bytes out.old ++ text_of_lines (start_offset_lines code.now)) }
 {
     put_numbered(out, "block", &code.block_starts)?;
     put_numbered(out, "const", &code.constant_starts)
@@ -55,7 +58,9 @@ fn put_starts(out: &mut String, code: &MachBufferFinalized) -> Result<(), AllocE
 
 // A line for each offset, numbered from 0 on.
 fn put_numbered(out: &mut String, name: &str, offsets: &[CodeOffset]) -> Result<(), AllocError>
-    ensures { OnOk result (string_bytes out.new ≡ string_bytes out.old ++ text_of_lines (numbered name.now 0 offsets.now)) }
+    ensures { OnOk result
+        (string_bytes out.new
+        ≡ string_bytes out.old ++ text_of_lines (numbered name.now 0 offsets.now)) }
 {
     for (number, offset) in offsets.iter().enumerate() {
         writeln!(out, "{name} {number} {offset}")?;
@@ -65,7 +70,8 @@ fn put_numbered(out: &mut String, name: &str, offsets: &[CodeOffset]) -> Result<
 
 // Relocations, traps and calls.
 fn put_code_entries(out: &mut String, code: &MachBufferFinalized) -> Result<(), AllocError>
-    ensures { OnOk result (string_bytes out.new ≡ string_bytes out.old ++ text_of_lines (code_lines code.now)) }
+    ensures { OnOk result
+        (string_bytes out.new ≡ string_bytes out.old ++ text_of_lines (code_lines code.now)) }
 {
     put_entries(out, &code.relocs)?;
     put_entries(out, &code.traps)?;
@@ -74,7 +80,8 @@ fn put_code_entries(out: &mut String, code: &MachBufferFinalized) -> Result<(), 
 
 // Calls with a try, patchable calls and stack maps.
 fn put_site_entries(out: &mut String, code: &MachBufferFinalized) -> Result<(), AllocError>
-    ensures { OnOk result (string_bytes out.new ≡ string_bytes out.old ++ text_of_lines (site_lines code.now)) }
+    ensures { OnOk result
+        (string_bytes out.new ≡ string_bytes out.old ++ text_of_lines (site_lines code.now)) }
 {
     put_entries(out, &code.try_call_sites)?;
     put_entries(out, &code.patchable_sites)?;
@@ -87,12 +94,14 @@ trait Entry {
 
     // Appends the entry's line.
     fn put(&self, out: &mut String) -> Result<(), AllocError>
-        ensures { OnOk result (string_bytes out.new ≡ string_bytes out.old ++ text_of_lines (line self.now ∷ [])) };
+        ensures { OnOk result
+            (string_bytes out.new ≡ string_bytes out.old ++ text_of_lines (line self.now ∷ [])) };
 }
 
 // A line for each entry.
 fn put_entries<T: Entry>(out: &mut String, entries: &[T]) -> Result<(), AllocError>
-    ensures { OnOk result (string_bytes out.new ≡ string_bytes out.old ++ text_of_lines (map T.line entries.now)) }
+    ensures { OnOk result
+        (string_bytes out.new ≡ string_bytes out.old ++ text_of_lines (map T.line entries.now)) }
 {
     for entry in entries {
         entry.put(out)?;
@@ -102,7 +111,8 @@ fn put_entries<T: Entry>(out: &mut String, entries: &[T]) -> Result<(), AllocErr
 
 // A line for each call.
 fn put_calls(out: &mut String, sites: &[CodeOffset]) -> Result<(), AllocError>
-    ensures { OnOk result (string_bytes out.new ≡ string_bytes out.old ++ text_of_lines (map call_line sites.now)) }
+    ensures { OnOk result
+        (string_bytes out.new ≡ string_bytes out.old ++ text_of_lines (map call_line sites.now)) }
 {
     for site in sites {
         writeln!(out, "call {site}")?;
@@ -172,7 +182,8 @@ impl Entry for TryEntry {
 
 // The opening bracket and the handlers.
 fn put_handlers(out: &mut String, handlers: &[HandlerEntry]) -> Result<(), AllocError>
-    ensures { OnOk result (string_bytes out.new ≡ string_bytes out.old ++ open_text handler_entry_text handlers.now) }
+    ensures { OnOk result
+        (string_bytes out.new ≡ string_bytes out.old ++ open_text handler_entry_text handlers.now) }
 {
     match handlers {
         [] => out.push_str("["),
@@ -186,7 +197,8 @@ fn put_handlers(out: &mut String, handlers: &[HandlerEntry]) -> Result<(), Alloc
 
 // Each handler with a comma before it.
 fn put_more_handlers(out: &mut String, handlers: &[HandlerEntry]) -> Result<(), AllocError>
-    ensures { OnOk result (string_bytes out.new ≡ string_bytes out.old ++ more_text handler_entry_text handlers.now) }
+    ensures { OnOk result
+        (string_bytes out.new ≡ string_bytes out.old ++ more_text handler_entry_text handlers.now) }
 {
     for handler in handlers {
         out.push_str(",")?;
@@ -197,7 +209,8 @@ fn put_more_handlers(out: &mut String, handlers: &[HandlerEntry]) -> Result<(), 
 
 // A handler's tag, `*` for all tags, and its offset.
 fn put_handler(out: &mut String, handler: &HandlerEntry) -> Result<(), AllocError>
-    ensures { OnOk result (string_bytes out.new ≡ string_bytes out.old ++ handler_entry_text handler.now) }
+    ensures { OnOk result
+        (string_bytes out.new ≡ string_bytes out.old ++ handler_entry_text handler.now) }
 {
     let offset = handler.offset;
     match handler.tag {

@@ -45,7 +45,8 @@ fn image_told(alloc: Global, count: u32, start: u32, function: &AllocatedFunctio
 
 // The line of the image of a function of so many blocks.
 fn summary(alloc: Global, count: u32, bytes: &[u8]) -> Reply
-    ensures { IsMade Status.Ok (summary_line count bytes.now) result.status (cow_str_bytes result.text) }
+    ensures { IsMade Status.Ok (summary_line count bytes.now) result.status
+        (cow_str_bytes result.text) }
 {
     let size = bytes.len();
     let total = byte_sum(bytes);

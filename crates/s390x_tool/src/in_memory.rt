@@ -31,7 +31,8 @@ impl Model for BytesSource {
 impl BytesSource {
     /// The source of these bytes. The calls that `fails` numbers, counted from 1, fail.
     pub fn new(bytes: Vec<u8>, fails: Vec<u64>) -> BytesSource
-        ensures { result ≡ record { left = bytes.items; fails = fails.items; calls = 0; faults = 0 } }
+        ensures { result
+            ≡ record { left = bytes.items; fails = fails.items; calls = 0; faults = 0 } }
     {
         BytesSource {
             bytes,
@@ -101,7 +102,16 @@ impl BytesSink {
         most: usize,
     ) -> Result<BytesSink, NoMemory>
         requires { 0 < most }
-        ensures { IfOk result (λ s. s ≡ record { told = []; room = room; fails = fails.items; most = most; calls = 0; faults = 0 }) }
+        ensures { IfOk result
+            (λ s. s
+            ≡ record {
+              told = [];
+              room = room;
+              fails = fails.items;
+              most = most;
+              calls = 0;
+              faults = 0;
+            }) }
     {
         let Ok(bytes) = Vec::with_capacity(alloc, room) else {
             return Err(NoMemory);
@@ -135,9 +145,16 @@ impl Sink for BytesSink {
         ensures some { IfOk result (λ n. 0 < length piece.now → 0 < n) }
         ensures bytes { WriteAppends (Some self.old.told) (Some self.new.told) result piece.now }
         ensures cause { HasCause self.old.faults self.new.faults result }
-        ensures fails { IsErr result ↔ (Contains self.old.fails (next_count self.old.calls) ⊎ ((0 < length piece.now) × (length self.old.told ≡ self.old.room))) }
+        ensures fails { IsErr result ↔
+            (Contains self.old.fails (next_count self.old.calls)
+            ⊎ ((0 < length piece.now) × (length self.old.told ≡ self.old.room))) }
         ensures count { IfOk result (λ n. n ≡ takes self.old piece.now) }
-        ensures same { self.new ≡ record self.old { told = self.new.told; calls = next_count self.old.calls; faults = self.new.faults } }
+        ensures same { self.new
+            ≡ record self.old {
+              told = self.new.told;
+              calls = next_count self.old.calls;
+              faults = self.new.faults;
+            } }
         ensures faults { OnErr result (self.new.faults ≡ next_count self.old.faults) }
     {
         self.calls = self.calls.saturating_add(1);

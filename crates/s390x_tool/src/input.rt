@@ -28,12 +28,18 @@ pub enum InputError {
 /// It doesn't read after the end, nor after a failed read, nor once too many bytes came.
 #[tactic(auto, using(crate::proofs::Parts::nothing_read))]
 pub fn read_input<S: Source>(alloc: Global, source: &mut S) -> Result<Vec<u8>, InputError>
-    ensures whole { IfOk result (λ input. IsRead (S.left source.old) (S.left source.new) input.items) }
-    ensures too_long { IsErrOf result InputError.TooLong → IsTooLong (S.left source.old) (S.left source.new) }
-    ensures fault { IsErrOf result InputError.Fault → FaultCountRose (S.faults source.old) (S.faults source.new) }
-    ensures failed { IsErrOf result InputError.Fault → IsPartRead (S.left source.old) (S.left source.new) most_bytes }
-    ensures stopped { IsErrOf result InputError.NoMemory → IsPartRead (S.left source.old) (S.left source.new) too_many }
-    ensures no_fault { IsErrOf result InputError.Fault ⊎ (S.faults source.new ≡ S.faults source.old) }
+    ensures whole { IfOk result
+        (λ input. IsRead (S.left source.old) (S.left source.new) input.items) }
+    ensures too_long { IsErrOf result InputError.TooLong
+        → IsTooLong (S.left source.old) (S.left source.new) }
+    ensures fault { IsErrOf result InputError.Fault
+        → FaultCountRose (S.faults source.old) (S.faults source.new) }
+    ensures failed { IsErrOf result InputError.Fault
+        → IsPartRead (S.left source.old) (S.left source.new) most_bytes }
+    ensures stopped { IsErrOf result InputError.NoMemory
+        → IsPartRead (S.left source.old) (S.left source.new) too_many }
+    ensures no_fault { IsErrOf result InputError.Fault
+        ⊎ (S.faults source.new ≡ S.faults source.old) }
     ensures later { S.faults source.old ≤ S.faults source.new }
 {
     let mut piece = make_piece(alloc)?;
@@ -59,12 +65,18 @@ fn read_by_pieces<S: Source>(
     piece: &mut [u8],
 ) -> Result<Vec<u8>, InputError>
     requires { 0 < length piece.old }
-    ensures whole { IfOk result (λ input. IsRead (S.left source.old) (S.left source.new) input.items) }
-    ensures too_long { IsErrOf result InputError.TooLong → IsTooLong (S.left source.old) (S.left source.new) }
-    ensures fault { IsErrOf result InputError.Fault → FaultCountRose (S.faults source.old) (S.faults source.new) }
-    ensures failed { IsErrOf result InputError.Fault → IsPartRead (S.left source.old) (S.left source.new) most_bytes }
-    ensures stopped { IsErrOf result InputError.NoMemory → IsPartRead (S.left source.old) (S.left source.new) too_many }
-    ensures no_fault { IsErrOf result InputError.Fault ⊎ (S.faults source.new ≡ S.faults source.old) }
+    ensures whole { IfOk result
+        (λ input. IsRead (S.left source.old) (S.left source.new) input.items) }
+    ensures too_long { IsErrOf result InputError.TooLong
+        → IsTooLong (S.left source.old) (S.left source.new) }
+    ensures fault { IsErrOf result InputError.Fault
+        → FaultCountRose (S.faults source.old) (S.faults source.new) }
+    ensures failed { IsErrOf result InputError.Fault
+        → IsPartRead (S.left source.old) (S.left source.new) most_bytes }
+    ensures stopped { IsErrOf result InputError.NoMemory
+        → IsPartRead (S.left source.old) (S.left source.new) too_many }
+    ensures no_fault { IsErrOf result InputError.Fault
+        ⊎ (S.faults source.new ≡ S.faults source.old) }
     ensures later { S.faults source.old ≤ S.faults source.new }
 {
     let mut input = Vec::new(alloc);
@@ -87,12 +99,18 @@ fn read_piece<S: Source>(
     requires { 0 < length piece.old }
     ensures bound { IfOk result (λ n. n ≤ length piece.old) }
     ensures length { IfOk result (λ n. vec_len input.new ≡ vec_len input.old + n) }
-    ensures appends { IfOk result (λ n. (came : List ℕ) × (input.new.items ≡ input.old.items ++ came) × Consumes (S.left source.old) (S.left source.new) came) }
+    ensures appends { IfOk result
+        (λ n. (came : List ℕ) × (input.new.items ≡ input.old.items ++ came)
+        × Consumes (S.left source.old) (S.left source.new) came) }
     ensures end { IfOk result (λ n. n ≡ 0 → IsAtEnd (S.left source.new)) }
-    ensures fault { IsErrOf result InputError.Fault → FaultCountRose (S.faults source.old) (S.faults source.new) }
-    ensures failed { IsErrOf result InputError.Fault → Keeps (S.left source.old) (S.left source.new) }
-    ensures stopped { IsErrOf result InputError.NoMemory → IsPartRead (S.left source.old) (S.left source.new) (length piece.old) }
-    ensures no_fault { IsErrOf result InputError.Fault ⊎ (S.faults source.new ≡ S.faults source.old) }
+    ensures fault { IsErrOf result InputError.Fault
+        → FaultCountRose (S.faults source.old) (S.faults source.new) }
+    ensures failed { IsErrOf result InputError.Fault
+        → Keeps (S.left source.old) (S.left source.new) }
+    ensures stopped { IsErrOf result InputError.NoMemory
+        → IsPartRead (S.left source.old) (S.left source.new) (length piece.old) }
+    ensures no_fault { IsErrOf result InputError.Fault
+        ⊎ (S.faults source.new ≡ S.faults source.old) }
     ensures long { (result ≡ Err InputError.TooLong) → ⊥ }
     ensures later { S.faults source.old ≤ S.faults source.new }
 {

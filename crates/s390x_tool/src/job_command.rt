@@ -137,7 +137,8 @@ fn link_job(
     ensures linked { IfOk result (λ image. IsLinked base job.now code.now image.bytes.items) }
     ensures base { IfOk result (λ image. image.base ≡ base) }
     ensures size { IfOk result (λ image. length image.bytes.items ≡ length code.now.bytes.items) }
-    ensures refused { IfErr result (λ e. (e ≡ LinkError.NoMemory) ⊎ (link_cause_of base job.now code.now ≡ Some e)) }
+    ensures refused { IfErr result
+        (λ e. (e ≡ LinkError.NoMemory) ⊎ (link_cause_of base job.now code.now ≡ Some e)) }
 {
     match symbol_table(alloc, &job.symbols) {
         Ok(symbols) => link(alloc, code, base, &symbols),

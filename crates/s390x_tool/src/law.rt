@@ -16,7 +16,8 @@ pub fn no_functions_are_accepted()
 
 /// A function that returns at once is kept from standing in an image by nothing, at any base that is a multiple of 4 and has room for its two bytes below 2^64.
 pub fn one_function_is_accepted()
-    ensures { (base : ℕ) → base % 4 ≡ 0 → base + 2 ≤ 2 ^ 64 → IsBundleAccepted base (joined one_function) }
+    ensures { (base : ℕ) → base % 4 ≡ 0 → base + 2 ≤ 2 ^ 64
+        → IsBundleAccepted base (joined one_function) }
 {}
 
 /// Some plan has no fault: that of a job without blocks.

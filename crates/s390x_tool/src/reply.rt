@@ -56,8 +56,11 @@ pub fn unread(error: InputError) -> Reply
 
 /// A reply with a text that was made, or that memory doesn't suffice for.
 pub fn made(status: Status, text: Result<String, AllocError>) -> Reply
-    ensures ok { IfOk text (λ t. (result.status ≡ status) × (cow_str_bytes result.text ≡ string_bytes t)) }
-    ensures err { OnErr text ((result.status ≡ Status.NoMemory) × (cow_str_bytes result.text ≡ line (codes "no memory"))) }
+    ensures ok { IfOk text
+        (λ t. (result.status ≡ status) × (cow_str_bytes result.text ≡ string_bytes t)) }
+    ensures err { OnErr text
+        ((result.status ≡ Status.NoMemory)
+        × (cow_str_bytes result.text ≡ line (codes "no memory"))) }
 {
     match text {
         Ok(text) => Reply {
@@ -70,14 +73,16 @@ pub fn made(status: Status, text: Result<String, AllocError>) -> Reply
 
 /// The reply to an input that is no text of what the command reads: the number of its first line that is at fault.
 pub fn syntax(alloc: Global, number: u32) -> Reply
-    ensures { IsMade Status.Syntax (line (codes "syntax " ++ decimal number)) result.status (cow_str_bytes result.text) }
+    ensures { IsMade Status.Syntax (line (codes "syntax " ++ decimal number)) result.status
+        (cow_str_bytes result.text) }
 {
     made(Status::Syntax, format!(in alloc; "syntax {number}\n"))
 }
 
 /// The reply with bytes in hex.
 pub fn in_hex(alloc: Global, bytes: &[u8]) -> Reply
-    ensures { IsMade Status.Ok (line (encode_lower bytes.now)) result.status (cow_str_bytes result.text) }
+    ensures { IsMade Status.Ok (line (encode_lower bytes.now)) result.status
+        (cow_str_bytes result.text) }
 {
     made(Status::Ok, hex_line(alloc, bytes))
 }
@@ -100,7 +105,10 @@ pub fn with_tables(alloc: Global, code: &MachBufferFinalized) -> Reply
 
 /// The reply with a text that was made, or that memory doesn't suffice for.
 pub fn with_text(text: Result<String, NoMemory>) -> Reply
-    ensures { MatchResult text (λ t. (result.status ≡ Status.Ok) × (cow_str_bytes result.text ≡ string_bytes t)) (λ _. (result.status ≡ Status.NoMemory) × (cow_str_bytes result.text ≡ line (codes "no memory"))) }
+    ensures { MatchResult text
+        (λ t. (result.status ≡ Status.Ok) × (cow_str_bytes result.text ≡ string_bytes t))
+        (λ _. (result.status ≡ Status.NoMemory)
+        × (cow_str_bytes result.text ≡ line (codes "no memory"))) }
 {
     match text {
         Ok(text) => Reply {

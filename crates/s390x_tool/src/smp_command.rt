@@ -12,7 +12,8 @@ use std::borrow::CowStr;
 /// What so many processors do that add to one word, by a schedule of so many steps that is drawn from `start` on.
 pub fn simulate(alloc: Global, base: u64, word: u64, count: u32, steps: u32, start: u32) -> Reply
     requires { 0 < count }
-    ensures { IsSimulateReply base word count steps start result.status (cow_str_bytes result.text) }
+    ensures { IsSimulateReply base word count steps start result.status
+        (cow_str_bytes result.text) }
 {
     match simulated(alloc, base, word, count, steps, start) {
         Ok(text) => Reply {

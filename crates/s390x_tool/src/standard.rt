@@ -33,7 +33,8 @@ impl<R: Read> Source for StdSource<R> {
     /// value.
     fn read(&mut self, buf: &mut [u8]) -> Result<usize, Failed>
         ensures bound { ReadsAtMost result buf.new }
-        ensures bytes { ReadConsumes (R.remaining self.old.input) (R.remaining self.new.input) result buf.new }
+        ensures bytes { ReadConsumes (R.remaining self.old.input) (R.remaining self.new.input)
+            result buf.new }
         ensures cause { HasCause self.old.faults self.new.faults result }
         ensures faults { OnErr result (self.new.faults ≡ next_count self.old.faults) }
     {
@@ -73,7 +74,8 @@ impl<W: Write> Sink for StdSink<W> {
     fn write(&mut self, piece: &[u8]) -> Result<usize, Failed>
         ensures bound { WritesAtMost result piece.now }
         ensures some { IfOk result (λ n. 0 < length piece.now → 0 < n) }
-        ensures bytes { WriteAppends (W.contents self.old.output) (W.contents self.new.output) result piece.now }
+        ensures bytes { WriteAppends (W.contents self.old.output) (W.contents self.new.output)
+            result piece.now }
         ensures cause { HasCause self.old.faults self.new.faults result }
         ensures faults { OnErr result (self.new.faults ≡ next_count self.old.faults) }
     {

@@ -34,38 +34,70 @@ pub fn run<S: Source, K: Sink>(
     sink: &mut K,
 ) -> Status
     // The words and the input have this reply, and its text was written whole, or else a prefix of it.
-    ensures ended { IsEnded (record { words = texts words.now; left = S.left source.old; left' = S.left source.new; faults = S.faults source.old; faults' = S.faults source.new })
-        (K.told sink.old) (K.told sink.new) (K.faults sink.old) (K.faults sink.new) result }
+    ensures ended { IsEnded
+        (record {
+          words = texts words.now;
+          left = S.left source.old;
+          left' = S.left source.new;
+          faults = S.faults source.old;
+          faults' = S.faults source.new;
+        }) (K.told sink.old)
+        (K.told sink.new) (K.faults sink.old) (K.faults sink.new) result }
     // At `Ok` the source held the text of one job, and the sink was told the command's text for it; or it held the text of functions, and the sink was told
     // their image, which does only what they and their calls of each other allow; or it held a job and a plan, and the sink was told the job with the function
     // that the plan gives; or, with nothing read, that for a generated function or a simulation.
-    ensures ok { result ≡ Status.Ok → IsDone (record { words = texts words.now; left = S.left source.old; left' = S.left source.new; faults = S.faults source.old; faults' = S.faults source.new })
-        (K.told sink.old) (K.told sink.new) }
+    ensures ok { result ≡ Status.Ok
+        → IsDone
+        (record {
+          words = texts words.now;
+          left = S.left source.old;
+          left' = S.left source.new;
+          faults = S.faults source.old;
+          faults' = S.faults source.new;
+        }) (K.told sink.old)
+        (K.told sink.new) }
     // A generated function is done, where no write fails.
-    ensures generates { (count start : ℕ) → IsForm (texts words.now) (Generate count start) → (FaultCountRose (K.faults sink.old) (K.faults sink.new) → ⊥)
+    ensures generates { (count start : ℕ) → IsForm (texts words.now) (Generate count start)
+        → (FaultCountRose (K.faults sink.old) (K.faults sink.new) → ⊥)
         → (result ≡ Status.Ok) ⊎ (result ≡ Status.NoMemory) }
     // A simulation that nothing refuses is done, where no write fails.
-    ensures simulates { (base word count steps start : ℕ) → IsForm (texts words.now) (Simulate base word count steps start) → start_cause base word ≡ None
-        → (FaultCountRose (K.faults sink.old) (K.faults sink.new) → ⊥) → (result ≡ Status.Ok) ⊎ (result ≡ Status.NoMemory) }
+    ensures simulates { (base word count steps start : ℕ)
+        → IsForm (texts words.now) (Simulate base word count steps start)
+        → start_cause base word ≡ None
+        → (FaultCountRose (K.faults sink.old) (K.faults sink.new) → ⊥)
+        → (result ≡ Status.Ok) ⊎ (result ≡ Status.NoMemory) }
     // A job that neither emission nor linking has a cause to refuse is done, where no read and no write fails.
-    ensures complete { (command : JobCommand) (input : List ℕ) → IsForm (texts words.now) (OnJob command) → S.left source.old ≡ Some input → IsAccepted command input
-        → (FaultCountRose (S.faults source.old) (S.faults source.new) → ⊥) → (FaultCountRose (K.faults sink.old) (K.faults sink.new) → ⊥)
+    ensures complete { (command : JobCommand) (input : List ℕ)
+        → IsForm (texts words.now) (OnJob command) → S.left source.old ≡ Some input
+        → IsAccepted command input
+        → (FaultCountRose (S.faults source.old) (S.faults source.new) → ⊥)
+        → (FaultCountRose (K.faults sink.old) (K.faults sink.new) → ⊥)
         → (result ≡ Status.Ok) ⊎ (result ≡ Status.NoMemory) }
     // A plan without a fault is done, where no read and no write fails.
-    ensures allocates { (input : List ℕ) → IsForm (texts words.now) Allocate → S.left source.old ≡ Some input → IsPlanAccepted input
-        → (FaultCountRose (S.faults source.old) (S.faults source.new) → ⊥) → (FaultCountRose (K.faults sink.old) (K.faults sink.new) → ⊥)
+    ensures allocates { (input : List ℕ) → IsForm (texts words.now) Allocate
+        → S.left source.old ≡ Some input → IsPlanAccepted input
+        → (FaultCountRose (S.faults source.old) (S.faults source.new) → ⊥)
+        → (FaultCountRose (K.faults sink.old) (K.faults sink.new) → ⊥)
         → (result ≡ Status.Ok) ⊎ (result ≡ Status.NoMemory) }
     // Functions that nothing keeps from standing in one image are done, where no read and no write fails.
-    ensures bundles { (base : ℕ) (input : List ℕ) → IsForm (texts words.now) (Bundle base) → S.left source.old ≡ Some input → IsBundleAccepted base input
-        → (FaultCountRose (S.faults source.old) (S.faults source.new) → ⊥) → (FaultCountRose (K.faults sink.old) (K.faults sink.new) → ⊥)
+    ensures bundles { (base : ℕ) (input : List ℕ) → IsForm (texts words.now) (Bundle base)
+        → S.left source.old ≡ Some input → IsBundleAccepted base input
+        → (FaultCountRose (S.faults source.old) (S.faults source.new) → ⊥)
+        → (FaultCountRose (K.faults sink.old) (K.faults sink.new) → ⊥)
         → (result ≡ Status.Ok) ⊎ (result ≡ Status.NoMemory) }
     ensures usage { result ≡ Status.Usage → IsNoForm (texts words.now) }
-    ensures always_usage { IsNoForm (texts words.now) → (result ≡ Status.Usage) ⊎ (result ≡ Status.WriteFault) }
-    ensures read_fault { result ≡ Status.ReadFault → FaultCountRose (S.faults source.old) (S.faults source.new) }
-    ensures always_read_fault { S.faults source.old < S.faults source.new → (result ≡ Status.ReadFault) ⊎ (result ≡ Status.WriteFault) }
-    ensures write_fault { result ≡ Status.WriteFault → FaultCountRose (K.faults sink.old) (K.faults sink.new) }
-    ensures always_write_fault { K.faults sink.old < K.faults sink.new → result ≡ Status.WriteFault }
-    ensures too_long { result ≡ Status.InputTooLong → IsTooLong (S.left source.old) (S.left source.new) }
+    ensures always_usage { IsNoForm (texts words.now)
+        → (result ≡ Status.Usage) ⊎ (result ≡ Status.WriteFault) }
+    ensures read_fault { result ≡ Status.ReadFault
+        → FaultCountRose (S.faults source.old) (S.faults source.new) }
+    ensures always_read_fault { S.faults source.old < S.faults source.new
+        → (result ≡ Status.ReadFault) ⊎ (result ≡ Status.WriteFault) }
+    ensures write_fault { result ≡ Status.WriteFault
+        → FaultCountRose (K.faults sink.old) (K.faults sink.new) }
+    ensures always_write_fault { K.faults sink.old < K.faults sink.new
+        → result ≡ Status.WriteFault }
+    ensures too_long { result ≡ Status.InputTooLong
+        → IsTooLong (S.left source.old) (S.left source.new) }
 {
     let reply = reply_to(alloc, words, source);
     deliver(&reply, sink)
@@ -73,8 +105,15 @@ pub fn run<S: Source, K: Sink>(
 
 // The reply to these words and to what the source holds.
 fn reply_to<S: Source>(alloc: Global, words: &[String], source: &mut S) -> Reply
-    ensures { IsReply (record { words = texts words.now; left = S.left source.old; left' = S.left source.new; faults = S.faults source.old; faults' = S.faults source.new })
-        result.status (cow_str_bytes result.text) }
+    ensures { IsReply
+        (record {
+          words = texts words.now;
+          left = S.left source.old;
+          left' = S.left source.new;
+          faults = S.faults source.old;
+          faults' = S.faults source.new;
+        }) result.status
+        (cow_str_bytes result.text) }
 {
     let Some(command) = read_words(words) else {
         return fixed(Status::Usage, "usage\n");
@@ -111,8 +150,8 @@ fn answer_to_input(alloc: Global, command: Command, input: &[u8]) -> Reply
 
 // Writes the reply's text, and answers how all ended.
 fn deliver<K: Sink>(reply: &Reply, sink: &mut K) -> Status
-    ensures { IsDelivered (K.told sink.old) (K.told sink.new) (K.faults sink.old) (K.faults sink.new)
-        reply.now.status (cow_str_bytes reply.now.text) result }
+    ensures { IsDelivered (K.told sink.old) (K.told sink.new) (K.faults sink.old)
+        (K.faults sink.new) reply.now.status (cow_str_bytes reply.now.text) result }
 {
     match write_text(reply.text.as_bytes(), sink) {
         Ok(()) => reply.status,

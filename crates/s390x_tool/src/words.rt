@@ -110,7 +110,8 @@ fn read_with_one(name: &str, first: &str) -> Option<Command>
 
 // The command with this name and two words behind it.
 fn read_with_two(name: &str, first: &str, second: &str) -> Option<Command>
-    ensures form { IfSome result (λ command. IsForm (name.now ∷ first.now ∷ second.now ∷ []) command) }
+    ensures form { IfSome result
+        (λ command. IsForm (name.now ∷ first.now ∷ second.now ∷ []) command) }
     ensures none { IfNone result (IsNoForm (name.now ∷ first.now ∷ second.now ∷ [])) }
 {
     if name == "run" {
@@ -131,8 +132,11 @@ fn read_with_five(
     fourth: &str,
     fifth: &str,
 ) -> Option<Command>
-    ensures form { IfSome result (λ command. IsForm (name.now ∷ first.now ∷ second.now ∷ third.now ∷ fourth.now ∷ fifth.now ∷ []) command) }
-    ensures none { IfNone result (IsNoForm (name.now ∷ first.now ∷ second.now ∷ third.now ∷ fourth.now ∷ fifth.now ∷ [])) }
+    ensures form { IfSome result
+        (λ command. IsForm
+        (name.now ∷ first.now ∷ second.now ∷ third.now ∷ fourth.now ∷ fifth.now ∷ []) command) }
+    ensures none { IfNone result
+        (IsNoForm (name.now ∷ first.now ∷ second.now ∷ third.now ∷ fourth.now ∷ fifth.now ∷ [])) }
 {
     if name == "smp" {
         return read_simulation(first, second, third, fourth, fifth);
@@ -160,7 +164,8 @@ fn read_bundle(base: &str) -> Option<Command>
 
 // The command `run` with these words behind it.
 fn read_run(base: &str, steps: &str) -> Option<Command>
-    ensures form { IfSome result (λ command. IsForm (codes "run" ∷ base.now ∷ steps.now ∷ []) command) }
+    ensures form { IfSome result
+        (λ command. IsForm (codes "run" ∷ base.now ∷ steps.now ∷ []) command) }
     ensures none { IfNone result (IsNoForm (codes "run" ∷ base.now ∷ steps.now ∷ [])) }
 {
     let base = read_number(base)?;
@@ -174,7 +179,8 @@ fn read_run(base: &str, steps: &str) -> Option<Command>
 
 // The command `gen` with these words behind it.
 fn read_generate(count: &str, start: &str) -> Option<Command>
-    ensures form { IfSome result (λ command. IsForm (codes "gen" ∷ count.now ∷ start.now ∷ []) command) }
+    ensures form { IfSome result
+        (λ command. IsForm (codes "gen" ∷ count.now ∷ start.now ∷ []) command) }
     ensures none { IfNone result (IsNoForm (codes "gen" ∷ count.now ∷ start.now ∷ [])) }
 {
     let count = read_number(count)?;
@@ -192,8 +198,11 @@ fn read_generate(count: &str, start: &str) -> Option<Command>
 
 // The command `smp` with these words behind it.
 fn read_simulation(base: &str, word: &str, count: &str, steps: &str, start: &str) -> Option<Command>
-    ensures form { IfSome result (λ command. IsForm (codes "smp" ∷ base.now ∷ word.now ∷ count.now ∷ steps.now ∷ start.now ∷ []) command) }
-    ensures none { IfNone result (IsNoForm (codes "smp" ∷ base.now ∷ word.now ∷ count.now ∷ steps.now ∷ start.now ∷ [])) }
+    ensures form { IfSome result
+        (λ command. IsForm
+        (codes "smp" ∷ base.now ∷ word.now ∷ count.now ∷ steps.now ∷ start.now ∷ []) command) }
+    ensures none { IfNone result
+        (IsNoForm (codes "smp" ∷ base.now ∷ word.now ∷ count.now ∷ steps.now ∷ start.now ∷ [])) }
 {
     let base = read_number(base)?;
     let word = read_number(word)?;

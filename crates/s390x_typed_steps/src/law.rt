@@ -18,26 +18,45 @@ ghost use Rattle.s390x_typed_steps.specs.Traps.{step_traps, function_traps, firs
 
 /// A member's cause comes before those of the members behind it.
 pub fn members_in_order()
-    ensures { (flags : IsaFlags) (e : Emission) (D : Declared) (n nominal depth : ℕ) (i : Inst) (rest : Tree) → tree_cause flags D n nominal depth (prepend e i rest) ≡ first_emit_cause (tree_cause flags D n nominal depth (prepend e i empty)) (tree_cause flags D (n + fresh_labels (prepend e i empty)) (nominal_after nominal i) depth rest) }
+    ensures { (flags : IsaFlags) (e : Emission) (D : Declared) (n nominal depth : ℕ) (i : Inst)
+        (rest : Tree)
+        → tree_cause flags D n nominal depth (prepend e i rest)
+        ≡ first_emit_cause (tree_cause flags D n nominal depth (prepend e i empty))
+        (tree_cause flags D (n + fresh_labels (prepend e i empty)) (nominal_after nominal i)
+        depth rest) }
 {}
 
 /// On a machine by its flags a member's cause comes before those of the members behind it.
 pub fn members_in_order_on_a_machine()
-    ensures { (flags : IsaFlags) (e : Emission) (D : Declared) (n nominal depth : ℕ) (i : Inst) (rest : Tree) → tree_cause flags D n nominal depth (tree_for flags (prepend e i rest)) ≡ first_emit_cause (tree_cause flags D n nominal depth (tree_for flags (prepend e i empty))) (tree_cause flags D (n + fresh_labels (prepend e i empty)) (nominal_after nominal i) depth (tree_for flags rest)) }
+    ensures { (flags : IsaFlags) (e : Emission) (D : Declared) (n nominal depth : ℕ) (i : Inst)
+        (rest : Tree)
+        → tree_cause flags D n nominal depth (tree_for flags (prepend e i rest))
+        ≡ first_emit_cause (tree_cause flags D n nominal depth (tree_for flags (prepend e i empty)))
+        (tree_cause flags D (n + fresh_labels (prepend e i empty)) (nominal_after nominal i)
+        depth (tree_for flags rest)) }
 {}
 
 /// The steps of a call and of a tail call are the same on each machine.
 pub fn calls_keep_their_steps()
-    ensures calls { (flags : IsaFlags) (e : Emission) (link : Reg) (info : CallInfo) → tree_for flags (leaves (call_bodies e link info) empty) ≡ leaves (call_bodies e link info) empty }
-    ensures tail_calls { (flags : IsaFlags) (e : Emission) (popped : ℕ) (dest : CallInstDest) → tree_for flags (leaves (tail_bodies e popped dest) empty) ≡ leaves (tail_bodies e popped dest) empty }
+    ensures calls { (flags : IsaFlags) (e : Emission) (link : Reg) (info : CallInfo)
+        → tree_for flags (leaves (call_bodies e link info) empty)
+        ≡ leaves (call_bodies e link info) empty }
+    ensures tail_calls { (flags : IsaFlags) (e : Emission) (popped : ℕ) (dest : CallInstDest)
+        → tree_for flags (leaves (tail_bodies e popped dest) empty)
+        ≡ leaves (tail_bodies e popped dest) empty }
 {}
 
 /// A machine that has relative loads, stores and compares loads no such operand's address first.
 pub fn relative_machines_keep_trees()
-    ensures { (flags : IsaFlags) (t : Tree) → flags.no_relative_memory ≡ false → tree_for flags t ≡ t }
+    ensures { (flags : IsaFlags) (t : Tree) → flags.no_relative_memory ≡ false
+        → tree_for flags t ≡ t }
 {}
 
 /// Inside the bytes of a step the table of traps has what the step recorded there: its code where it recorded one, and no code elsewhere.
 pub fn codes_of_steps()
-    ensures { (ts : List Tree) (k : ℕ) (s : Step) → slice_get (function_steps ts) k ≡ Some s → (o : ℕ) → step_offset (function_steps ts) k ≤ o → o < step_offset (function_steps ts) (suc k) → first_code (function_traps ts) o ≡ first_code (step_traps (step_offset (function_steps ts) k) s) o }
+    ensures { (ts : List Tree) (k : ℕ) (s : Step) → slice_get (function_steps ts) k ≡ Some s
+        → (o : ℕ) → step_offset (function_steps ts) k ≤ o
+        → o < step_offset (function_steps ts) (suc k)
+        → first_code (function_traps ts) o
+        ≡ first_code (step_traps (step_offset (function_steps ts) k) s) o }
 {}
