@@ -60,7 +60,8 @@ fn with_notes(
     lines: &[Line],
     notes: &[Note],
 ) -> Result<String, AllocError>
-    ensures { IfOk result (λ text. string_bytes text ≡ noted_text base code.now notes.now lines.now) }
+    ensures { IfOk result
+        (λ text. string_bytes text ≡ noted_text base code.now notes.now lines.now) }
 {
     let mut out = String::new(alloc);
     put_lines(alloc, &mut out, base, code, lines, notes)?;
@@ -107,7 +108,9 @@ fn put_lines(
     lines: &[Line],
     notes: &[Note],
 ) -> Result<(), AllocError>
-    ensures { OnOk result (string_bytes out.new ≡ string_bytes out.old ++ noted_text base code.now notes.now lines.now) }
+    ensures { OnOk result
+        (string_bytes out.new
+        ≡ string_bytes out.old ++ noted_text base code.now notes.now lines.now) }
 {
     let mut left = notes;
     for line in lines {
@@ -125,7 +128,8 @@ fn put_indented(
     code: &[u8],
     line: &Line,
 ) -> Result<(), AllocError>
-    ensures { OnOk result (string_bytes out.new ≡ string_bytes out.old ++ indented_text base code.now line.now) }
+    ensures { OnOk result
+        (string_bytes out.new ≡ string_bytes out.old ++ indented_text base code.now line.now) }
 {
     out.push_str("    ")?;
     put_line(alloc, out, base, code, line)
@@ -134,7 +138,8 @@ fn put_indented(
 // The notes before the first one that stands behind the offset; what is left is answered.
 fn put_due<'a>(out: &mut String, offset: usize, notes: &'a [Note]) -> Result<&'a [Note], AllocError>
     ensures left { IfOk result (λ left. left.now ≡ notes_left offset notes.now) }
-    ensures text { IfOk result (λ _. string_bytes out.new ≡ string_bytes out.old ++ due_text offset notes.now) }
+    ensures text { IfOk result
+        (λ _. string_bytes out.new ≡ string_bytes out.old ++ due_text offset notes.now) }
 {
     let mut left = notes;
     while let [note, rest @ ..] = left
