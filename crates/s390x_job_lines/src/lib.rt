@@ -15,7 +15,7 @@ mod read_integer;
 mod read_memory;
 mod read_vector;
 
-pub use inst_name::{ControlName, IntegerName, MemoryName};
+pub use inst_name::{ControlName, IntegerName, MemoryName, VectorName};
 pub use law::lines_tell_instructions;
 pub use load_names::LOAD_NAMES;
 pub use name::{LineName, find_name};
