@@ -29,7 +29,7 @@ COMMANDS = {
 # Those of the second program, where it is there.
 with open(os.path.join(ROOT, "crates.txt"), encoding="utf-8") as listed:
     if re.search(r"^s390x_binary:", listed.read(), re.M):
-        COMMANDS |= {"refusal": [], "verify": [BASE], "disassemble": [BASE], "assemble": [BASE], "object": [], "objects": []}
+        COMMANDS |= {"refusal": [], "verify": [BASE], "disassemble": [BASE], "assemble": [BASE], "list": [BASE], "object": [], "objects": []}
 # Of a function whose instructions are more, only so many parts are tried without a proof.
 MOST_PARTS = 20
 NUMBER = re.compile(r"0|[1-9][0-9]*")
@@ -622,7 +622,7 @@ def parts_of(job):
 
 def write_parts(path, folder, name, *words):
     """Writes parts of an input as cases, so that one build answers them all."""
-    if not words or words[0] not in ("image", "emit", "run", "operands", "show", "object"):
+    if not words or words[0] not in ("image", "emit", "run", "operands", "show", "list", "object"):
         return
     with open(path, "rb") as file:
         job = Job(file.read().decode(errors="replace").rstrip("\n").split("\n"))

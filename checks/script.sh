@@ -130,10 +130,15 @@ want "verify" 13 "4 is the first byte"
 echo "2 usage" > "$copy/crates/s390x_binary/out/answer"
 run verify 0x1000
 want "the words of verify" 2 "in decimal it is 4096"
+run list 0x1000
+want "the words of list" 2 "in decimal it is 4096"
 run object a b
 want "the words of object" 2 "b is a word too many: object [NAME]"
 run objects a
 want "the words of objects" 2 "a is a word too many: objects"
+echo "5 link UndefinedSymbol" > "$copy/crates/s390x_binary/out/answer"
+run list 4096
+want "list" 5 "the code uses a symbol of which the job has no line"
 echo "14 object EmptyName" > "$copy/crates/s390x_binary/out/answer"
 run object ""
 want "object" 14 "the name for the function has no bytes"

@@ -1,10 +1,15 @@
 -- From the replies of the parts to the answers.
 use Rattle.std.proofs.Common.{◌≡◌, ℕ, ◌+◌, inl, inr, List, [], ◌++◌, Some, None, length, take, drop, sym, ap, ap₂, ◌∙◌, subst}
-use Rattle.std.specs.Prelude.{codes}
+use Rattle.std.specs.Prelude.{codes, ◌⊎◌}
 use Rattle.std.specs.Fmt.{decimal}
 use Rattle.s390x_base.specs.declared.error.EmitError.{EmitError}
+use Rattle.s390x_base.specs.declared.error.EmitError.TheVariants as emit
+use Rattle.s390x_buffer.specs.declared.entries.MachBufferFinalized.{MachBufferFinalized}
+use Rattle.s390x_binary_tool.specs.CodeListing.{IsCodeListing}
+use Rattle.s390x_image.specs.Causes.{link_cause}
 use Rattle.s390x_image.specs.Fields.{filled}
 use Rattle.s390x_image.specs.declared.error.LinkError.{LinkError}
+use Rattle.s390x_image.specs.declared.error.LinkError.TheVariants as linking
 use Rattle.hex.specs.Hex.{encode_lower}
 use Rattle.s390x_disassembler.specs.Assembly.{IsNoSource, IsOnlySource, IsSource, IsWrongSource}
 use Rattle.s390x_disassembler.specs.Disassembly.{IsDisassembly, IsOnlyCode}
@@ -19,13 +24,14 @@ use Rattle.s390x_job.specs.declared.job.Job.{Job}
 use Rattle.s390x_job.specs.declared.job.LineError.TheVariants.{Syntax}
 use Rattle.s390x_refusal.specs.Refusal.{IsFirstRefusal}
 use Rattle.s390x_refusal.specs.declared.position.Refusal.{Refusal}
-use Rattle.s390x_tool.specs.Answers.{job_cause, symbols_of}
+use Rattle.s390x_tool.specs.Answers.{IsCodeOfJob, IsLinked, job_cause, symbols_of}
 use Rattle.s390x_tool.specs.Lines.{IsLinkRefusal, IsMade, IsRefusal, line}
 use Rattle.s390x_tool.specs.declared.status.Status.{Status}
 use Rattle.s390x_tool.specs.declared.status.Status.TheVariants as status
 use Rattle.s390x_binary_tool.specs.Assemble.{IsAssembleAnswer}
 use Rattle.s390x_binary_tool.specs.Disassemble.{IsDisassembleAnswer, IsDisassembleReply, IsDisassemblyOf}
 use Rattle.s390x_binary_tool.specs.ImageText.{IsFirstDifference, IsImageText, IsWrongLine}
+use Rattle.s390x_binary_tool.specs.Listing.{IsListAnswer, IsListReply}
 use Rattle.s390x_binary_tool.specs.Made.{IsMadeReply}
 use Rattle.s390x_binary_tool.specs.Refusal.{IsRefusalAnswer, IsRefusalReply, refusal_line}
 use Rattle.s390x_binary_tool.specs.Verify.{IsCutJob, IsJobImage, IsVerified, IsVerifyAnswer, IsVerifyReply}
@@ -148,6 +154,50 @@ disassemble_answer base input code ObjectRefused text hex reply = absurd reply
 disassemble_answer base input code (Shared status.Ok) text hex reply = record { code = code; hex = hex; is = reply }
 disassemble_answer base input code (Shared status.NoMemory) text hex reply = reply
 disassemble_answer base input code (Shared s) text hex reply = absurd reply
+
+-- ---- `list`
+
+pub list_memory : (base : ℕ) (j : Job) (s : BinaryStatus) (text : List ℕ) → s ≡ Shared status.NoMemory → text ≡ line (codes "no memory") → IsListReply base j s text
+list_memory base j s text is spelled = subst (λ t. IsListReply base j t text) (sym is) spelled
+
+pub list_text : (base : ℕ) (j : Job) (code : MachBufferFinalized) (bytes made : List ℕ) (s : BinaryStatus) (text : List ℕ)
+    → IsCodeOfJob j code → IsLinked base j code bytes → IsCodeListing j.info.isa_flags j.state j.function.blocks.items code base bytes made
+    → s ≡ Shared status.Ok → text ≡ made → IsListReply base j s text
+list_text base j code bytes made s text is image listing ok spelled =
+    subst (λ t. IsListReply base j t text) (sym ok)
+    (record { code = code; is = is; bytes = bytes; image = image; listing = subst (IsCodeListing j.info.isa_flags j.state j.function.blocks.items code base bytes) (sym spelled) listing })
+
+pub list_refused : (base : ℕ) (j : Job) (e : EmitError) (first : Status) (s : BinaryStatus) (text : List ℕ) → (e ≡ emit.NoMemory) ⊎ (job_cause j ≡ Some e) → IsRefusal e first text → s ≡ Shared first → IsListReply base j s text
+list_refused base j e first s text (inl memory) (inl named) is = absurd (named.0 memory)
+list_refused base j e first s text (inr cause) (inl named) is =
+    subst (λ t. IsListReply base j t text) (sym (is ∙ ap Shared named.1)) (record { error = e; cause = cause; spelled = named.2 })
+list_refused base j e first s text why (inr memory) is = list_memory base j s text (is ∙ ap Shared memory.1) memory.2
+
+pub list_unlinked : (base : ℕ) (j : Job) (code : MachBufferFinalized) (e : LinkError) (first : Status) (s : BinaryStatus) (text : List ℕ)
+    → IsCodeOfJob j code → (e ≡ linking.NoMemory) ⊎ (link_cause code base (symbols_of j) ≡ Some e) → IsLinkRefusal e first text → s ≡ Shared first → IsListReply base j s text
+list_unlinked base j code e first s text of (inl memory) (inl named) is = absurd (named.0 memory)
+list_unlinked base j code e first s text of (inr cause) (inl named) is =
+    subst (λ t. IsListReply base j t text) (sym (is ∙ ap Shared named.1)) (record { code = code; is = of; error = e; cause = cause; spelled = named.2 })
+list_unlinked base j code e first s text of why (inr memory) is = list_memory base j s text (is ∙ ap Shared memory.1) memory.2
+
+-- texts that are none
+pub list_no_memory : (base : ℕ) (input : List ℕ) (s : BinaryStatus) (text : List ℕ) → s ≡ Shared status.NoMemory → text ≡ line (codes "no memory") → IsListAnswer base input s text
+list_no_memory base input s text is spelled = subst (λ t. IsListAnswer base input t text) (sym is) spelled
+
+pub list_syntax : (base : ℕ) (input : List ℕ) (n : ℕ) (first : Status) (s : BinaryStatus) (text : List ℕ) → IsError input (Syntax n) → IsMade status.Syntax (line (codes "syntax " ++ decimal n)) first text → s ≡ Shared first → IsListAnswer base input s text
+list_syntax base input n first s text e (inl made) is =
+    subst (λ t. IsListAnswer base input t text) (sym (is ∙ ap Shared made.0)) (record { no_job = e.0; number = n; first = e.1; spelled = made.1 })
+list_syntax base input n first s text e (inr memory) is = list_no_memory base input s text (is ∙ ap Shared memory.0) memory.1
+
+-- the reply to the only job whose text the input is
+pub list_answer : (base : ℕ) (input : List ℕ) (j : Job) (s : BinaryStatus) (text : List ℕ) → IsJob j → text_of_job j ≡ input → ((k : Job) → IsJob k → text_of_job k ≡ input → SameJob j k) → IsListReply base j s text → IsListAnswer base input s text
+list_answer base input j Differs text is spelled one reply = absurd reply
+list_answer base input j ObjectRefused text is spelled one reply = absurd reply
+list_answer base input j (Shared status.Ok) text is spelled one reply = record { job = j; is = is; spelled = spelled; one = one; reply = reply }
+list_answer base input j (Shared status.Refused) text is spelled one reply = record { job = j; is = is; spelled = spelled; one = one; reply = reply }
+list_answer base input j (Shared status.LinkRefused) text is spelled one reply = record { job = j; is = is; spelled = spelled; one = one; reply = reply }
+list_answer base input j (Shared status.NoMemory) text is spelled one reply = reply
+list_answer base input j (Shared s) text is spelled one reply = absurd reply
 
 -- ---- `assemble`
 

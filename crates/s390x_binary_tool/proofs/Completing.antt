@@ -13,7 +13,7 @@ use Rattle.s390x_job.specs.Same.{SameJob}
 use Rattle.s390x_job.specs.declared.job.Job.{Job}
 use Rattle.s390x_binary_tool.specs.Words.{IsForm}
 use Rattle.s390x_binary_tool.specs.declared.words.Command.{Command}
-use Rattle.s390x_binary_tool.specs.declared.words.Command.TheVariants.{Refusal, Verify, Disassemble, Assemble, Object, Objects}
+use Rattle.s390x_binary_tool.specs.declared.words.Command.TheVariants.{Refusal, Verify, Disassemble, Assemble, Listing, Object, Objects}
 use Rattle.s390x_binary_tool.proofs.Told.{same_command}
 use Rattle.s390x_tool.specs.Answers.{IsCodeOfJob, IsImageAt, symbols_of, with_symbols}
 use Rattle.s390x_tool.specs.Bundled.{member_of}
@@ -23,9 +23,10 @@ use Rattle.s390x_tool.specs.declared.status.Status.TheVariants as status
 use Rattle.s390x_tool.proofs.Completing.{read_less, read_whole}
 use Rattle.s390x_tool.proofs.SameJob.{same_cause, same_code, same_symbols}
 use Rattle.s390x_binary_tool.proofs.Joining.{coded, same_duplicate, same_objects, same_refused}
-use Rattle.s390x_binary_tool.specs.Accepted.{AreObjectFunctions, IsAccepted, IsHexCode, IsJobWithImage, IsObjectJob, IsSomeSource, IsUnrefused, IsValidJob}
+use Rattle.s390x_binary_tool.specs.Accepted.{AreObjectFunctions, IsAccepted, IsHexCode, IsJobWithImage, IsLinkableJob, IsObjectJob, IsSomeSource, IsUnrefused, IsValidJob}
 use Rattle.s390x_binary_tool.specs.Assemble.{IsAssembleAnswer}
 use Rattle.s390x_binary_tool.specs.Disassemble.{IsDisassembleAnswer}
+use Rattle.s390x_binary_tool.specs.Listing.{IsListAnswer}
 use Rattle.s390x_binary_tool.specs.Object.{IsObjectAnswer}
 use Rattle.s390x_binary_tool.specs.Objects.{IsObjectsAnswer}
 use Rattle.s390x_binary_tool.specs.Refusal.{IsRefusalAnswer}
@@ -132,6 +133,21 @@ assemble_done base input (Shared status.NoMemory) text v a = inr refl
 assemble_done base input (Shared status.Syntax) text v a = absurd (a.none v.code v.bytes v.is)
 assemble_done base input (Shared s) text v a = absurd a
 
+list_done : (base : ℕ) (input : List ℕ) (s : BinaryStatus) (text : List ℕ) → IsLinkableJob base input → IsListAnswer base input s text → IsDoneStatus s
+list_done base input Differs text v a = absurd a.reply
+list_done base input ObjectRefused text v a = absurd a.reply
+list_done base input (Shared status.Ok) text v a = inl refl
+list_done base input (Shared status.NoMemory) text v a = inr refl
+list_done base input (Shared status.Syntax) text v a = absurd (a.no_job v.valid.job v.valid.is v.valid.spelled)
+list_done base input (Shared status.Refused) text v a =
+    let same = a.one v.valid.job v.valid.is v.valid.spelled in
+    absurd (no_cause _ a.reply.error (same_cause a.job v.valid.job a.is v.valid.is same ∙ v.valid.valid) a.reply.cause)
+list_done base input (Shared status.LinkRefused) text v a =
+    let same = a.one v.valid.job v.valid.is v.valid.spelled in
+    let none = ap (link_cause a.reply.code base) (same_table a.job v.valid.job a.is v.valid.is same) ∙ v.links a.reply.code (same_code a.job v.valid.job a.reply.code a.is v.valid.is same a.reply.is) in
+    absurd (no_cause _ a.reply.error none a.reply.cause)
+list_done base input (Shared s) text v a = absurd a.reply
+
 object_done : (name input : List ℕ) (s : BinaryStatus) (text : List ℕ) → IsObjectJob name input → IsObjectAnswer name input s text → IsDoneStatus s
 object_done name input Differs text v a = absurd a.reply
 object_done name input ObjectRefused text v a =
@@ -164,6 +180,7 @@ command_done Refusal words input s text v a = refusal_done input s text v a
 command_done (Verify base) words input s text v a = verify_done base input s text v a
 command_done (Disassemble base) words input s text v a = disassemble_done base input s text v a
 command_done (Assemble base) words input s text v a = assemble_done base input s text v a
+command_done (Listing base) words input s text v a = list_done base input s text v a
 command_done Object words input s text v a = object_done _ input s text v a
 command_done Objects words input s text v a = objects_done input s text v a
 

@@ -1,10 +1,13 @@
 pub mod Answering
 pub mod Completing
+pub mod Counting
 pub mod CutJob
 pub mod Differences
 pub mod HexLines
 pub mod Joining
 pub mod Objects
+pub mod Pushing
 pub mod Replying
+pub mod Telling
 pub mod Told
 pub mod Verifying

@@ -7,13 +7,13 @@ use Rattle.std.specs.Str.Parse.{digits_value}
 use Rattle.std.proofs.lemmas.Fmt.{decimal_is_IsNumeral}
 use Rattle.s390x_binary_tool.specs.Words.{IsForm, IsInRange, IsNoForm, IsSpelled}
 use Rattle.s390x_binary_tool.specs.declared.words.Command.{Command}
-use Rattle.s390x_binary_tool.specs.declared.words.Command.TheVariants.{Refusal, Verify, Disassemble, Assemble, Object, Objects}
+use Rattle.s390x_binary_tool.specs.declared.words.Command.TheVariants.{Refusal, Verify, Disassemble, Assemble, Listing, Object, Objects}
 
 -- the command with a number
 abbrev told_with_base : List ℕ → ℕ → Option Command
 told_with_base w n =
     cond (bytes_eq w (codes "verify")) (Some (Verify n))
-    (cond (bytes_eq w (codes "disassemble")) (Some (Disassemble n)) (cond (bytes_eq w (codes "assemble")) (Some (Assemble n)) None))
+    (cond (bytes_eq w (codes "disassemble")) (Some (Disassemble n)) (cond (bytes_eq w (codes "assemble")) (Some (Assemble n)) (cond (bytes_eq w (codes "list")) (Some (Listing n)) None)))
 
 -- the command that words tell: the first one its name, the other its number
 abbrev told : List (List ℕ) → Option Command
@@ -27,6 +27,7 @@ told_back Refusal words is range = ap told is
 told_back (Verify base) words is range = ap told is ∙ ap (λ n. Some (Verify n)) (decimal_is_IsNumeral base range).1
 told_back (Disassemble base) words is range = ap told is ∙ ap (λ n. Some (Disassemble n)) (decimal_is_IsNumeral base range).1
 told_back (Assemble base) words is range = ap told is ∙ ap (λ n. Some (Assemble n)) (decimal_is_IsNumeral base range).1
+told_back (Listing base) words is range = ap told is ∙ ap (λ n. Some (Listing n)) (decimal_is_IsNumeral base range).1
 told_back Object words (inl is) range = ap told is
 told_back Object words (inr is) range = ap told is
 told_back Objects words is range = ap told is
@@ -44,6 +45,7 @@ none_alone w no_refusal no_object no_objects Refusal form = no_refusal (ap (λ w
 none_alone w no_refusal no_object no_objects (Verify base) form = absurd (omega (arith, ap length form.spelled))
 none_alone w no_refusal no_object no_objects (Disassemble base) form = absurd (omega (arith, ap length form.spelled))
 none_alone w no_refusal no_object no_objects (Assemble base) form = absurd (omega (arith, ap length form.spelled))
+none_alone w no_refusal no_object no_objects (Listing base) form = absurd (omega (arith, ap length form.spelled))
 none_alone w no_refusal no_object no_objects Object form = elim form.spelled [
   | inl is ↦ no_object (ap (λ ws. get_or ws 0 []) is)
   | inr is ↦ absurd (omega (arith, ap length is))
@@ -55,13 +57,14 @@ no_object_pair w x no_object (inl is) = absurd (omega (arith, ap length is))
 no_object_pair w x no_object (inr is) = no_object (ap (λ ws. get_or ws 0 []) is)
 
 -- a word with one behind it
-pub none_with_base : (w x : List ℕ) → w ≢ codes "object" → w ≢ codes "verify" → w ≢ codes "disassemble" → w ≢ codes "assemble" → IsNoForm (w ∷ x ∷ [])
-none_with_base w x no_object no_verify no_disassemble no_assemble Refusal form = absurd (omega (arith, ap length form.spelled))
-none_with_base w x no_object no_verify no_disassemble no_assemble (Verify base) form = no_verify (ap (λ ws. get_or ws 0 []) form.spelled)
-none_with_base w x no_object no_verify no_disassemble no_assemble (Disassemble base) form = no_disassemble (ap (λ ws. get_or ws 0 []) form.spelled)
-none_with_base w x no_object no_verify no_disassemble no_assemble (Assemble base) form = no_assemble (ap (λ ws. get_or ws 0 []) form.spelled)
-none_with_base w x no_object no_verify no_disassemble no_assemble Object form = no_object_pair w x no_object form.spelled
-none_with_base w x no_object no_verify no_disassemble no_assemble Objects form = absurd (omega (arith, ap length form.spelled))
+pub none_with_base : (w x : List ℕ) → w ≢ codes "object" → w ≢ codes "verify" → w ≢ codes "disassemble" → w ≢ codes "assemble" → w ≢ codes "list" → IsNoForm (w ∷ x ∷ [])
+none_with_base w x no_object no_verify no_disassemble no_assemble no_list Refusal form = absurd (omega (arith, ap length form.spelled))
+none_with_base w x no_object no_verify no_disassemble no_assemble no_list (Verify base) form = no_verify (ap (λ ws. get_or ws 0 []) form.spelled)
+none_with_base w x no_object no_verify no_disassemble no_assemble no_list (Disassemble base) form = no_disassemble (ap (λ ws. get_or ws 0 []) form.spelled)
+none_with_base w x no_object no_verify no_disassemble no_assemble no_list (Assemble base) form = no_assemble (ap (λ ws. get_or ws 0 []) form.spelled)
+none_with_base w x no_object no_verify no_disassemble no_assemble no_list (Listing base) form = no_list (ap (λ ws. get_or ws 0 []) form.spelled)
+none_with_base w x no_object no_verify no_disassemble no_assemble no_list Object form = no_object_pair w x no_object form.spelled
+none_with_base w x no_object no_verify no_disassemble no_assemble no_list Objects form = absurd (omega (arith, ap length form.spelled))
 
 -- a word with one behind it that is no number
 pub none_of_number : (w x : List ℕ) → w ≢ codes "object" → ((n : ℕ) → n < 2 ^ 64 → x ≢ decimal n) → IsNoForm (w ∷ x ∷ [])
@@ -69,6 +72,7 @@ none_of_number w x no_object none Refusal form = absurd (omega (arith, ap length
 none_of_number w x no_object none (Verify base) form = none base form.range (ap (λ ws. get_or ws 1 []) form.spelled)
 none_of_number w x no_object none (Disassemble base) form = none base form.range (ap (λ ws. get_or ws 1 []) form.spelled)
 none_of_number w x no_object none (Assemble base) form = none base form.range (ap (λ ws. get_or ws 1 []) form.spelled)
+none_of_number w x no_object none (Listing base) form = none base form.range (ap (λ ws. get_or ws 1 []) form.spelled)
 none_of_number w x no_object none Object form = no_object_pair w x no_object form.spelled
 none_of_number w x no_object none Objects form = absurd (omega (arith, ap length form.spelled))
 
@@ -78,6 +82,7 @@ none_of_length words one two Refusal form = one (ap length form.spelled)
 none_of_length words one two (Verify base) form = two (ap length form.spelled)
 none_of_length words one two (Disassemble base) form = two (ap length form.spelled)
 none_of_length words one two (Assemble base) form = two (ap length form.spelled)
+none_of_length words one two (Listing base) form = two (ap length form.spelled)
 none_of_length words one two Object form = elim form.spelled [
   | inl is ↦ one (ap length is)
   | inr is ↦ two (ap length is)

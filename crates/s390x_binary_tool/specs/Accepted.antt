@@ -14,8 +14,8 @@ use Rattle.s390x_job.specs.Jobs.{IsJob, text_of_job}
 use Rattle.s390x_job.specs.declared.job.Job.{Job}
 use Rattle.s390x_binary_tool.specs.Words.{object_name}
 use Rattle.s390x_binary_tool.specs.declared.words.Command.{Command}
-use Rattle.s390x_binary_tool.specs.declared.words.Command.TheVariants.{Refusal, Verify, Disassemble, Assemble, Object, Objects}
-use Rattle.s390x_tool.specs.Answers.{IsCodeOfJob, IsImageAt, job_cause}
+use Rattle.s390x_binary_tool.specs.declared.words.Command.TheVariants.{Refusal, Verify, Disassemble, Assemble, Listing, Object, Objects}
+use Rattle.s390x_tool.specs.Answers.{IsCodeOfJob, IsImageAt, job_cause, link_cause_of}
 use Rattle.s390x_tool.specs.Bundled.{member_of}
 use Rattle.s390x_binary_tool.specs.ImageText.{IsImageText}
 use Rattle.s390x_binary_tool.specs.Objects.{AreObjectMembers}
@@ -34,6 +34,11 @@ pub record IsJobWithImage (base : ℕ) (input : List ℕ) : Type 0 where
   pub given : List ℕ
   pub are : IsVerifyText input job given
   pub image : IsImageAt base job given
+
+-- the input is the text of a job, which emission has no cause to refuse, nor linking at the base
+pub record IsLinkableJob (base : ℕ) (input : List ℕ) : Type 0 where
+  pub valid : IsValidJob input
+  pub links : (code : MachBufferFinalized) → IsCodeOfJob valid.job code → link_cause_of base valid.job code ≡ None
 
 -- code in lines of hex digits
 pub record IsHexCode (input : List ℕ) : Type 0 where
@@ -66,6 +71,7 @@ IsUnrefused Refusal words input = IsValidJob input
 IsUnrefused (Verify base) words input = IsJobWithImage base input
 IsUnrefused (Disassemble base) words input = IsHexCode input
 IsUnrefused (Assemble base) words input = IsSomeSource base input
+IsUnrefused (Listing base) words input = IsLinkableJob base input
 IsUnrefused Object words input = IsObjectJob (object_name words) input
 IsUnrefused Objects words input = AreObjectFunctions input
 

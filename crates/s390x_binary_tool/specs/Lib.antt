@@ -1,8 +1,12 @@
 pub mod Accepted
 pub mod Assemble
+pub mod CodeListing
 pub mod Disassemble
 pub mod ImageText
+pub mod InstSteps
+pub mod Listing
 pub mod Made
+pub mod Notes
 pub mod Object
 pub mod Objects
 pub mod OneJob

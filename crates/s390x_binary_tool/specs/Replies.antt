@@ -8,9 +8,10 @@ use Rattle.s390x_tool.specs.Replies.{Found}
 use Rattle.s390x_tool.specs.declared.status.Status.TheVariants as status
 use Rattle.s390x_binary_tool.specs.Words.{IsForm, IsNoForm, object_name}
 use Rattle.s390x_binary_tool.specs.declared.words.Command.{Command}
-use Rattle.s390x_binary_tool.specs.declared.words.Command.TheVariants.{Refusal, Verify, Disassemble, Assemble, Object, Objects}
+use Rattle.s390x_binary_tool.specs.declared.words.Command.TheVariants.{Refusal, Verify, Disassemble, Assemble, Listing, Object, Objects}
 use Rattle.s390x_binary_tool.specs.Assemble.{IsAssembleAnswer}
 use Rattle.s390x_binary_tool.specs.Disassemble.{IsDisassembleAnswer}
+use Rattle.s390x_binary_tool.specs.Listing.{IsListAnswer}
 use Rattle.s390x_binary_tool.specs.Object.{IsObjectAnswer}
 use Rattle.s390x_binary_tool.specs.Objects.{IsObjectsAnswer}
 use Rattle.s390x_binary_tool.specs.Refusal.{IsRefusalAnswer}
@@ -51,6 +52,7 @@ IsInputAnswer Refusal words input s text = IsRefusalAnswer input s text
 IsInputAnswer (Verify base) words input s text = IsVerifyAnswer base input s text
 IsInputAnswer (Disassemble base) words input s text = IsDisassembleAnswer base input s text
 IsInputAnswer (Assemble base) words input s text = IsAssembleAnswer base input s text
+IsInputAnswer (Listing base) words input s text = IsListAnswer base input s text
 IsInputAnswer Object words input s text = IsObjectAnswer (object_name words) input s text
 IsInputAnswer Objects words input s text = IsObjectsAnswer input s text
 

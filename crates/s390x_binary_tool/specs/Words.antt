@@ -2,7 +2,7 @@
 use Rattle.std.specs.Prelude.{ℕ, ◌≡◌, ◌⊎◌, ◌^◌, ◌<◌, List, [], ◌∷◌, codes, get_or}
 use Rattle.std.specs.Fmt.{decimal}
 use Rattle.s390x_binary_tool.specs.declared.words.Command.{Command}
-use Rattle.s390x_binary_tool.specs.declared.words.Command.TheVariants.{Refusal, Verify, Disassemble, Assemble, Object, Objects}
+use Rattle.s390x_binary_tool.specs.declared.words.Command.TheVariants.{Refusal, Verify, Disassemble, Assemble, Listing, Object, Objects}
 
 -- the name for `object`: the word behind it, or `function`
 abbrev pub object_name : List (List ℕ) → List ℕ
@@ -14,6 +14,7 @@ IsSpelled Refusal words = words ≡ codes "refusal" ∷ []
 IsSpelled (Verify base) words = words ≡ codes "verify" ∷ decimal base ∷ []
 IsSpelled (Disassemble base) words = words ≡ codes "disassemble" ∷ decimal base ∷ []
 IsSpelled (Assemble base) words = words ≡ codes "assemble" ∷ decimal base ∷ []
+IsSpelled (Listing base) words = words ≡ codes "list" ∷ decimal base ∷ []
 IsSpelled Object words = (words ≡ codes "object" ∷ []) ⊎ (words ≡ codes "object" ∷ object_name words ∷ [])
 IsSpelled Objects words = words ≡ codes "objects" ∷ []
 
@@ -23,6 +24,7 @@ IsInRange Refusal = Unit {0}
 IsInRange (Verify base) = base < 2 ^ 64
 IsInRange (Disassemble base) = base < 2 ^ 64
 IsInRange (Assemble base) = base < 2 ^ 64
+IsInRange (Listing base) = base < 2 ^ 64
 IsInRange Object = Unit {0}
 IsInRange Objects = Unit {0}
 

@@ -2,9 +2,15 @@
 #![tactic(auto)]
 
 mod assemble;
+mod block_notes;
+mod code_listing;
 mod disassemble;
+mod entry_notes;
 mod functions;
 mod image_text;
+mod inst_steps;
+mod list;
+mod notes;
 mod object;
 mod refusal;
 mod reply;

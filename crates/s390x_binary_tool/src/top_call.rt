@@ -14,6 +14,7 @@ ghost use Rattle.s390x_tool.specs.declared.status.Status.TheVariants as status;
 use crate::assemble::assemble;
 use crate::disassemble::disassemble;
 use crate::functions::objects;
+use crate::list::list;
 use crate::object::object;
 use crate::refusal::refusal;
 use crate::reply::{BinaryReply, shared};
@@ -42,7 +43,7 @@ pub fn run<S: Source, K: Sink>(
         }) (K.told sink.old)
         (K.told sink.new) (K.faults sink.old) (K.faults sink.new) result }
     // At `Ok` the source held what the command reads, which nothing refuses, and the sink was told the command's text for it: `none` of a job that emission
-    // doesn't refuse; nothing of a job and its image at this base; the disassembly of code, and of no other; the code of a source; the object of a job, which
+    // doesn't refuse; nothing of a job and its image at this base; the disassembly of code, and of no other; the code of a source; the listing of a job; the object of a job, which
     // runs as typed wherever it is linked; the object of functions.
     ensures ok { result ≡ Shared status.Ok
         → IsDone
@@ -110,6 +111,7 @@ fn answer(alloc: Global, command: Command, words: &[String], input: &[u8]) -> Bi
         Command::Verify { base } => verify(alloc, base, input),
         Command::Disassemble { base } => disassemble(alloc, base, input),
         Command::Assemble { base } => assemble(alloc, base, input),
+        Command::Listing { base } => list(alloc, base, input),
         Command::Object => object(alloc, object_name(words), input),
         Command::Objects => objects(alloc, input),
     }

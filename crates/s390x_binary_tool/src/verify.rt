@@ -76,8 +76,8 @@ fn differs(alloc: Global, at: usize) -> BinaryReply
     made(BinaryStatus::Differs, format!(in alloc; "differs {at}\n"))
 }
 
-// The symbols of these lines.
-fn symbol_table(alloc: Global, lines: &[SymbolLine]) -> Result<SymbolTable, NoMemory>
+/// The symbols of these lines.
+pub fn symbol_table(alloc: Global, lines: &[SymbolLine]) -> Result<SymbolTable, NoMemory>
     ensures { IfOk result (λ table. table ≡ with_symbols no_symbols lines.now) }
 {
     let mut table = SymbolTable::new(alloc);

@@ -15,6 +15,8 @@ pub enum Command {
     Disassemble { base: u64 },
     /// The code of which the input is a source, at this base.
     Assemble { base: u64 },
+    /// The listing of the job that the input is, with its image at this base.
+    Listing { base: u64 },
     /// The object of the job that the input is; `object_name` is its function's.
     Object,
     /// The object of the functions that the input is, each called by its name.
@@ -86,6 +88,9 @@ fn read_with_base(name: &str, base: &str) -> Option<Command>
     }
     if name == "assemble" {
         return Some(Command::Assemble { base });
+    }
+    if name == "list" {
+        return Some(Command::Listing { base });
     }
     None
 }
