@@ -1,6 +1,7 @@
 pub mod Pieces
 pub mod Rows
 pub mod Covering
+pub mod Data
 pub mod OneInstruction
 pub mod Words
 pub mod Names

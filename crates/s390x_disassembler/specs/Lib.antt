@@ -6,6 +6,7 @@ pub mod Numbers
 pub mod Text
 pub mod Lines
 pub mod Disassembly
+pub mod Noted
 pub mod Operands
 pub mod Start
 pub mod Bare

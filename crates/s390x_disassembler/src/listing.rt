@@ -86,8 +86,8 @@ fn put_lines(
     Ok(())
 }
 
-// A line's text.
-fn put_line(
+/// Appends a line's text. An error comes for want of memory alone.
+pub fn put_line(
     alloc: Global,
     out: &mut String,
     base: u64,
