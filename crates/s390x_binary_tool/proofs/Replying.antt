@@ -12,7 +12,7 @@ use Rattle.s390x_tool.specs.declared.status.Status.{Status}
 use Rattle.s390x_tool.specs.declared.status.Status.TheVariants as status
 use Rattle.s390x_binary_tool.specs.Words.{IsForm, IsNoForm}
 use Rattle.s390x_binary_tool.specs.declared.words.Command.{Command}
-use Rattle.s390x_binary_tool.specs.declared.words.Command.TheVariants.{Refusal, Verify, Disassemble, Assemble, Object, Objects}
+use Rattle.s390x_binary_tool.specs.declared.words.Command.TheVariants.{Refusal, Verify, Listing, Disassemble, Assemble, Object, Objects}
 use Rattle.s390x_binary_tool.specs.Replies.{IsDelivered, IsDone, IsInputAnswer, IsReply}
 use Rattle.s390x_binary_tool.specs.declared.status.BinaryStatus.{BinaryStatus}
 use Rattle.s390x_binary_tool.specs.declared.status.BinaryStatus.TheVariants.{Shared, Differs, ObjectRefused}
@@ -23,6 +23,7 @@ use Rattle.s390x_binary_tool.specs.declared.status.BinaryStatus.TheVariants.{Sha
 no_usage : (c : Command) (words : List (List ℕ)) (given text : List ℕ) → IsInputAnswer c words given (Shared status.Usage) text → ⊥
 no_usage Refusal words given text a = absurd a.reply
 no_usage (Verify base) words given text a = absurd a.reply
+no_usage (Listing base) words given text a = absurd a.reply
 no_usage (Disassemble base) words given text a = absurd a
 no_usage (Assemble base) words given text a = absurd a
 no_usage Object words given text a = absurd a.reply
@@ -31,6 +32,7 @@ no_usage Objects words given text a = absurd a.reply
 no_read_fault : (c : Command) (words : List (List ℕ)) (given text : List ℕ) → IsInputAnswer c words given (Shared status.ReadFault) text → ⊥
 no_read_fault Refusal words given text a = absurd a.reply
 no_read_fault (Verify base) words given text a = absurd a.reply
+no_read_fault (Listing base) words given text a = absurd a.reply
 no_read_fault (Disassemble base) words given text a = absurd a
 no_read_fault (Assemble base) words given text a = absurd a
 no_read_fault Object words given text a = absurd a.reply
@@ -39,6 +41,7 @@ no_read_fault Objects words given text a = absurd a.reply
 no_write_fault : (c : Command) (words : List (List ℕ)) (given text : List ℕ) → IsInputAnswer c words given (Shared status.WriteFault) text → ⊥
 no_write_fault Refusal words given text a = absurd a.reply
 no_write_fault (Verify base) words given text a = absurd a.reply
+no_write_fault (Listing base) words given text a = absurd a.reply
 no_write_fault (Disassemble base) words given text a = absurd a
 no_write_fault (Assemble base) words given text a = absurd a
 no_write_fault Object words given text a = absurd a.reply
@@ -47,6 +50,7 @@ no_write_fault Objects words given text a = absurd a.reply
 no_long_input : (c : Command) (words : List (List ℕ)) (given text : List ℕ) → IsInputAnswer c words given (Shared status.InputTooLong) text → ⊥
 no_long_input Refusal words given text a = absurd a.reply
 no_long_input (Verify base) words given text a = absurd a.reply
+no_long_input (Listing base) words given text a = absurd a.reply
 no_long_input (Disassemble base) words given text a = absurd a
 no_long_input (Assemble base) words given text a = absurd a
 no_long_input Object words given text a = absurd a.reply
@@ -55,6 +59,7 @@ no_long_input Objects words given text a = absurd a.reply
 memory_line : (c : Command) (words : List (List ℕ)) (given text : List ℕ) → IsInputAnswer c words given (Shared status.NoMemory) text → text ≡ line (codes "no memory")
 memory_line Refusal words given text a = a
 memory_line (Verify base) words given text a = a
+memory_line (Listing base) words given text a = a
 memory_line (Disassemble base) words given text a = a
 memory_line (Assemble base) words given text a = a
 memory_line Object words given text a = a
