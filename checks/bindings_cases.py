@@ -39,21 +39,24 @@ FAULTS = "Blocks Unsupported Shape Order Operands Count Constraint Move Value En
 
 
 def cases(lines):
-    """The cases of a text: their words, their input, their status and their answer."""
-    case, head = None, []
+    """The cases of a text: their words, none where reads or writes fail or the last line has no line feed; their input, status and answer."""
+    case, head, faulty = None, [], False
     for line in lines:
-        if line[:1] in ("#", ">", "*") and case:
+        if (line[:1] in ("#", ">", "*", "!") or (line[:2] in ("+ ", "- ") and case and case[2] is not None)) and case:
             yield case
             case = None
-        if line.startswith("#"):
+        if line.startswith("!"):
+            faulty = True
+        if line[:1] in ("#", "!", "+", "-") and case is None:
             continue
         if line.startswith(">"):
-            case, head = [line[1:].split(), [], None, []], []
+            case, head, faulty = [[] if faulty else line[1:].split(), [], None, []], [], False
         elif line.startswith("*"):
             head = [line[2:]] if line[2:] else []
         elif case is None:
             yield row(head, line)
-        elif line.startswith("< "):
+        elif line[:2] in ("< ", "| "):
+            case[0] = case[0] if line[0] == "<" else []
             case[2] = int(line[2:].split(" ")[0])
         elif case[2] is None:
             case[1].append(line)
