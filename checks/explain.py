@@ -31,7 +31,9 @@ with open(os.path.join(ROOT, "crates.txt"), encoding="utf-8") as listed:
     if re.search(r"^s390x_binary:", listed.read(), re.M):
         COMMANDS |= {"refusal": [], "verify": [BASE], "disassemble": [BASE], "assemble": [BASE], "list": [BASE], "object": [], "objects": []}
 # Of a function whose instructions are more, only so many parts are tried without a proof.
-MOST_PARTS = 20
+MOST_PARTS = 200
+# A line that is said is cut behind so many characters, and parts are written of inputs of so many bytes at most.
+MOST_SHOWN, MOST_BYTES = 400, 200000
 NUMBER = re.compile(r"0|[1-9][0-9]*")
 SIGNED = re.compile(r"0|-?[1-9][0-9]*")
 FACILITIES = ["mie3", "mie4", "vxrs_ext2", "vxrs_ext3", "norel"]
@@ -41,20 +43,26 @@ HEADS = ["flags", "frame", "const", "symbol", "reg", "mem"]
 
 
 def near(word, words):
-    """What is said of a word that isn't among these."""
+    """What is said of a word that isn't among these; of a long one nothing."""
+    if len(word) > 60:
+        return ""
     like = [x for x in words if x.lower() == word.lower()] or difflib.get_close_matches(word, words, 1, 0.6)
     return f"; the nearest is {like[0]}" if like else ""
 
 
 def number_fault(word, least, most):
     """Why a word is no decimal number from the least to the greatest, or none."""
+    if word == "":
+        return "a number is lacking"
     if re.fullmatch(r"-?0[xX][0-9a-fA-F]+", word):
         return f"{word} is hexadecimal; in decimal it is {int(word, 16)}"
     if re.fullmatch(r"[-+]?[0-9]+", word):
+        if len(word) > 60:
+            return f"{word[:20]}.. is outside {least} to {most}"
         if not (SIGNED if least < 0 else NUMBER).fullmatch(word) and (least < 0 or word[0] != "-"):
             return f"{word} has a sign or a zero in front that isn't written; it is {int(word)}"
         return None if least <= int(word) <= most else f"{word} is outside {least} to {most}"
-    return f"{word or 'nothing'} is no decimal number"
+    return f"{word} is no decimal number"
 
 
 def usage(words):
@@ -512,14 +520,28 @@ def told_place(page, name, job, answer):
     return count and place_of(page, name, job, count)
 
 
-def refused(page, answer, words, lines, is_refused):
+def among(page, name, job, first, last):
+    """What is said where one of the instructions from a first to a last, counted from 1, is refused: of the one with a reason, if there is one."""
+    def is_reasoned(count):
+        return reasons.of_instruction(page, name, job.lines[job.at[count - 1][0]], job.lines)
+
+    if found := next(filter(is_reasoned, range(first, last + 1)), None):
+        return place_of(page, name, job, found)
+    numbers = [job.at[count - 1][0] + job.first + 1 for count in (first, last)]
+    return [f"one of the lines {numbers[0]} to {numbers[1]} has it"] if last - first < len(job.at) - 1 else []
+
+
+def refused(page, answer, words, lines, judge):
     """Where the program refuses a job."""
     name, job = answer.split(" ")[1], Job(lines)
     second = os.environ.get("REFUSAL")
     if second and words[0] != "operands":
         if said := told_place(page, name, job, ask([second, "refusal"], "\n".join(lines) + "\n")):
             return said
-    return place_of(page, name, job, job.first_refused(is_refused(job)))
+    is_refused, known = judge(job)
+    first = job.first_refused(is_refused)
+    last = first if known is None else next((count for count in known if count >= first), len(job.at))
+    return place_of(page, name, job, first) if first == last else among(page, name, job, max(first, 1), last)
 
 
 def member(lines, name):
@@ -588,8 +610,9 @@ def syntax(page, answer, words, data):
     return said + [Text(page, words[0], lines[:number]).fault(number)]
 
 
-def explained(answer, path, words, is_refused, program):
-    """What is said of a line that the program wrote."""
+def explained(answer, path, words, judge, program):
+    """What is said of a line that the program wrote. The judge says of a job which parts of it are refused, and of which
+    lengths that is known, or none where it is of each."""
     with open(path, "rb") as file:
         data = file.read()
     page = Page()
@@ -604,14 +627,14 @@ def explained(answer, path, words, is_refused, program):
         return [reasons.undefined_symbol(lines)]
     if answer.startswith("refusal "):
         return told_place(page, answer.split(" ")[1], Job(lines), answer) or []
-    if answer.startswith("refused ") and is_refused:
-        return refused(page, answer, words, lines, is_refused)
+    if answer.startswith("refused "):
+        return refused(page, answer, words, lines, judge)
     return []
 
 
 def answered(answer, path, program, *words):
     """What is said by the program itself, of parts of the input."""
-    return explained(answer, path, words, lambda job: lambda count: ask([program, *words], job.cut(count)) == answer, program)
+    return explained(answer, path, words, lambda job: (lambda count: ask([program, *words], job.cut(count)) == answer, None), program)
 
 
 def parts_of(job):
@@ -623,6 +646,8 @@ def parts_of(job):
 def write_parts(path, folder, name, *words):
     """Writes parts of an input as cases, so that one build answers them all."""
     if not words or words[0] not in ("image", "emit", "run", "operands", "show", "list", "object"):
+        return
+    if os.path.getsize(path) > MOST_BYTES:
         return
     with open(path, "rb") as file:
         job = Job(file.read().decode(errors="replace").rstrip("\n").split("\n"))
@@ -639,11 +664,11 @@ def tried(answer, path, output, name, *words):
     with open(output, encoding="utf-8", errors="replace") as file:
         answers = dict(re.findall(rf"^== {re.escape(name)}\.(\d{{9}})\n(.*)$", file.read(), re.M))
 
-    def is_refused(job):
+    def judge(job):
         known = sorted(int(count) for count in answers)
-        return lambda count: answers.get(f"{next((k for k in known if k >= count), len(job.at)):09}", answer) == answer
+        return lambda count: answers.get(f"{next((k for k in known if k >= count), len(job.at)):09}", answer) == answer, known
 
-    return explained(answer, path, words, is_refused, None)
+    return explained(answer, path, words, judge, None)
 
 
 def main():
@@ -652,7 +677,7 @@ def main():
         write_parts(*arguments)
         return
     said = {"usage": lambda *words: usage(list(words)), "answer": answered, "tried": tried}[kind](*arguments)
-    print("\n".join(filter(None, said)))
+    print("\n".join(line if len(line) <= MOST_SHOWN else f"{line[:MOST_SHOWN]} .." for line in said if line))
 
 
 if __name__ == "__main__":
