@@ -41,14 +41,27 @@ def cases():
     return found
 
 
-def listing(code):
-    """The code as objdump shows it, at 4096."""
+def objdump(code, at):
+    """The code as objdump shows it, at an address."""
     with tempfile.NamedTemporaryFile() as file:
-        file.write(bytes.fromhex(code))
+        file.write(code)
         file.flush()
-        command = [OBJDUMP, "-b", "binary", "-m", "s390:64-bit", "-D", "-z", "--adjust-vma=4096", file.name]
+        command = [OBJDUMP, "-b", "binary", "-m", "s390:64-bit", "-D", "-z", f"--adjust-vma={at}", file.name]
         shown = subprocess.run(command, stdout=subprocess.PIPE, check=True).stdout.decode()
     return [re.sub(r"\s+$", "", line.replace("\t", "  ")) for line in shown.splitlines() if re.match(r" +[0-9a-f]+:\t", line)]
+
+
+def listing(code, is_bundle):
+    """The code as objdump shows it, at 4096; of a bundle each function from its start, which zeros before it would hide."""
+    lines, first = [], 0
+    while True:
+        shown = objdump(code[first:], 4096 + first)
+        zeros = next((k for k, line in enumerate(shown) if is_bundle and re.match(r" *[0-9a-f]+: +00 00 .*\.long", line)), None)
+        if zeros is None:
+            return lines + shown
+        at = int(shown[zeros].split(":")[0], 16)
+        lines += shown[:zeros] + [f"    {at:x}:  00 00               .short  0x0000"]
+        first = at + 2 - 4096
 
 
 def part():
@@ -63,7 +76,7 @@ def part():
         lines += [f"### {name}", "", said, "", f"    ./s390x {words} < examples/{name}", ""]
         lines += ["    " + line for line in text.splitlines()] + [""]
         if re.fullmatch(r"[0-9a-f]+\n", wanted):
-            lines += ["```text", *(listing(wanted.strip()) if OBJDUMP else ["(no objdump)"]), "```", ""]
+            lines += ["```text", *(listing(bytes.fromhex(wanted.strip()), words.startswith("bundle")) if OBJDUMP else ["(no objdump)"]), "```", ""]
         else:
             lines += ["writes", ""] + ["    " + line for line in wanted.splitlines()] + [""]
     return lines, differences
