@@ -36,13 +36,21 @@ def answer(text):
     return next((word for start, word in ANSWERS if text.startswith(start)), "not tried")
 
 
+def link(one, other):
+    """Gives a library's file a second name, as rt itself does, which never writes into such a file; where it can't, a copy."""
+    try:
+        os.link(one, other)
+    except OSError:
+        shutil.copy2(one, other)
+
+
 def copy_crates(copy, names):
     """The crates with what the checkout has built of them; those of the names with the wrong bodies in place of the gate's."""
     for name in ("crates.txt", "HANDLES"):
         shutil.copy2(ROOT / name, copy / name)
     shutil.copytree(ROOT / "crates", copy / "crates", ignore=shutil.ignore_patterns("out", "must-fail"))
     for built in (ROOT / "crates").glob("*/out/rlib"):
-        shutil.copytree(built, copy / built.relative_to(ROOT))
+        shutil.copytree(built, copy / built.relative_to(ROOT), copy_function=link)
     for name in names:
         shutil.copytree(EDITS / name, copy / "crates" / name / "must-fail")
         begun = ROOT / "crates" / name / "out" / "incremental"
