@@ -228,6 +228,32 @@ want "its log" 1 "its last line: no proof"
 RT=$room/none "$copy/s390x" --try image 4096 < /dev/null > "$room/out" 2> "$room/err"
 status=$?
 want "--try without rt" 1 "there is no command rt"
+# Nothing is built for words that can't be meant, nor for a file that isn't there.
+RT=$room/none "$copy/s390x" --try imgae 4096 < /dev/null > "$room/out" 2> "$room/err"
+status=$?
+want "--try of a wrong word" 2 "the nearest is image"
+RT=$room/none "$copy/s390x" --try image 4096 "$room/nothing" < /dev/null > "$room/out" 2> "$room/err"
+status=$?
+want "--try of no file" 2 "there is no file $room/nothing"
+
+# Each cause of the sources has its words in the script.
+wordless=
+while read -r file kind; do
+    for name in $(sed -n "/^pub enum $kind {/,/^}/p" "$root/crates/$file" | grep -oE '^    [A-Z][A-Za-z]*'); do
+        grep -qE "^        ([A-Za-z]+ \| )*$name( \| [A-Za-z]+)*\)( |$)" "$root/s390x" || wordless="$wordless $kind::$name"
+    done
+done << 'END'
+s390x_base/src/error.rt EmitError
+s390x_operands/src/constraint.rt OperandError
+s390x_text_rows/src/error.rt TextError
+s390x_image/src/error.rt LinkError
+s390x_bundle/src/error.rt BundleError
+s390x_elf/src/error.rt ObjectError
+s390x_alloc/src/fault.rt PlanFault
+END
+echo "$wordless" > "$room/err"
+status=$([ -z "$wordless" ]; echo $?)
+want "a cause without words" 0 ""
 
 # By unproved builds: the commands of README.md, and what the program itself says of wrong inputs and of refusals.
 given() {
