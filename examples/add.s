@@ -1,0 +1,3 @@
+lgr %r2,%r3
+agr %r2,%r4
+br %r14
