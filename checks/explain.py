@@ -31,7 +31,7 @@ with open(os.path.join(ROOT, "crates.txt"), encoding="utf-8") as listed:
     if re.search(r"^s390x_binary:", listed.read(), re.M):
         COMMANDS |= {"refusal": [], "verify": [BASE], "disassemble": [BASE], "assemble": [BASE], "list": [BASE], "object": [], "objects": []}
 # Of a function whose instructions are more, only so many parts are tried without a proof.
-MOST_PARTS = 200
+MOST_PARTS = 40
 # A line that is said is cut behind so many characters, and parts are written of inputs of so many bytes at most.
 MOST_SHOWN, MOST_BYTES = 400, 200000
 NUMBER = re.compile(r"0|[1-9][0-9]*")
