@@ -581,7 +581,13 @@ def of_plan(answer, lines):
         stop = heads[block + 1] if block + 1 < len(heads) else len(lines)
         at = [k + 1 for k in range(heads[block], stop) if lines[k].split(" ")[0] in named] if block < len(heads) else []
         number = at[item] if item < len(at) else None
-    return [f"that is line {number}: {lines[number - 1][:200]}"] if number else []
+    said = [f"that is line {number}: {lines[number - 1][:200]}"] if number else []
+    if number and lines[number - 1].startswith("step "):
+        # The steps of a block are its instructions, in order.
+        before = sum(lines[k - 1].startswith("step ") for k in at[:item])
+        if of := Job(lines).line_of(block, str(before)):
+            said.append(f"its instruction is line {of}: {lines[of - 1][:200]}; the command `operands` lists what it reports")
+    return said
 
 
 # What a line has to be in an input that is no job.
