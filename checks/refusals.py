@@ -3,7 +3,7 @@
 
 - Each call that its tables name is there, and each name of a clause or a cause in its row stands in the contracts.
 - Each public call that may refuse stands in the page: a function, or a method of a type or trait, that the root of a library brings out by `pub use` or
-  that another crate names, and that answers a `Result`, an `Option` or the end of a step. Left out are those that only want of memory refuses, by the type of
+  that another crate names, and that answers a `Result`, an `Option` or the end of a step. Left out are those that refuse only when out of memory, by the type of
   their error (`AllocError`, `NoMemory`), and the encoding calls, which the page names together.
 
 It ends with 0 where nothing is missing, and else with 1 and a line for each that is.
