@@ -269,7 +269,7 @@ if [ "${1-}" = --try ]; then
     status=$?
     want tour 0 ""
     commands=$(grep -c '^\$ ' "$room/out")
-    [ "$commands" -ge 9 ] || { echo "only $commands commands of README.md ran" && failed=$((failed + 1)); }
+    [ "$commands" -ge 14 ] || { echo "only $commands commands of README.md ran" && failed=$((failed + 1)); }
     mkdir "$room/wrong"
     given tab 'block\nRet\t%%r14\nend\n'
     given operator 'block\nAluRRR Add65 %%r2 %%r3 %%r4\nend\n'
