@@ -1,62 +1,72 @@
--- A vector instruction whose fields have their registers is the instruction with its registers.
-use Rattle.std.proofs.Common.{◌≡◌, List, [], ◌∷◌, refl, sym, ap, ◌∙◌}
+-- An instruction whose roles have their registers is the instruction with its registers.
+use Rattle.std.proofs.Common.{◌≡◌, List, [], ◌∷◌, Option, Some, None, Result, Ok, Err, IfOk, refl, sym, ap, ◌∙◌}
 use Rattle.s390x_base.specs.declared.regs.Reg.{Reg}
+use Rattle.s390x_inst.specs.declared.inst.Inst.{Inst}
+use Rattle.s390x_inst.specs.declared.inst.Inst.TheVariants.{Loop', IndirectBr, JTSequence, Call, ReturnCall, Args, Rets, Fence, Vector}
 use Rattle.s390x_inst.specs.declared.vec_inst.VecInst.{VecInst}
 use Rattle.s390x_inst.specs.declared.vec_inst.VecInst.TheVariants.{VecMov}
-use Rattle.s390x_described.specs.declared.name.VectorName.{VectorName}
-use Rattle.s390x_described.specs.Description.{Description, described}
-use Rattle.s390x_described.specs.Fields.{Field, kind_of, kinds_of}
-use Rattle.s390x_described.specs.Kinds.{kinds, fields_given, left_given, description_given}
-use Rattle.s390x_described.proofs.Next.{own}
-use Rattle.s390x_described.proofs.Told.{same}
-use Rattle.s390x_assign.specs.Assignments.{each_at, assigned_vector, IsGiven}
-use Rattle.s390x_assign.specs.VectorFields.{Assigning, field_at, description_at, assigned_as, after_assigned}
+use Rattle.s390x_inst.specs.Portions.{Portion, closing, plain, first_portion, portions}
+use Rattle.s390x_described.specs.Instructions.{described, described_vector}
+use Rattle.s390x_described.specs.Roles.{described_again, again_or_none}
+use Rattle.s390x_assign.specs.Assignments.{portion_by, portion_at, assigned_vector, IsPortion}
+use Rattle.s390x_assign.specs.Roles.{assigned_role, as_it_is}
 
-abbrev named : VectorName → List Field → Description
-named n fs = record { name = n; fields = fs }
+-- an answer by one definition is one by another
+pub carried : {E : Type 0} (p q : Portion × List Reg) (r : Result Inst E) (t : List Reg) → ◌≡◌ {A = Portion × List Reg} p q → IfOk r (λ j. IsPortion q j t) → IfOk r (λ j. IsPortion p j t)
+carried p q (Ok j) t e h = e ∙ h
+carried p q (Err x) t e h = tt
 
-abbrev with_registers : List Field → List Reg → Assigning
-with_registers fs s = record { fields = fs; registers = s }
+-- an instruction with other registers as a portion, or what else is said
+abbrev portion_again : Option Inst → List Reg → (List Reg → Portion × List Reg) → Portion × List Reg
+portion_again None t other = other t
+portion_again (Some j) t other = (first_portion j, t)
 
--- the first field is asked for by its kind
-step_of : (f : Field) (fs : List Field) (s : List Reg) → after_assigned (kind_of f) (with_registers (f ∷ fs) s) ≡ with_registers fs (field_at f s).1
-step_of f fs s = ap (λ x. with_registers fs (field_at x s).1) (own f fs)
+abbrev again : Inst → List Reg → Option Inst × List Reg
+again i s = again_or_none assigned_role (described i) s
 
--- the fields that are given are those with their registers
-given_assigned : (fs : List Field) (s : List Reg) → fields_given assigned_as after_assigned (kinds_of fs) (with_registers fs s) ≡ (each_at field_at fs s).0
-given_assigned [] s = refl
-given_assigned (f ∷ fs) s =
-    ap (λ x. (field_at x s).0 ∷ fields_given assigned_as after_assigned (kinds_of fs) (after_assigned (kind_of f) (with_registers (f ∷ fs) s))) (own f fs)
-    ∙ ap (λ u. (field_at f s).0 ∷ fields_given assigned_as after_assigned (kinds_of fs) u) (step_of f fs s)
-    ∙ ap (λ xs. (field_at f s).0 ∷ xs) (given_assigned fs (field_at f s).1)
-
-left_assigned : (fs : List Field) (s : List Reg) → left_given after_assigned (kinds_of fs) (with_registers fs s) ≡ with_registers [] (each_at field_at fs s).1
-left_assigned [] s = refl
-left_assigned (f ∷ fs) s = ap (λ u. left_given after_assigned (kinds_of fs) u) (step_of f fs s) ∙ left_assigned fs (field_at f s).1
-
-pub assigned_is : (n : VectorName) (fs st : List Field) (s : List Reg) → kinds n ≡ kinds_of fs → st ≡ fs → description_given assigned_as after_assigned n (with_registers st s) ≡ (description_at (named n fs) s).0
-assigned_is n fs st s k e =
-    ap (λ ks. named n (fields_given assigned_as after_assigned ks (with_registers st s))) k
-    ∙ ap (λ t. named n (fields_given assigned_as after_assigned (kinds_of fs) (with_registers t s))) e
-    ∙ ap (λ xs. named n xs) (given_assigned fs s)
-
-pub left_is : (n : VectorName) (fs st : List Field) (s : List Reg) → kinds n ≡ kinds_of fs → st ≡ fs → left_given after_assigned (kinds n) (with_registers st s) ≡ with_registers [] (each_at field_at fs s).1
-left_is n fs st s k e =
-    ap (λ ks. left_given after_assigned ks (with_registers st s)) k
-    ∙ ap (λ t. left_given after_assigned (kinds_of fs) (with_registers t s)) e
-    ∙ left_assigned fs s
+abbrev by_lists : Inst → List Reg → Portion × List Reg
+by_lists i t = portion_by as_it_is (first_portion i) t
 
 -- one clause stands for every instruction
-pub described_at : (v : VecInst) (s : List Reg) → described (assigned_vector v s).0 ≡ (description_at (described v) s).0
-described_at (VecMov rd rn) s = refl
-described_at v s = refl
+vector_again : (v : VecInst) (s : List Reg) → ◌≡◌ {A = VecInst × List Reg} (assigned_vector v s) (described_again assigned_role (described_vector v) s)
+vector_again (VecMov rd rn) s = refl
+vector_again v s = refl
 
-pub left_at : (v : VecInst) (s : List Reg) → (assigned_vector v s).1 ≡ (description_at (described v) s).1
-left_at (VecMov rd rn) s = refl
-left_at v s = refl
+portion_is : (i : Inst) (s : List Reg) → ◌≡◌ {A = Portion × List Reg} (portion_at (first_portion i) s) (portion_again (again i s).0 (again i s).1 (by_lists i))
+portion_is (Vector v) s = ap (λ p. (plain (Vector p.0), p.1)) (vector_again v s)
+portion_is Fence s = refl
+portion_is i s = refl
 
-pub given_vector : (v w : VecInst) (s t : List Reg) → (described w ≡ (description_at (described v) s).0) × (t ≡ (description_at (described v) s).1) → IsGiven (assigned_vector v s) w t
-given_vector v w s t h =
-    let a : w ≡ (assigned_vector v s).0 = same w (assigned_vector v s).0 (h.0 ∙ sym (described_at v s)) in
-    let b : t ≡ (assigned_vector v s).1 = h.1 ∙ sym (left_at v s) in
-    ap (λ x. (x, (assigned_vector v s).1)) (sym a) ∙ ap (λ y. (w, y)) (sym b)
+pub given_again : (i j : Inst) (s t : List Reg) → (again_or_none assigned_role (described i) s).0 ≡ Some j → t ≡ (again_or_none assigned_role (described i) s).1 → IsPortion (portion_at (first_portion i) s) j t
+given_again i j s t h left = portion_is i s ∙ ap (λ o. portion_again o (again i s).1 (by_lists i)) h ∙ ap (λ r. (first_portion j, r)) (sym left)
+
+pub not_described : (i : Inst) (s t : List Reg) → (again_or_none assigned_role (described i) s).0 ≡ None → t ≡ (again_or_none assigned_role (described i) s).1 → ◌≡◌ {A = Portion × List Reg} (portion_at (first_portion i) s) (portion_by as_it_is (first_portion i) t)
+not_described i s t h left = portion_is i s ∙ ap (λ o. portion_again o (again i s).1 (by_lists i)) h ∙ ap (by_lists i) (sym left)
+
+-- an instruction with the same portions begins with the same one
+abbrev head_or : Portion → List Portion → Portion
+head_or p [] = p
+head_or p (q ∷ qs) = q
+
+head_portion : (i : Inst) → head_or closing (portions i) ≡ first_portion i
+head_portion (Loop' mask body all) = refl
+head_portion i = refl
+
+same_first : (i j : Inst) → portions j ≡ portions i → first_portion j ≡ first_portion i
+same_first i j h = sym (head_portion j) ∙ ap (head_or closing) h ∙ head_portion i
+
+-- what has no list stays as it is
+unchanged : (i : Inst) (s : List Reg) → ((rn targets : _) → i ≡ IndirectBr rn targets → ⊥) → ((ridx default default_cond targets : _) → i ≡ JTSequence ridx default default_cond targets → ⊥) → ((link info : _) → i ≡ Call link info → ⊥) → ((info : _) → i ≡ ReturnCall info → ⊥) → ((args : _) → i ≡ Args args → ⊥) → ((rets : _) → i ≡ Rets rets → ⊥) →
+    ◌≡◌ {A = Portion × List Reg} (by_lists i s) (first_portion i, s)
+unchanged (IndirectBr rn targets) s h0 h1 h2 h3 h4 h5 = absurd (h0 rn targets refl)
+unchanged (JTSequence ridx default default_cond targets) s h0 h1 h2 h3 h4 h5 = absurd (h1 ridx default default_cond targets refl)
+unchanged (Call link info) s h0 h1 h2 h3 h4 h5 = absurd (h2 link info refl)
+unchanged (ReturnCall info) s h0 h1 h2 h3 h4 h5 = absurd (h3 info refl)
+unchanged (Args args) s h0 h1 h2 h3 h4 h5 = absurd (h4 args refl)
+unchanged (Rets rets) s h0 h1 h2 h3 h4 h5 = absurd (h5 rets refl)
+unchanged i s h0 h1 h2 h3 h4 h5 = refl
+
+-- a copy of an instruction that takes no register
+pub copied : (i j : Inst) (s : List Reg) → portions j ≡ portions i → ((rn targets : _) → i ≡ IndirectBr rn targets → ⊥) → ((ridx default default_cond targets : _) → i ≡ JTSequence ridx default default_cond targets → ⊥) → ((link info : _) → i ≡ Call link info → ⊥) → ((info : _) → i ≡ ReturnCall info → ⊥) → ((args : _) → i ≡ Args args → ⊥) → ((rets : _) → i ≡ Rets rets → ⊥) →
+    IsPortion (portion_by as_it_is (first_portion i) s) j s
+copied i j s same h0 h1 h2 h3 h4 h5 = unchanged i s h0 h1 h2 h3 h4 h5 ∙ ap (λ p. (p, s)) (sym (same_first i j same))

@@ -20,28 +20,19 @@ use Rattle.s390x_inst.specs.declared.calls.RetLocation.{RetLocation}
 use Rattle.s390x_inst.specs.declared.calls.RetLocation.TheVariants.{Reg as InReg, Stack}
 use Rattle.s390x_inst.specs.declared.calls.RetPair.{RetPair}
 use Rattle.s390x_inst.specs.declared.inst.Inst.{Inst, Row_of-Inst, end_of-Inst, more_of-Inst}
-use Rattle.s390x_inst.specs.declared.inst.Inst.TheVariants.{Loop', IndirectBr, JTSequence, Call, ReturnCall, LoadSymbolReloc, LabelAddress, Args, Rets, DummyUse, Vector}
-use Rattle.s390x_inst.specs.declared.inst.Inst.TheVariants.{Store8, Store16}
-use Rattle.s390x_inst.specs.declared.inst.Inst.TheVariants.{Store32, Store64, StoreRev16, StoreRev32, StoreRev64, StoreImm8, StoreImm16, StoreImm32SExt16, StoreImm64SExt16, LoadMultiple64, StoreMultiple64, LoadAddr, LoadIndexedAddr, LoadLogicalIndexedAddr}
-use Rattle.s390x_inst.specs.declared.inst.Inst.TheVariants.{AtomicRmw, AtomicCas32, AtomicCas64, Mov64, MovPReg, Mov32, Mov32Imm, Mov32SImm16, Mov64SImm16, Mov64SImm32, Mov64UImm16Shifted, Mov64UImm32Shifted, Insert64UImm16Shifted, Insert64UImm32Shifted}
-use Rattle.s390x_inst.specs.declared.inst.Inst.TheVariants.{CMov32, CMov64, CMov32SImm16, CMov64SImm16, Extend, LoadAR, InsertAR, AluRRR, AluRRSImm16, AluRR, AluRX, AluRSImm16, AluRSImm32, AluRUImm32}
-use Rattle.s390x_inst.specs.declared.inst.Inst.TheVariants.{AluRUImm16Shifted, AluRUImm32Shifted, SMulWide, UMulWide, SDivMod32, SDivMod64, UDivMod32, UDivMod64, Flogr, ShiftRR, RxSBG, RxSBGTest, UnaryRR, CmpRR}
-use Rattle.s390x_inst.specs.declared.inst.Inst.TheVariants.{CmpRX, CmpRSImm16, CmpRSImm32, CmpRUImm32, CmpTrapRR, CmpTrapRSImm16, CmpTrapRUImm16}
-use Rattle.s390x_inst.specs.declared.load.Load.{Load}
-use Rattle.s390x_inst.specs.Loads.{as_load, by_load}
+use Rattle.s390x_inst.specs.declared.inst.Inst.TheVariants.{Loop', IndirectBr, JTSequence, Call, ReturnCall, LoadSymbolReloc, Args, Rets, Vector, LoadMultiple64, StoreMultiple64, MovPReg}
 use Rattle.s390x_inst.specs.declared.vec_inst.VecInst.{VecInst}
 use Rattle.s390x_inst.specs.declared.vec_inst.VecInst.TheVariants.{VecMov}
 use Rattle.s390x_inst.specs.Portions.{Portion, plain, indirect_branch, jump_table, calling, tail_calling, arguments, results, opening, closing, first_portion, portions, row_portions}
-use Rattle.s390x_described.specs.Description.{described}
-use Rattle.s390x_described.specs.Fields.{Field, FPlain, FDef, FReuse, FUse, FMemory}
+use Rattle.s390x_described.specs.Instructions.{described, described_vector}
+use Rattle.s390x_described.specs.Roles.{Role, Written, Tied, Read, WrittenPair, LowRead, ReadPair, InMemory, Described, each_role}
 use Rattle.s390x_operands.specs.declared.constraint.Reported.{Reported}
 use Rattle.s390x_operands.specs.declared.constraint.Reported.TheVariants.{Operand, Fixed, Clobbers}
 use Rattle.s390x_operands.specs.Calls.{placed_use, placed_def, destination_requests, argument, result_in, call_result, incoming, outgoing, clobbered}
 use Rattle.s390x_operands.specs.Operands.{leaf_requests, vector_requests, requests, row_requests, operands}
 use Rattle.s390x_operands.specs.Requests.{items_of, used, defined, reused, fixed_use, fixed_def, scratch_request, memory_requests, fixed_general, range_requests}
 use Rattle.s390x_assign.specs.Assignments.{operand_at, register_at, after, placed_at, after_placed, pair_at, dividend_at, memory_at, each_at, assigned_vector, destination_at, argument_at, result_at, call_result_at, incoming_at, outgoing_at, portion_at, assigned, reported_again, replaced, operand_count}
-use Rattle.s390x_assign.specs.VectorFields.{field_at}
-use Rattle.s390x_assign.proofs.Described.{described_at, left_at}
+use Rattle.s390x_assign.specs.Roles.{assigned_role}
 
 -- requests become others, whose operands are replaced by the next registers of a list; so much is left of it
 record Follows (xs ys : List (Option Reported)) (s t : List Reg) : Type 0 where
@@ -115,34 +106,12 @@ reused_one : (r : Reg) (s : List Reg) → Follows (reused r ∷ []) (reused (reg
 reused_one (Real p) s = record { items = refl; left = refl }
 reused_one (Virtual n c) s = record { items = refl; left = refl }
 
--- an output or an input, and inputs behind it
-abbrev IsOne : (Reg → Option Reported) → Type 0
-IsOne f = (r : Reg) (s : List Reg) → Follows (f r ∷ []) (f (register_at r s) ∷ []) s (after r s)
-
-one : (f : Reg → Option Reported) → IsOne f → (a : Reg) (s : List Reg) → Follows (f a ∷ []) (f (register_at a s) ∷ []) s (after a s)
-one f F a s = F a s
-
-two : (f : Reg → Option Reported) → IsOne f → (a b : Reg) (s : List Reg) → Follows (f a ∷ used b ∷ []) (f (register_at a s) ∷ used (register_at b (after a s)) ∷ []) s (after b (after a s))
-two f F a b s = next (F a s) (used_one b (after a s))
-
-three : (f : Reg → Option Reported) → IsOne f → (a b c : Reg) (s : List Reg) → Follows (f a ∷ used b ∷ used c ∷ []) (f (register_at a s) ∷ used (register_at b (after a s)) ∷ used (register_at c (after b (after a s))) ∷ []) s (after c (after b (after a s)))
-three f F a b c s = next (F a s) (two used used_one b c (after a s))
-
--- memory, and registers before it
+-- memory
 with_memory : (m : MemArg) (s : List Reg) → Follows (memory_requests m) (memory_requests (memory_at m s).0) s (memory_at m s).1
 with_memory (BXD12 base index disp flags) s = next (used_one base s) (next (used_one index (after base s)) (scratch (after index (after base s))))
 with_memory (BXD20 base index disp flags) s = next (used_one base s) (next (used_one index (after base s)) (scratch (after index (after base s))))
 with_memory (RegOffset reg off flags) s = next (used_one reg s) (scratch (after reg s))
 with_memory m s = scratch s
-
-one_and_memory : (f : Reg → Option Reported) → IsOne f → (a : Reg) (m : MemArg) (s : List Reg) → Follows (f a ∷ memory_requests m) (f (register_at a s) ∷ memory_requests (memory_at m (after a s)).0) s (memory_at m (after a s)).1
-one_and_memory f F a m s = next (F a s) (with_memory m (after a s))
-
-two_and_memory : (f : Reg → Option Reported) → IsOne f → (a b : Reg) (m : MemArg) (s : List Reg) → Follows (f a ∷ used b ∷ memory_requests m) (f (register_at a s) ∷ used (register_at b (after a s)) ∷ memory_requests (memory_at m (after b (after a s))).0) s (memory_at m (after b (after a s))).1
-two_and_memory f F a b m s = next (F a s) (one_and_memory used used_one b m (after a s))
-
-three_and_memory : (f : Reg → Option Reported) → IsOne f → (a b c : Reg) (m : MemArg) (s : List Reg) → Follows (f a ∷ used b ∷ used c ∷ memory_requests m) (f (register_at a s) ∷ used (register_at b (after a s)) ∷ used (register_at c (after b (after a s))) ∷ memory_requests (memory_at m (after c (after b (after a s)))).0) s (memory_at m (after c (after b (after a s)))).1
-three_and_memory f F a b c m s = next (F a s) (two_and_memory used used_one b c m (after a s))
 
 -- pairs
 pair_out : (d : WritableRegPair) (s : List Reg) → Follows (fixed_def d.hi 2 ∷ fixed_def d.lo 3 ∷ []) (fixed_def (pair_at d s).hi 2 ∷ fixed_def (pair_at d s).lo 3 ∷ []) s (drop 2 s)
@@ -232,129 +201,63 @@ followed_append : (xs ys : List (Option Reported)) → followed_by xs ys ≡ xs 
 followed_append xs [] = sym (append-nil xs)
 followed_append xs (y ∷ ys) = refl
 
--- what the fields of a vector instruction report
-abbrev fields_requests : List Field → List (Option Reported)
-fields_requests [] = []
-fields_requests (FDef r ∷ fs) = defined r ∷ fields_requests fs
-fields_requests (FReuse r ∷ fs) = reused r ∷ fields_requests fs
-fields_requests (FUse r ∷ fs) = used r ∷ fields_requests fs
-fields_requests (FMemory m ∷ fs) = followed_by (memory_requests m) (fields_requests fs)
-fields_requests (FPlain x ∷ fs) = fields_requests fs
+-- what registers by their roles report
+abbrev role_requests : List Role → List (Option Reported)
+role_requests [] = []
+role_requests (Written r ∷ xs) = defined r ∷ role_requests xs
+role_requests (Tied r ∷ xs) = reused r ∷ role_requests xs
+role_requests (Read r ∷ xs) = used r ∷ role_requests xs
+role_requests (WrittenPair d ∷ xs) = fixed_def d.hi 2 ∷ fixed_def d.lo 3 ∷ role_requests xs
+role_requests (LowRead r ∷ xs) = fixed_use r 3 ∷ role_requests xs
+role_requests (ReadPair d ∷ xs) = fixed_use d.hi 2 ∷ fixed_use d.lo 3 ∷ role_requests xs
+role_requests (InMemory m ∷ xs) = followed_by (memory_requests m) (role_requests xs)
 
 -- requests that are equal to others follow as these do
-as_equal : {xs ys xs' ys' : List (Option Reported)} {s t t' : List Reg} → xs ≡ xs' → ys ≡ ys' → t ≡ t' → Follows xs' ys' s t' → Follows xs ys s t
-as_equal {s = s} p q r h = record {
+as_equal : {xs ys xs' ys' : List (Option Reported)} {s t : List Reg} → xs ≡ xs' → ys ≡ ys' → Follows xs' ys' s t → Follows xs ys s t
+as_equal {s = s} p q h = record {
   items = ap items_of q ∙ h.items ∙ ap (λ zs. replaced (items_of zs) s) (sym p);
-  left = r ∙ h.left ∙ ap (λ zs. drop (operand_count (items_of zs)) s) (sym p);
+  left = h.left ∙ ap (λ zs. drop (operand_count (items_of zs)) s) (sym p);
 }
 
-fields_follow : (fs : List Field) (s : List Reg) → Follows (fields_requests fs) (fields_requests (each_at field_at fs s).0) s (each_at field_at fs s).1
-fields_follow [] s = none s
-fields_follow (FDef r ∷ fs) s = next (defined_one r s) (fields_follow fs (after r s))
-fields_follow (FReuse r ∷ fs) s = next (reused_one r s) (fields_follow fs (after r s))
-fields_follow (FUse r ∷ fs) s = next (used_one r s) (fields_follow fs (after r s))
-fields_follow (FMemory m ∷ fs) s =
-    as_equal (followed_append (memory_requests m) (fields_requests fs)) (followed_append (memory_requests (memory_at m s).0) (fields_requests (each_at field_at fs (memory_at m s).1).0)) refl
-    (both (with_memory m s) (fields_follow fs (memory_at m s).1))
-fields_follow (FPlain x ∷ fs) s = fields_follow fs s
+roles_follow : (xs : List Role) (s : List Reg) → Follows (role_requests xs) (role_requests (each_role assigned_role xs s).0) s (each_role assigned_role xs s).1
+roles_follow [] s = none s
+roles_follow (Written r ∷ xs) s = next (defined_one r s) (roles_follow xs (after r s))
+roles_follow (Tied r ∷ xs) s = next (reused_one r s) (roles_follow xs (after r s))
+roles_follow (Read r ∷ xs) s = next (used_one r s) (roles_follow xs (after r s))
+roles_follow (WrittenPair d ∷ xs) s = both (pair_out d s) (roles_follow xs (drop 2 s))
+roles_follow (LowRead r ∷ xs) s = next (low_in r s) (roles_follow xs (drop 1 s))
+roles_follow (ReadPair d ∷ xs) s = both (pair_in d s) (roles_follow xs (drop 2 s))
+roles_follow (InMemory m ∷ xs) s =
+    as_equal (followed_append (memory_requests m) (role_requests xs)) (followed_append (memory_requests (memory_at m s).0) (role_requests (each_role assigned_role xs (memory_at m s).1).0))
+    (both (with_memory m s) (roles_follow xs (memory_at m s).1))
 
 -- one clause stands for every vector instruction
-vector_report : (v : VecInst) → vector_requests v ≡ fields_requests (described v).fields
-vector_report (VecMov rd rn) = refl
-vector_report v = refl
-
 vector_follows : (v : VecInst) (s : List Reg) → Follows (vector_requests v) (vector_requests (assigned_vector v s).0) s (assigned_vector v s).1
-vector_follows v s =
-    as_equal (vector_report v) (vector_report (assigned_vector v s).0 ∙ ap (λ d. fields_requests d.fields) (described_at v s)) (left_at v s) (fields_follow (described v).fields s)
+vector_follows (VecMov rd rn) s = roles_follow (described_vector (VecMov rd rn)).roles s
+vector_follows v s = roles_follow (described_vector v).roles s
+
+abbrev roles_of : Option (Described Inst) → List Role
+roles_of None = []
+roles_of (Some d) = d.roles
 
 abbrev IsGood : Portion → Type 0
 IsGood p = (s : List Reg) → Follows (portion_requests p) (portion_requests (portion_at p s).0) s (portion_at p s).1
 
--- a load of one register, or an instruction that has no operands
-load_or_none : (o : Option Load) (s : List Reg) →
-    Follows (by_load (λ l. defined l.rd ∷ memory_requests l.mem) [] o) (by_load (λ l. defined (register_at l.rd s) ∷ memory_requests (memory_at l.mem (after l.rd s)).0) [] o) s (by_load (λ l. (memory_at l.mem (after l.rd s)).1) s o)
-load_or_none None s = none s
-load_or_none (Some l) s = one_and_memory defined defined_one l.rd l.mem s
-
--- the last clause is a copy for each instruction of the two kinds
+-- the last clause is a copy for each instruction that reports its roles, or nothing
 portion_follows : (i : Inst) → IsGood (first_portion i)
 portion_follows (Loop' mask body all) s = none s
-portion_follows (IndirectBr rn targets) s = one used used_one rn s
+portion_follows (IndirectBr rn targets) s = used_one rn s
 portion_follows (JTSequence ridx default default_cond targets) s = next (used_one ridx s) (scratch (after ridx s))
 portion_follows (Call link info) s = called link info s
 portion_follows (ReturnCall info) s = both (target info.dest s) (each argument argument_at argument_one info.uses.items (destination_at info.dest s).1)
 portion_follows (LoadSymbolReloc rd symbol_reloc) s = next (defined_one rd s) (scratch (after rd s))
-portion_follows (LabelAddress dst label) s = one defined defined_one dst s
 portion_follows (Args args) s = each incoming incoming_at incoming_one args.items s
 portion_follows (Rets rets) s = each outgoing outgoing_at outgoing_one rets.items s
-portion_follows (DummyUse reg) s = one used used_one reg s
-portion_follows (Vector v) s = vector_follows v s
-portion_follows (Store8 rd mem) s = one_and_memory used used_one rd mem s
-portion_follows (Store16 rd mem) s = one_and_memory used used_one rd mem s
-portion_follows (Store32 rd mem) s = one_and_memory used used_one rd mem s
-portion_follows (Store64 rd mem) s = one_and_memory used used_one rd mem s
-portion_follows (StoreRev16 rd mem) s = one_and_memory used used_one rd mem s
-portion_follows (StoreRev32 rd mem) s = one_and_memory used used_one rd mem s
-portion_follows (StoreRev64 rd mem) s = one_and_memory used used_one rd mem s
-portion_follows (StoreImm8 imm mem) s = with_memory mem s
-portion_follows (StoreImm16 imm mem) s = with_memory mem s
-portion_follows (StoreImm32SExt16 imm mem) s = with_memory mem s
-portion_follows (StoreImm64SExt16 imm mem) s = with_memory mem s
 portion_follows (LoadMultiple64 rt rt2 mem) s = both (with_memory mem s) (range rt rt2 (memory_at mem s).1)
 portion_follows (StoreMultiple64 rt rt2 mem) s = both (with_memory mem s) (range rt rt2 (memory_at mem s).1)
-portion_follows (LoadAddr rd mem) s = one_and_memory defined defined_one rd mem s
-portion_follows (LoadIndexedAddr rd base index offset size) s = three defined defined_one rd base index s
-portion_follows (LoadLogicalIndexedAddr rd base index offset size) s = three defined defined_one rd base index s
-portion_follows (AtomicRmw alu_op rd rn mem) s = two_and_memory defined defined_one rd rn mem s
-portion_follows (AtomicCas32 rd ri rn mem) s = three_and_memory reused reused_one rd ri rn mem s
-portion_follows (AtomicCas64 rd ri rn mem) s = three_and_memory reused reused_one rd ri rn mem s
-portion_follows (Mov64 rd rm) s = two defined defined_one rd rm s
 portion_follows (MovPReg rd rm) s = next (defined_one rd s) (fixed rm (after rd s))
-portion_follows (Mov32 rd rm) s = two defined defined_one rd rm s
-portion_follows (Mov32Imm rd imm) s = one defined defined_one rd s
-portion_follows (Mov32SImm16 rd imm) s = one defined defined_one rd s
-portion_follows (Mov64SImm16 rd imm) s = one defined defined_one rd s
-portion_follows (Mov64SImm32 rd imm) s = one defined defined_one rd s
-portion_follows (Mov64UImm16Shifted rd imm) s = one defined defined_one rd s
-portion_follows (Mov64UImm32Shifted rd imm) s = one defined defined_one rd s
-portion_follows (Insert64UImm16Shifted rd ri imm) s = two reused reused_one rd ri s
-portion_follows (Insert64UImm32Shifted rd ri imm) s = two reused reused_one rd ri s
-portion_follows (CMov32 rd cond ri rm) s = three reused reused_one rd ri rm s
-portion_follows (CMov64 rd cond ri rm) s = three reused reused_one rd ri rm s
-portion_follows (CMov32SImm16 rd cond ri imm) s = two reused reused_one rd ri s
-portion_follows (CMov64SImm16 rd cond ri imm) s = two reused reused_one rd ri s
-portion_follows (Extend rd rn signed from_bits to_bits) s = two defined defined_one rd rn s
-portion_follows (LoadAR rd ar) s = one defined defined_one rd s
-portion_follows (InsertAR rd ri ar) s = two reused reused_one rd ri s
-portion_follows (AluRRR alu_op rd rn rm) s = three defined defined_one rd rn rm s
-portion_follows (AluRRSImm16 alu_op rd rn imm) s = two defined defined_one rd rn s
-portion_follows (AluRR alu_op rd ri rm) s = three reused reused_one rd ri rm s
-portion_follows (AluRX alu_op rd ri mem) s = two_and_memory reused reused_one rd ri mem s
-portion_follows (AluRSImm16 alu_op rd ri imm) s = two reused reused_one rd ri s
-portion_follows (AluRSImm32 alu_op rd ri imm) s = two reused reused_one rd ri s
-portion_follows (AluRUImm32 alu_op rd ri imm) s = two reused reused_one rd ri s
-portion_follows (AluRUImm16Shifted alu_op rd ri imm) s = two reused reused_one rd ri s
-portion_follows (AluRUImm32Shifted alu_op rd ri imm) s = two reused reused_one rd ri s
-portion_follows (SMulWide rd rn rm) s = next (used_one rn s) (next (used_one rm (after rn s)) (pair_out rd (after rm (after rn s))))
-portion_follows (UMulWide rd ri rn) s = next (used_one rn s) (both (pair_out rd (after rn s)) (low_in ri (drop 2 (after rn s))))
-portion_follows (SDivMod32 rd ri rn) s = next (used_one rn s) (both (pair_out rd (after rn s)) (low_in ri (drop 2 (after rn s))))
-portion_follows (SDivMod64 rd ri rn) s = next (used_one rn s) (both (pair_out rd (after rn s)) (low_in ri (drop 2 (after rn s))))
-portion_follows (UDivMod32 rd ri rn) s = next (used_one rn s) (both (pair_out rd (after rn s)) (pair_in ri (drop 2 (after rn s))))
-portion_follows (UDivMod64 rd ri rn) s = next (used_one rn s) (both (pair_out rd (after rn s)) (pair_in ri (drop 2 (after rn s))))
-portion_follows (Flogr rd rn) s = next (used_one rn s) (pair_out rd (after rn s))
-portion_follows (ShiftRR shift_op rd rn shift_imm shift_reg) s = three defined defined_one rd rn shift_reg s
-portion_follows (RxSBG op rd ri rn start_bit end_bit rotate_amt) s = three reused reused_one rd ri rn s
-portion_follows (RxSBGTest op rd rn start_bit end_bit rotate_amt) s = two used used_one rd rn s
-portion_follows (UnaryRR op rd rn) s = two defined defined_one rd rn s
-portion_follows (CmpRR op rn rm) s = two used used_one rn rm s
-portion_follows (CmpRX op rn mem) s = one_and_memory used used_one rn mem s
-portion_follows (CmpRSImm16 op rn imm) s = one used used_one rn s
-portion_follows (CmpRSImm32 op rn imm) s = one used used_one rn s
-portion_follows (CmpRUImm32 op rn imm) s = one used used_one rn s
-portion_follows (CmpTrapRR op rn rm cond trap_code) s = two used used_one rn rm s
-portion_follows (CmpTrapRSImm16 op rn imm cond trap_code) s = one used used_one rn s
-portion_follows (CmpTrapRUImm16 op rn imm cond trap_code) s = one used used_one rn s
-portion_follows i s = load_or_none (as_load i) s
+portion_follows (Vector v) s = vector_follows v s
+portion_follows i s = roles_follow (roles_of (described i)) s
 
 closing_follows : IsGood closing
 closing_follows s = none s

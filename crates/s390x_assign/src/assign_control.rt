@@ -1,42 +1,26 @@
-//! Branches, calls and the rest with the registers of an allocator.
+//! An instruction with the registers of an allocator: by its description, where it has one.
 ghost use Rattle.std.specs.Prelude.{IfOk};
 ghost use Rattle.s390x_inst.specs.Portions.{first_portion};
-ghost use Rattle.s390x_assign.specs.Assignments.{IsPortion, portion_by, assigned_control};
+ghost use Rattle.s390x_assign.specs.Assignments.{IsPortion, portion_by, portion_at};
+ghost use Rattle.s390x_assign.specs.Roles.{as_it_is};
 
 use crate::assign_calls::{assign_call, assign_list, assign_return_call};
-use crate::assign_vectors::assign_vector;
 use crate::assigned_registers::AssignedRegisters;
+use s390x_described::{Replacer, replace};
 use s390x_inst::Inst;
 use std::alloc::{AllocError, Global};
 
-/// An instruction that is no operator, no move, no load, no store and no `Loop`, with its registers.
-pub fn assign_control(
+// An instruction that has no description and is no `Loop`, with its registers.
+fn assign_control(
     alloc: Global,
     registers: &mut AssignedRegisters<'_>,
     inst: &Inst,
 ) -> Result<Inst, AllocError>
     ensures { IfOk result
-        (λ j. IsPortion
-        (portion_by assigned_control (first_portion inst.now) registers.old.left.now) j
+        (λ j. IsPortion (portion_by as_it_is (first_portion inst.now) registers.old.left.now) j
         registers.new.left.now) }
 {
     match inst {
-        Inst::LoadSymbolReloc { rd, symbol_reloc } => {
-            let rd = registers.output(*rd);
-            Ok(Inst::LoadSymbolReloc {
-                rd,
-                symbol_reloc: *symbol_reloc,
-            })
-        }
-        Inst::LabelAddress { dst, label } => {
-            let dst = registers.output(*dst);
-            Ok(Inst::LabelAddress { dst, label: *label })
-        }
-        Inst::DummyUse { reg } => {
-            let reg = registers.input(*reg);
-            Ok(Inst::DummyUse { reg })
-        }
-        Inst::Vector(vector) => Ok(Inst::Vector(assign_vector(registers, vector))),
         Inst::IndirectBr { rn, targets } => {
             let targets = Vec::from_slice(alloc, targets)?;
             Ok(Inst::IndirectBr {
@@ -73,5 +57,21 @@ pub fn assign_control(
             Ok(copied) => Ok(copied),
             Err(_) => Err(AllocError),
         },
+    }
+}
+
+/// An instruction that is no `Loop`, with its registers.
+pub fn assign_operator(
+    alloc: Global,
+    registers: &mut AssignedRegisters<'_>,
+    inst: &Inst,
+) -> Result<Inst, AllocError>
+    ensures { IfOk result
+        (λ j. IsPortion (portion_at (first_portion inst.now) registers.old.left.now) j
+        registers.new.left.now) }
+{
+    match replace(inst, registers) {
+        Some(assigned) => Ok(assigned),
+        None => assign_control(alloc, registers, inst),
     }
 }

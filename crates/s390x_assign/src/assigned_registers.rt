@@ -1,8 +1,11 @@
 //! The registers that an allocator assigned, as they are taken one by one.
-ghost use Rattle.std.specs.Prelude.{◌≡◌, drop};
-ghost use Rattle.s390x_assign.specs.Assignments.{operand_at, register_at, after, placed_at, after_placed, pair_at, dividend_at, memory_at, result_at, destination_at};
+ghost use Rattle.std.specs.Prelude.{◌≡◌, List, drop};
+ghost use Rattle.s390x_base.specs.declared.regs.Reg.{Reg};
+ghost use Rattle.s390x_assign.specs.Assignments.{operand_at, placed_at, after_placed, result_at, destination_at};
+ghost use Rattle.s390x_assign.specs.Roles.{assigned_role};
 
 use s390x_base::{Reg, RegPair, Writable, WritableRegPair};
+use s390x_described::Replacer;
 use s390x_inst::{CallInstDest, MemArg, RetLocation};
 
 /// Registers for the operands of an instruction, in the order of its report.
@@ -27,25 +30,6 @@ impl<'a> AssignedRegisters<'a> {
         }
     }
 
-    /// A register that is read: the next one in place of a virtual register; a real one stays.
-    pub fn input(&mut self, reg: Reg) -> Reg
-        ensures value { result ≡ register_at reg self.old.left.now }
-        ensures left { self.new.left.now ≡ after reg self.old.left.now }
-    {
-        match reg {
-            Reg::Real(_) => reg,
-            Reg::Virtual { .. } => self.operand(reg),
-        }
-    }
-
-    /// A register that is written: the next one in place of a virtual register; a real one stays.
-    pub fn output(&mut self, reg: Writable<Reg>) -> Writable<Reg>
-        ensures value { result ≡ register_at reg self.old.left.now }
-        ensures left { self.new.left.now ≡ after reg self.old.left.now }
-    {
-        Writable::from_reg(self.input(reg.to_reg()))
-    }
-
     /// An operand that stands in a place that has to be real; the operand itself where that is virtual.
     pub fn placed(&mut self, place: Reg, reg: Reg) -> Reg
         ensures value { result ≡ placed_at place reg self.old.left.now }
@@ -55,165 +39,6 @@ impl<'a> AssignedRegisters<'a> {
             Reg::Real(_) => self.operand(reg),
             Reg::Virtual { .. } => reg,
         }
-    }
-
-    /// An output that is a pair of operands.
-    pub fn output_pair(&mut self, pair: &WritableRegPair) -> WritableRegPair
-        ensures value { result ≡ pair_at pair.now self.old.left.now }
-        ensures left { self.new.left.now ≡ drop 2 self.old.left.now }
-    {
-        WritableRegPair {
-            hi: Writable::from_reg(self.operand(pair.hi.to_reg())),
-            lo: Writable::from_reg(self.operand(pair.lo.to_reg())),
-        }
-    }
-
-    /// An input that is a pair of operands.
-    pub fn input_pair(&mut self, pair: &RegPair) -> RegPair
-        ensures value { result ≡ dividend_at pair.now self.old.left.now }
-        ensures left { self.new.left.now ≡ drop 2 self.old.left.now }
-    {
-        RegPair {
-            hi: self.operand(pair.hi),
-            lo: self.operand(pair.lo),
-        }
-    }
-
-    /// A memory operand.
-    pub fn memory(&mut self, mem: &MemArg) -> MemArg
-        ensures value { result ≡ (memory_at mem.now self.old.left.now).0 }
-        ensures left { self.new.left.now ≡ (memory_at mem.now self.old.left.now).1 }
-    {
-        match mem {
-            MemArg::BXD12 {
-                base,
-                index,
-                disp,
-                flags,
-            } => MemArg::BXD12 {
-                base: self.input(*base),
-                index: self.input(*index),
-                disp: *disp,
-                flags: *flags,
-            },
-            MemArg::BXD20 {
-                base,
-                index,
-                disp,
-                flags,
-            } => MemArg::BXD20 {
-                base: self.input(*base),
-                index: self.input(*index),
-                disp: *disp,
-                flags: *flags,
-            },
-            MemArg::RegOffset { reg, off, flags } => MemArg::RegOffset {
-                reg: self.input(*reg),
-                off: *off,
-                flags: *flags,
-            },
-            _ => *mem,
-        }
-    }
-
-    /// An output and an input.
-    pub fn output_and_one(&mut self, rd: Writable<Reg>, rn: Reg) -> (Writable<Reg>, Reg)
-        ensures first { result.0 ≡ register_at rd self.old.left.now }
-        ensures second { result.1 ≡ register_at rn (after rd self.old.left.now) }
-        ensures left { self.new.left.now ≡ after rn (after rd self.old.left.now) }
-    {
-        let rd = self.output(rd);
-        let rn = self.input(rn);
-        (rd, rn)
-    }
-
-    /// An output and two inputs.
-    pub fn output_and_two(
-        &mut self,
-        rd: Writable<Reg>,
-        rn: Reg,
-        rm: Reg,
-    ) -> (Writable<Reg>, Reg, Reg)
-        ensures first { result.0 ≡ register_at rd self.old.left.now }
-        ensures second { result.1 ≡ register_at rn (after rd self.old.left.now) }
-        ensures third { result.2 ≡ register_at rm (after rn (after rd self.old.left.now)) }
-        ensures left { self.new.left.now ≡ after rm (after rn (after rd self.old.left.now)) }
-    {
-        let rd = self.output(rd);
-        let rn = self.input(rn);
-        let rm = self.input(rm);
-        (rd, rn, rm)
-    }
-
-    /// Two inputs.
-    pub fn two_inputs(&mut self, rn: Reg, rm: Reg) -> (Reg, Reg)
-        ensures first { result.0 ≡ register_at rn self.old.left.now }
-        ensures second { result.1 ≡ register_at rm (after rn self.old.left.now) }
-        ensures left { self.new.left.now ≡ after rm (after rn self.old.left.now) }
-    {
-        let rn = self.input(rn);
-        let rm = self.input(rm);
-        (rn, rm)
-    }
-
-    /// An input and a memory operand.
-    pub fn input_and_memory(&mut self, rn: Reg, mem: &MemArg) -> (Reg, MemArg)
-        ensures first { result.0 ≡ register_at rn self.old.left.now }
-        ensures memory { result.1 ≡ (memory_at mem.now (after rn self.old.left.now)).0 }
-        ensures left { self.new.left.now ≡ (memory_at mem.now (after rn self.old.left.now)).1 }
-    {
-        let rn = self.input(rn);
-        (rn, self.memory(mem))
-    }
-
-    /// An output and a memory operand.
-    pub fn output_and_memory(&mut self, rd: Writable<Reg>, mem: &MemArg) -> (Writable<Reg>, MemArg)
-        ensures first { result.0 ≡ register_at rd self.old.left.now }
-        ensures memory { result.1 ≡ (memory_at mem.now (after rd self.old.left.now)).0 }
-        ensures left { self.new.left.now ≡ (memory_at mem.now (after rd self.old.left.now)).1 }
-    {
-        let rd = self.output(rd);
-        (rd, self.memory(mem))
-    }
-
-    /// An output, an input and a memory operand.
-    pub fn output_and_one_and_memory(
-        &mut self,
-        rd: Writable<Reg>,
-        rn: Reg,
-        mem: &MemArg,
-    ) -> (Writable<Reg>, Reg, MemArg)
-        ensures first { result.0 ≡ register_at rd self.old.left.now }
-        ensures second { result.1 ≡ register_at rn (after rd self.old.left.now) }
-        ensures memory { result.2 ≡ (memory_at mem.now (after rn (after rd self.old.left.now))).0 }
-        ensures left { self.new.left.now
-            ≡ (memory_at mem.now (after rn (after rd self.old.left.now))).1 }
-    {
-        let rd = self.output(rd);
-        let rn = self.input(rn);
-        (rd, rn, self.memory(mem))
-    }
-
-    /// An output, two inputs and a memory operand.
-    pub fn output_and_two_and_memory(
-        &mut self,
-        rd: Writable<Reg>,
-        rn: Reg,
-        rm: Reg,
-        mem: &MemArg,
-    ) -> (Writable<Reg>, Reg, Reg, MemArg)
-        ensures first { result.0 ≡ register_at rd self.old.left.now }
-        ensures second { result.1 ≡ register_at rn (after rd self.old.left.now) }
-        ensures third { result.2 ≡ register_at rm (after rn (after rd self.old.left.now)) }
-        ensures memory { result.3
-            ≡ (memory_at mem.now (after rm (after rn (after rd self.old.left.now)))).0 }
-        ensures left { self.new.left.now
-            ≡ (memory_at mem.now (after rm (after rn (after rd self.old.left.now)))).1 }
-    {
-        let rd = self.output(rd);
-        let rn = self.input(rn);
-        let rm = self.input(rm);
-        (rd, rn, rm, self.memory(mem))
     }
 
     /// A result of a call: an operand in a place that has to be real, or one that is read from the stack.
@@ -237,6 +62,81 @@ impl<'a> AssignedRegisters<'a> {
             CallInstDest::Indirect { reg } => CallInstDest::Indirect {
                 reg: self.input(*reg),
             },
+        }
+    }
+}
+
+impl<'a> Replacer for AssignedRegisters<'a> {
+    ghost State = { List Reg };
+
+    ghost state = { λ s. s.left.now };
+
+    ghost role_at = { assigned_role };
+
+    // A real register is no operand, so it stays.
+    fn input(&mut self, reg: Reg) -> Reg {
+        match reg {
+            Reg::Real(_) => reg,
+            Reg::Virtual { .. } => self.operand(reg),
+        }
+    }
+
+    fn output(&mut self, reg: Writable<Reg>) -> Writable<Reg> {
+        Writable::from_reg(self.input(reg.to_reg()))
+    }
+
+    fn reused(&mut self, reg: Writable<Reg>) -> Writable<Reg> {
+        self.output(reg)
+    }
+
+    fn output_pair(&mut self, pair: WritableRegPair) -> WritableRegPair {
+        WritableRegPair {
+            hi: Writable::from_reg(self.operand(pair.hi.to_reg())),
+            lo: Writable::from_reg(self.operand(pair.lo.to_reg())),
+        }
+    }
+
+    fn low_input(&mut self, reg: Reg) -> Reg {
+        self.operand(reg)
+    }
+
+    fn input_pair(&mut self, pair: RegPair) -> RegPair {
+        RegPair {
+            hi: self.operand(pair.hi),
+            lo: self.operand(pair.lo),
+        }
+    }
+
+    fn memory(&mut self, mem: MemArg) -> MemArg {
+        match mem {
+            MemArg::BXD12 {
+                base,
+                index,
+                disp,
+                flags,
+            } => MemArg::BXD12 {
+                base: self.input(base),
+                index: self.input(index),
+                disp,
+                flags,
+            },
+            MemArg::BXD20 {
+                base,
+                index,
+                disp,
+                flags,
+            } => MemArg::BXD20 {
+                base: self.input(base),
+                index: self.input(index),
+                disp,
+                flags,
+            },
+            MemArg::RegOffset { reg, off, flags } => MemArg::RegOffset {
+                reg: self.input(reg),
+                off,
+                flags,
+            },
+            _ => mem,
         }
     }
 }

@@ -4,7 +4,7 @@ ghost use Rattle.s390x_inst.specs.Portions.{portions, members_portions};
 ghost use Rattle.s390x_operands.specs.Operands.{operands};
 ghost use Rattle.s390x_assign.specs.Assignments.{assigned, ArePortions, IsAssignAnswer, operand_count, replaced};
 
-use crate::assign_arithmetic::assign_operator;
+use crate::assign_control::assign_operator;
 use crate::assigned_registers::AssignedRegisters;
 use s390x_base::Reg;
 use s390x_inst::Inst;

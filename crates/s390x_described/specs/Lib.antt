@@ -1,5 +1,2 @@
-pub mod Description
-pub mod Fields
-pub mod Given
-pub mod Kinds
-pub mod Values
+pub mod Instructions
+pub mod Roles

@@ -1,9 +1,10 @@
 //! A fact about descriptions.
-ghost use Rattle.std.specs.Prelude.{◌≡◌};
-ghost use Rattle.s390x_inst.specs.declared.vec_inst.VecInst.{VecInst};
-ghost use Rattle.s390x_described.specs.Description.{described};
+ghost use Rattle.std.specs.Prelude.{◌≡◌, Some};
+ghost use Rattle.s390x_inst.specs.declared.inst.Inst.{Inst};
+ghost use Rattle.s390x_described.specs.Instructions.{described};
+ghost use Rattle.s390x_described.specs.Roles.{Described};
 
-/// Instructions with the same description are equal: no description lacks a field.
-pub fn descriptions_tell_instructions()
-    ensures { (v w : VecInst) → described v ≡ described w → v ≡ w }
+/// An instruction's description, with the roles that it has, is the instruction.
+pub fn descriptions_give_instructions()
+    ensures { (i : Inst) (d : Described Inst) → described i ≡ Some d → d.again d.roles ≡ i }
 {}

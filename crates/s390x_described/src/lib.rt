@@ -1,23 +1,11 @@
-//! Instructions, each described once: by a name and by fields, whose kinds tell the roles of registers.
+//! Instructions, each described once: by the roles of its registers, and what it is with others in their place.
 #![tactic(auto)]
 
-mod kept;
 mod law;
-mod name;
-mod part;
-mod plain;
-mod rebuilding;
-mod source;
+mod replacer;
+mod replacing;
 mod table;
-mod value;
-mod visiting;
 
-pub use kept::Kept;
-pub use law::descriptions_tell_instructions;
-pub use name::VectorName;
-pub use part::Part;
-pub use plain::Plain;
-pub use rebuilding::rebuild;
-pub use source::Source;
-pub use value::Value;
-pub use visiting::{Visitor, visit};
+pub use law::descriptions_give_instructions;
+pub use replacer::Replacer;
+pub use replacing::replace;

@@ -1,7 +1,99 @@
-//! The table of instructions, from which both walks are written: a line for each tells its fields, each by its role.
+//! The tables of instructions, from which the walk is written: a line for each tells its fields by their roles, in the order of the report.
 
-/// Writes a walk over the instructions on vector or float registers.
-macro_rules! vector_instructions {
+/// Operators, products, divisions, shifts, rotations and comparisons.
+macro_rules! operator_table {
+    ($walk:ident, $($with:tt)*) => {
+        $walk! { ($($with)*)
+            AluRRR { alu_op: plain, rd: output, rn: input, rm: input }
+            AluRRSImm16 { alu_op: plain, rd: output, rn: input, imm: plain }
+            AluRR { alu_op: plain, rd: reused, ri: input, rm: input }
+            AluRX { alu_op: plain, rd: reused, ri: input, mem: memory }
+            AluRSImm16 { alu_op: plain, rd: reused, ri: input, imm: plain }
+            AluRSImm32 { alu_op: plain, rd: reused, ri: input, imm: plain }
+            AluRUImm32 { alu_op: plain, rd: reused, ri: input, imm: plain }
+            AluRUImm16Shifted { alu_op: plain, rd: reused, ri: input, imm: plain }
+            AluRUImm32Shifted { alu_op: plain, rd: reused, ri: input, imm: plain }
+            SMulWide { rn: input, rm: input, rd: output_pair }
+            UMulWide { rn: input, rd: output_pair, ri: low_input }
+            SDivMod32 { rn: input, rd: output_pair, ri: low_input }
+            SDivMod64 { rn: input, rd: output_pair, ri: low_input }
+            UDivMod32 { rn: input, rd: output_pair, ri: input_pair }
+            UDivMod64 { rn: input, rd: output_pair, ri: input_pair }
+            Flogr { rn: input, rd: output_pair }
+            ShiftRR { shift_op: plain, rd: output, rn: input, shift_imm: plain, shift_reg: input }
+            RxSBG { op: plain, rd: reused, ri: input, rn: input, start_bit: plain, end_bit: plain, rotate_amt: plain }
+            RxSBGTest { op: plain, rd: input, rn: input, start_bit: plain, end_bit: plain, rotate_amt: plain }
+            UnaryRR { op: plain, rd: output, rn: input }
+            CmpRR { op: plain, rn: input, rm: input }
+            CmpRX { op: plain, rn: input, mem: memory }
+            CmpRSImm16 { op: plain, rn: input, imm: plain }
+            CmpRSImm32 { op: plain, rn: input, imm: plain }
+            CmpRUImm32 { op: plain, rn: input, imm: plain }
+            CmpTrapRR { op: plain, rn: input, rm: input, cond: plain, trap_code: plain }
+            CmpTrapRSImm16 { op: plain, rn: input, imm: plain, cond: plain, trap_code: plain }
+            CmpTrapRUImm16 { op: plain, rn: input, imm: plain, cond: plain, trap_code: plain }
+        }
+    };
+}
+
+/// Moves between registers, and immediates.
+macro_rules! move_table {
+    ($walk:ident, $($with:tt)*) => {
+        $walk! { ($($with)*)
+            Mov64 { rd: output, rm: input }
+            MovPReg { rd: output, rm: plain }
+            Mov32 { rd: output, rm: input }
+            Mov32Imm { rd: output, imm: plain }
+            Mov32SImm16 { rd: output, imm: plain }
+            Mov64SImm16 { rd: output, imm: plain }
+            Mov64SImm32 { rd: output, imm: plain }
+            Mov64UImm16Shifted { rd: output, imm: plain }
+            Mov64UImm32Shifted { rd: output, imm: plain }
+            Insert64UImm16Shifted { rd: reused, ri: input, imm: plain }
+            Insert64UImm32Shifted { rd: reused, ri: input, imm: plain }
+            CMov32 { rd: reused, cond: plain, ri: input, rm: input }
+            CMov64 { rd: reused, cond: plain, ri: input, rm: input }
+            CMov32SImm16 { rd: reused, cond: plain, ri: input, imm: plain }
+            CMov64SImm16 { rd: reused, cond: plain, ri: input, imm: plain }
+            Extend { rd: output, rn: input, signed: plain, from_bits: plain, to_bits: plain }
+            LoadAR { rd: output, ar: plain }
+            InsertAR { rd: reused, ri: input, ar: plain }
+        }
+    };
+}
+
+/// Stores, multiples, addresses, atomic instructions, and a use that has no code.
+macro_rules! store_table {
+    ($walk:ident, $($with:tt)*) => {
+        $walk! { ($($with)*)
+            Store8 { rd: input, mem: memory }
+            Store16 { rd: input, mem: memory }
+            Store32 { rd: input, mem: memory }
+            Store64 { rd: input, mem: memory }
+            StoreRev16 { rd: input, mem: memory }
+            StoreRev32 { rd: input, mem: memory }
+            StoreRev64 { rd: input, mem: memory }
+            StoreImm8 { imm: plain, mem: memory }
+            StoreImm16 { imm: plain, mem: memory }
+            StoreImm32SExt16 { imm: plain, mem: memory }
+            StoreImm64SExt16 { imm: plain, mem: memory }
+            LoadMultiple64 { rt: plain, rt2: plain, mem: memory }
+            StoreMultiple64 { rt: plain, rt2: plain, mem: memory }
+            LoadAddr { rd: output, mem: memory }
+            LoadIndexedAddr { rd: output, base: input, index: input, offset: plain, size: plain }
+            LoadLogicalIndexedAddr { rd: output, base: input, index: input, offset: plain, size: plain }
+            AtomicRmw { alu_op: plain, rd: output, rn: input, mem: memory }
+            AtomicCas32 { rd: reused, ri: input, rn: input, mem: memory }
+            AtomicCas64 { rd: reused, ri: input, rn: input, mem: memory }
+            LoadSymbolReloc { rd: output, symbol_reloc: plain }
+            LabelAddress { dst: output, label: plain }
+            DummyUse { reg: input }
+        }
+    };
+}
+
+/// Instructions on vector or float registers.
+macro_rules! vector_table {
     ($walk:ident, $($with:tt)*) => {
         $walk! { ($($with)*)
             VecRRR { op: plain, rd: output, rn: input, rm: input }
@@ -62,42 +154,35 @@ macro_rules! vector_instructions {
     };
 }
 
-/// The walk that takes an instruction apart.
-macro_rules! apart {
-    (($v:expr, $s:expr, $inst:expr) $($n:ident { $($f:ident : $m:ident),* })*) => {
+/// The instruction with other registers, where it is in the table; else what is said instead.
+macro_rules! again {
+    (($inst:expr, $r:expr, $other:expr) $($n:ident { $($f:ident : $m:ident),* })*) => {
         match $inst {
-            $(VecInst::$n { $($f),* } => fields!($v, $s, VectorName::$n, $($f $m),*),)*
+            $(Inst::$n { $($f),* } => Some(Inst::$n { $($f: in_role!($r, $f, $m)),* }),)*
+            _ => $other,
         }
     };
 }
 
-/// The walk that puts an instruction together.
-macro_rules! together {
-    (($name:expr, $s:expr) $($n:ident { $($f:ident : $m:ident),* })*) => {
-        match $name {
-            $(VectorName::$n => VecInst::$n { $($f: $s.$m()),* },)*
+/// The same of an instruction on vector or float registers.
+macro_rules! vector_again {
+    (($inst:expr, $r:expr) $($n:ident { $($f:ident : $m:ident),* })*) => {
+        match $inst {
+            $(VecInst::$n { $($f),* } => VecInst::$n { $($f: in_role!($r, $f, $m)),* },)*
         }
     };
 }
 
-/// A field with its role.
-macro_rules! field {
-    ($f:ident plain) => { &Unchanged(*$f) };
-    ($f:ident reused) => { &Tied($f.to_reg()) };
-    ($f:ident $m:ident) => { $f };
+/// A field with another register in its role.
+macro_rules! in_role {
+    ($r:expr, $f:ident, plain) => { *$f };
+    ($r:expr, $f:ident, $m:ident) => { $r.$m(*$f) };
 }
 
-/// Fields by their number.
-macro_rules! fields {
-    ($v:expr, $s:expr, $name:expr, $a:ident $h:ident, $b:ident $i:ident) => { two($v, $s, $name, field!($a $h), field!($b $i)) };
-    ($v:expr, $s:expr, $name:expr, $a:ident $h:ident, $b:ident $i:ident, $c:ident $j:ident) => { three($v, $s, $name, field!($a $h), field!($b $i), field!($c $j)) };
-    ($v:expr, $s:expr, $name:expr, $a:ident $h:ident, $b:ident $i:ident, $c:ident $j:ident, $d:ident $k:ident) => { four($v, $s, $name, field!($a $h), field!($b $i), field!($c $j), field!($d $k)) };
-    ($v:expr, $s:expr, $name:expr, $a:ident $h:ident, $b:ident $i:ident, $c:ident $j:ident, $d:ident $k:ident, $e:ident $l:ident) => { five($v, $s, $name, field!($a $h), field!($b $i), field!($c $j), field!($d $k), field!($e $l)) };
-    ($v:expr, $s:expr, $name:expr, $a:ident $h:ident, $b:ident $i:ident, $c:ident $j:ident, $d:ident $k:ident, $e:ident $l:ident, $f:ident $m:ident) => { six($v, $s, $name, field!($a $h), field!($b $i), field!($c $j), field!($d $k), field!($e $l), field!($f $m)) };
-}
-
-pub(crate) use apart;
-pub(crate) use field;
-pub(crate) use fields;
-pub(crate) use together;
-pub(crate) use vector_instructions;
+pub(crate) use again;
+pub(crate) use in_role;
+pub(crate) use move_table;
+pub(crate) use operator_table;
+pub(crate) use store_table;
+pub(crate) use vector_again;
+pub(crate) use vector_table;

@@ -2,7 +2,6 @@ pub mod Checking
 pub mod Closing
 pub mod Constants
 pub mod Orderly
-pub mod Encoding
 pub mod Runs
 pub mod Outgoing
 pub mod Passing
@@ -41,7 +40,6 @@ pub mod Short
 pub mod Shortening
 pub mod Single
 pub mod Accessing
-pub mod Storing
 pub mod VectorResolving
 pub mod Resolving
 pub mod Linked

@@ -31,10 +31,10 @@ ghost use Rattle.s390x_emit_int.specs.Sequence.{AllKeepNominal, Emits, EmitsOwn}
 
 use crate::causes::{branchable, label_cause};
 use crate::leaf::{emit_branch_register, emit_leaf};
-use crate::memory::find_memory;
 use s390x_address::{general, is_numbered, needs_address};
 use s390x_base::{EmitError, ExternalName, MachLabel, Reg, Reloc};
 use s390x_buffer::{MachBuffer, TryHandler};
+use s390x_emit_rows::find_memory;
 use s390x_enc::{enc_ril_b, enc_ril_c, enc_rr};
 use s390x_inst::{
     CallInfo, CallInstDest, CallRetPair, EmitState, FrameLayout, Inst, IsaFlags, MachInstEmitState,

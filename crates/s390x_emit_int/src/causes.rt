@@ -10,12 +10,11 @@ ghost use Rattle.s390x_typed_steps.specs.General.{is_general, is_nonzero, is_scr
 
 use crate::check::fresh_labels;
 use crate::composite::composite_cause;
-use crate::memory::find_memory;
-use crate::single_instruction::find_single_instruction;
 use crate::stack::stack_cause;
 use s390x_address::general;
 use s390x_base::{Code, EmitError, MachLabel, Reg, RegClass};
 use s390x_buffer::MachBuffer;
+use s390x_emit_rows::{find_memory, find_single_instruction};
 use s390x_inst::{EmitState, Inst, InstructionSet, IsaFlags};
 
 /// Whether the register is a real Int one other than `%r0`: one that a branch may go by.

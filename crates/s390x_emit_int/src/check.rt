@@ -22,12 +22,11 @@ use crate::causes::instruction_cause;
 use crate::check_calls::{check_call, check_tail_call};
 use crate::composite::composite_size;
 use crate::loaded::check_on_machine;
-use crate::memory::find_memory;
-use crate::single_instruction::find_single_instruction;
 use crate::stack::{advance, end_cause, mark_safepoint};
 use s390x_address::LIMIT;
 use s390x_base::{Code, EmitError};
 use s390x_buffer::MachBuffer;
+use s390x_emit_rows::{find_memory, find_single_instruction};
 use s390x_inst::{Block, EmitState, Inst, IsaFlags};
 use std::alloc::Global;
 

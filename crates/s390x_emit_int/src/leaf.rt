@@ -26,18 +26,15 @@ ghost use Rattle.s390x_typed_steps.specs.Operands.{resolved};
 ghost use Rattle.s390x_typed_steps.specs.Resolved.{resolved_instruction};
 ghost use Rattle.s390x_address.specs.Rows.{memory_instruction_of, in_state, may_encode};
 
-use crate::arithmetic::three_row;
 use crate::causes::{branch_cause, label_cause, outer_cause, two_labels_cause};
 use crate::composite::emit_composite;
 use crate::kinds::{Kind, kind_of};
-use crate::memory::{find_memory, memory_of_load};
-use crate::single_instruction::find_single_instruction;
-use crate::stops::stop_code;
 use crate::symbol::emit_symbol_load;
 use crate::table::emit_table;
 use s390x_address::MemoryInst;
 use s390x_base::{Code, Cond, EmitError, MachLabel, Reg, TrapCode, gpr};
 use s390x_buffer::{LabelUse, MachBuffer};
+use s390x_emit_rows::{find_memory, find_single_instruction, memory_of_load, stop_code, three_row};
 use s390x_enc::{enc_e, enc_ril_b, enc_ril_c, enc_rr};
 use s390x_inst::{EmitState, Inst, IsaFlags, MemArg};
 

@@ -1,13 +1,10 @@
 //! Emission: from typed instructions to finished code.
 #![tactic(auto)]
 
-mod arithmetic;
-mod bits;
 mod calls;
 mod causes;
 mod check;
 mod check_calls;
-mod codes;
 mod completeness;
 mod composite;
 mod conditional;
@@ -19,14 +16,7 @@ mod image;
 mod kinds;
 mod leaf;
 mod loaded;
-mod memory;
-mod moves;
-mod opcode;
-mod registers;
-mod shapes;
-mod single_instruction;
 mod stack;
-mod stops;
 mod symbol;
 mod table;
 mod tree;

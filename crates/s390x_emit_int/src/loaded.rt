@@ -24,10 +24,10 @@ ghost use Rattle.s390x_emit_int.specs.Totals.{IsCounted, Adds};
 use crate::causes::{facility_cause, outer_cause};
 use crate::check::{Totals, add, check_leaf};
 use crate::leaf::{emit_access, emit_leaf};
-use crate::memory::find_memory;
 use s390x_address::MemoryInst;
 use s390x_base::{EmitError, MachLabel};
 use s390x_buffer::MachBuffer;
+use s390x_emit_rows::find_memory;
 use s390x_inst::{EmitState, Inst, IsaFlags};
 
 // An access by its other rows, where it has one that is relative to the instruction and takes its operand.

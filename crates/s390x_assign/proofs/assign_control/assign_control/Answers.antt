@@ -1,5 +1,5 @@
-use Rattle.s390x_assign.proofs.Defaults.{copied}
+use Rattle.s390x_assign.proofs.Described.{copied}
 use Rattle.s390x_assign.proofs.assign_control.assign_control.Goals as goal
 
 pub returns-in-Ok : goal.returns-in-Ok
-returns-in-Ok c = copied c.args.inst.now c.in-Ok.copied c.args.registers.now.left.now c.in-Ok.ensures c.in_default.not-IndirectBr c.in_default.not-JTSequence c.in_default.not-Call c.in_default.not-ReturnCall c.in_default.not-LoadSymbolReloc c.in_default.not-LabelAddress c.in_default.not-Args c.in_default.not-Rets c.in_default.not-DummyUse c.in_default.not-Vector
+returns-in-Ok c = copied c.args.inst.now c.in-Ok.copied c.args.registers.now.left.now c.in-Ok.ensures c.in_default.not-IndirectBr c.in_default.not-JTSequence c.in_default.not-Call c.in_default.not-ReturnCall c.in_default.not-Args c.in_default.not-Rets

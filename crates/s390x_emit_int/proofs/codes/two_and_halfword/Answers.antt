@@ -1,5 +1,0 @@
-use Rattle.s390x_emit_int.proofs.Encoding.{follows, encoded, two_encode}
-use Rattle.s390x_emit_int.proofs.codes.two_and_halfword.Goals as goal
-
-pub returns-then-valid : goal.returns-then-valid
-returns-then-valid c = encoded _ _ _ _ c.enc_rie_d.result c.enc_rie_d.ensures c.if-valid.true (two_encode c.args.r1 c.args.r3 (follows _ _ c.requires c.if-valid.true))

@@ -1,0 +1,244 @@
+//! Operators on parts of a register and on pairs, shifts and rotations that are one machine instruction.
+ghost use Rattle.std.specs.Prelude.{◌≡◌, ◌+◌, ◌<◌, ◌&&◌, true, Some, nat_lt};
+ghost use Rattle.std.specs.Option.{option_map};
+ghost use Rattle.s390x_base.specs.Regs.{number_of};
+ghost use Rattle.s390x_typed_steps.specs.General.{is_general, is_even_pair, reuses, rotation, low_byte};
+ghost use Rattle.s390x_typed_steps.specs.MachineInstruction.{rrf_ab, rsy};
+ghost use Rattle.s390x_typed_steps.specs.Opcodes.{of_one, alu_part, alu_half, shift_opcode, rotate_then, rotate_then_test};
+ghost use Rattle.s390x_typed_steps.specs.SingleCode.{code_where, single_code};
+ghost use Rattle.s390x_typed_steps.specs.SingleInstruction.{single_with, two_operands, rotated_row};
+ghost use Rattle.s390x_emit_rows.specs.SingleInstruction.{opcode_of, takes_general};
+
+use crate::codes::{selected, shifted, short, three_operands, two_operands};
+use crate::moves::{of_four, of_two};
+use crate::opcode::ShortOpcode;
+use crate::registers::{is_even_pair, is_reused, three_general, two_general};
+use s390x_address::general;
+use s390x_base::{Code, EmitError, Reg, Writable, WritableRegPair};
+use s390x_inst::{ALUOp, RxSBGOp, ShiftOp};
+use s390x_typed_steps::low_byte;
+
+fn of_one(zeroth: u16, n: u8) -> Option<ShortOpcode>
+    requires { zeroth < 4096 }
+    ensures { option_map opcode_of result ≡ of_one zeroth n }
+{
+    if n == 0 { Some(short(zeroth)) } else { None }
+}
+
+/// The opcode of an operator with an immediate at a 16-bit part of a register, counted from the right. None where it
+/// has none.
+pub fn part_opcode(op: ALUOp, shift: u8) -> Option<ShortOpcode>
+    ensures { option_map opcode_of result ≡ alu_part op shift }
+{
+    match op {
+        ALUOp::And32 => of_two(0xa57, 0xa56, shift),
+        ALUOp::And64 => of_four(0xa57, 0xa56, 0xa55, 0xa54, shift),
+        ALUOp::Orr32 => of_two(0xa5b, 0xa5a, shift),
+        ALUOp::Orr64 => of_four(0xa5b, 0xa5a, 0xa59, 0xa58, shift),
+        _ => None,
+    }
+}
+
+/// The opcode of an operator with an immediate at a half of a register, counted from the right. None where it has
+/// none.
+pub fn half_opcode(op: ALUOp, shift: u8) -> Option<ShortOpcode>
+    ensures { option_map opcode_of result ≡ alu_half op shift }
+{
+    match op {
+        ALUOp::And32 => of_one(0xc0b, shift),
+        ALUOp::And64 => of_two(0xc0b, 0xc0a, shift),
+        ALUOp::Orr32 => of_one(0xc0d, shift),
+        ALUOp::Orr64 => of_two(0xc0d, 0xc0c, shift),
+        ALUOp::Xor32 => of_one(0xc07, shift),
+        ALUOp::Xor64 => of_two(0xc07, 0xc06, shift),
+        _ => None,
+    }
+}
+
+fn shift_opcode(op: ShiftOp) -> u16
+    ensures { result ≡ shift_opcode op }
+{
+    match op {
+        ShiftOp::RotL32 => 0xeb1d,
+        ShiftOp::RotL64 => 0xeb1c,
+        ShiftOp::LShL32 => 0xebdf,
+        ShiftOp::LShL64 => 0xeb0d,
+        ShiftOp::LShR32 => 0xebde,
+        ShiftOp::LShR64 => 0xeb0c,
+        ShiftOp::AShR32 => 0xebdc,
+        ShiftOp::AShR64 => 0xeb0a,
+    }
+}
+
+fn rotate_opcode(op: RxSBGOp) -> u16
+    ensures { result ≡ rotate_then op }
+{
+    match op {
+        RxSBGOp::Insert => 0xec59,
+        RxSBGOp::And => 0xec54,
+        RxSBGOp::Or => 0xec56,
+        RxSBGOp::Xor => 0xec57,
+    }
+}
+
+fn test_opcode(op: RxSBGOp) -> Option<u16>
+    ensures { result ≡ rotate_then_test op }
+{
+    match op {
+        RxSBGOp::Insert => None,
+        RxSBGOp::And => Some(0xec54),
+        RxSBGOp::Or => Some(0xec56),
+        RxSBGOp::Xor => Some(0xec57),
+    }
+}
+
+// An amount to the right counts as one to the left.
+fn rotation(amount: i8) -> u8
+    ensures { result ≡ rotation amount }
+{
+    i32::from(amount).rem_euclid(64) as u8
+}
+
+/// The bits that a rotation selects, of one register into another that is read too. None where there is no row;
+/// `BadRegister` comes where a register is not general, or an input that has to be the output isn't it.
+#[tactic(auto, using(crate::proofs::Encoding::reused_pair_general))]
+pub fn rotated_row(
+    op: RxSBGOp,
+    rd: &Writable<Reg>,
+    ri: &Reg,
+    rn: &Reg,
+    start: u8,
+    end: u8,
+    amount: i8,
+) -> Option<Result<Code, EmitError>>
+    ensures { result
+        ≡ single_code
+        (single_with (reuses rd.now ri.now && is_general rn.now)
+        (rotated_row (Some (rotate_then op)) (number_of rd.now) (number_of rn.now) start end
+        start (rotation amount))) }
+{
+    let output = rd.to_reg();
+    let rotated = rotation(amount);
+    if start < 64 && end < 64 {
+        let valid = is_reused(&output, ri) && general(rn);
+        Some(selected(valid, rotate_opcode(op), output, *rn, start, end, rotated))
+    } else {
+        None
+    }
+}
+
+/// The code of a rotate-then-operate row whose result is tested alone, and not kept: 128 is added to the start. An
+/// error comes where a register is not general.
+#[tactic(auto, using(crate::proofs::Encoding::itself))]
+pub fn tested_row(
+    op: RxSBGOp,
+    rd: &Reg,
+    rn: &Reg,
+    start: u8,
+    end: u8,
+    amount: i8,
+) -> Option<Result<Code, EmitError>>
+    ensures { result
+        ≡ single_code
+        (single_with (is_general rd.now && is_general rn.now)
+        (rotated_row (rotate_then_test op) (number_of rd.now) (number_of rn.now) start end
+        (start + 128) (rotation amount))) }
+{
+    let opcode = test_opcode(op)?;
+    let rotated = rotation(amount);
+    if start < 64 && end < 64 {
+        Some(selected(
+            two_general(rd, rn),
+            opcode,
+            *rd,
+            *rn,
+            start + 128,
+            end,
+            rotated,
+        ))
+    } else {
+        None
+    }
+}
+
+/// A shift by a number plus a register. None where there is no row; `BadRegister` comes where a register is not
+/// general, or an input that has to be the output isn't it.
+#[tactic(auto, using(crate::proofs::Encoding::itself))]
+pub fn shift_row(
+    op: ShiftOp,
+    rd: &Writable<Reg>,
+    rn: &Reg,
+    amount: u8,
+    register: &Reg,
+) -> Option<Result<Code, EmitError>>
+    ensures { result
+        ≡ single_code
+        (single_with (is_general rd.now && is_general rn.now && is_general register.now)
+        (Some
+        (rsy (shift_opcode op) (number_of rd.now) (number_of rn.now)
+        (number_of register.now) (low_byte amount)))) }
+{
+    let output = rd.to_reg();
+    Some(shifted(
+        three_general(&output, rn, register),
+        shift_opcode(op),
+        output,
+        *rn,
+        *register,
+        low_byte(amount),
+    ))
+}
+
+/// The signed product of two registers, into a pair. None where there is no row; `BadRegister` comes where a register
+/// is not general, or an input that has to be the output isn't it.
+#[tactic(auto, unfolding(s390x_typed_steps::specs::SingleCode::code_where))]
+pub fn product_row(rd: &WritableRegPair, rn: &Reg, rm: &Reg) -> Option<Result<Code, EmitError>>
+    ensures { result
+        ≡ single_code
+        (single_with
+        (is_even_pair rd.now.hi rd.now.lo && is_general rn.now && is_general rm.now)
+        (Some (rrf_ab 0xb9ec (number_of rd.now.hi) (number_of rn.now) (number_of rm.now) 0))) }
+{
+    if is_even_pair(rd) {
+        Some(three_operands(0xb9ec, &rd.hi.to_reg(), rn, rm))
+    } else {
+        Some(Err(EmitError::BadRegister))
+    }
+}
+
+/// A count of a register's bits, into a pair. None where there is no row; `BadRegister` comes where a register is not
+/// general, or an input that has to be the output isn't it.
+#[tactic(auto, using(crate::proofs::Encoding::even_general))]
+pub fn pair_row(opcode: u16, rd: &WritableRegPair, rn: &Reg) -> Option<Result<Code, EmitError>>
+    requires { takes_general (Some opcode) ≡ true }
+    ensures { result
+        ≡ single_code
+        (single_with (is_even_pair rd.now.hi rd.now.lo && is_general rn.now)
+        (Some (two_operands opcode (number_of rd.now.hi) (number_of rn.now)))) }
+{
+    Some(two_operands(is_even_pair(rd) && general(rn), opcode, rd.hi.to_reg(), *rn))
+}
+
+/// An operator on a pair, whose second register is read too, and another register. None where there is no row;
+/// `BadRegister` comes where a register is not general, or an input that has to be the output isn't it.
+#[tactic(auto, using(crate::proofs::Encoding::even_reused_general))]
+pub fn reused_low_row(
+    opcode: u16,
+    rd: &WritableRegPair,
+    ri: &Reg,
+    rn: &Reg,
+) -> Option<Result<Code, EmitError>>
+    requires { takes_general (Some opcode) ≡ true }
+    ensures { result
+        ≡ single_code
+        (single_with
+        (is_even_pair rd.now.hi rd.now.lo && reuses rd.now.lo ri.now && is_general rn.now)
+        (Some (two_operands opcode (number_of rd.now.hi) (number_of rn.now)))) }
+{
+    Some(two_operands(
+        is_even_pair(rd) && is_reused(&rd.lo.to_reg(), ri) && general(rn),
+        opcode,
+        rd.hi.to_reg(),
+        *rn,
+    ))
+}

@@ -1,0 +1,240 @@
+//! Moves, insertions, extensions and conditional moves that are one machine instruction.
+ghost use Rattle.std.specs.Prelude.{◌≡◌, ◌<◌, ◌&&◌, true, Some};
+ghost use Rattle.std.specs.Option.{option_map};
+ghost use Rattle.s390x_base.specs.Regs.{number_of};
+ghost use Rattle.s390x_typed_steps.specs.General.{is_general, is_access, reuses, four_bits, low_halfword, low_displacement};
+ghost use Rattle.s390x_typed_steps.specs.MachineInstruction.{rr, rrf_cde, rie_g};
+ghost use Rattle.s390x_typed_steps.specs.Opcodes.{of_two, of_four, extend_to_word, extend_to_doubleword, extend_two, indexed_opcode, logical_indexed_opcode};
+ghost use Rattle.s390x_typed_steps.specs.SingleCode.{code_where, single_code};
+ghost use Rattle.s390x_typed_steps.specs.SingleInstruction.{single_with, two_operands, indexed_row};
+ghost use Rattle.s390x_emit_rows.specs.SingleInstruction.{opcode_of, takes_general, implies};
+
+use crate::codes::{conditional_halfword, indexed, masked, short, two_operands};
+use crate::opcode::ShortOpcode;
+use crate::registers::{is_access, is_reused, three_general};
+use s390x_address::general;
+use s390x_base::{Code, Cond, EmitError, Reg, SImm20, Writable, gpr};
+use s390x_typed_steps::bits_of_halfword;
+
+/// One of two opcodes by its number.
+pub fn of_two(zeroth: u16, first: u16, n: u8) -> Option<ShortOpcode>
+    requires zeroth { zeroth < 4096 }
+    requires first { first < 4096 }
+    ensures { option_map opcode_of result ≡ of_two zeroth first n }
+{
+    match n {
+        0 => Some(short(zeroth)),
+        1 => Some(short(first)),
+        _ => None,
+    }
+}
+
+/// One of four opcodes by its number.
+pub fn of_four(zeroth: u16, first: u16, second: u16, third: u16, n: u8) -> Option<ShortOpcode>
+    requires zeroth { zeroth < 4096 }
+    requires first { first < 4096 }
+    requires second { second < 4096 }
+    requires third { third < 4096 }
+    ensures { option_map opcode_of result ≡ of_four zeroth first second third n }
+{
+    match n {
+        0 => Some(short(zeroth)),
+        1 => Some(short(first)),
+        2 => Some(short(second)),
+        3 => Some(short(third)),
+        _ => None,
+    }
+}
+
+fn to_word(signed: bool, from: u8) -> Option<u16>
+    ensures value { result ≡ extend_to_word signed from }
+    ensures general { takes_general result ≡ true }
+{
+    match from {
+        1 => Some(0xb926),
+        8 => Some(if signed { 0xb926 } else { 0xb994 }),
+        16 => Some(if signed { 0xb927 } else { 0xb995 }),
+        _ => None,
+    }
+}
+
+fn to_doubleword(signed: bool, from: u8) -> Option<u16>
+    ensures value { result ≡ extend_to_doubleword signed from }
+    ensures general { takes_general result ≡ true }
+{
+    match from {
+        1 => Some(0xb906),
+        8 => Some(if signed { 0xb906 } else { 0xb984 }),
+        16 => Some(if signed { 0xb907 } else { 0xb985 }),
+        32 => Some(if signed { 0xb914 } else { 0xb916 }),
+        _ => None,
+    }
+}
+
+/// The opcode of an extension.
+pub fn extend_opcode(signed: bool, from: u8, to: u8) -> Option<u16>
+    ensures value { result ≡ extend_two signed from to }
+    ensures general { takes_general result ≡ true }
+{
+    match to {
+        32 => to_word(signed, from),
+        64 => to_doubleword(signed, from),
+        _ => None,
+    }
+}
+
+/// The opcode of the address of an element whose index has a sign, by the element's size in powers of two. None where
+/// it has none.
+pub fn indexed_opcode(size: u8) -> Option<u16>
+    ensures value { result ≡ indexed_opcode size }
+    ensures general { takes_general result ≡ true }
+{
+    match size {
+        1 => Some(0xe362),
+        2 => Some(0xe364),
+        3 => Some(0xe366),
+        4 => Some(0xe368),
+        _ => None,
+    }
+}
+
+/// The opcode of the address of an element whose index has no sign, by the element's size in powers of two. None
+/// where it has none.
+pub fn logical_indexed_opcode(size: u8) -> Option<u16>
+    ensures value { result ≡ logical_indexed_opcode size }
+    ensures general { takes_general result ≡ true }
+{
+    match size {
+        1 => Some(0xe363),
+        2 => Some(0xe365),
+        3 => Some(0xe367),
+        4 => Some(0xe369),
+        _ => None,
+    }
+}
+
+// EXTRACT ACCESS; its second field is the access register's number.
+#[tactic(auto, using(crate::proofs::Encoding::with_access))]
+fn extract_access(valid: bool, rd: Reg, ar: u8) -> Result<Code, EmitError>
+    requires { implies valid (is_general rd) ≡ true }
+    ensures { result ≡ code_where valid (two_operands 0xb24f (number_of rd) (four_bits ar)) }
+{
+    two_operands(valid, 0xb24f, rd, gpr(ar % 16))
+}
+
+/// The load of an access register. There is always a row; `BadRegister` comes where the register is not general, or
+/// there is no such access register.
+#[tactic(auto, using(crate::proofs::Encoding::first_general))]
+pub fn load_access_row(rd: &Writable<Reg>, ar: u8) -> Option<Result<Code, EmitError>>
+    ensures { result
+        ≡ single_code
+        (single_with (is_general rd.now && is_access ar)
+        (Some (two_operands 0xb24f (number_of rd.now) (four_bits ar)))) }
+{
+    let output = rd.to_reg();
+    Some(extract_access(general(&output) && is_access(ar), output, ar))
+}
+
+/// The code that puts an access register into a register that is read too; `BadRegister` where the input isn't the
+/// output, or one is not general.
+#[tactic(auto, using(crate::proofs::Encoding::reused_tested_general))]
+pub fn insert_access_row(rd: &Writable<Reg>, ri: &Reg, ar: u8) -> Option<Result<Code, EmitError>>
+    ensures { result
+        ≡ single_code
+        (single_with (reuses rd.now ri.now && is_access ar)
+        (Some (two_operands 0xb24f (number_of rd.now) (four_bits ar)))) }
+{
+    let output = rd.to_reg();
+    Some(extract_access(is_reused(&output, ri) && is_access(ar), output, ar))
+}
+
+/// A move under a condition, into a register that is read too. None where there is no row; `BadRegister` comes where
+/// a register is not general, or an input that has to be the output isn't it.
+#[tactic(auto, using(crate::proofs::Encoding::reused_pair_general))]
+pub fn conditional_row(
+    opcode: u16,
+    rd: &Writable<Reg>,
+    ri: &Reg,
+    rm: &Reg,
+    cond: Cond,
+) -> Option<Result<Code, EmitError>>
+    ensures { result
+        ≡ single_code
+        (single_with (reuses rd.now ri.now && is_general rm.now)
+        (Some (rrf_cde opcode (number_of rd.now) (number_of rm.now) (four_bits cond) 0))) }
+{
+    let output = rd.to_reg();
+    Some(masked(
+        is_reused(&output, ri) && general(rm),
+        opcode,
+        output,
+        *rm,
+        cond.bits(),
+    ))
+}
+
+/// A load of an immediate under a condition, into a register that is read too. None where there is no row;
+/// `BadRegister` comes where a register is not general, or an input that has to be the output isn't it.
+#[tactic(auto, using(crate::proofs::Encoding::reused_general))]
+pub fn conditional_immediate_row(
+    opcode: u16,
+    rd: &Writable<Reg>,
+    ri: &Reg,
+    imm: &i16,
+    cond: Cond,
+) -> Option<Result<Code, EmitError>>
+    ensures { result
+        ≡ single_code
+        (single_with (reuses rd.now ri.now)
+        (Some (rie_g opcode (number_of rd.now) (low_halfword imm.now) (four_bits cond)))) }
+{
+    let output = rd.to_reg();
+    Some(conditional_halfword(
+        is_reused(&output, ri),
+        opcode,
+        output,
+        bits_of_halfword(*imm),
+        cond.bits(),
+    ))
+}
+
+/// An indexed address, where there is a row. None where there is no row; `BadRegister` comes where a register is not
+/// general, or an input that has to be the output isn't it.
+#[tactic(auto, using(crate::proofs::Encoding::itself))]
+pub fn indexed_row(
+    opcode: Option<u16>,
+    rd: &Writable<Reg>,
+    base: &Reg,
+    index: &Reg,
+    displacement: SImm20,
+) -> Option<Result<Code, EmitError>>
+    requires { takes_general opcode ≡ true }
+    ensures { result
+        ≡ single_code
+        (single_with (is_general rd.now && is_general base.now && is_general index.now)
+        (indexed_row opcode (number_of rd.now) (number_of base.now) (number_of index.now)
+        (low_displacement displacement))) }
+{
+    let output = rd.to_reg();
+    match opcode {
+        Some(opcode) => Some(indexed(
+            three_general(&output, base, index),
+            opcode,
+            output,
+            *base,
+            *index,
+            displacement,
+        )),
+        None => None,
+    }
+}
+
+/// BRANCH ON CONDITION that doesn't branch: to no address, or under a mask of zeros. There is always a row and never
+/// an error.
+pub fn branch_nowhere(mask: u8, target: u8) -> Option<Result<Code, EmitError>>
+    requires mask { mask < 16 }
+    requires target { target < 16 }
+    ensures { result ≡ single_code (single_with true (Some (rr 0x07 mask target))) }
+{
+    Some(two_operands(true, 0x07, gpr(mask), gpr(target)))
+}
