@@ -7,6 +7,7 @@ A page is a Markdown file of the repository. Looked at are words in backquotes a
 - A file (`.rt`, `.antt`, `.py`, `.sh` and their like) stands at that path from the top, in `crates/`, in the page's crate, or in a crate that its line names.
 - `CRATE/WORD` is a folder or file of a crate, or one of its wrong bodies.
 - A link's file is there, and has the heading.
+- Each wrong body, in the gate or in `checks/wrong_bodies`, still fits its crate: the text that it changes stands once in its file.
 
 Words in capitals stand for others, and files of "the kit's" aren't looked for. It ends with 0 where nothing is missing, and else with 1.
 """
@@ -87,8 +88,30 @@ def broken(target, page):
     return bool(anchor) and anchor not in map(heading, re.findall(r"^#+ (.*)$", (TOP / file).read_text(), re.M))
 
 
+def unfit(edit):
+    """Which text of a wrong body doesn't stand once in its file, or none; further pairs change what the earlier ones made."""
+    crate = edit.split("/")[2] if edit.startswith("checks/") else edit.split("/")[1]
+    sources, file, old = {}, "", ""
+    for line in (TOP / edit).read_text().splitlines():
+        key, _, text = line.partition(": ")
+        if key == "file":
+            file = f"crates/{crate}/{text.strip()}"
+            if file not in FILES:
+                return text
+            sources.setdefault(file, (TOP / file).read_text())
+        elif key.rstrip(":") == "old":
+            old = text
+            if sources[file].count(old) != 1:
+                return old
+        elif key.rstrip(":") == "new":
+            sources[file] = sources[file].replace(old, text)
+    return None
+
+
 def main():
-    count, missing = 0, []
+    edits = sorted(file for file in FILES if file.endswith(".edit"))
+    missing = [f"{edit}: {text}" for edit, text in ((edit, unfit(edit)) for edit in edits) if text is not None]
+    count = len(edits)
     for page in sorted(file for file in FILES if file.endswith(".md")):
         for number, line in enumerate((TOP / page).read_text().split("\n"), 1):
             found = [(word, lacks(word, line, page)) for word in re.findall(r"`([^`]+)`", line)]
@@ -97,7 +120,7 @@ def main():
             missing += [f"{page}:{number}: {word}" for word, is_lacking in found if is_lacking]
     for line in missing:
         print("MISSING", line)
-    print(f"{count} words and links, {len(missing)} missing")
+    print(f"{count} words, links and wrong bodies, {len(missing)} missing")
     return 1 if missing else 0
 
 
