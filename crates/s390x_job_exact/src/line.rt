@@ -57,6 +57,7 @@ fn line(alloc: Global, cursor: &mut ExactCursor) -> Option<Inst>
     match cursor.rest() {
         [b'V', ..] => vector(cursor),
         [b'F', b'p', ..] => vector(cursor),
+        [b'b', ..] => None,
         _ => named(alloc, cursor),
     }
 }
