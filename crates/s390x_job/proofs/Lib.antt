@@ -9,4 +9,4 @@ pub mod Places
 pub mod Above
 pub mod Sizes
 pub mod PlainJob
-mod Reads
+mod Told

@@ -37,7 +37,7 @@ fn parse(alloc: Global, w: &[u8]) -> Result<Item, AllocError>
 }
 
 /// The instruction whose line this is, where it stands in a block and is a frequent one; none says nothing.
-#[tactic(auto, using(crate::proofs::Reads::single))]
+#[tactic(auto, using(crate::proofs::Told::single))]
 #[inline(always)]
 pub fn instruction(alloc: Global, progress: Progress, w: &[u8]) -> Option<Inst>
     ensures text { IfSome result (λ x. IsInstructionText (inst_line x) w.now) }

@@ -1,6 +1,6 @@
 use Rattle.s390x_job.specs.Builds.{lines_at, place_at}
 use Rattle.s390x_job.specs.Items.{item_line}
-use Rattle.s390x_job.proofs.Reads.{reads_all}
+use Rattle.s390x_job.proofs.Told.{reads_all}
 use Rattle.s390x_job.proofs.lines.read_part.Goals as goal
 
 pub returns-in-None : goal.returns-in-None
