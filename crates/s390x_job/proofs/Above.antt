@@ -69,13 +69,9 @@ above bytes ls p rest i n f m h t =
     let pos : 0 < length r = omega (arith, ap length e, length-append w (10 ∷ x)) in
     f (completion ws) r (record { text = joined_front ls (w ∷ b.zs) (ending ws); oks = i.oks; runs = i.runs }) pos u t.0 t.1 (t.2 ∙ ap completion c)
 
-pub above_line : (bytes : List ℕ) (ls : List Line) (p : Place) (rest : List ℕ) → Inv bytes ls p rest → (length (upto 10 rest) ≡ length rest → ⊥) → ((l : Line) → IsLine l → line_text l ≡ upto 10 rest → ⊥) → (m : ℕ) → length ls < m → IsText (completion (take m (pieces bytes))) → ⊥
-above_line bytes ls p rest i n g =
-    above bytes ls p rest i n (λ s r inv pos e j ok h. refuse_line s ls p r inv pos (λ l o q. g l o (q ∙ e)) j ok h)
-
-pub above_place : (bytes : List ℕ) (ls : List Line) (p : Place) (rest : List ℕ) → Inv bytes ls p rest → (length (upto 10 rest) ≡ length rest → ⊥) → (k : Line) → IsLine k → line_text k ≡ upto 10 rest → next p (class k) ≡ None → (m : ℕ) → length ls < m → IsText (completion (take m (pieces bytes))) → ⊥
-above_place bytes ls p rest i n k a q g =
-    above bytes ls p rest i n (λ s r inv pos e j ok h. refuse_place s ls p r inv pos k a (q ∙ sym e) g j ok h)
+pub above_text : (bytes : List ℕ) (ls : List Line) (p : Place) (rest : List ℕ) → Inv bytes ls p rest → (length (upto 10 rest) ≡ length rest → ⊥) → ((l : Line) → IsLine l → line_text l ≡ upto 10 rest → next p (class l) ≡ None) → (m : ℕ) → length ls < m → IsText (completion (take m (pieces bytes))) → ⊥
+above_text bytes ls p rest i n g =
+    above bytes ls p rest i n (λ s r inv pos e j ok h. refuse_line s ls p r inv pos (λ l o q. refuse_place s ls p r inv pos l o q (g l o (q ∙ e)) j ok h) j ok h)
 
 pub pieces_none : (s acc : List ℕ) → length (upto 10 s) ≡ length s → pieces_from acc s ≡ []
 pieces_none [] acc h = refl
@@ -102,12 +98,11 @@ module _ (bytes : List ℕ) (ls : List Line) (p : Place) (rest : List ℕ) (i : 
       let q = ap length (pieces_none rest [] (ap (λ r. length (upto 10 r)) (nil rest n) ∙ sym n)) in
       record { small = omega (arith, k); none = λ t. refuse_end bytes ls p rest i n e t.0 t.1 t.2; above = λ m h s t. absurd (omega (arith, k, q, h, s)) }
 
-  pub stuck_line : 0 < length rest → (length (upto 10 rest) ≡ length rest → ⊥) → ((l : Line) → IsLine l → line_text l ≡ upto 10 rest → ⊥) → IsStuckAt bytes (length ls)
-  stuck_line n f g =
+  pub stuck_text : 0 < length rest → (length (upto 10 rest) ≡ length rest → ⊥) → ((l : Line) → IsLine l → line_text l ≡ upto 10 rest → next p (class l) ≡ None) → IsStuckAt bytes (length ls)
+  stuck_text n f g =
       let k = length_front bytes ls p rest i in
-      record { small = omega (arith, k); none = λ t. refuse_line bytes ls p rest i n g t.0 t.1 t.2; above = λ m h s t. above_line bytes ls p rest i f g m h t }
-
-  pub stuck_place : 0 < length rest → (length (upto 10 rest) ≡ length rest → ⊥) → (k : Line) → IsLine k → line_text k ≡ upto 10 rest → next p (class k) ≡ None → IsStuckAt bytes (length ls)
-  stuck_place n f x a q g =
-      let k = length_front bytes ls p rest i in
-      record { small = omega (arith, k); none = λ t. refuse_place bytes ls p rest i n x a q g t.0 t.1 t.2; above = λ m h s t. above_place bytes ls p rest i f x a q g m h t }
+      record {
+        small = omega (arith, k);
+        none = λ t. refuse_line bytes ls p rest i n (λ l o q. refuse_place bytes ls p rest i n l o q (g l o q) t.0 t.1 t.2) t.0 t.1 t.2;
+        above = λ m h s t. above_text bytes ls p rest i f g m h t;
+      }

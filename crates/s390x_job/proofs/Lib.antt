@@ -9,3 +9,4 @@ pub mod Places
 pub mod Above
 pub mod Sizes
 pub mod PlainJob
+mod Told

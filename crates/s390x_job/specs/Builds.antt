@@ -1,6 +1,6 @@
 -- The lines that a half-built job has had.
 use Rattle.std.specs.Prelude.{◌≡◌, ℕ, ◌+◌, ◌<◌, ◌≤◌, Option, Some, None, List, [], ◌∷◌, ◌++◌, length, get_or}
-use Rattle.s390x_job_lines.specs.Line.{Line}
+use Rattle.s390x_job_lines.specs.Line.{Line, line_text, line_of, IsLine}
 use Rattle.s390x_job.specs.Items.{block_line, loop_line, end_line}
 use Rattle.s390x_job.specs.Jobs.{IsPlainWithoutLine, insts_lines, blocks_lines, flags_lines, frame_lines, head_lines}
 use Rattle.s390x_job.specs.Grammar.{Place, Header, Within, AtEnd, next, class}
@@ -112,3 +112,8 @@ pub record IsNext (ls : List Line) (p : Place) (l : Line) (q : Progress) (b : Bo
 abbrev pub Follows : Body → List Line → Place → Line → Option Progress → Type 0
 Follows b ls p l None = next p (class l) ≡ None
 Follows b ls p l (Some q) = IsNext ls p l q b
+
+-- what is told after a line of this text, behind the lines so far; none where no line of this text may stand there
+abbrev pub Reads : Body → List Line → Place → List ℕ → Option Progress → Type 0
+Reads b ls p w None = (l : Line) → IsLine l → line_text l ≡ w → next p (class l) ≡ None
+Reads b ls p w (Some q) = IsLine (line_of w) × (line_text (line_of w) ≡ w) × IsNext ls p (line_of w) q b

@@ -359,14 +359,17 @@ fn close(b: &mut Body) -> Result<(), AllocError>
     }
 }
 
-fn add(b: &mut Body, x: Inst) -> Result<(), AllocError>
+/// Adds an instruction to the block.
+#[inline(always)]
+pub fn add(b: &mut Body, x: Inst) -> Result<(), AllocError>
     requires one { class (inst_line x) ≡ Instruction }
     requires full { IsFullBody b.old }
     ensures { OnOk result
         (IsNext (body_lines b.old) (Within (length b.old.loops.items)) (inst_line x) Progress.Inside
         b.new) }
 {
-    b.here.push(x)?;
+    b.here.reserve(1)?;
+    b.here.push_reserved(x);
     Ok(())
 }
 

@@ -2,18 +2,19 @@
 
 ghost use Rattle.std.specs.Prelude.{◌≡◌, ◌+◌, ◌-◌, ◌<◌, IfOk, IfErr, map, length, codes, false, MatchResult};
 ghost use Rattle.std.specs.Str.{bytes_eq};
+ghost use Rattle.s390x_job.specs.Builds.{IsAt, Reads, lines_at, place_at};
 ghost use Rattle.s390x_job.specs.Errors.{IsReadJob, IsError};
 ghost use Rattle.s390x_job.specs.Jobs.{text_of_job, IsJob};
 ghost use Rattle.s390x_job.specs.Same.{SameJob};
 ghost use Rattle.s390x_job.specs.declared.job.Job.{Job};
 ghost use Rattle.s390x_job.specs.Completions.{ends_job, completion, IsText};
 
-use crate::build::{Progress, Stage, job_of, push, start};
+use crate::build::{Body, Progress, Stage, add, job_of, push, start};
 use crate::completing::{
     Completes, count_closes, count_opens, first_wrong, put_closing, put_joined,
 };
 use crate::job::{Job, LineError};
-use crate::reader::read_item;
+use crate::reader::{instruction, read_item};
 use crate::split::before;
 use s390x_job_fields::number::tail;
 use std::alloc::{AllocError, Global};
@@ -70,6 +71,46 @@ impl Completes for JobText {
     }
 }
 
+/// As `read_line`, for every line.
+fn read_part(
+    alloc: Global,
+    b: &mut Body,
+    text: &mut String,
+    progress: Progress,
+    w: &[u8],
+) -> Result<Option<Progress>, AllocError>
+    requires { IsAt progress b.old }
+    ensures { IfOk result (Reads b.new (lines_at progress b.old) (place_at progress b.old) w.now) }
+{
+    match read_item(alloc, text, w)? {
+        None => Ok(None),
+        Some(i) => push(alloc, b, progress, i),
+    }
+}
+
+/// Reads one more line. Answers where the lines have come to, or none where no line of this text may stand there.
+///
+/// The instructions of blocks, of which a job has most, are added where they are read.
+#[inline(always)]
+fn read_line(
+    alloc: Global,
+    b: &mut Body,
+    text: &mut String,
+    progress: Progress,
+    w: &[u8],
+) -> Result<Option<Progress>, AllocError>
+    requires { IsAt progress b.old }
+    ensures { IfOk result (Reads b.new (lines_at progress b.old) (place_at progress b.old) w.now) }
+{
+    match instruction(alloc, progress, w) {
+        Some(x) => {
+            add(b, x)?;
+            Ok(Some(Progress::Inside))
+        }
+        None => read_part(alloc, b, text, progress, w),
+    }
+}
+
 /// The job whose text this is. Where there is none, a number of its lines: no more of them can be completed to a job's text.
 pub fn find_job(alloc: Global, bytes: &[u8]) -> Result<Found, AllocError>
     ensures { IfOk result (IsReadJob bytes.now) }
@@ -84,12 +125,9 @@ pub fn find_job(alloc: Global, bytes: &[u8]) -> Result<Found, AllocError>
         if line.len() == rest.len() {
             return Ok(Found::Stuck(n));
         }
-        match read_item(alloc, &mut text, line)? {
+        match read_line(alloc, &mut body, &mut text, progress, line)? {
             None => return Ok(Found::Stuck(n)),
-            Some(i) => match push(alloc, &mut body, progress, i)? {
-                None => return Ok(Found::Stuck(n)),
-                Some(p) => progress = p,
-            },
+            Some(p) => progress = p,
         }
         rest = tail(rest, line.len() + 1);
         n += 1;

@@ -1,12 +1,17 @@
 //! The exact reader of lines.
 ghost use Rattle.std.specs.Prelude.{◌≡◌, ◌≢◌, IfOk, IfSome, MatchOption};
 ghost use Rattle.s390x_job_fields.specs.Marks.{before_mark, from_mark};
+ghost use Rattle.s390x_job_exact.specs.Exact.{IsInstructionText};
+ghost use Rattle.s390x_job_lines.specs.Instructions.{inst_line};
 ghost use Rattle.s390x_job_lines.specs.Line.{Line, IsLine, line_text, line_of};
+ghost use Rattle.s390x_job.specs.Grammar.{class, Instruction};
 ghost use Rattle.s390x_job.specs.Items.{item_line, IsItem};
 
+use crate::build::Progress;
 use crate::item::Item;
 use crate::print_line::put_item;
 use crate::read_line::item;
+use s390x_inst::Inst;
 use s390x_job_exact::exact_line;
 use s390x_job_fields::Cursor;
 use s390x_job_fields::marks::front;
@@ -31,16 +36,18 @@ fn parse(alloc: Global, w: &[u8]) -> Result<Item, AllocError>
     item(alloc, find_name(name), &mut fields)
 }
 
-/// The part of a job whose line this is, where it is a frequent one; none says nothing.
-fn exact_item(w: &[u8]) -> Option<Item>
-    ensures { IfSome result
-        (λ i. IsItem i × IsLine (item_line i) × (line_text (item_line i) ≡ w.now)) }
+/// The instruction whose line this is, where it stands in a block and is a frequent one; none says nothing.
+#[tactic(auto, using(crate::proofs::Told::single))]
+#[inline(always)]
+pub fn instruction(alloc: Global, progress: Progress, w: &[u8]) -> Option<Inst>
+    ensures text { IfSome result (λ x. IsInstructionText (inst_line x) w.now) }
+    ensures one { IfSome result (λ x. class (inst_line x) ≡ Instruction) }
+    ensures place { IfSome result (λ _. progress ≡ Progress.Inside) }
 {
-    if w == b"block".as_slice() {
-        return Some(Item::Block);
+    match progress {
+        Progress::Inside => exact_line(alloc, w),
+        _ => None,
     }
-    let inst = exact_line(w)?;
-    Some(Item::One(inst))
 }
 
 /// As `read_item`: the line is read, printed and compared.
@@ -65,8 +72,8 @@ pub fn read_item(alloc: Global, text: &mut String, w: &[u8]) -> Result<Option<It
         (λ o. MatchOption o ((l : Line) → IsLine l → line_text l ≢ w.now)
         (λ i. IsItem i × IsLine (item_line i) × (line_text (item_line i) ≡ w.now))) }
 {
-    match exact_item(w) {
-        Some(i) => Ok(Some(i)),
-        None => printed_item(alloc, text, w),
+    if w == b"block".as_slice() {
+        return Ok(Some(Item::Block));
     }
+    printed_item(alloc, text, w)
 }

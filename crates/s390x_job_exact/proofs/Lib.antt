@@ -1,2 +1,5 @@
+mod Elements
+mod EmptySet
 mod Lines
+mod Named
 mod Numbers

@@ -12,21 +12,23 @@ use Rattle.s390x_job_lines.specs.Instructions.{inst_line}
 use Rattle.s390x_job_lines.specs.declared.name.LineName.{LineName}
 use Rattle.s390x_job_lines.specs.declared.name.LineName.TheVariants as N
 use Rattle.s390x_job_lines.proofs.LoadLines.{is_load_line}
-use Rattle.s390x_job_exact.specs.Exact.{Takes, TakesFields}
-
--- fields that are taken one after the other
-abbrev TakesAll : List Field → List ℕ → List ℕ → Type 0
-TakesAll fs s t = AllFields fs × (s ≡ spelled fs ++ t)
+use Rattle.s390x_job_exact.specs.Exact.{Takes, TakesAll, TakesFields}
 
 none : (s : List ℕ) → TakesAll [] s s
-none s = (tt, refl)
+none s = record { in_range = tt; taken = refl }
 
 more : (f : Field) (fs : List Field) (s t u : List ℕ) → Takes f s t → TakesAll fs t u → TakesAll (f ∷ fs) s u
-more f fs s t u h k =
-    ((h.in_range, k.0), h.taken ∙ ap (λ x. spell f ++ x) k.1 ∙ sym (append_assoc (spell f) (spelled fs) u))
+more f fs s t u h k = record {
+  in_range = (h.in_range, k.in_range);
+  taken = h.taken ∙ ap (λ x. spell f ++ x) k.taken ∙ sym (append_assoc (spell f) (spelled fs) u);
+}
 
 whole : (n : LineName) (fs : List Field) (s t : List ℕ) → kinds n ≡ kinds_of fs → TakesAll fs s t → TakesFields n (record { name = n; fields = fs }) s t
-whole n fs s t k h = record { name = refl; line = record { kinds_fit = k; fields_fit = h.0 }; taken = h.1 }
+whole n fs s t k h =
+    record { name = refl; line = record { kinds_fit = k; fields_fit = h.in_range }; taken = h.taken }
+
+pub zero : (n : LineName) (s : List ℕ) → kinds n ≡ kinds_of [] → TakesFields n (record { name = n; fields = [] }) s s
+zero n s k = whole n [] s s k (none s)
 
 pub one : (n : LineName) (a : Field) (s t : List ℕ) → kinds n ≡ kinds_of (a ∷ []) → Takes a s t → TakesFields n (record { name = n; fields = a ∷ [] }) s t
 one n a s t k h = whole n (a ∷ []) s t k (more a [] s t t h (none t))
@@ -49,3 +51,31 @@ five n a b c d e s t u v w x k h i j l m =
 pub load : (op : LoadOp) (rd : Reg) (mem : MemArg) (i : Inst) (s t u : List ℕ) → i ≡ load_instruction op rd mem → Takes (FReg rd) s t → Takes (FMemory mem) t u → TakesFields (N.Load op) (inst_line i) s u
 load op rd mem i s t u e h k =
     subst (λ l. TakesFields (N.Load op) l s u) (sym (ap inst_line e ∙ is_load_line op rd mem)) (two (N.Load op) (FReg rd) (FMemory mem) s t u refl h k)
+
+pub five_fields : (a b c d e : Field) (s t u v w x : List ℕ) → Takes a s t → Takes b t u → Takes c u v → Takes d v w → Takes e w x → TakesAll (a ∷ b ∷ c ∷ d ∷ e ∷ []) s x
+five_fields a b c d e s t u v w x h i j l m =
+    more a (b ∷ c ∷ d ∷ e ∷ []) s t x h (more b (c ∷ d ∷ e ∷ []) t u x i (more c (d ∷ e ∷ []) u v x j (more d (e ∷ []) v w x l (more e [] w x x m (none x)))))
+
+pub six_fields : (a b c d e f : Field) (s t u v w x y : List ℕ) → Takes a s t → Takes b t u → Takes c u v → Takes d v w → Takes e w x → Takes f x y → TakesAll (a ∷ b ∷ c ∷ d ∷ e ∷ f ∷ []) s y
+six_fields a b c d e f s t u v w x y h i j l m o =
+    more a (b ∷ c ∷ d ∷ e ∷ f ∷ []) s t y h (five_fields b c d e f t u v w x y i j l m o)
+
+all_fields : (fs gs : List Field) → AllFields fs → AllFields gs → AllFields (fs ++ gs)
+all_fields [] gs h k = k
+all_fields (f ∷ fs) gs h k = (h.0, all_fields fs gs h.1 k)
+
+all_spelled : (fs gs : List Field) → spelled (fs ++ gs) ≡ spelled fs ++ spelled gs
+all_spelled [] gs = refl
+all_spelled (f ∷ fs) gs =
+    ap (λ x. spell f ++ x) (all_spelled fs gs) ∙ sym (append_assoc (spell f) (spelled fs) (spelled gs))
+
+-- fields, and then others
+both : (n : LineName) (fs gs : List Field) (s t u : List ℕ) → kinds n ≡ kinds_of (fs ++ gs) → TakesAll fs s t → TakesAll gs t u → TakesFields n (record { name = n; fields = fs ++ gs }) s u
+both n fs gs s t u k h i = whole n (fs ++ gs) s u k (record {
+  in_range = all_fields fs gs h.in_range i.in_range;
+  taken = h.taken ∙ ap (λ x. spelled fs ++ x) i.taken ∙ sym (append_assoc (spelled fs) (spelled gs) u) ∙ ap (λ x. x ++ u) (sym (all_spelled fs gs));
+})
+
+pub eleven : (n : LineName) (a b c d e f g h i j k : Field) (s t u : List ℕ) → kinds n ≡ kinds_of (a ∷ b ∷ c ∷ d ∷ e ∷ f ∷ g ∷ h ∷ i ∷ j ∷ k ∷ []) → TakesAll (a ∷ b ∷ c ∷ d ∷ e ∷ []) s t → TakesAll (f ∷ g ∷ h ∷ i ∷ j ∷ k ∷ []) t u → TakesFields n (record { name = n; fields = a ∷ b ∷ c ∷ d ∷ e ∷ f ∷ g ∷ h ∷ i ∷ j ∷ k ∷ [] }) s u
+eleven n a b c d e f g h i j k s t u m x y =
+    both n (a ∷ b ∷ c ∷ d ∷ e ∷ []) (f ∷ g ∷ h ∷ i ∷ j ∷ k ∷ []) s t u m x y

@@ -1,7 +1,8 @@
 -- What is taken from a text only as it is printed.
-use Rattle.std.specs.Prelude.{◌≡◌, ℕ, List, ◌++◌}
+use Rattle.std.specs.Prelude.{◌≡◌, ℕ, List, [], ◌∷◌, ◌++◌}
 use Rattle.s390x_job_fields.specs.Fields.{Field, spell, IsField}
-use Rattle.s390x_job_lines.specs.Line.{Line, spelled, line_text, IsLine}
+use Rattle.s390x_job_fields.specs.Lists.{AllItems, list_text, open_text}
+use Rattle.s390x_job_lines.specs.Line.{Line, spelled, line_text, AllFields, IsLine}
 use Rattle.s390x_job_lines.specs.declared.name.LineName.{LineName}
 use Rattle.s390x_job_lines.specs.declared.name.LineName.TheVariants as N
 
@@ -9,6 +10,28 @@ use Rattle.s390x_job_lines.specs.declared.name.LineName.TheVariants as N
 pub record Takes (f : Field) (s t : List ℕ) : Type 0 where
   pub taken : s ≡ spell f ++ t
   pub in_range : IsField f
+
+-- s begins with these fields, which lie in their ranges, and t follows them
+pub record TakesAll (fs : List Field) (s t : List ℕ) : Type 0 where
+  pub in_range : AllFields fs
+  pub taken : s ≡ spelled fs ++ t
+
+-- s begins with one more element of a list, which lies in its range, and t follows it
+pub record TakesElement {A : Type 0} (spelling : A → List ℕ) (IsIn : A → Type 0) (before after : List A) (s t : List ℕ) : Type 0 where
+  pub element : A
+  pub in_range : IsIn element
+  pub added : after ≡ before ++ element ∷ []
+  pub taken : s ≡ spelling element ++ t
+
+-- a list opened with the elements before, and then s, is one with those after, and then t; these lie in their range
+pub record TakesElements {A : Type 0} (spelling : A → List ℕ) (IsIn : A → Type 0) (before after : List A) (s t : List ℕ) : Type 0 where
+  pub in_range : AllItems IsIn after
+  pub taken : open_text spelling before ++ s ≡ open_text spelling after ++ t
+
+-- s begins with a space and this list, whose elements lie in their range, and t follows it
+pub record TakesList {A : Type 0} (spelling : A → List ℕ) (IsIn : A → Type 0) (xs : List A) (s t : List ℕ) : Type 0 where
+  pub in_range : AllItems IsIn xs
+  pub taken : s ≡ 32 ∷ (list_text spelling xs ++ t)
 
 -- s begins with the fields of this line, which has this name, and t follows them
 pub record TakesFields (n : LineName) (l : Line) (s t : List ℕ) : Type 0 where
@@ -24,6 +47,12 @@ IsSingle (N.Memory n) = Unit {0}
 IsSingle (N.Control n) = Unit {0}
 IsSingle (N.Vector n) = Unit {0}
 IsSingle n = ⊥
+
+-- s begins with this line, which is that of one instruction, and t follows it
+pub record TakesLine (l : Line) (s t : List ℕ) : Type 0 where
+  pub line : IsLine l
+  pub single : IsSingle l.name
+  pub taken : s ≡ line_text l ++ t
 
 -- the line of this text, which is that of one instruction
 pub record IsInstructionText (l : Line) (w : List ℕ) : Type 0 where

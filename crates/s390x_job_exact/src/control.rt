@@ -1,22 +1,88 @@
-//! Lines of branches, taken only as they are printed.
-ghost use Rattle.std.specs.Prelude.{IfSome};
+//! Lines of branches, traps and calls, taken only as they are printed.
+ghost use Rattle.std.specs.Prelude.{[], ◌∷◌, IfSome};
+ghost use Rattle.s390x_base.specs.Sets.{has};
+ghost use Rattle.s390x_job_fields.specs.Calls.{try_part};
+ghost use Rattle.s390x_job_fields.specs.Numbers.{W32};
+ghost use Rattle.s390x_job_fields.specs.Sets.{members_of};
+ghost use Rattle.s390x_job_fields.specs.Fields.{FBool, FConvention, FDefs, FNatural, FOption, FReg, FSet, FTarget, FTry, FUses};
 ghost use Rattle.s390x_job_lines.specs.Instructions.{inst_line};
-ghost use Rattle.s390x_job_exact.specs.Exact.{TakesFields};
+ghost use Rattle.s390x_job_exact.specs.Exact.{TakesAll, TakesFields};
 
 use crate::cursor::ExactCursor;
-use s390x_inst::Inst;
+use s390x_base::{PRegSet, Reg, Writable};
+use s390x_inst::{
+    CallArgPair, CallConv, CallInfo, CallInstDest, CallRetPair, Inst, ReturnCallInfo, TryCallInfo,
+};
 use s390x_job_lines::{ControlName, LineName};
+use std::alloc::Global;
 
-#[tactic(auto, using(crate::proofs::Lines::one))]
-fn jump(cursor: &mut ExactCursor) -> Option<Inst>
+/// Takes the fields of an instruction of this name, where it has none.
+#[tactic(auto, using(crate::proofs::Lines::zero))]
+#[inline(never)]
+fn bare(name: ControlName, cursor: &mut ExactCursor) -> Option<Inst>
     ensures { IfSome result
-        (λ x. TakesFields (LineName.Control ControlName.Jump) (inst_line x) cursor.old cursor.new) }
+        (λ x. TakesFields (LineName.Control name) (inst_line x) cursor.old cursor.new) }
 {
-    let dest = cursor.label()?;
-    Some(Inst::Jump { dest })
+    match name {
+        ControlName::Fence => Some(Inst::Fence),
+        ControlName::Nop0 => Some(Inst::Nop0),
+        ControlName::Nop2 => Some(Inst::Nop2),
+        ControlName::Debugtrap => Some(Inst::Debugtrap),
+        ControlName::SequencePoint => Some(Inst::SequencePoint),
+        _ => None,
+    }
+}
+
+/// Takes the fields of an instruction of this name, where it has one.
+#[tactic(auto, using(crate::proofs::Lines::one))]
+#[inline(never)]
+fn simple(name: ControlName, cursor: &mut ExactCursor) -> Option<Inst>
+    ensures { IfSome result
+        (λ x. TakesFields (LineName.Control name) (inst_line x) cursor.old cursor.new) }
+{
+    match name {
+        ControlName::Jump => {
+            let dest = cursor.label()?;
+            Some(Inst::Jump { dest })
+        }
+        ControlName::Ret => {
+            let link = cursor.reg()?;
+            Some(Inst::Ret { link })
+        }
+        ControlName::Trap => {
+            let trap_code = cursor.trap_code()?;
+            Some(Inst::Trap { trap_code })
+        }
+        ControlName::CondBreak => {
+            let cond = cursor.cond()?;
+            Some(Inst::CondBreak { cond })
+        }
+        ControlName::AllocateArgs => {
+            let size = cursor.u32()?;
+            Some(Inst::AllocateArgs { size })
+        }
+        ControlName::DummyUse => {
+            let reg = cursor.reg()?;
+            Some(Inst::DummyUse { reg })
+        }
+        _ => None,
+    }
+}
+
+#[tactic(auto, using(crate::proofs::Lines::two))]
+#[inline(never)]
+fn trap_if(cursor: &mut ExactCursor) -> Option<Inst>
+    ensures { IfSome result
+        (λ x. TakesFields (LineName.Control ControlName.TrapIf) (inst_line x) cursor.old
+        cursor.new) }
+{
+    let cond = cursor.cond()?;
+    let trap_code = cursor.trap_code()?;
+    Some(Inst::TrapIf { cond, trap_code })
 }
 
 #[tactic(auto, using(crate::proofs::Lines::three))]
+#[inline(never)]
 fn branch(cursor: &mut ExactCursor) -> Option<Inst>
     ensures { IfSome result
         (λ x. TakesFields (LineName.Control ControlName.CondBr) (inst_line x) cursor.old
@@ -32,24 +98,156 @@ fn branch(cursor: &mut ExactCursor) -> Option<Inst>
     })
 }
 
-#[tactic(auto, using(crate::proofs::Lines::one))]
-fn ret(cursor: &mut ExactCursor) -> Option<Inst>
+/// Takes the fields of an address in a register.
+#[tactic(auto, using(crate::proofs::Lines::two))]
+#[inline(never)]
+fn address(name: ControlName, cursor: &mut ExactCursor) -> Option<Inst>
     ensures { IfSome result
-        (λ x. TakesFields (LineName.Control ControlName.Ret) (inst_line x) cursor.old cursor.new) }
+        (λ x. TakesFields (LineName.Control name) (inst_line x) cursor.old cursor.new) }
 {
-    let link = cursor.reg()?;
-    Some(Inst::Ret { link })
+    let reg = cursor.written()?;
+    match name {
+        ControlName::LoadSymbolReloc => {
+            let symbol_reloc = cursor.reloc()?;
+            Some(Inst::LoadSymbolReloc {
+                rd: reg,
+                symbol_reloc,
+            })
+        }
+        ControlName::LabelAddress => {
+            let label = cursor.label()?;
+            Some(Inst::LabelAddress { dst: reg, label })
+        }
+        _ => None,
+    }
 }
 
-/// Takes the fields of an instruction of this name, where it is a frequent branch.
-pub fn control(name: ControlName, cursor: &mut ExactCursor) -> Option<Inst>
+/// The first fields of a call.
+#[derive(Drop)]
+struct CallBeginning {
+    link: Writable<Reg>,
+    dest: CallInstDest,
+    uses: Vec<CallArgPair>,
+    defs: Vec<CallRetPair>,
+    clobbers: PRegSet,
+}
+
+/// The other fields of a call.
+#[derive(Drop)]
+struct CallEnd {
+    callee_pop_size: u32,
+    caller_conv: CallConv,
+    callee_conv: CallConv,
+    try_call_info: Option<TryCallInfo>,
+    patchable: bool,
+    stack_map: Option<u32>,
+}
+
+#[tactic(auto, using(crate::proofs::Lines::five_fields))]
+#[inline(never)]
+fn call_front(alloc: Global, cursor: &mut ExactCursor) -> Option<CallBeginning>
+    ensures { IfSome result
+        (λ c. TakesAll
+        (FReg c.link ∷ FTarget c.dest ∷ FUses c.uses.items ∷ FDefs c.defs.items
+        ∷ FSet (members_of (has c.clobbers)) ∷ []) cursor.old cursor.new) }
+{
+    let link = cursor.written()?;
+    let dest = cursor.target()?;
+    let uses = cursor.uses(alloc)?;
+    let defs = cursor.defs(alloc)?;
+    let clobbers = cursor.empty_set()?;
+    Some(CallBeginning {
+        link,
+        dest,
+        uses,
+        defs,
+        clobbers,
+    })
+}
+
+#[tactic(auto, using(crate::proofs::Lines::six_fields))]
+#[inline(never)]
+fn call_back(cursor: &mut ExactCursor) -> Option<CallEnd>
+    ensures { IfSome result
+        (λ c. TakesAll
+        (FNatural W32 c.callee_pop_size ∷ FConvention c.caller_conv ∷ FConvention c.callee_conv
+        ∷ FTry (try_part c.try_call_info) ∷ FBool c.patchable ∷ FOption W32 c.stack_map
+        ∷ []) cursor.old cursor.new) }
+{
+    let callee_pop_size = cursor.u32()?;
+    let caller_conv = cursor.convention()?;
+    let callee_conv = cursor.convention()?;
+    let try_call_info = cursor.no_handlers()?;
+    let patchable = cursor.truth()?;
+    let stack_map = cursor.option32()?;
+    Some(CallEnd {
+        callee_pop_size,
+        caller_conv,
+        callee_conv,
+        try_call_info,
+        patchable,
+        stack_map,
+    })
+}
+
+#[tactic(auto, using(crate::proofs::Lines::eleven))]
+#[inline(never)]
+fn call(alloc: Global, cursor: &mut ExactCursor) -> Option<Inst>
+    ensures { IfSome result
+        (λ x. TakesFields (LineName.Control ControlName.Call) (inst_line x) cursor.old cursor.new) }
+{
+    let first = call_front(alloc, cursor)?;
+    let last = call_back(cursor)?;
+    Some(Inst::Call {
+        link: first.link,
+        info: CallInfo {
+            dest: first.dest,
+            uses: first.uses,
+            defs: first.defs,
+            clobbers: first.clobbers,
+            callee_pop_size: last.callee_pop_size,
+            caller_conv: last.caller_conv,
+            callee_conv: last.callee_conv,
+            try_call_info: last.try_call_info,
+            patchable: last.patchable,
+            stack_map: last.stack_map,
+        },
+    })
+}
+
+#[tactic(auto, using(crate::proofs::Lines::three))]
+#[inline(never)]
+fn return_call(alloc: Global, cursor: &mut ExactCursor) -> Option<Inst>
+    ensures { IfSome result
+        (λ x. TakesFields (LineName.Control ControlName.ReturnCall) (inst_line x) cursor.old
+        cursor.new) }
+{
+    let dest = cursor.target()?;
+    let uses = cursor.uses(alloc)?;
+    let callee_pop_size = cursor.u32()?;
+    Some(Inst::ReturnCall {
+        info: ReturnCallInfo {
+            dest,
+            uses,
+            callee_pop_size,
+        },
+    })
+}
+
+/// Takes the fields of an instruction of this name.
+#[inline(always)]
+pub fn control(alloc: Global, name: ControlName, cursor: &mut ExactCursor) -> Option<Inst>
     ensures { IfSome result
         (λ x. TakesFields (LineName.Control name) (inst_line x) cursor.old cursor.new) }
 {
     match name {
-        ControlName::Jump => jump(cursor),
         ControlName::CondBr => branch(cursor),
-        ControlName::Ret => ret(cursor),
-        _ => None,
+        ControlName::TrapIf => trap_if(cursor),
+        ControlName::Call => call(alloc, cursor),
+        ControlName::ReturnCall => return_call(alloc, cursor),
+        ControlName::LoadSymbolReloc | ControlName::LabelAddress => address(name, cursor),
+        ControlName::Fence | ControlName::Nop0 | ControlName::Nop2 => bare(name, cursor),
+        ControlName::Debugtrap | ControlName::SequencePoint => bare(name, cursor),
+        _ => simple(name, cursor),
     }
 }

@@ -2,15 +2,22 @@
 ghost use Rattle.std.specs.Prelude.{◌≡◌, ◌++◌, ◌∷◌, ◌<◌, ◌≤ℤ◌, ◌<ℤ◌, neg_ℤ, pos, IfSome};
 ghost use Rattle.std.specs.Fmt.{decimal, signed_decimal};
 ghost use Rattle.s390x_job_fields.specs.Atoms.{reg_text, IsReg};
-ghost use Rattle.s390x_job_fields.specs.Numbers.{W8, W32, S16, S32};
-ghost use Rattle.s390x_job_fields.specs.Fields.{FAlu, FCmp, FCond, FInteger, FNatural, FReg, FShift, FUnary};
+ghost use Rattle.s390x_job_fields.specs.Numbers.{W8, W16, W32, S16, S32};
+ghost use Rattle.s390x_job_fields.specs.Fields.{FAlu, FBool, FCmp, FCond, FInteger, FNatural, FReg, FShift, FShifted, FUnary, FVecBinary, FVecCompare, FVecShift, FVecUnary};
 ghost use Rattle.s390x_job_exact.specs.Exact.{Takes};
 
 use crate::cursor::ExactCursor;
-use s390x_base::{Cond, MachLabel, Reg, RegClass, Writable, gpr_preg, vr_preg};
-use s390x_inst::{ALUOp, CmpOp, ShiftOp, UnaryOp};
+use s390x_base::{
+    Cond, MachLabel, Reg, RegClass, UImm16Shifted, UImm32Shifted, Writable, gpr_preg, vr_preg,
+};
+use s390x_inst::{
+    ALUOp, CmpOp, ShiftOp, UnaryOp, VecBinaryOp, VecIntCmpOp, VecShiftOp, VecUnaryOp,
+};
 use s390x_job_fields::marks::front;
 use s390x_job_fields::operators::{ALU_NAMES, CMP_NAMES, SHIFT_NAMES, UNARY_NAMES};
+use s390x_job_fields::vector_operators::{
+    VEC_BINARY_NAMES, VEC_COMPARE_NAMES, VEC_SHIFT_NAMES, VEC_UNARY_NAMES,
+};
 use s390x_job_fields::word::{Names, Word, find};
 
 impl<'a> ExactCursor<'a> {
@@ -55,6 +62,22 @@ impl<'a> ExactCursor<'a> {
         Some(Writable::from_reg(reg))
     }
 
+    /// Takes `true` or `false`.
+    pub fn truth(&mut self) -> Option<bool>
+        ensures { IfSome result (λ b. Takes (FBool b) self.old self.new) }
+    {
+        match self.rest() {
+            [_, b't', ..] => {
+                self.text(b" true")?;
+                Some(true)
+            }
+            _ => {
+                self.text(b" false")?;
+                Some(false)
+            }
+        }
+    }
+
     /// Takes a number below a limit.
     #[inline(always)]
     fn below(&mut self, limit: u64) -> Option<u64>
@@ -80,6 +103,44 @@ impl<'a> ExactCursor<'a> {
     {
         let number = self.below(4294967296)?;
         Some(number as u32)
+    }
+
+    /// Takes a number of 8 bits behind a colon.
+    fn place(&mut self) -> Option<u8>
+        ensures text { IfSome result (λ n. self.old ≡ 58 ∷ (decimal n ++ self.new)) }
+        ensures below { IfSome result (λ n. n < 256) }
+    {
+        self.byte(b':')?;
+        let number = self.natural()?;
+        if number < 256 {
+            Some(number as u8)
+        } else {
+            None
+        }
+    }
+
+    /// Takes 16 bits, and at which part of a doubleword they stand.
+    pub fn shifted16(&mut self) -> Option<UImm16Shifted>
+        ensures { IfSome result (λ i. Takes (FShifted W16 i.bits i.shift) self.old self.new) }
+    {
+        let number = self.below(65536)?;
+        let shift = self.place()?;
+        Some(UImm16Shifted {
+            bits: number as u16,
+            shift,
+        })
+    }
+
+    /// Takes 32 bits, and at which half of a doubleword they stand.
+    pub fn shifted32(&mut self) -> Option<UImm32Shifted>
+        ensures { IfSome result (λ i. Takes (FShifted W32 i.bits i.shift) self.old self.new) }
+    {
+        let number = self.below(4294967296)?;
+        let shift = self.place()?;
+        Some(UImm32Shifted {
+            bits: number as u32,
+            shift,
+        })
     }
 
     /// Takes the number of a block.
@@ -136,13 +197,22 @@ impl<'a> ExactCursor<'a> {
     }
 
     /// Takes the word that spells a value.
-    fn operator<T: Word>(&mut self, names: Names<T>, other: T) -> Option<T>
-        ensures { IfSome result (λ o. self.old ≡ 32 ∷ (T.spelling o ++ self.new)) }
+    #[inline(always)]
+    pub fn word<T: Word>(&mut self, names: Names<T>, other: T) -> Option<T>
+        ensures { IfSome result (λ o. self.old ≡ T.spelling o ++ self.new) }
     {
-        self.byte(b' ')?;
         let value = find(names, front(self.rest()), other);
         self.text(value.text().as_bytes())?;
         Some(value)
+    }
+
+    /// Takes the word that spells a value, behind a space.
+    #[inline(always)]
+    pub fn operator<T: Word>(&mut self, names: Names<T>, other: T) -> Option<T>
+        ensures { IfSome result (λ o. self.old ≡ 32 ∷ (T.spelling o ++ self.new)) }
+    {
+        self.byte(b' ')?;
+        self.word(names, other)
     }
 
     /// Takes an operation on integers.
@@ -171,5 +241,33 @@ impl<'a> ExactCursor<'a> {
         ensures { IfSome result (λ o. Takes (FUnary o) self.old self.new) }
     {
         self.operator(UNARY_NAMES, UnaryOp::Abs32)
+    }
+
+    /// Takes an operation on two vectors.
+    pub fn vec_binary(&mut self) -> Option<VecBinaryOp>
+        ensures { IfSome result (λ o. Takes (FVecBinary o) self.old self.new) }
+    {
+        self.operator(VEC_BINARY_NAMES, VecBinaryOp::Add8x16)
+    }
+
+    /// Takes an operation on one vector.
+    pub fn vec_unary(&mut self) -> Option<VecUnaryOp>
+        ensures { IfSome result (λ o. Takes (FVecUnary o) self.old self.new) }
+    {
+        self.operator(VEC_UNARY_NAMES, VecUnaryOp::Abs8x16)
+    }
+
+    /// Takes a shift of a vector.
+    pub fn vec_shift_op(&mut self) -> Option<VecShiftOp>
+        ensures { IfSome result (λ o. Takes (FVecShift o) self.old self.new) }
+    {
+        self.operator(VEC_SHIFT_NAMES, VecShiftOp::RotL8x16)
+    }
+
+    /// Takes a comparison of vectors.
+    pub fn vec_compare(&mut self) -> Option<VecIntCmpOp>
+        ensures { IfSome result (λ o. Takes (FVecCompare o) self.old self.new) }
+    {
+        self.operator(VEC_COMPARE_NAMES, VecIntCmpOp::CmpEq8x16)
     }
 }

@@ -9,6 +9,7 @@ use s390x_job_lines::{IntegerName, LineName};
 
 /// Takes the fields of an operation with an output of its own.
 #[tactic(auto, using(crate::proofs::Lines::four))]
+#[inline(never)]
 fn alu_three(name: IntegerName, cursor: &mut ExactCursor) -> Option<Inst>
     ensures { IfSome result
         (λ x. TakesFields (LineName.Integer name) (inst_line x) cursor.old cursor.new) }
@@ -36,6 +37,7 @@ fn alu_three(name: IntegerName, cursor: &mut ExactCursor) -> Option<Inst>
 
 /// Takes the fields of an operation whose output is its first input, with a register or memory.
 #[tactic(auto, using(crate::proofs::Lines::four))]
+#[inline(never)]
 fn alu_two(name: IntegerName, cursor: &mut ExactCursor) -> Option<Inst>
     ensures { IfSome result
         (λ x. TakesFields (LineName.Integer name) (inst_line x) cursor.old cursor.new) }
@@ -63,6 +65,7 @@ fn alu_two(name: IntegerName, cursor: &mut ExactCursor) -> Option<Inst>
 
 /// Takes the fields of an operation whose output is its first input, with a number.
 #[tactic(auto, using(crate::proofs::Lines::four))]
+#[inline(never)]
 fn alu_immediate(name: IntegerName, cursor: &mut ExactCursor) -> Option<Inst>
     ensures { IfSome result
         (λ x. TakesFields (LineName.Integer name) (inst_line x) cursor.old cursor.new) }
@@ -98,12 +101,31 @@ fn alu_immediate(name: IntegerName, cursor: &mut ExactCursor) -> Option<Inst>
                 imm,
             })
         }
+        IntegerName::AluRUImm16Shifted => {
+            let imm = cursor.shifted16()?;
+            Some(Inst::AluRUImm16Shifted {
+                alu_op,
+                rd,
+                ri,
+                imm,
+            })
+        }
+        IntegerName::AluRUImm32Shifted => {
+            let imm = cursor.shifted32()?;
+            Some(Inst::AluRUImm32Shifted {
+                alu_op,
+                rd,
+                ri,
+                imm,
+            })
+        }
         _ => None,
     }
 }
 
 /// Takes the fields of an instruction of this name, where they are a comparison, a register and one more field.
 #[tactic(auto, using(crate::proofs::Lines::three))]
+#[inline(never)]
 fn compare(name: IntegerName, cursor: &mut ExactCursor) -> Option<Inst>
     ensures { IfSome result
         (λ x. TakesFields (LineName.Integer name) (inst_line x) cursor.old cursor.new) }
@@ -137,6 +159,7 @@ fn compare(name: IntegerName, cursor: &mut ExactCursor) -> Option<Inst>
 
 /// Takes the fields of an instruction of this name, where they are a register and one more field.
 #[tactic(auto, using(crate::proofs::Lines::two))]
+#[inline(never)]
 fn moved(name: IntegerName, cursor: &mut ExactCursor) -> Option<Inst>
     ensures { IfSome result
         (λ x. TakesFields (LineName.Integer name) (inst_line x) cursor.old cursor.new) }
@@ -167,12 +190,21 @@ fn moved(name: IntegerName, cursor: &mut ExactCursor) -> Option<Inst>
             let imm = cursor.i32()?;
             Some(Inst::Mov64SImm32 { rd, imm })
         }
+        IntegerName::Mov64UImm16Shifted => {
+            let imm = cursor.shifted16()?;
+            Some(Inst::Mov64UImm16Shifted { rd, imm })
+        }
+        IntegerName::Mov64UImm32Shifted => {
+            let imm = cursor.shifted32()?;
+            Some(Inst::Mov64UImm32Shifted { rd, imm })
+        }
         _ => None,
     }
 }
 
 /// Takes the fields of a shift.
 #[tactic(auto, using(crate::proofs::Lines::five))]
+#[inline(never)]
 fn shift(cursor: &mut ExactCursor) -> Option<Inst>
     ensures { IfSome result
         (λ x. TakesFields (LineName.Integer IntegerName.ShiftRR) (inst_line x) cursor.old
@@ -194,6 +226,7 @@ fn shift(cursor: &mut ExactCursor) -> Option<Inst>
 
 /// Takes the fields of an operation on one register.
 #[tactic(auto, using(crate::proofs::Lines::three))]
+#[inline(never)]
 fn unary(cursor: &mut ExactCursor) -> Option<Inst>
     ensures { IfSome result
         (λ x. TakesFields (LineName.Integer IntegerName.UnaryRR) (inst_line x) cursor.old
@@ -205,7 +238,74 @@ fn unary(cursor: &mut ExactCursor) -> Option<Inst>
     Some(Inst::UnaryRR { op, rd, rn })
 }
 
+/// Takes the fields of a conditional move.
+#[tactic(auto, using(crate::proofs::Lines::four))]
+#[inline(never)]
+fn conditional(name: IntegerName, cursor: &mut ExactCursor) -> Option<Inst>
+    ensures { IfSome result
+        (λ x. TakesFields (LineName.Integer name) (inst_line x) cursor.old cursor.new) }
+{
+    let rd = cursor.written()?;
+    let cond = cursor.cond()?;
+    let ri = cursor.reg()?;
+    match name {
+        IntegerName::CMov32 => {
+            let rm = cursor.reg()?;
+            Some(Inst::CMov32 { rd, cond, ri, rm })
+        }
+        IntegerName::CMov64 => {
+            let rm = cursor.reg()?;
+            Some(Inst::CMov64 { rd, cond, ri, rm })
+        }
+        IntegerName::CMov32SImm16 => {
+            let imm = cursor.i16()?;
+            Some(Inst::CMov32SImm16 { rd, cond, ri, imm })
+        }
+        IntegerName::CMov64SImm16 => {
+            let imm = cursor.i16()?;
+            Some(Inst::CMov64SImm16 { rd, cond, ri, imm })
+        }
+        _ => None,
+    }
+}
+
+/// Takes the fields of an extension.
+#[tactic(auto, using(crate::proofs::Lines::five))]
+#[inline(never)]
+fn extend(cursor: &mut ExactCursor) -> Option<Inst>
+    ensures { IfSome result
+        (λ x. TakesFields (LineName.Integer IntegerName.Extend) (inst_line x) cursor.old cursor.new) }
+{
+    let rd = cursor.written()?;
+    let rn = cursor.reg()?;
+    let signed = cursor.truth()?;
+    let from_bits = cursor.u8()?;
+    let to_bits = cursor.u8()?;
+    Some(Inst::Extend {
+        rd,
+        rn,
+        signed,
+        from_bits,
+        to_bits,
+    })
+}
+
+/// Takes the fields of an instruction of this name, where it is a less frequent one.
+#[inline(always)]
+fn other(name: IntegerName, cursor: &mut ExactCursor) -> Option<Inst>
+    ensures { IfSome result
+        (λ x. TakesFields (LineName.Integer name) (inst_line x) cursor.old cursor.new) }
+{
+    match name {
+        IntegerName::Extend => extend(cursor),
+        IntegerName::CMov32 | IntegerName::CMov64 => conditional(name, cursor),
+        IntegerName::CMov32SImm16 | IntegerName::CMov64SImm16 => conditional(name, cursor),
+        _ => moved(name, cursor),
+    }
+}
+
 /// Takes the fields of an instruction of this name, where it is a frequent one.
+#[inline(always)]
 pub fn integer(name: IntegerName, cursor: &mut ExactCursor) -> Option<Inst>
     ensures { IfSome result
         (λ x. TakesFields (LineName.Integer name) (inst_line x) cursor.old cursor.new) }
@@ -215,10 +315,12 @@ pub fn integer(name: IntegerName, cursor: &mut ExactCursor) -> Option<Inst>
         IntegerName::AluRR | IntegerName::AluRX => alu_two(name, cursor),
         IntegerName::AluRSImm16 => alu_immediate(name, cursor),
         IntegerName::AluRSImm32 | IntegerName::AluRUImm32 => alu_immediate(name, cursor),
+        IntegerName::AluRUImm16Shifted => alu_immediate(name, cursor),
+        IntegerName::AluRUImm32Shifted => alu_immediate(name, cursor),
         IntegerName::CmpRR | IntegerName::CmpRX | IntegerName::CmpRSImm16 => compare(name, cursor),
         IntegerName::CmpRSImm32 | IntegerName::CmpRUImm32 => compare(name, cursor),
         IntegerName::ShiftRR => shift(cursor),
         IntegerName::UnaryRR => unary(cursor),
-        _ => moved(name, cursor),
+        _ => other(name, cursor),
     }
 }

@@ -2,16 +2,18 @@
 ghost use Rattle.std.specs.Prelude.{◌≡◌, ◌++◌, IfSome};
 ghost use Rattle.s390x_job_lines.specs.Instructions.{inst_line};
 ghost use Rattle.s390x_job_lines.specs.Names.{name_text};
-ghost use Rattle.s390x_job_exact.specs.Exact.{TakesFields, IsSingle, IsInstructionText};
+ghost use Rattle.s390x_job_exact.specs.Exact.{TakesFields, TakesLine, IsSingle, IsInstructionText};
 
 use crate::control::control;
 use crate::cursor::ExactCursor;
 use crate::integer::integer;
 use crate::memory::{load, memory};
+use crate::vector::vector;
 use s390x_inst::Inst;
 use s390x_job_fields::marks::front;
 use s390x_job_fields::word::Word;
 use s390x_job_lines::{LineName, find_name};
+use std::alloc::Global;
 
 /// Takes the name of a line.
 #[inline(always)]
@@ -24,7 +26,7 @@ fn line_name(cursor: &mut ExactCursor) -> Option<LineName>
 }
 
 #[inline(always)]
-fn fields(name: LineName, cursor: &mut ExactCursor) -> Option<Inst>
+fn fields(alloc: Global, name: LineName, cursor: &mut ExactCursor) -> Option<Inst>
     ensures line { IfSome result (λ x. TakesFields name (inst_line x) cursor.old cursor.new) }
     ensures single { IfSome result (λ _. IsSingle name) }
 {
@@ -32,17 +34,41 @@ fn fields(name: LineName, cursor: &mut ExactCursor) -> Option<Inst>
         LineName::Load(op) => load(op, cursor),
         LineName::Memory(name) => memory(name, cursor),
         LineName::Integer(name) => integer(name, cursor),
-        LineName::Control(name) => control(name, cursor),
+        LineName::Control(name) => control(alloc, name, cursor),
         _ => None,
     }
 }
 
+/// Takes a line whose name is found first.
+#[tactic(auto, using(crate::proofs::Named::found))]
+#[inline(always)]
+fn named(alloc: Global, cursor: &mut ExactCursor) -> Option<Inst>
+    ensures { IfSome result (λ x. TakesLine (inst_line x) cursor.old cursor.new) }
+{
+    let name = line_name(cursor)?;
+    fields(alloc, name, cursor)
+}
+
+/// Takes a line.
+#[inline(always)]
+fn line(alloc: Global, cursor: &mut ExactCursor) -> Option<Inst>
+    ensures { IfSome result (λ x. TakesLine (inst_line x) cursor.old cursor.new) }
+{
+    match cursor.rest() {
+        [b'V', ..] => vector(cursor),
+        [b'F', b'p', ..] => vector(cursor),
+        [b'b', ..] => None,
+        _ => named(alloc, cursor),
+    }
+}
+
 /// The instruction whose line this is, where it is a frequent one that is read without printing it back; none says nothing.
-pub fn exact_line(w: &[u8]) -> Option<Inst>
+#[tactic(auto, using(crate::proofs::Named::ended))]
+#[inline(never)]
+pub fn exact_line(alloc: Global, w: &[u8]) -> Option<Inst>
     ensures { IfSome result (λ x. IsInstructionText (inst_line x) w.now) }
 {
     let mut cursor = ExactCursor::new(w);
-    let name = line_name(&mut cursor)?;
-    let inst = fields(name, &mut cursor)?;
-    if cursor.is_end() { Some(inst) } else { None }
+    let found = line(alloc, &mut cursor);
+    if cursor.is_end() { found } else { None }
 }

@@ -10,7 +10,8 @@ use s390x_job_lines::{LineName, MemoryName};
 
 /// Takes the fields of an instruction of this name, where they are a register and an operand.
 #[tactic(auto, using(crate::proofs::Lines::two))]
-pub fn memory(name: MemoryName, cursor: &mut ExactCursor) -> Option<Inst>
+#[inline(never)]
+fn register_access(name: MemoryName, cursor: &mut ExactCursor) -> Option<Inst>
     ensures { IfSome result
         (λ x. TakesFields (LineName.Memory name) (inst_line x) cursor.old cursor.new) }
 {
@@ -32,7 +33,54 @@ pub fn memory(name: MemoryName, cursor: &mut ExactCursor) -> Option<Inst>
     }
 }
 
+/// Takes the fields of a store of a number.
+#[tactic(auto, using(crate::proofs::Lines::two))]
+#[inline(never)]
+fn store_number(name: MemoryName, cursor: &mut ExactCursor) -> Option<Inst>
+    ensures { IfSome result
+        (λ x. TakesFields (LineName.Memory name) (inst_line x) cursor.old cursor.new) }
+{
+    match name {
+        MemoryName::StoreImm8 => {
+            let imm = cursor.u8()?;
+            let mem = cursor.memory()?;
+            Some(Inst::StoreImm8 { imm, mem })
+        }
+        MemoryName::StoreImm16 => {
+            let imm = cursor.i16()?;
+            let mem = cursor.memory()?;
+            Some(Inst::StoreImm16 { imm, mem })
+        }
+        MemoryName::StoreImm32SExt16 => {
+            let imm = cursor.i16()?;
+            let mem = cursor.memory()?;
+            Some(Inst::StoreImm32SExt16 { imm, mem })
+        }
+        MemoryName::StoreImm64SExt16 => {
+            let imm = cursor.i16()?;
+            let mem = cursor.memory()?;
+            Some(Inst::StoreImm64SExt16 { imm, mem })
+        }
+        _ => None,
+    }
+}
+
+/// Takes the fields of an instruction of this name, where it is a frequent one.
+#[inline(always)]
+pub fn memory(name: MemoryName, cursor: &mut ExactCursor) -> Option<Inst>
+    ensures { IfSome result
+        (λ x. TakesFields (LineName.Memory name) (inst_line x) cursor.old cursor.new) }
+{
+    match name {
+        MemoryName::StoreImm8 | MemoryName::StoreImm16 => store_number(name, cursor),
+        MemoryName::StoreImm32SExt16 => store_number(name, cursor),
+        MemoryName::StoreImm64SExt16 => store_number(name, cursor),
+        _ => register_access(name, cursor),
+    }
+}
+
 /// Takes the fields of a load.
+#[inline(never)]
 pub fn load(op: LoadOp, cursor: &mut ExactCursor) -> Option<Inst>
     ensures { IfSome result
         (λ x. TakesFields (LineName.Load op) (inst_line x) cursor.old cursor.new) }

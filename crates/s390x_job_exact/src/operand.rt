@@ -1,33 +1,63 @@
 //! Memory operands, taken only as they are printed.
 ghost use Rattle.std.specs.Prelude.{◌≡◌, ◌++◌, ◌∷◌, ◌<◌, ◌^◌, IfSome};
 ghost use Rattle.std.specs.Fmt.{decimal, signed_decimal};
-ghost use Rattle.s390x_job_fields.specs.Atoms.{access_text, IsSuffix, trap_text, trap_suffix, aligned_text};
+ghost use Rattle.s390x_job_fields.specs.Atoms.{access_text, aligned_text, reg_text, trap_suffix, trap_text, IsReg, IsSuffix};
 ghost use Rattle.s390x_job_fields.specs.Numbers.{IsBelow};
 ghost use Rattle.s390x_base.specs.Traps.{IsKind};
-ghost use Rattle.s390x_job_fields.specs.Fields.{FMemory};
+ghost use Rattle.s390x_job_fields.specs.Fields.{FMemory, FTrap};
 ghost use Rattle.s390x_job_exact.specs.Exact.{Takes};
 
 use crate::cursor::ExactCursor;
-use s390x_base::{MachMemFlags, TrapCode, UImm12};
+use s390x_base::{MachLabel, MachMemFlags, RegPair, SImm20, TrapCode, UImm12, VCodeConstant};
 use s390x_inst::MemArg;
 
 impl<'a> ExactCursor<'a> {
-    /// Takes a trap code that has a name.
+    /// Takes the trap code of this text.
+    fn named_trap(&mut self, text: &[u8], code: TrapCode) -> Option<TrapCode>
+        requires text { text.now ≡ trap_text code }
+        requires range { IsKind code }
+        ensures text { IfSome result (λ t. self.old ≡ trap_text t ++ self.new) }
+        ensures range { IfSome result IsKind }
+    {
+        self.text(text)?;
+        Some(code)
+    }
+
+    /// Takes a trap code of the user's.
+    fn user_trap(&mut self) -> Option<TrapCode>
+        ensures text { IfSome result (λ t. self.old ≡ trap_text t ++ self.new) }
+        ensures range { IfSome result IsKind }
+    {
+        self.text(b"user")?;
+        let number = self.natural()?;
+        if number < 256 {
+            TrapCode::user(number as u8)
+        } else {
+            None
+        }
+    }
+
+    /// Takes a trap code.
     fn trap(&mut self) -> Option<TrapCode>
         ensures text { IfSome result (λ t. self.old ≡ trap_text t ++ self.new) }
         ensures range { IfSome result IsKind }
     {
         match self.rest() {
-            [b'h', ..] => {
-                self.text(b"heap_oob")?;
-                Some(TrapCode::HEAP_OUT_OF_BOUNDS)
-            }
-            [b's', ..] => {
-                self.text(b"stk_ovf")?;
-                Some(TrapCode::STACK_OVERFLOW)
-            }
-            _ => None,
+            [b'h', ..] => self.named_trap(b"heap_oob", TrapCode::HEAP_OUT_OF_BOUNDS),
+            [b's', ..] => self.named_trap(b"stk_ovf", TrapCode::STACK_OVERFLOW),
+            [b'b', ..] => self.named_trap(b"bad_toint", TrapCode::BAD_CONVERSION_TO_INTEGER),
+            [_, _, _, _, b'o', ..] => self.named_trap(b"int_ovf", TrapCode::INTEGER_OVERFLOW),
+            [b'i', ..] => self.named_trap(b"int_divz", TrapCode::INTEGER_DIVISION_BY_ZERO),
+            _ => self.user_trap(),
         }
+    }
+
+    /// Takes a trap code behind a space.
+    pub fn trap_code(&mut self) -> Option<TrapCode>
+        ensures { IfSome result (λ t. Takes (FTrap t) self.old self.new) }
+    {
+        self.byte(b' ')?;
+        self.trap()
     }
 
     /// Takes the trap code behind a `!`, where one stands there.
@@ -93,23 +123,71 @@ impl<'a> ExactCursor<'a> {
         UImm12::maybe_from_u64(number)
     }
 
-    /// Takes a base, an index and a displacement.
+    /// Takes a base and an index, each before a comma.
+    #[inline(always)]
+    fn base_index(&mut self) -> Option<RegPair>
+        ensures text { IfSome result
+            (λ p. self.old ≡ reg_text p.hi ++ (44 ∷ (reg_text p.lo ++ (44 ∷ self.new)))) }
+        ensures base { IfSome result (λ p. IsReg p.hi) }
+        ensures index { IfSome result (λ p. IsReg p.lo) }
+    {
+        let hi = self.register()?;
+        self.byte(b',')?;
+        let lo = self.register()?;
+        self.byte(b',')?;
+        Some(RegPair { hi, lo })
+    }
+
+    /// Takes a base, an index and a displacement of 12 bits.
     fn indexed12(&mut self) -> Option<MemArg>
         ensures { IfSome result (λ m. Takes (FMemory m) self.old self.new) }
     {
         self.text(b" BXD12(")?;
-        let base = self.register()?;
-        self.byte(b',')?;
-        let index = self.register()?;
-        self.byte(b',')?;
+        let at = self.base_index()?;
         let disp = self.displacement12()?;
         let flags = self.last()?;
         Some(MemArg::BXD12 {
-            base,
-            index,
+            base: at.hi,
+            index: at.lo,
             disp,
             flags,
         })
+    }
+
+    /// Takes a displacement of 20 bits.
+    fn displacement20(&mut self) -> Option<SImm20>
+        ensures text { IfSome result (λ d. self.old ≡ signed_decimal d ++ self.new) }
+        ensures below { IfSome result (IsBelow (2 ^ 19)) }
+    {
+        let number = self.integer()?;
+        SImm20::maybe_from_i64(number)
+    }
+
+    /// Takes a base, an index and a displacement of 20 bits.
+    fn indexed20(&mut self) -> Option<MemArg>
+        ensures { IfSome result (λ m. Takes (FMemory m) self.old self.new) }
+    {
+        self.text(b" BXD20(")?;
+        let at = self.base_index()?;
+        let disp = self.displacement20()?;
+        let flags = self.last()?;
+        Some(MemArg::BXD20 {
+            base: at.hi,
+            index: at.lo,
+            disp,
+            flags,
+        })
+    }
+
+    /// Takes a base, an index and a displacement.
+    #[inline(never)]
+    fn indexed(&mut self) -> Option<MemArg>
+        ensures { IfSome result (λ m. Takes (FMemory m) self.old self.new) }
+    {
+        match self.rest() {
+            [_, _, _, _, b'1', ..] => self.indexed12(),
+            _ => self.indexed20(),
+        }
     }
 
     /// Takes a comma, what is known of an access, and the closing parenthesis.
@@ -137,7 +215,93 @@ impl<'a> ExactCursor<'a> {
         Some(off)
     }
 
+    /// Takes a symbol and an offset.
+    #[inline(never)]
+    fn symbol(&mut self) -> Option<MemArg>
+        ensures { IfSome result (λ m. Takes (FMemory m) self.old self.new) }
+    {
+        self.text(b" Symbol(")?;
+        let name = self.name()?;
+        self.byte(b',')?;
+        let offset = self.offset32()?;
+        let flags = self.last()?;
+        Some(MemArg::Symbol {
+            name,
+            offset,
+            flags,
+        })
+    }
+
+    /// Takes a number with a sign of 32 bits.
+    fn offset32(&mut self) -> Option<i32>
+        ensures text { IfSome result (λ z. self.old ≡ signed_decimal z ++ self.new) }
+        ensures below { IfSome result (IsBelow (2 ^ 31)) }
+    {
+        let number = self.integer()?;
+        if -2147483648 <= number && number < 2147483648 {
+            Some(number as i32)
+        } else {
+            None
+        }
+    }
+
+    /// Takes a number in parentheses behind this text.
+    #[inline(always)]
+    fn numbered(&mut self, form: &[u8]) -> Option<u32>
+        ensures text { IfSome result (λ n. self.old ≡ form.now ++ (decimal n ++ (41 ∷ self.new))) }
+    {
+        self.text(form)?;
+        let number = self.natural()?;
+        self.byte(b')')?;
+        if number < 4294967296 {
+            Some(number as u32)
+        } else {
+            None
+        }
+    }
+
+    /// Takes a block.
+    fn block(&mut self) -> Option<MemArg>
+        ensures { IfSome result (λ m. Takes (FMemory m) self.old self.new) }
+    {
+        let number = self.numbered(b" Label(")?;
+        Some(MemArg::Label {
+            target: MachLabel(number),
+        })
+    }
+
+    /// Takes a constant.
+    fn constant(&mut self) -> Option<MemArg>
+        ensures { IfSome result (λ m. Takes (FMemory m) self.old self.new) }
+    {
+        let number = self.numbered(b" Constant(")?;
+        Some(MemArg::Constant {
+            constant: VCodeConstant(number),
+        })
+    }
+
+    /// Takes an offset from the stack pointer at entry, or into the arguments.
+    fn argument_offset(&mut self) -> Option<MemArg>
+        ensures { IfSome result (λ m. Takes (FMemory m) self.old self.new) }
+    {
+        match self.rest() {
+            [_, b'O', ..] => {
+                let off = self.offset(b" OutgoingArgOffset(")?;
+                Some(MemArg::OutgoingArgOffset { off })
+            }
+            [_, _, _, b'c', ..] => {
+                let off = self.offset(b" IncomingArgOffset(")?;
+                Some(MemArg::IncomingArgOffset { off })
+            }
+            _ => {
+                let off = self.offset(b" InitialSPOffset(")?;
+                Some(MemArg::InitialSPOffset { off })
+            }
+        }
+    }
+
     /// Takes an offset into the stack slots or the spill area.
+    #[inline(never)]
     fn stack_offset(&mut self) -> Option<MemArg>
         ensures { IfSome result (λ m. Takes (FMemory m) self.old self.new) }
     {
@@ -153,15 +317,28 @@ impl<'a> ExactCursor<'a> {
         }
     }
 
-    /// Takes a memory operand of one of the frequent forms.
+    /// Takes a memory operand of one of the other forms.
+    #[inline(never)]
+    fn other(&mut self) -> Option<MemArg>
+        ensures { IfSome result (λ m. Takes (FMemory m) self.old self.new) }
+    {
+        match self.rest() {
+            [_, b'L', ..] => self.block(),
+            [_, b'C', ..] => self.constant(),
+            _ => self.argument_offset(),
+        }
+    }
+
+    /// Takes a memory operand.
     pub fn memory(&mut self) -> Option<MemArg>
         ensures { IfSome result (λ m. Takes (FMemory m) self.old self.new) }
     {
         match self.rest() {
             [_, b'R', ..] => self.reg_offset(),
-            [_, b'B', ..] => self.indexed12(),
+            [_, b'B', ..] => self.indexed(),
+            [_, b'S', b'y', ..] => self.symbol(),
             [_, b'S', ..] => self.stack_offset(),
-            _ => None,
+            _ => self.other(),
         }
     }
 }

@@ -1,6 +1,7 @@
 //! A line of an instruction that the exact readers take, or leave to others.
 
 use s390x_job_exact::exact_line;
+use std::alloc::Global;
 
 /// A line, and whether the exact readers must take it.
 #[derive(Drop)]
@@ -12,6 +13,6 @@ pub struct ExactLine {
 }
 
 /// Whether they do.
-pub fn is_as_told(exact: &ExactLine) -> bool {
-    exact_line(exact.text.as_bytes()).is_some() == exact.is_taken
+pub fn is_as_told(alloc: Global, exact: &ExactLine) -> bool {
+    exact_line(alloc, exact.text.as_bytes()).is_some() == exact.is_taken
 }

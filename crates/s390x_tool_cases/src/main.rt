@@ -42,7 +42,7 @@ fn judged(alloc: Global, asked: Asked) -> Result<Option<Verdict>, LineError> {
             case.line,
             is_met(alloc, case).map_err(|_| LineError::NoMemory)?,
         ),
-        Asked::Exact(exact) => (exact.line, is_as_told(&exact)),
+        Asked::Exact(exact) => (exact.line, is_as_told(alloc, &exact)),
     };
     Ok(Some(Verdict { line, is_met }))
 }

@@ -1,0 +1,46 @@
+-- What a line of a text tells.
+use Rattle.std.proofs.Common.{◌≡◌, ℕ, List, Option, Some, None, length, refl, sym, ap, ◌∙◌, subst}
+use Rattle.std.specs.Prelude.{Result, Ok, Err, IfOk}
+use Rattle.s390x_inst.specs.declared.inst.Inst.{Inst}
+use Rattle.s390x_job_lines.specs.Line.{Line, line_text, line_of, IsLine}
+use Rattle.s390x_job_lines.specs.Instructions.{inst_line}
+use Rattle.s390x_job_lines.specs.declared.name.LineName.{LineName}
+use Rattle.s390x_job_lines.specs.declared.name.LineName.TheVariants as N
+use Rattle.s390x_job_lines.proofs.RoundTrip.{line-round_trip}
+use Rattle.s390x_job_exact.specs.Exact.{IsSingle, IsInstructionText}
+use Rattle.s390x_job_fields.specs.Fields.{Field}
+use Rattle.s390x_job.specs.Grammar.{Place, Within, Instruction, class, line_class, next}
+use Rattle.s390x_job.specs.Builds.{Follows, IsNext, Reads, body_lines, lines_at, place_at}
+use Rattle.s390x_job.specs.declared.build.Body.{Body}
+use Rattle.s390x_job.specs.declared.build.Progress.{Progress}
+use Rattle.s390x_job.specs.declared.build.Progress.TheVariants.{Inside}
+use Rattle.s390x_job.proofs.Whole.{one_line}
+
+-- the line of a text
+the_line : (l : Line) (w : List ℕ) → IsLine l → line_text l ≡ w → l ≡ line_of w
+the_line l w ok e = sym (line-round_trip l ok) ∙ ap line_of e
+
+pub reads : (b : Body) (ls : List Line) (p : Place) (l : Line) (w : List ℕ) → IsLine l → line_text l ≡ w → (o : Option Progress) → Follows b ls p l o → Reads b ls p w o
+reads b ls p l w ok e None h = λ k a q. ap (λ m. next p (class m)) (one_line k l a ok (q ∙ sym e)) ∙ h
+reads b ls p l w ok e (Some q) h =
+    subst (λ m. IsLine m × (line_text m ≡ w) × IsNext ls p m q b) (the_line l w ok e) (ok, e, h)
+
+pub reads_all : {E : Type 0} (b : Body) (ls : List Line) (p : Place) (l : Line) (w : List ℕ) → IsLine l → line_text l ≡ w → (r : Result (Option Progress) E) → IfOk r (Follows b ls p l) → IfOk r (Reads b ls p w)
+reads_all b ls p l w ok e (Ok o) h = reads b ls p l w ok e o h
+reads_all b ls p l w ok e (Err x) h = tt
+
+pub reads_instruction : (b old : Body) (progress : Progress) (x : Inst) (w : List ℕ) → progress ≡ Inside → IsInstructionText (inst_line x) w → IsNext (body_lines old) (Within (length old.loops.items)) (inst_line x) Inside b → Reads b (lines_at progress old) (place_at progress old) w (Some Inside)
+reads_instruction b old progress x w e t h =
+    rw e (reads b (body_lines old) (Within (length old.loops.items)) (inst_line x) w t.line t.text (Some Inside) h)
+
+single_name : (n : LineName) (fs : List Field) → IsSingle n → line_class n fs ≡ Instruction
+single_name (N.Integer n) fs h = refl
+single_name (N.Load op) fs h = refl
+single_name (N.Memory n) fs h = refl
+single_name (N.Control n) fs h = refl
+single_name (N.Vector n) fs h = refl
+single_name n fs h = absurd h
+
+-- the line of one instruction
+pub single : (l : Line) (w : List ℕ) → IsInstructionText l w → class l ≡ Instruction
+single l w h = single_name l.name l.fields h.single
