@@ -3,16 +3,17 @@ ghost use Rattle.std.specs.Prelude.{◌≡◌, ◌&&◌, if◌then◌else◌, tr
 ghost use Rattle.std.specs.Option.{option_map};
 ghost use Rattle.s390x_address.specs.Rows.{memory_instruction_of, storage_form_of, relative_encodes, rows_encode, may_encode, rows_take_general, has_12_bits};
 ghost use Rattle.s390x_inst.specs.Loads.{as_load, by_load};
+ghost use Rattle.s390x_inst.specs.Stores.{as_store, by_store};
 ghost use Rattle.s390x_typed_steps.specs.General.{low_byte, low_halfword};
-ghost use Rattle.s390x_typed_steps.specs.Memory.{load, load_memory, store, store_immediate, SiForm, SilForm, is_range, multiple, load_and_operate, compare_and_swap, memory};
+ghost use Rattle.s390x_typed_steps.specs.Memory.{load, load_memory, store, store_memory, store_immediate, SiForm, SilForm, is_range, multiple, load_and_operate, compare_and_swap, memory};
 ghost use Rattle.s390x_typed_steps.specs.Storage.{alu_rx, alu_rxy, cmp_rx, cmp_rxy, cmp_ril, atomic_rsy};
 
 use crate::registers::{is_reused, two_general};
 use s390x_address::{MemoryInst, StorageRows, general, holds_scratch, is_numbered, number};
 use s390x_base::{Reg, Writable};
 use s390x_emit_vec::find_vector_memory;
-use s390x_inst::{ALUOp, CmpOp, Inst, Load, MemArg};
-use s390x_typed_steps::{low_byte, rows_of_load};
+use s390x_inst::{ALUOp, CmpOp, Inst, Load, MemArg, Store};
+use s390x_typed_steps::{low_byte, rows_of_load, rows_of_store};
 
 // An access by one register.
 #[tactic(auto, using(crate::proofs::Storing::register_encodes))]
@@ -60,19 +61,14 @@ pub fn memory_of_load(load: &Load) -> MemoryInst
     )
 }
 
-// A store of a register.
-fn store(
-    rd: &Reg,
-    rx: Option<u8>,
-    rxy: Option<u16>,
-    ril: Option<u16>,
-    operand: &MemArg,
-) -> Option<MemoryInst>
-    requires { (rows_take_general rx && rows_take_general rxy && has_12_bits ril) ≡ true }
-    ensures row { option_map memory_instruction_of result ≡ store rd.now rx rxy ril operand.now }
-    ensures encodes { IfSome result (λ x. may_encode x ≡ true) }
+// The machine rows and the operand of a store of a register.
+#[inline(always)]
+fn memory_of_store(store: &Store) -> MemoryInst
+    ensures row { Some (memory_instruction_of result) ≡ store_memory store.now }
+    ensures encodes { may_encode result ≡ true }
 {
-    Some(access(true, *rd, rx, rxy, ril, operand))
+    let rows = rows_of_store(store.op);
+    access(true, store.rd, rows.rx, rows.rxy, rows.ril, &store.mem)
 }
 
 // The address of the operand.
@@ -411,15 +407,18 @@ fn compare_and_swap(
     })
 }
 
-// A load of one register.
-fn find_load(inst: &Inst) -> Option<MemoryInst>
+// A load or a store of one register.
+fn find_transfer(inst: &Inst) -> Option<MemoryInst>
     ensures row { option_map memory_instruction_of result
-        ≡ by_load load_memory None (as_load inst.now) }
+        ≡ by_load load_memory (by_store store_memory None (as_store inst.now)) (as_load inst.now) }
     ensures encodes { IfSome result (λ x. may_encode x ≡ true) }
 {
     match inst.as_load() {
         Some(found) => Some(memory_of_load(&found)),
-        None => None,
+        None => match inst.as_store() {
+            Some(found) => Some(memory_of_store(&found)),
+            None => None,
+        },
     }
 }
 
@@ -431,13 +430,6 @@ pub fn find_memory(inst: &Inst) -> Option<MemoryInst>
     match inst {
         Inst::Vector(inst) => find_vector_memory(inst),
         Inst::LoadAddr { rd, mem } => load_address(rd, mem),
-        Inst::Store8 { rd, mem } => store(rd, Some(0x42), Some(0xe372), None, mem),
-        Inst::Store16 { rd, mem } => store(rd, Some(0x40), Some(0xe370), Some(0xc47), mem),
-        Inst::Store32 { rd, mem } => store(rd, Some(0x50), Some(0xe350), Some(0xc4f), mem),
-        Inst::Store64 { rd, mem } => store(rd, None, Some(0xe324), Some(0xc4b), mem),
-        Inst::StoreRev16 { rd, mem } => store(rd, None, Some(0xe33f), None, mem),
-        Inst::StoreRev32 { rd, mem } => store(rd, None, Some(0xe33e), None, mem),
-        Inst::StoreRev64 { rd, mem } => store(rd, None, Some(0xe32f), None, mem),
         Inst::StoreImm8 { imm, mem } => store_byte(*imm, mem),
         Inst::StoreImm16 { imm, mem } => store_halfword(*imm, 0xe544, mem),
         Inst::StoreImm32SExt16 { imm, mem } => store_halfword(*imm, 0xe54c, mem),
@@ -466,6 +458,6 @@ pub fn find_memory(inst: &Inst) -> Option<MemoryInst>
             mem,
         ),
         Inst::AtomicCas64 { rd, ri, rn, mem } => compare_and_swap(None, 0xeb30, rd, ri, rn, mem),
-        _ => find_load(inst),
+        _ => find_transfer(inst),
     }
 }

@@ -4,7 +4,14 @@ use Rattle.std.proofs.lemmas.Bool.{and_parts}
 use Rattle.std.proofs.lemmas.Nat.{and_assoc, and_mask}
 use Rattle.std.proofs.Math.Nat.{mod-eq_of_lt}
 use Rattle.s390x_base.specs.declared.error.EmitError.TheVariants.{BadOperator}
+use Rattle.s390x_base.specs.Regs.{number_of}
+use Rattle.s390x_base.specs.declared.regs.Reg.{Reg}
 use Rattle.s390x_inst.specs.declared.args.MemArg.{MemArg}
+use Rattle.s390x_inst.specs.declared.whole.Direction.{Direction}
+use Rattle.s390x_inst.specs.declared.whole.Direction.TheVariants.{Load, Store}
+use Rattle.s390x_inst.specs.declared.whole.WholeLayout.{WholeLayout}
+use Rattle.s390x_inst.specs.declared.whole.WholeLayout.TheVariants.{Straight}
+use Rattle.s390x_inst.specs.Wholes.{by_direction}
 use Rattle.s390x_format.specs.declared.kind.FormatKind.TheVariants.{Vrx}
 use Rattle.s390x_format.specs.declared.row.Allowed.TheVariants.{FirstMask}
 use Rattle.s390x_format.specs.Fetch.{machine_rows}
@@ -21,12 +28,13 @@ use Rattle.s390x_operations.specs.declared.effect.CodeRule.TheVariants.{Kept}
 use Rattle.s390x_operations.specs.declared.effect.Effect.{Effect}
 use Rattle.s390x_operations.specs.declared.effect.Operation.{Operation}
 use Rattle.s390x_operations.specs.declared.effect.VectorLayout.{VectorLayout}
+use Rattle.s390x_operations.specs.declared.effect.VectorLayout.TheVariants as Layouts
 use Rattle.s390x_typed_steps.specs.MachineInstruction.{vrx}
-use Rattle.s390x_typed_steps.specs.Memory.{MemoryInstruction, StorageForm, VrxForm, FloatForm, type_of, access_vector, access_lane, reversed_code, is_left_lane, load_left, store_left, load_lane_opcode, store_lane_opcode, load_reversed_opcode, store_reversed_opcode, fault_code}
+use Rattle.s390x_typed_steps.specs.Memory.{MemoryInstruction, StorageForm, VrxForm, FloatForm, type_of, access_vector, access_lane, layout_rows, whole_memory, reversed_code, is_left_lane, load_left, store_left, load_lane_opcode, store_lane_opcode, load_reversed_opcode, store_reversed_opcode, fault_code}
 use Rattle.s390x_typed_steps.specs.Operands.{operand_general}
 use Rattle.s390x_typed_steps.specs.Parts.{memory_or, step_parts}
 use Rattle.s390x_typed_steps.specs.Steps.{Step}
-use Rattle.s390x_typed_steps.specs.VectorInstruction.{element_code, is_lane}
+use Rattle.s390x_typed_steps.specs.VectorInstruction.{element_code, is_lane, is_vector}
 use Rattle.s390x_typed_steps.specs.declared.mem_inst_type.MemInstType.{MemInstType}
 use Rattle.s390x_machine.specs.declared.semantics.RowSemantics.TheVariants as Row
 use Rattle.s390x_machine.specs.declared.semantics.VectorStorage.{VectorStorage}
@@ -36,7 +44,7 @@ use Rattle.s390x_machine.specs.OneStep.{StepRuns}
 use Rattle.s390x_machine.specs.Operands.{indexed}
 use Rattle.s390x_machine.specs.Semantics.{all_bits, performs, semantics_in, semantics_of, vector_layout_of}
 use Rattle.s390x_machine.specs.StepKinds.{Unsupported, kind_or, performed_at, access_code}
-use Rattle.s390x_machine.specs.Storage.{indexed_forms, lane_forms, loads_vector, operand_address, stores_vector, vector_forms}
+use Rattle.s390x_machine.specs.Storage.{indexed_forms, lane_forms, layout_of, loads_vector, operand_address, stores_vector, vector_forms}
 use Rattle.s390x_machine.specs.Typed.{kind_of_step}
 use Rattle.s390x_machine.specs.VectorSteps.{elements_of, lane_bits}
 use Rattle.s390x_machine.proofs.Bits.{at_most}
@@ -49,6 +57,7 @@ use Rattle.s390x_machine.proofs.Stops.{never_by_values}
 use Rattle.s390x_machine.proofs.Storage.{FormDoes, VectorForm}
 use Rattle.s390x_machine.proofs.StorageRows.{IndexedRows}
 use Rattle.s390x_machine.proofs.StorageSteps.{address_rows, relative_address_rows}
+use Rattle.s390x_machine.proofs.VectorSteps.{vector_number}
 use Rattle.s390x_machine.proofs.VectorRows.{IsNarrow, Sized, HasSize, code_of_size, lane_within, size_of_elements}
 
 -- ---- what is told of a register
@@ -116,17 +125,32 @@ stored_form storage layout opcode mask low high d row lm allows tells lt = recor
   refines = λ a r. Rattle.s390x_machine.proofs.Built.exactly (stores_vector layout d a r);
 }
 
-pub load_whole : Meant Vrx (FirstMask 0 0) 0xe706 (Row.LoadVector VectorStorage.Whole)
-unfolding machine_rows row_for semantics_in semantics_of
-load_whole = (record { is = refl }, refl)
+-- what stands in the machine's row of a layout, and which masks the row takes
+abbrev pub storage_of : VectorLayout → VectorStorage
+storage_of (Layouts.ReversedBytes e) = VectorStorage.ReversedBytes
+storage_of (Layouts.ReversedElements e) = VectorStorage.ReversedElements
+storage_of _ = VectorStorage.Whole
 
-pub load_reversed_bytes : Meant Vrx (FirstMask 1 4) 0xe606 (Row.LoadVector VectorStorage.ReversedBytes)
-unfolding machine_rows row_for semantics_in semantics_of
-load_reversed_bytes = (record { is = refl }, refl)
+abbrev pub first_mask : VectorLayout → ℕ
+first_mask (Layouts.ReversedBytes e) = 1
+first_mask (Layouts.ReversedElements e) = 1
+first_mask _ = 0
 
-pub load_reversed_elements : Meant Vrx (FirstMask 1 3) 0xe607 (Row.LoadVector VectorStorage.ReversedElements)
+abbrev pub last_mask : VectorLayout → ℕ
+last_mask (Layouts.ReversedBytes e) = 4
+last_mask (Layouts.ReversedElements e) = 3
+last_mask _ = 0
+
+-- the rows of each layout: the last clause is a copy for each other
+load_row : (layout : WholeLayout) → Meant Vrx (FirstMask (first_mask (layout_of layout)) (last_mask (layout_of layout))) (layout_rows layout).load_opcode (Row.LoadVector (storage_of (layout_of layout)))
 unfolding machine_rows row_for semantics_in semantics_of
-load_reversed_elements = (record { is = refl }, refl)
+load_row Straight = (record { is = refl }, refl)
+load_row layout = (record { is = refl }, refl)
+
+store_row : (layout : WholeLayout) → Meant Vrx (FirstMask (first_mask (layout_of layout)) (last_mask (layout_of layout))) (layout_rows layout).store_opcode (Row.StoreVector (storage_of (layout_of layout)))
+unfolding machine_rows row_for semantics_in semantics_of
+store_row Straight = (record { is = refl }, refl)
+store_row layout = (record { is = refl }, refl)
 
 load_replicated : Meant Vrx (FirstMask 0 3) 0xe705 (Row.LoadVector (VectorStorage.Replicated false))
 unfolding machine_rows row_for semantics_in semantics_of
@@ -135,18 +159,6 @@ load_replicated = (record { is = refl }, refl)
 load_replicated_reversed : Meant Vrx (FirstMask 1 3) 0xe605 (Row.LoadVector (VectorStorage.Replicated true))
 unfolding machine_rows row_for semantics_in semantics_of
 load_replicated_reversed = (record { is = refl }, refl)
-
-pub store_whole : Meant Vrx (FirstMask 0 0) 0xe70e (Row.StoreVector VectorStorage.Whole)
-unfolding machine_rows row_for semantics_in semantics_of
-store_whole = (record { is = refl }, refl)
-
-pub store_reversed_bytes : Meant Vrx (FirstMask 1 4) 0xe60e (Row.StoreVector VectorStorage.ReversedBytes)
-unfolding machine_rows row_for semantics_in semantics_of
-store_reversed_bytes = (record { is = refl }, refl)
-
-pub store_reversed_elements : Meant Vrx (FirstMask 1 3) 0xe60f (Row.StoreVector VectorStorage.ReversedElements)
-unfolding machine_rows row_for semantics_in semantics_of
-store_reversed_elements = (record { is = refl }, refl)
 
 -- elements of several bytes
 abbrev IsWide : ElementSize → Type 0
@@ -287,15 +299,26 @@ module _ {L : Layout} {k : ℕ} {s : Step} (b : StepAt L k s) where
       memory_runs b (address_rows 1 (omega arith)) (relative_address_rows 1 (omega arith)) x forms operation (does (and_parts valid (operand_general mem) is.2.registers).0) relative (λ a r. steady.never a r (fault_code x)) (λ e a r v. steady.ignores a r v) same is.0 is.1 is.2
 
   -- a load of a register, by the mask of its row
-  pub loads_runs : (storage : VectorStorage) (layout : VectorLayout) (opcode mask low high : ℕ) → Meant Vrx (FirstMask low high) opcode (Row.LoadVector storage) → mask < 16 → (valid : Bool) (d : ℕ) → is_allowed (FirstMask low high) (vrx opcode d 0 0 mask 0).slots ≡ true → Tells storage layout opcode mask d → (IsTrue valid → d < 32) →
+  loads_runs : (storage : VectorStorage) (layout : VectorLayout) (opcode mask low high : ℕ) → Meant Vrx (FirstMask low high) opcode (Row.LoadVector storage) → mask < 16 → (valid : Bool) (d : ℕ) → is_allowed (FirstMask low high) (vrx opcode d 0 0 mask 0).slots ≡ true → Tells storage layout opcode mask d → (IsTrue valid → d < 32) →
       (mem : MemArg) → Accesses (access_vector valid (VrxForm d opcode mask) mem) mem vector_forms (loads_vector layout all_bits d) → StepRuns L k
   loads_runs storage layout opcode mask low high row lm valid d allows tells few mem is =
       access_runs valid (VrxForm d opcode mask) mem vector_forms (loads_vector layout all_bits d) refl (λ h. loaded_form storage layout opcode mask low high all_bits d row lm allows tells refl (few h)) tt (loads_steady layout all_bits d) is
 
-  pub stores_runs : (storage : VectorStorage) (layout : VectorLayout) (opcode mask low high : ℕ) → Meant Vrx (FirstMask low high) opcode (Row.StoreVector storage) → mask < 16 → (valid : Bool) (d : ℕ) → is_allowed (FirstMask low high) (vrx opcode d 0 0 mask 0).slots ≡ true → Tells storage layout opcode mask d → (IsTrue valid → d < 32) →
+  stores_runs : (storage : VectorStorage) (layout : VectorLayout) (opcode mask low high : ℕ) → Meant Vrx (FirstMask low high) opcode (Row.StoreVector storage) → mask < 16 → (valid : Bool) (d : ℕ) → is_allowed (FirstMask low high) (vrx opcode d 0 0 mask 0).slots ≡ true → Tells storage layout opcode mask d → (IsTrue valid → d < 32) →
       (mem : MemArg) → Accesses (access_vector valid (VrxForm d opcode mask) mem) mem vector_forms (stores_vector layout d) → StepRuns L k
   stores_runs storage layout opcode mask low high row lm valid d allows tells few mem is =
       access_runs valid (VrxForm d opcode mask) mem vector_forms (stores_vector layout d) refl (λ h. stored_form storage layout opcode mask low high d row lm allows tells (few h)) tt (stores_steady layout d) is
+
+  -- a whole register, in any layout: the clauses without `Straight` are a copy for each other one
+  pub whole_runs : (direction : Direction) (layout : WholeLayout) (rd : Reg) (mem : MemArg) → Accesses (whole_memory (record { direction = direction; layout = layout; rd = rd; mem = mem })) mem vector_forms (by_direction direction (loads_vector (layout_of layout) all_bits (number_of rd)) (stores_vector (layout_of layout) (number_of rd))) → StepRuns L k
+  whole_runs Load Straight rd mem is =
+      loads_runs (storage_of (layout_of Straight)) (layout_of Straight) (layout_rows Straight).load_opcode (layout_rows Straight).mask (first_mask (layout_of Straight)) (last_mask (layout_of Straight)) (load_row Straight) (ltb-true (layout_rows Straight).mask 16 refl) (is_vector rd) (number_of rd) refl (λ base index n. refl) (vector_number rd) mem is
+  whole_runs Load layout rd mem is =
+      loads_runs (storage_of (layout_of layout)) (layout_of layout) (layout_rows layout).load_opcode (layout_rows layout).mask (first_mask (layout_of layout)) (last_mask (layout_of layout)) (load_row layout) (ltb-true (layout_rows layout).mask 16 refl) (is_vector rd) (number_of rd) refl (λ base index n. refl) (vector_number rd) mem is
+  whole_runs Store Straight rd mem is =
+      stores_runs (storage_of (layout_of Straight)) (layout_of Straight) (layout_rows Straight).store_opcode (layout_rows Straight).mask (first_mask (layout_of Straight)) (last_mask (layout_of Straight)) (store_row Straight) (ltb-true (layout_rows Straight).mask 16 refl) (is_vector rd) (number_of rd) refl (λ base index n. refl) (vector_number rd) mem is
+  whole_runs Store layout rd mem is =
+      stores_runs (storage_of (layout_of layout)) (layout_of layout) (layout_rows layout).store_opcode (layout_rows layout).mask (first_mask (layout_of layout)) (last_mask (layout_of layout)) (store_row layout) (ltb-true (layout_rows layout).mask 16 refl) (is_vector rd) (number_of rd) refl (λ base index n. refl) (vector_number rd) mem is
 
   -- a replicated element, of any size with a code
   replicates : (e : ElementSize) (backwards : Bool) (opcode low high : ℕ) → Meant Vrx (FirstMask low high) opcode (Row.LoadVector (VectorStorage.Replicated backwards)) → (valid : Bool) (d : ℕ) → is_allowed (FirstMask low high) (vrx opcode d 0 0 (code_of_size e) 0).slots ≡ true → (IsTrue valid → d < 32) →

@@ -5,7 +5,6 @@ use Rattle.s390x_base.specs.Regs.{number_of}
 use Rattle.s390x_base.specs.declared.regs.Reg.{Reg}
 use Rattle.s390x_inst.specs.declared.args.MemArg.{MemArg}
 use Rattle.s390x_inst.specs.declared.vec_inst.VecInst.{VecInst}
-use Rattle.s390x_inst.specs.declared.vec_inst.VecInst.TheVariants.{VecLoad, VecLoadRev, VecLoadByte16Rev, VecLoadByte32Rev, VecLoadByte64Rev, VecLoadElt16Rev, VecLoadElt32Rev, VecLoadElt64Rev, VecStore, VecStoreRev, VecStoreByte16Rev, VecStoreByte32Rev, VecStoreByte64Rev, VecStoreElt16Rev, VecStoreElt32Rev, VecStoreElt64Rev}
 use Rattle.s390x_inst.specs.declared.vec_inst.VecInst.TheVariants.{VecLoadReplicate, VecLoadReplicateRev, VecLoadLane, VecLoadLaneRev, VecLoadLaneUndef, VecLoadLaneRevUndef, VecStoreLane, VecStoreLaneRev}
 use Rattle.s390x_typed_steps.specs.Memory.{VrxForm, FloatForm, MemoryInstruction, operate, load_and_operate, access_vector, access_elements, access_lane, load_left, store_left, is_left_lane, vector_memory, without_relative, reversed_code, load_lane_opcode, load_reversed_opcode, store_lane_opcode, store_reversed_opcode}
 use Rattle.s390x_typed_steps.specs.VectorInstruction.{is_vector, reuses_vector, element_code, is_lane}
@@ -49,22 +48,6 @@ either_none true a b h k = h
 either_none false a b h k = k
 
 pub vector_none : (v : VecInst) → without_relative (vector_memory v) ≡ None
-vector_none (VecLoad rd mem) = refl
-vector_none (VecLoadRev rd mem) = refl
-vector_none (VecLoadByte16Rev rd mem) = refl
-vector_none (VecLoadByte32Rev rd mem) = refl
-vector_none (VecLoadByte64Rev rd mem) = refl
-vector_none (VecLoadElt16Rev rd mem) = refl
-vector_none (VecLoadElt32Rev rd mem) = refl
-vector_none (VecLoadElt64Rev rd mem) = refl
-vector_none (VecStore rd mem) = refl
-vector_none (VecStoreRev rd mem) = refl
-vector_none (VecStoreByte16Rev rd mem) = refl
-vector_none (VecStoreByte32Rev rd mem) = refl
-vector_none (VecStoreByte64Rev rd mem) = refl
-vector_none (VecStoreElt16Rev rd mem) = refl
-vector_none (VecStoreElt32Rev rd mem) = refl
-vector_none (VecStoreElt64Rev rd mem) = refl
 vector_none (VecLoadReplicate size rd mem) = elements_none 0xe705 rd (element_code size) mem
 vector_none (VecLoadReplicateRev size rd mem) = elements_none 0xe605 rd (reversed_code size) mem
 vector_none (VecLoadLane size rd ri mem lane) = lane_none (reuses_vector rd ri) load_lane_opcode (number_of rd) (element_code size) size lane mem
