@@ -20,6 +20,7 @@ use Rattle.s390x_inst.specs.declared.whole.WholeLayout.{WholeLayout}
 use Rattle.s390x_inst.specs.Wholes.{as_whole, by_whole, by_direction, layout_place}
 use Rattle.s390x_inst.specs.declared.vec_inst.VecInst.{VecInst}
 use Rattle.s390x_inst.specs.declared.vec_inst.VecInst.TheVariants.{VecLoadReplicate, VecLoadReplicateRev, VecLoadLane, VecLoadLaneRev, VecLoadLaneUndef, VecLoadLaneRevUndef, VecStoreLane, VecStoreLaneRev}
+use Rattle.s390x_rows.specs.declared.opcodes.TheConstants as opcodes
 use Rattle.s390x_typed_steps.specs.General.{is_general, reuses, low_byte, low_halfword, low_displacement, low_12}
 use Rattle.s390x_typed_steps.specs.MachineInstruction.{MachineInstruction, rx, rxy, rs, rsy, si, siy, sil, vrx}
 use Rattle.s390x_typed_steps.specs.Operands.{is_numbered, is_relative}
@@ -109,7 +110,7 @@ store_immediate form mem = Some (record { form = form; operand = mem; accesses =
 
 -- the rows of LOAD ADDRESS, which accesses nothing
 abbrev pub address_form : Reg → StorageForm
-address_form rd = RxForm (number_of rd) (Some 0x41) (Some 0xe371) (Some 0xc00)
+address_form rd = RxForm (number_of rd) (Some opcodes.LA) (Some opcodes.LAY) (Some opcodes.LARL)
 
 -- registers from the first to the last, in order
 abbrev pub is_range : (first last : Reg) → Bool
@@ -168,17 +169,17 @@ access_lane valid opcode register (Some code) size lane mem = cond (is_lane size
 
 -- the opcodes of one element's rows, by the code of its size
 abbrev pub load_lane_opcode : (code : ℕ) → ℕ
-load_lane_opcode code = cond (nat_eq code 0) 0xe700 (cond (nat_eq code 1) 0xe701 (cond (nat_eq code 2) 0xe703 0xe702))
+load_lane_opcode code = cond (nat_eq code 0) opcodes.VLEB (cond (nat_eq code 1) opcodes.VLEH (cond (nat_eq code 2) opcodes.VLEF opcodes.VLEG))
 
 abbrev pub store_lane_opcode : (code : ℕ) → ℕ
-store_lane_opcode code = cond (nat_eq code 0) 0xe708 (cond (nat_eq code 1) 0xe709 (cond (nat_eq code 2) 0xe70b 0xe70a))
+store_lane_opcode code = cond (nat_eq code 0) opcodes.VSTEB (cond (nat_eq code 1) opcodes.VSTEH (cond (nat_eq code 2) opcodes.VSTEF opcodes.VSTEG))
 
 -- those with its bytes reversed
 abbrev pub load_reversed_opcode : (code : ℕ) → ℕ
-load_reversed_opcode code = cond (nat_eq code 1) 0xe601 (cond (nat_eq code 2) 0xe603 0xe602)
+load_reversed_opcode code = cond (nat_eq code 1) opcodes.VLEBRH (cond (nat_eq code 2) opcodes.VLEBRF opcodes.VLEBRG)
 
 abbrev pub store_reversed_opcode : (code : ℕ) → ℕ
-store_reversed_opcode code = cond (nat_eq code 1) 0xe609 (cond (nat_eq code 2) 0xe60b 0xe60a)
+store_reversed_opcode code = cond (nat_eq code 1) opcodes.VSTEBRH (cond (nat_eq code 2) opcodes.VSTEBRF opcodes.VSTEBRG)
 
 -- the leftmost word or doubleword of a register that is a float register too
 abbrev pub is_left_lane : (size lane register : ℕ) → Bool
@@ -186,10 +187,10 @@ is_left_lane size lane register = (nat_eq size 32 || nat_eq size 64) && nat_eq l
 
 -- its rows
 abbrev pub load_left : (size register : ℕ) → StorageForm
-load_left size register = cond (nat_eq size 32) (FloatForm register 0x78 0xed64) (FloatForm register 0x68 0xed65)
+load_left size register = cond (nat_eq size 32) (FloatForm register opcodes.LE opcodes.LEY) (FloatForm register opcodes.LD opcodes.LDY)
 
 abbrev pub store_left : (size register : ℕ) → StorageForm
-store_left size register = cond (nat_eq size 32) (FloatForm register 0x70 0xed66) (FloatForm register 0x60 0xed67)
+store_left size register = cond (nat_eq size 32) (FloatForm register opcodes.STE opcodes.STEY) (FloatForm register opcodes.STD opcodes.STDY)
 
 -- loads and stores of one element. Where the other ones may become any, the leftmost one is also loaded as a float register
 abbrev pub lane_memory : VecInst → Option MemoryInstruction
@@ -207,8 +208,8 @@ lane_memory _ = None
 
 -- loads and stores of elements
 abbrev pub part_memory : VecInst → Option MemoryInstruction
-part_memory (VecLoadReplicate size rd mem) = access_elements 0xe705 rd (element_code size) mem
-part_memory (VecLoadReplicateRev size rd mem) = access_elements 0xe605 rd (reversed_code size) mem
+part_memory (VecLoadReplicate size rd mem) = access_elements opcodes.VLREP rd (element_code size) mem
+part_memory (VecLoadReplicateRev size rd mem) = access_elements opcodes.VLBRREP rd (reversed_code size) mem
 part_memory v = lane_memory v
 
 -- the rows of a layout
@@ -240,16 +241,16 @@ store_memory s = store s.rd (store_rows s.op).rx (store_rows s.op).rxy (store_ro
 abbrev pub rest_memory : Inst → Option MemoryInstruction
 rest_memory (AluRX op rd ri mem) = operate (is_some (alu_rx op) || is_some (alu_rxy op)) (alu_rx op) (alu_rxy op) rd ri mem
 rest_memory (CmpRX op rn mem) = compare rn (cmp_rx op) (cmp_rxy op) (cmp_ril op) mem
-rest_memory (StoreImm8 imm mem) = store_immediate (SiForm (low_byte imm) 0x92 0xeb52) mem
-rest_memory (StoreImm16 imm mem) = store_immediate (SilForm (low_halfword imm) 0xe544) mem
-rest_memory (StoreImm32SExt16 imm mem) = store_immediate (SilForm (low_halfword imm) 0xe54c) mem
-rest_memory (StoreImm64SExt16 imm mem) = store_immediate (SilForm (low_halfword imm) 0xe548) mem
-rest_memory (LoadMultiple64 rt rt2 mem) = multiple rt rt2 0xeb04 false mem
-rest_memory (StoreMultiple64 rt rt2 mem) = multiple rt rt2 0xeb24 (holds_scratch rt rt2) mem
+rest_memory (StoreImm8 imm mem) = store_immediate (SiForm (low_byte imm) opcodes.MVI opcodes.MVIY) mem
+rest_memory (StoreImm16 imm mem) = store_immediate (SilForm (low_halfword imm) opcodes.MVHHI) mem
+rest_memory (StoreImm32SExt16 imm mem) = store_immediate (SilForm (low_halfword imm) opcodes.MVHI) mem
+rest_memory (StoreImm64SExt16 imm mem) = store_immediate (SilForm (low_halfword imm) opcodes.MVGHI) mem
+rest_memory (LoadMultiple64 rt rt2 mem) = multiple rt rt2 opcodes.LMG false mem
+rest_memory (StoreMultiple64 rt rt2 mem) = multiple rt rt2 opcodes.STMG (holds_scratch rt rt2) mem
 rest_memory (LoadAddr rd mem) = Some (record { form = address_form rd; operand = mem; accesses = false; operands_valid = is_general rd; reads_scratch = false })
 rest_memory (AtomicRmw op rd rn mem) = load_and_operate (atomic_rsy op) rd rn mem
-rest_memory (AtomicCas32 rd ri rn mem) = compare_and_swap (Some 0xba) 0xeb14 rd ri rn mem
-rest_memory (AtomicCas64 rd ri rn mem) = compare_and_swap None 0xeb30 rd ri rn mem
+rest_memory (AtomicCas32 rd ri rn mem) = compare_and_swap (Some opcodes.CS) opcodes.CSY rd ri rn mem
+rest_memory (AtomicCas64 rd ri rn mem) = compare_and_swap None opcodes.CSG rd ri rn mem
 rest_memory (Vector v) = vector_memory v
 rest_memory _ = None
 
