@@ -14,6 +14,7 @@ use crate::lanes::{element_code, is_lane};
 use s390x_address::{MemoryInst, StorageRows, vector};
 use s390x_base::Reg;
 use s390x_inst::{Direction, MemArg, VecInst, WholeAccess};
+use s390x_rows::opcodes;
 use s390x_typed_steps::{WholeRows, rows_of_layout};
 
 /// What is done with one element, and whether its bytes are reversed.
@@ -29,10 +30,10 @@ fn load_opcode(code: u8) -> u16
     ensures { result ≡ load_lane_opcode code }
 {
     match code {
-        0 => 0xe700,
-        1 => 0xe701,
-        2 => 0xe703,
-        _ => 0xe702,
+        0 => opcodes::VLEB,
+        1 => opcodes::VLEH,
+        2 => opcodes::VLEF,
+        _ => opcodes::VLEG,
     }
 }
 
@@ -40,9 +41,9 @@ fn load_reversed_opcode(code: u8) -> u16
     ensures { result ≡ load_reversed_opcode code }
 {
     match code {
-        1 => 0xe601,
-        2 => 0xe603,
-        _ => 0xe602,
+        1 => opcodes::VLEBRH,
+        2 => opcodes::VLEBRF,
+        _ => opcodes::VLEBRG,
     }
 }
 
@@ -50,10 +51,10 @@ fn store_opcode(code: u8) -> u16
     ensures { result ≡ store_lane_opcode code }
 {
     match code {
-        0 => 0xe708,
-        1 => 0xe709,
-        2 => 0xe70b,
-        _ => 0xe70a,
+        0 => opcodes::VSTEB,
+        1 => opcodes::VSTEH,
+        2 => opcodes::VSTEF,
+        _ => opcodes::VSTEG,
     }
 }
 
@@ -61,9 +62,9 @@ fn store_reversed_opcode(code: u8) -> u16
     ensures { result ≡ store_reversed_opcode code }
 {
     match code {
-        1 => 0xe609,
-        2 => 0xe60b,
-        _ => 0xe60a,
+        1 => opcodes::VSTEBRH,
+        2 => opcodes::VSTEBRF,
+        _ => opcodes::VSTEBRG,
     }
 }
 
@@ -233,9 +234,9 @@ fn load_left(size: u32, register: Reg, operand: &MemArg) -> Option<MemoryInst>
     ensures encodes { IfSome result (λ x. may_encode x ≡ true) }
 {
     if size == 32 {
-        float(register, 0x78, 0xed64, operand)
+        float(register, opcodes::LE as u8, opcodes::LEY, operand)
     } else {
-        float(register, 0x68, 0xed65, operand)
+        float(register, opcodes::LD as u8, opcodes::LDY, operand)
     }
 }
 
@@ -246,9 +247,9 @@ fn store_left(size: u32, register: Reg, operand: &MemArg) -> Option<MemoryInst>
     ensures encodes { IfSome result (λ x. may_encode x ≡ true) }
 {
     if size == 32 {
-        float(register, 0x70, 0xed66, operand)
+        float(register, opcodes::STE as u8, opcodes::STEY, operand)
     } else {
-        float(register, 0x60, 0xed67, operand)
+        float(register, opcodes::STD as u8, opcodes::STDY, operand)
     }
 }
 
@@ -389,10 +390,10 @@ fn part_memory(inst: &VecInst) -> Option<MemoryInst>
 {
     match inst {
         VecInst::VecLoadReplicate { size, rd, mem } => {
-            elements(0xe705, rd.to_reg(), element_code(*size), mem)
+            elements(opcodes::VLREP, rd.to_reg(), element_code(*size), mem)
         }
         VecInst::VecLoadReplicateRev { size, rd, mem } => {
-            elements(0xe605, rd.to_reg(), reversed_code(*size), mem)
+            elements(opcodes::VLBRREP, rd.to_reg(), reversed_code(*size), mem)
         }
         _ => lane_memory(inst),
     }
