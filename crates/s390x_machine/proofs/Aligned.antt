@@ -4,6 +4,7 @@ use Rattle.std.specs.Prelude.{nat_eq, nat_le, ◌&&◌, not}
 use Rattle.std.proofs.lemmas.Bool.{eq-eqb, eqb-true, leb-true}
 use Rattle.s390x_base.specs.Regs.{number_of}
 use Rattle.s390x_base.specs.declared.regs.Reg.{Reg}
+use Rattle.s390x_rows.specs.declared.opcodes.TheConstants as opcodes
 use Rattle.s390x_typed_steps.specs.General.{is_general}
 use Rattle.s390x_base.specs.declared.error.EmitError.TheVariants.{BadAlignment}
 use Rattle.s390x_buffer.specs.State.{is_alignment}
@@ -163,16 +164,16 @@ no_left true false valid register a b c d mem others opcode h e = absurd (cc)
 no_left false u valid register a b c d mem others opcode h e = h e
 
 no_vector : (v : VecInst) (opcode : ℕ) → relative_row_of (vector_memory v) ≡ Some opcode → ⊥
-no_vector (VecLoadReplicate size rd mem) opcode e = no_elements 0xe705 rd (element_code size) mem opcode e
-no_vector (VecLoadReplicateRev size rd mem) opcode e = no_elements 0xe605 rd (reversed_code size) mem opcode e
+no_vector (VecLoadReplicate size rd mem) opcode e = no_elements opcodes.VLREP rd (element_code size) mem opcode e
+no_vector (VecLoadReplicateRev size rd mem) opcode e = no_elements opcodes.VLBRREP rd (reversed_code size) mem opcode e
 no_vector (VecLoadLane size rd ri mem lane) opcode e = no_lane (reuses_vector rd ri) load_lane_opcode (number_of rd) (element_code size) size lane mem opcode e
 no_vector (VecLoadLaneRev size rd ri mem lane) opcode e = no_lane (reuses_vector rd ri) load_reversed_opcode (number_of rd) (reversed_code size) size lane mem opcode e
 no_vector (VecLoadLaneUndef size rd mem lane) opcode e =
-    no_left (is_left_lane size lane (number_of rd)) (nat_eq size 32) (is_vector rd) (number_of rd) 0x78 0xed64 0x68 0xed65 mem (access_lane (is_vector rd) load_lane_opcode (number_of rd) (element_code size) size lane mem) opcode
+    no_left (is_left_lane size lane (number_of rd)) (nat_eq size 32) (is_vector rd) (number_of rd) opcodes.LE opcodes.LEY opcodes.LD opcodes.LDY mem (access_lane (is_vector rd) load_lane_opcode (number_of rd) (element_code size) size lane mem) opcode
     (no_lane (is_vector rd) load_lane_opcode (number_of rd) (element_code size) size lane mem opcode) e
 no_vector (VecLoadLaneRevUndef size rd mem lane) opcode e = no_lane (is_vector rd) load_reversed_opcode (number_of rd) (reversed_code size) size lane mem opcode e
 no_vector (VecStoreLane size rd mem lane) opcode e =
-    no_left (is_left_lane size lane (number_of rd)) (nat_eq size 32) (is_vector rd) (number_of rd) 0x70 0xed66 0x60 0xed67 mem (access_lane (is_vector rd) store_lane_opcode (number_of rd) (element_code size) size lane mem) opcode
+    no_left (is_left_lane size lane (number_of rd)) (nat_eq size 32) (is_vector rd) (number_of rd) opcodes.STE opcodes.STEY opcodes.STD opcodes.STDY mem (access_lane (is_vector rd) store_lane_opcode (number_of rd) (element_code size) size lane mem) opcode
     (no_lane (is_vector rd) store_lane_opcode (number_of rd) (element_code size) size lane mem opcode) e
 no_vector (VecStoreLaneRev size rd mem lane) opcode e = no_lane (is_vector rd) store_reversed_opcode (number_of rd) (reversed_code size) size lane mem opcode e
 no_vector v opcode e = absurd (cc)
@@ -197,16 +198,16 @@ transfer_bytes_or other (Some (LoadOf l)) opcode e = subst (λ o. RowAccesses (l
 transfer_bytes_or other (Some (StoreOf s)) opcode e = subst (λ o. RowAccesses (store_step s) o) e (store_accesses s.op s.rd s.mem)
 
 pub bytes_accessed : (i : Inst) (opcode : ℕ) → relative_row_of (memory i) ≡ Some opcode → StepAccesses (operand_step i) (relative_bytes opcode)
-bytes_accessed (CmpRX C.CmpS32 rn mem) opcode e = let same : 0xc6d ≡ opcode = cc in subst (λ o. StepAccesses (operand_step (CmpRX C.CmpS32 rn mem)) (relative_bytes o)) same (λ address r. (refl, refl))
-bytes_accessed (CmpRX C.CmpS32Ext16 rn mem) opcode e = let same : 0xc65 ≡ opcode = cc in subst (λ o. StepAccesses (operand_step (CmpRX C.CmpS32Ext16 rn mem)) (relative_bytes o)) same (λ address r. (refl, refl))
-bytes_accessed (CmpRX C.CmpS64 rn mem) opcode e = let same : 0xc68 ≡ opcode = cc in subst (λ o. StepAccesses (operand_step (CmpRX C.CmpS64 rn mem)) (relative_bytes o)) same (λ address r. (refl, refl))
-bytes_accessed (CmpRX C.CmpS64Ext16 rn mem) opcode e = let same : 0xc64 ≡ opcode = cc in subst (λ o. StepAccesses (operand_step (CmpRX C.CmpS64Ext16 rn mem)) (relative_bytes o)) same (λ address r. (refl, refl))
-bytes_accessed (CmpRX C.CmpS64Ext32 rn mem) opcode e = let same : 0xc6c ≡ opcode = cc in subst (λ o. StepAccesses (operand_step (CmpRX C.CmpS64Ext32 rn mem)) (relative_bytes o)) same (λ address r. (refl, refl))
-bytes_accessed (CmpRX C.CmpL32 rn mem) opcode e = let same : 0xc6f ≡ opcode = cc in subst (λ o. StepAccesses (operand_step (CmpRX C.CmpL32 rn mem)) (relative_bytes o)) same (λ address r. (refl, refl))
-bytes_accessed (CmpRX C.CmpL32Ext16 rn mem) opcode e = let same : 0xc67 ≡ opcode = cc in subst (λ o. StepAccesses (operand_step (CmpRX C.CmpL32Ext16 rn mem)) (relative_bytes o)) same (λ address r. (refl, refl))
-bytes_accessed (CmpRX C.CmpL64 rn mem) opcode e = let same : 0xc6a ≡ opcode = cc in subst (λ o. StepAccesses (operand_step (CmpRX C.CmpL64 rn mem)) (relative_bytes o)) same (λ address r. (refl, refl))
-bytes_accessed (CmpRX C.CmpL64Ext16 rn mem) opcode e = let same : 0xc66 ≡ opcode = cc in subst (λ o. StepAccesses (operand_step (CmpRX C.CmpL64Ext16 rn mem)) (relative_bytes o)) same (λ address r. (refl, refl))
-bytes_accessed (CmpRX C.CmpL64Ext32 rn mem) opcode e = let same : 0xc6e ≡ opcode = cc in subst (λ o. StepAccesses (operand_step (CmpRX C.CmpL64Ext32 rn mem)) (relative_bytes o)) same (λ address r. (refl, refl))
+bytes_accessed (CmpRX C.CmpS32 rn mem) opcode e = let same : opcodes.CRL ≡ opcode = cc in subst (λ o. StepAccesses (operand_step (CmpRX C.CmpS32 rn mem)) (relative_bytes o)) same (λ address r. (refl, refl))
+bytes_accessed (CmpRX C.CmpS32Ext16 rn mem) opcode e = let same : opcodes.CHRL ≡ opcode = cc in subst (λ o. StepAccesses (operand_step (CmpRX C.CmpS32Ext16 rn mem)) (relative_bytes o)) same (λ address r. (refl, refl))
+bytes_accessed (CmpRX C.CmpS64 rn mem) opcode e = let same : opcodes.CGRL ≡ opcode = cc in subst (λ o. StepAccesses (operand_step (CmpRX C.CmpS64 rn mem)) (relative_bytes o)) same (λ address r. (refl, refl))
+bytes_accessed (CmpRX C.CmpS64Ext16 rn mem) opcode e = let same : opcodes.CGHRL ≡ opcode = cc in subst (λ o. StepAccesses (operand_step (CmpRX C.CmpS64Ext16 rn mem)) (relative_bytes o)) same (λ address r. (refl, refl))
+bytes_accessed (CmpRX C.CmpS64Ext32 rn mem) opcode e = let same : opcodes.CGFRL ≡ opcode = cc in subst (λ o. StepAccesses (operand_step (CmpRX C.CmpS64Ext32 rn mem)) (relative_bytes o)) same (λ address r. (refl, refl))
+bytes_accessed (CmpRX C.CmpL32 rn mem) opcode e = let same : opcodes.CLRL ≡ opcode = cc in subst (λ o. StepAccesses (operand_step (CmpRX C.CmpL32 rn mem)) (relative_bytes o)) same (λ address r. (refl, refl))
+bytes_accessed (CmpRX C.CmpL32Ext16 rn mem) opcode e = let same : opcodes.CLHRL ≡ opcode = cc in subst (λ o. StepAccesses (operand_step (CmpRX C.CmpL32Ext16 rn mem)) (relative_bytes o)) same (λ address r. (refl, refl))
+bytes_accessed (CmpRX C.CmpL64 rn mem) opcode e = let same : opcodes.CLGRL ≡ opcode = cc in subst (λ o. StepAccesses (operand_step (CmpRX C.CmpL64 rn mem)) (relative_bytes o)) same (λ address r. (refl, refl))
+bytes_accessed (CmpRX C.CmpL64Ext16 rn mem) opcode e = let same : opcodes.CLGHRL ≡ opcode = cc in subst (λ o. StepAccesses (operand_step (CmpRX C.CmpL64Ext16 rn mem)) (relative_bytes o)) same (λ address r. (refl, refl))
+bytes_accessed (CmpRX C.CmpL64Ext32 rn mem) opcode e = let same : opcodes.CLGFRL ≡ opcode = cc in subst (λ o. StepAccesses (operand_step (CmpRX C.CmpL64Ext32 rn mem)) (relative_bytes o)) same (λ address r. (refl, refl))
 bytes_accessed (AluRX op rd ri mem) opcode e = absurd (no_operate (is_some (alu_rx op) || is_some (alu_rxy op)) (alu_rx op) (alu_rxy op) rd ri mem opcode e)
 bytes_accessed (AtomicRmw op rd rn mem) opcode e = absurd (no_load_and_operate (atomic_rsy op) rd rn mem opcode e)
 bytes_accessed (Vector v) opcode e = absurd (no_vector v opcode e)

@@ -10,6 +10,7 @@ use Rattle.s390x_format.specs.declared.kind.FormatKind.TheVariants.{RilB}
 use Rattle.s390x_format.specs.declared.row.Allowed.TheVariants.{Any}
 use Rattle.s390x_format.specs.Lookup.{row_for}
 use Rattle.s390x_format.specs.Fetch.{machine_rows}
+use Rattle.s390x_rows.specs.declared.opcodes.TheConstants as opcodes
 use Rattle.s390x_typed_steps.specs.Memory.{load_rows, store_rows}
 use Rattle.s390x_typed_steps.specs.Storage.{cmp_ril}
 use Rattle.s390x_operations.specs.declared.size.Size.{Size}
@@ -44,7 +45,7 @@ relative_load_rows op = rows (λ n. RilB) Any 4096 (load_rows op).ril (relative_
     agrees LoadOps.Load64 = refl
     agrees _ = refl
 
-pub relative_address_row : RelativeRows (Some 0xc00) (Compute Move Doubleword (second_register RelativeAddress doubleword) Kept)
+pub relative_address_row : RelativeRows (Some opcodes.LARL) (Compute Move Doubleword (second_register RelativeAddress doubleword) Kept)
 unfolding machine_rows row_for semantics_in semantics_of
 relative_address_row = (record { is = refl }, refl)
 

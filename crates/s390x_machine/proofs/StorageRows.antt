@@ -12,6 +12,7 @@ use Rattle.s390x_format.specs.declared.kind.FormatKind.TheVariants.{Rx, Rxy, Rs,
 use Rattle.s390x_format.specs.declared.row.Allowed.TheVariants.{Any}
 use Rattle.s390x_format.specs.Lookup.{row_for}
 use Rattle.s390x_format.specs.Fetch.{machine_rows}
+use Rattle.s390x_rows.specs.declared.opcodes.TheConstants as opcodes
 use Rattle.s390x_typed_steps.specs.Storage.{alu_rx, alu_rxy, cmp_rx, cmp_rxy, cmp_ril, atomic_rsy}
 use Rattle.s390x_typed_steps.specs.Memory.{load_rows, store_rows, RxForm, type_of}
 use Rattle.s390x_operations.specs.declared.size.Size.{Size}
@@ -59,7 +60,7 @@ load_indexed_rows op =
     long LoadOps.Load64 = refl
     long _ = refl
 
-pub load_address : IndexedRows (Some 0x41) (Some 0xe371) (Compute Move Doubleword (second_register IndexedAddress doubleword) Kept)
+pub load_address : IndexedRows (Some opcodes.LA) (Some opcodes.LAY) (Compute Move Doubleword (second_register IndexedAddress doubleword) Kept)
 unfolding machine_rows row_for semantics_in semantics_of
 load_address = ((record { is = refl }, refl), (record { is = refl }, refl))
 
@@ -79,37 +80,37 @@ store_indexed_rows op =
     long StoreOps.Store64 = refl
     long _ = refl
 
-pub store_byte : OpcodeRow Si 256 0x92 StoreByte × OpcodeRow Siy 65536 0xeb52 StoreByte
+pub store_byte : OpcodeRow Si 256 opcodes.MVI StoreByte × OpcodeRow Siy 65536 opcodes.MVIY StoreByte
 unfolding machine_rows row_for semantics_in semantics_of
 store_byte = ((record { is = refl }, refl), (record { is = refl }, refl))
 
-pub store_immediate_16 : OpcodeRow Sil 65536 0xe544 (StoreImmediate Bits16)
+pub store_immediate_16 : OpcodeRow Sil 65536 opcodes.MVHHI (StoreImmediate Bits16)
 unfolding machine_rows row_for semantics_in semantics_of
 store_immediate_16 = (record { is = refl }, refl)
 
-pub store_immediate_32 : OpcodeRow Sil 65536 0xe54c (StoreImmediate Bits32)
+pub store_immediate_32 : OpcodeRow Sil 65536 opcodes.MVHI (StoreImmediate Bits32)
 unfolding machine_rows row_for semantics_in semantics_of
 store_immediate_32 = (record { is = refl }, refl)
 
-pub store_immediate_64 : OpcodeRow Sil 65536 0xe548 (StoreImmediate Bits64)
+pub store_immediate_64 : OpcodeRow Sil 65536 opcodes.MVGHI (StoreImmediate Bits64)
 unfolding machine_rows row_for semantics_in semantics_of
 store_immediate_64 = (record { is = refl }, refl)
 
 -- ---- two registers
 
-pub load_multiple : BasedRows None (Some 0xeb04) LoadMultiple
+pub load_multiple : BasedRows None (Some opcodes.LMG) LoadMultiple
 unfolding machine_rows row_for semantics_in semantics_of
 load_multiple = (tt, (record { is = refl }, refl))
 
-pub store_multiple : BasedRows None (Some 0xeb24) StoreMultiple
+pub store_multiple : BasedRows None (Some opcodes.STMG) StoreMultiple
 unfolding machine_rows row_for semantics_in semantics_of
 store_multiple = (tt, (record { is = refl }, refl))
 
-pub swap_32 : BasedRows (Some 0xba) (Some 0xeb14) (CompareAndSwap Word)
+pub swap_32 : BasedRows (Some opcodes.CS) (Some opcodes.CSY) (CompareAndSwap Word)
 unfolding machine_rows row_for semantics_in semantics_of
 swap_32 = ((record { is = refl }, refl), (record { is = refl }, refl))
 
-pub swap_64 : BasedRows None (Some 0xeb30) (CompareAndSwap Doubleword)
+pub swap_64 : BasedRows None (Some opcodes.CSG) (CompareAndSwap Doubleword)
 unfolding machine_rows row_for semantics_in semantics_of
 swap_64 = (tt, (record { is = refl }, refl))
 

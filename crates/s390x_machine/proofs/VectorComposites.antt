@@ -25,6 +25,7 @@ use Rattle.s390x_operations.specs.declared.effect.Operation.{Operation}
 use Rattle.s390x_operations.specs.declared.stop.ConditionCode.{ConditionCode}
 use Rattle.s390x_operations.specs.declared.stop.ConditionCode.TheVariants.{Code0, Code1, Code2, Code3}
 use Rattle.s390x_operations.specs.declared.stop.StopKind.{StopKind}
+use Rattle.s390x_rows.specs.declared.opcodes.TheConstants as opcodes
 use Rattle.s390x_typed_steps.specs.General.{four_bits}
 use Rattle.s390x_typed_steps.specs.MachineInstruction.{MachineInstruction, size_of, ri_c, rr, vrr_a}
 use Rattle.s390x_typed_steps.specs.Memory.{access_elements, vector_memory, whole_memory}
@@ -83,7 +84,7 @@ half_even o e = omega (arith, e)
 
 module _ {L : Layout} {k : ℕ} {s : Step} (b : StepAt L k s) where
   -- a row that is skipped under the codes that the mask doesn't select. The branch over it leads so many bytes on
-  skip_runs : (mask half distance : ℕ) (row : MachineInstruction) (does operation : Registers → Operation) → kind_of_step L (Some s) ≡ Some (PerformsWhere mask operation) → step_parts s ≡ Row (ri_c 0xa74 (15 - mask) half) ∷ Row row ∷ [] → mask < 16 → half < 2 ^ 16 → pos 2 *ℤ cast_signed w16 (half % 2 ^ 16) ≡ pos distance →
+  skip_runs : (mask half distance : ℕ) (row : MachineInstruction) (does operation : Registers → Operation) → kind_of_step L (Some s) ≡ Some (PerformsWhere mask operation) → step_parts s ≡ Row (ri_c opcodes.BRC (15 - mask) half) ∷ Row row ∷ [] → mask < 16 → half < 2 ^ 16 → pos 2 *ℤ cast_signed w16 (half % 2 ^ 16) ≡ pos distance →
       4 + size_of row ≡ distance → 0 < size_of row → DoesThere L b.image (L.offsets.step k + 4) (half_even (L.offsets.step k) (step_even b)) row does → ((r : Registers) → Refines (does r) (operation r)) → ((r : Registers) → access (operation r).effect ≡ Untouched) → ((r : Registers) → refused (operation r).effect ≡ None) → ((r : Registers) (kind : StopKind) → MayRefuse (operation r).effect kind → ⊥) → StepRuns L k
   unfolding length_of
   skip_runs mask half distance row does operation is parts lm lh words long some there refines untouched never_refused never_stops =
@@ -109,13 +110,13 @@ module _ {L : Layout} {k : ℕ} {s : Step} (b : StepAt L k s) where
       })
 
   -- a move of a whole register
-  skipped_vector : (mask d n : ℕ) (operation : Registers → Operation) → kind_of_step L (Some s) ≡ Some (PerformsWhere mask operation) → step_parts s ≡ row_parts (skipping mask (vrr_a 0xe756 d n 0)) → mask < 16 → d < 32 → n < 32 → ((r : Registers) → Refines (elements_computed (vrr_a 0xe756 d n 0) O.Move r) (operation r)) →
+  skipped_vector : (mask d n : ℕ) (operation : Registers → Operation) → kind_of_step L (Some s) ≡ Some (PerformsWhere mask operation) → step_parts s ≡ row_parts (skipping mask (vrr_a opcodes.VLR d n 0)) → mask < 16 → d < 32 → n < 32 → ((r : Registers) → Refines (elements_computed (vrr_a opcodes.VLR d n 0) O.Move r) (operation r)) →
       ((r : Registers) → access (operation r).effect ≡ Untouched) → ((r : Registers) → refused (operation r).effect ≡ None) → ((r : Registers) (kind : StopKind) → MayRefuse (operation r).effect kind → ⊥) → StepRuns L k
   unfolding length_of
   skipped_vector mask d n operation is parts lm ld ln refines untouched never_refused never_stops =
-      let x = vrr_a 0xe756 d n 0 in
+      let x = vrr_a opcodes.VLR d n 0 in
       let row = move_row d n in
-      let fit = fits_vrr_a 0xe756 d n 0 (few_digits (elements_listed row)) ld ln (omega arith) in
+      let fit = fits_vrr_a opcodes.VLR d n 0 (few_digits (elements_listed row)) ld ln (omega arith) in
       skip_runs mask 5 10 x (elements_computed x O.Move) operation is parts lm (omega arith) refl refl (omega arith) (vector_there L b.image (L.offsets.step k + 4) (half_even (L.offsets.step k) (step_even b)) x O.Move row fit) refines untouched never_refused never_stops
 
   -- a move of the leftmost element
@@ -123,7 +124,7 @@ module _ {L : Layout} {k : ℕ} {s : Step} (b : StepAt L k s) where
   unfolding length_of
   skipped_left opcode e short listed mask d n is lm few = go (nat_lt d 16 && nat_lt n 16) refl
     where
-      go : (t : Bool) → (nat_lt d 16 && nat_lt n 16) ≡ t → step_parts s ≡ row_parts (skipping mask (cond t (rr opcode d n) (vrr_a 0xe756 d n 0))) → StepRuns L k
+      go : (t : Bool) → (nat_lt d 16 && nat_lt n 16) ≡ t → step_parts s ≡ row_parts (skipping mask (cond t (rr opcode d n) (vrr_a opcodes.VLR d n 0))) → StepRuns L k
       go true test parts =
           let tests = and_parts (nat_lt d 16) (nat_lt n 16) test in
           let even = half_even (L.offsets.step k) (step_even b) in
@@ -179,18 +180,18 @@ whole_or_single b v None is = vector_instruction_runs b v (is.0, is.1, no_severa
 whole_or_single b v (Some w) is = whole_runs b w.direction w.layout w.rd w.mem is
 
 pub any_vector_runs : {L : Layout} {k : ℕ} {s : Step} (b : StepAt L k s) (v : VecInst) → IsAnyVectorStep L s v → StepRuns L k
-any_vector_runs b (FpuCMov32 rd mask ri rm) is = skipped_left b 0x38 Word (omega arith) ler_row (four_bits mask) (number_of rd) (number_of rm) is.0 (omega arith) (moved_registers rd ri rm is.2) is.1
-any_vector_runs b (FpuCMov64 rd mask ri rm) is = skipped_left b 0x28 Doubleword (omega arith) ldr_row (four_bits mask) (number_of rd) (number_of rm) is.0 (omega arith) (moved_registers rd ri rm is.2) is.1
+any_vector_runs b (FpuCMov32 rd mask ri rm) is = skipped_left b opcodes.LER Word (omega arith) ler_row (four_bits mask) (number_of rd) (number_of rm) is.0 (omega arith) (moved_registers rd ri rm is.2) is.1
+any_vector_runs b (FpuCMov64 rd mask ri rm) is = skipped_left b opcodes.LDR Doubleword (omega arith) ldr_row (four_bits mask) (number_of rd) (number_of rm) is.0 (omega arith) (moved_registers rd ri rm is.2) is.1
 any_vector_runs b (VecCMov rd mask ri rm) is =
     let d = number_of rd in
     let n = number_of rm in
     let few = moved_registers rd ri rm is.2 in
     skipped_vector b (four_bits mask) d n (computes_one_vector O.Move d n) is.0 is.1 (omega arith) few.0 few.1 (λ r. no_third O.Move refl d (r.vector d) (r.vector n) (r.vector 0) (r.vector 0)) (λ r. refl) (λ r. refl) (λ r kind h. true≢false (sym h.1))
 any_vector_runs b (VecEltRev count rd rn) is = reversal_runs b count (number_of rd) (number_of rn) (is_vector rd && is_vector rn) (two_vectors rd rn) is
-any_vector_runs b (VecInt128SCmpHi tmp rn rm) is = wide_runs b 0xe7db Signed (number_of tmp) (number_of rn) (number_of rm) (compare_signed_row (number_of rm) (number_of rn)) (compared_registers tmp rn rm is.2) is.0 is.1
-any_vector_runs b (VecInt128UCmpHi tmp rn rm) is = wide_runs b 0xe7d9 Unsigned (number_of tmp) (number_of rn) (number_of rm) (compare_unsigned_row (number_of rm) (number_of rn)) (compared_registers tmp rn rm is.2) is.0 is.1
-any_vector_runs b (VecLoadReplicate size rd mem) is = replicated_runs b (is_vector rd) size (number_of rd) mem (λ o. access_elements 0xe705 rd o mem) refl (λ c. refl) (vector_number rd) is
-any_vector_runs b (VecLoadReplicateRev size rd mem) is = reversed_replicated_runs b (is_vector rd) size (number_of rd) mem (λ o. access_elements 0xe605 rd o mem) refl (λ c. refl) (vector_number rd) is
+any_vector_runs b (VecInt128SCmpHi tmp rn rm) is = wide_runs b opcodes.VEC Signed (number_of tmp) (number_of rn) (number_of rm) (compare_signed_row (number_of rm) (number_of rn)) (compared_registers tmp rn rm is.2) is.0 is.1
+any_vector_runs b (VecInt128UCmpHi tmp rn rm) is = wide_runs b opcodes.VECL Unsigned (number_of tmp) (number_of rn) (number_of rm) (compare_unsigned_row (number_of rm) (number_of rn)) (compared_registers tmp rn rm is.2) is.0 is.1
+any_vector_runs b (VecLoadReplicate size rd mem) is = replicated_runs b (is_vector rd) size (number_of rd) mem (λ o. access_elements opcodes.VLREP rd o mem) refl (λ c. refl) (vector_number rd) is
+any_vector_runs b (VecLoadReplicateRev size rd mem) is = reversed_replicated_runs b (is_vector rd) size (number_of rd) mem (λ o. access_elements opcodes.VLBRREP rd o mem) refl (λ c. refl) (vector_number rd) is
 any_vector_runs b (VecLoadLane size rd ri mem lane) is = load_lane_runs b (reuses_vector rd ri) size lane (number_of rd) mem (reused_vector rd ri) is
 any_vector_runs b (VecLoadLaneRev size rd ri mem lane) is = load_reversed_runs b (reuses_vector rd ri) size lane (number_of rd) mem (reused_vector rd ri) is
 any_vector_runs b (VecLoadLaneUndef size rd mem lane) is = load_alone_runs b (is_vector rd) size lane (number_of rd) mem (vector_number rd) is

@@ -29,6 +29,7 @@ use Rattle.s390x_operations.specs.declared.effect.Effect.{Effect}
 use Rattle.s390x_operations.specs.declared.effect.Operation.{Operation}
 use Rattle.s390x_operations.specs.declared.effect.VectorLayout.{VectorLayout}
 use Rattle.s390x_operations.specs.declared.effect.VectorLayout.TheVariants as Layouts
+use Rattle.s390x_rows.specs.declared.opcodes.TheConstants as opcodes
 use Rattle.s390x_typed_steps.specs.MachineInstruction.{vrx}
 use Rattle.s390x_typed_steps.specs.Memory.{MemoryInstruction, StorageForm, VrxForm, FloatForm, type_of, access_vector, access_lane, layout_rows, whole_memory, reversed_code, is_left_lane, load_left, store_left, load_lane_opcode, store_lane_opcode, load_reversed_opcode, store_reversed_opcode, fault_code}
 use Rattle.s390x_typed_steps.specs.Operands.{operand_general}
@@ -152,11 +153,11 @@ unfolding machine_rows row_for semantics_in semantics_of
 store_row Straight = (record { is = refl }, refl)
 store_row layout = (record { is = refl }, refl)
 
-load_replicated : Meant Vrx (FirstMask 0 3) 0xe705 (Row.LoadVector (VectorStorage.Replicated false))
+load_replicated : Meant Vrx (FirstMask 0 3) opcodes.VLREP (Row.LoadVector (VectorStorage.Replicated false))
 unfolding machine_rows row_for semantics_in semantics_of
 load_replicated = (record { is = refl }, refl)
 
-load_replicated_reversed : Meant Vrx (FirstMask 1 3) 0xe605 (Row.LoadVector (VectorStorage.Replicated true))
+load_replicated_reversed : Meant Vrx (FirstMask 1 3) opcodes.VLBRREP (Row.LoadVector (VectorStorage.Replicated true))
 unfolding machine_rows row_for semantics_in semantics_of
 load_replicated_reversed = (record { is = refl }, refl)
 
@@ -200,19 +201,19 @@ store_reversed_row Doubleword wide = (record { is = refl }, refl)
 store_reversed_row Quadword wide = absurd wide
 
 -- the leftmost element of a float register
-load_word_left : IndexedRows (Some 0x78) (Some 0xed64) (Row.LoadLeft Word)
+load_word_left : IndexedRows (Some opcodes.LE) (Some opcodes.LEY) (Row.LoadLeft Word)
 unfolding machine_rows row_for semantics_in semantics_of
 load_word_left = ((record { is = refl }, refl), (record { is = refl }, refl))
 
-load_doubleword_left : IndexedRows (Some 0x68) (Some 0xed65) (Row.LoadLeft Doubleword)
+load_doubleword_left : IndexedRows (Some opcodes.LD) (Some opcodes.LDY) (Row.LoadLeft Doubleword)
 unfolding machine_rows row_for semantics_in semantics_of
 load_doubleword_left = ((record { is = refl }, refl), (record { is = refl }, refl))
 
-store_word_left : IndexedRows (Some 0x70) (Some 0xed66) (Row.StoreLeft Word)
+store_word_left : IndexedRows (Some opcodes.STE) (Some opcodes.STEY) (Row.StoreLeft Word)
 unfolding machine_rows row_for semantics_in semantics_of
 store_word_left = ((record { is = refl }, refl), (record { is = refl }, refl))
 
-store_doubleword_left : IndexedRows (Some 0x60) (Some 0xed67) (Row.StoreLeft Doubleword)
+store_doubleword_left : IndexedRows (Some opcodes.STD) (Some opcodes.STDY) (Row.StoreLeft Doubleword)
 unfolding machine_rows row_for semantics_in semantics_of
 store_doubleword_left = ((record { is = refl }, refl), (record { is = refl }, refl))
 
@@ -335,22 +336,22 @@ module _ {L : Layout} {k : ℕ} {s : Step} (b : StepAt L k s) where
   sized_runs P o size (inr (e, c, p)) x nothing mem forms does run is =
       run e p c.sized (subst (λ z. Accesses (x (Some (code_of_size e))) mem forms (does z)) c.sized.elements (subst (λ q. Accesses (x q) mem forms (does (elements_of size))) c.code is))
 
-  pub replicated_runs : (valid : Bool) (size d : ℕ) (mem : MemArg) (x : Option ℕ → Option MemoryInstruction) → x None ≡ None → ((c : ℕ) → x (Some c) ≡ access_vector valid (VrxForm d 0xe705 c) mem) → (IsTrue valid → d < 32) → Accesses (x (element_code size)) mem vector_forms (loads_vector (VectorLayout.Replicated (elements_of size) false) all_bits d) → StepRuns L k
+  pub replicated_runs : (valid : Bool) (size d : ℕ) (mem : MemArg) (x : Option ℕ → Option MemoryInstruction) → x None ≡ None → ((c : ℕ) → x (Some c) ≡ access_vector valid (VrxForm d opcodes.VLREP c) mem) → (IsTrue valid → d < 32) → Accesses (x (element_code size)) mem vector_forms (loads_vector (VectorLayout.Replicated (elements_of size) false) all_bits d) → StepRuns L k
   replicated_runs valid size d mem x nothing some few is = sized_runs IsNarrow (element_code size) size (of_elements size) x nothing mem vector_forms (λ e. loads_vector (VectorLayout.Replicated e false) all_bits d) (λ e narrow z is.
-      replicates e false 0xe705 0 3 load_replicated valid d (allowed e narrow) few mem (subst (λ q. Accesses q mem vector_forms (loads_vector (VectorLayout.Replicated e false) all_bits d)) (some (code_of_size e)) is)) is
+      replicates e false opcodes.VLREP 0 3 load_replicated valid d (allowed e narrow) few mem (subst (λ q. Accesses q mem vector_forms (loads_vector (VectorLayout.Replicated e false) all_bits d)) (some (code_of_size e)) is)) is
     where
-      allowed : (e : ElementSize) → IsNarrow e → is_allowed (FirstMask 0 3) (vrx 0xe705 d 0 0 (code_of_size e) 0).slots ≡ true
+      allowed : (e : ElementSize) → IsNarrow e → is_allowed (FirstMask 0 3) (vrx opcodes.VLREP d 0 0 (code_of_size e) 0).slots ≡ true
       allowed Byte h = refl
       allowed Halfword h = refl
       allowed Word h = refl
       allowed Doubleword h = refl
       allowed Quadword h = absurd h
 
-  pub reversed_replicated_runs : (valid : Bool) (size d : ℕ) (mem : MemArg) (x : Option ℕ → Option MemoryInstruction) → x None ≡ None → ((c : ℕ) → x (Some c) ≡ access_vector valid (VrxForm d 0xe605 c) mem) → (IsTrue valid → d < 32) → Accesses (x (reversed_code size)) mem vector_forms (loads_vector (VectorLayout.Replicated (elements_of size) true) all_bits d) → StepRuns L k
+  pub reversed_replicated_runs : (valid : Bool) (size d : ℕ) (mem : MemArg) (x : Option ℕ → Option MemoryInstruction) → x None ≡ None → ((c : ℕ) → x (Some c) ≡ access_vector valid (VrxForm d opcodes.VLBRREP c) mem) → (IsTrue valid → d < 32) → Accesses (x (reversed_code size)) mem vector_forms (loads_vector (VectorLayout.Replicated (elements_of size) true) all_bits d) → StepRuns L k
   reversed_replicated_runs valid size d mem x nothing some few is = sized_runs IsWide (reversed_code size) size (of_reversed size) x nothing mem vector_forms (λ e. loads_vector (VectorLayout.Replicated e true) all_bits d) (λ e wide z is.
-      replicates e true 0xe605 1 3 load_replicated_reversed valid d (allowed e wide) few mem (subst (λ q. Accesses q mem vector_forms (loads_vector (VectorLayout.Replicated e true) all_bits d)) (some (code_of_size e)) is)) is
+      replicates e true opcodes.VLBRREP 1 3 load_replicated_reversed valid d (allowed e wide) few mem (subst (λ q. Accesses q mem vector_forms (loads_vector (VectorLayout.Replicated e true) all_bits d)) (some (code_of_size e)) is)) is
     where
-      allowed : (e : ElementSize) → IsWide e → is_allowed (FirstMask 1 3) (vrx 0xe605 d 0 0 (code_of_size e) 0).slots ≡ true
+      allowed : (e : ElementSize) → IsWide e → is_allowed (FirstMask 1 3) (vrx opcodes.VLBRREP d 0 0 (code_of_size e) 0).slots ≡ true
       allowed Byte h = absurd h
       allowed Halfword h = refl
       allowed Word h = refl
@@ -404,12 +405,12 @@ module _ {L : Layout} {k : ℕ} {s : Step} (b : StepAt L k s) where
       Accesses (cond (is_left_lane size lane d) (access_vector valid (load_left size d) mem) (access_lane valid load_lane_opcode d (element_code size) size lane mem)) mem (lane_forms size lane d) (loads_vector (VectorLayout.Element (elements_of size) lane false) (lane_bits (elements_of size) lane) d) → StepRuns L k
   load_alone_runs valid size lane d mem few is = go (is_left_lane size lane d) refl is
     where
-      word : d < 16 → Accesses (access_vector valid (FloatForm d 0x78 0xed64) mem) mem (indexed_forms true true false) (loads_vector (VectorLayout.Element Word 0 false) (lane_bits Word 0) d) → StepRuns L k
-      word low is = access_runs valid (FloatForm d 0x78 0xed64) mem (indexed_forms true true false) (loads_vector (VectorLayout.Element Word 0 false) (lane_bits Word 0) d) refl (λ h.
+      word : d < 16 → Accesses (access_vector valid (FloatForm d opcodes.LE opcodes.LEY) mem) mem (indexed_forms true true false) (loads_vector (VectorLayout.Element Word 0 false) (lane_bits Word 0) d) → StepRuns L k
+      word low is = access_runs valid (FloatForm d opcodes.LE opcodes.LEY) mem (indexed_forms true true false) (loads_vector (VectorLayout.Element Word 0 false) (lane_bits Word 0) d) refl (λ h.
           record { few = low; semantics = Row.LoadLeft Word; short_rows = load_word_left.0; long_rows = load_word_left.1; acts = λ kind opcode base index n r p. refl }) tt (loads_steady (VectorLayout.Element Word 0 false) (lane_bits Word 0) d) is
 
-      doubleword : d < 16 → Accesses (access_vector valid (FloatForm d 0x68 0xed65) mem) mem (indexed_forms true true false) (loads_vector (VectorLayout.Element Doubleword 0 false) (lane_bits Doubleword 0) d) → StepRuns L k
-      doubleword low is = access_runs valid (FloatForm d 0x68 0xed65) mem (indexed_forms true true false) (loads_vector (VectorLayout.Element Doubleword 0 false) (lane_bits Doubleword 0) d) refl (λ h.
+      doubleword : d < 16 → Accesses (access_vector valid (FloatForm d opcodes.LD opcodes.LDY) mem) mem (indexed_forms true true false) (loads_vector (VectorLayout.Element Doubleword 0 false) (lane_bits Doubleword 0) d) → StepRuns L k
+      doubleword low is = access_runs valid (FloatForm d opcodes.LD opcodes.LDY) mem (indexed_forms true true false) (loads_vector (VectorLayout.Element Doubleword 0 false) (lane_bits Doubleword 0) d) refl (λ h.
           record { few = low; semantics = Row.LoadLeft Doubleword; short_rows = load_doubleword_left.0; long_rows = load_doubleword_left.1; acts = λ kind opcode base index n r p. refl }) tt (loads_steady (VectorLayout.Element Doubleword 0 false) (lane_bits Doubleword 0) d) is
 
       go : (t : Bool) → is_left_lane size lane d ≡ t → Accesses (cond t (access_vector valid (load_left size d) mem) (access_lane valid load_lane_opcode d (element_code size) size lane mem)) mem (indexed_forms true t false) (loads_vector (VectorLayout.Element (elements_of size) lane false) (lane_bits (elements_of size) lane) d) → StepRuns L k
@@ -422,12 +423,12 @@ module _ {L : Layout} {k : ℕ} {s : Step} (b : StepAt L k s) where
       Accesses (cond (is_left_lane size lane d) (access_vector valid (store_left size d) mem) (access_lane valid store_lane_opcode d (element_code size) size lane mem)) mem (lane_forms size lane d) (stores_vector (VectorLayout.Element (elements_of size) lane false) d) → StepRuns L k
   store_lane_runs valid size lane d mem few is = go (is_left_lane size lane d) refl is
     where
-      word : d < 16 → Accesses (access_vector valid (FloatForm d 0x70 0xed66) mem) mem (indexed_forms true true false) (stores_vector (VectorLayout.Element Word 0 false) d) → StepRuns L k
-      word low is = access_runs valid (FloatForm d 0x70 0xed66) mem (indexed_forms true true false) (stores_vector (VectorLayout.Element Word 0 false) d) refl (λ h.
+      word : d < 16 → Accesses (access_vector valid (FloatForm d opcodes.STE opcodes.STEY) mem) mem (indexed_forms true true false) (stores_vector (VectorLayout.Element Word 0 false) d) → StepRuns L k
+      word low is = access_runs valid (FloatForm d opcodes.STE opcodes.STEY) mem (indexed_forms true true false) (stores_vector (VectorLayout.Element Word 0 false) d) refl (λ h.
           record { few = low; semantics = Row.StoreLeft Word; short_rows = store_word_left.0; long_rows = store_word_left.1; acts = λ kind opcode base index n r p. refl }) tt (stores_steady (VectorLayout.Element Word 0 false) d) is
 
-      doubleword : d < 16 → Accesses (access_vector valid (FloatForm d 0x60 0xed67) mem) mem (indexed_forms true true false) (stores_vector (VectorLayout.Element Doubleword 0 false) d) → StepRuns L k
-      doubleword low is = access_runs valid (FloatForm d 0x60 0xed67) mem (indexed_forms true true false) (stores_vector (VectorLayout.Element Doubleword 0 false) d) refl (λ h.
+      doubleword : d < 16 → Accesses (access_vector valid (FloatForm d opcodes.STD opcodes.STDY) mem) mem (indexed_forms true true false) (stores_vector (VectorLayout.Element Doubleword 0 false) d) → StepRuns L k
+      doubleword low is = access_runs valid (FloatForm d opcodes.STD opcodes.STDY) mem (indexed_forms true true false) (stores_vector (VectorLayout.Element Doubleword 0 false) d) refl (λ h.
           record { few = low; semantics = Row.StoreLeft Doubleword; short_rows = store_doubleword_left.0; long_rows = store_doubleword_left.1; acts = λ kind opcode base index n r p. refl }) tt (stores_steady (VectorLayout.Element Doubleword 0 false) d) is
 
       go : (t : Bool) → is_left_lane size lane d ≡ t → Accesses (cond t (access_vector valid (store_left size d) mem) (access_lane valid store_lane_opcode d (element_code size) size lane mem)) mem (indexed_forms true t false) (stores_vector (VectorLayout.Element (elements_of size) lane false) d) → StepRuns L k
