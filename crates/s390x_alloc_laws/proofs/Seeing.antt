@@ -15,6 +15,7 @@ use Rattle.s390x_inst.specs.Stores.{as_store, by_store}
 use Rattle.s390x_inst.specs.Wholes.{as_whole, by_whole}
 use Rattle.s390x_inst.specs.declared.vec_inst.VecInst.{VecInst}
 use Rattle.s390x_inst.specs.declared.vec_inst.VecInst.TheVariants.{VecLoadReplicate, VecLoadReplicateRev, VecLoadLane, VecLoadLaneRev, VecLoadLaneUndef, VecLoadLaneRevUndef, VecStoreLane, VecStoreLaneRev}
+use Rattle.s390x_rows.specs.declared.opcodes.TheConstants as opcodes
 use Rattle.s390x_typed_steps.specs.Memory.{MemoryInstruction, VrxForm, operate, load_and_operate, access_elements, access_lane, access_vector, load_lane_opcode, load_left, load_memory, load_reversed_opcode, is_left_lane, other_memory, reversed_code, store_memory, whole_memory, store_lane_opcode, store_left, store_reversed_opcode}
 use Rattle.s390x_typed_steps.specs.Memory.{vector_memory as step_vector}
 use Rattle.s390x_typed_steps.specs.Storage.{alu_rx, alu_rxy, atomic_rsy}
@@ -47,8 +48,8 @@ whole_seen None = tt
 whole_seen (Some w) = refl
 
 vector_seen : (v : VecInst) → IsOperandOf (step_vector v) (vector_memory v)
-vector_seen (VecLoadReplicate size rd mem) = elements_seen 0xe705 rd (element_code size) mem
-vector_seen (VecLoadReplicateRev size rd mem) = elements_seen 0xe605 rd (reversed_code size) mem
+vector_seen (VecLoadReplicate size rd mem) = elements_seen opcodes.VLREP rd (element_code size) mem
+vector_seen (VecLoadReplicateRev size rd mem) = elements_seen opcodes.VLBRREP rd (reversed_code size) mem
 vector_seen (VecLoadLane size rd ri mem lane) = lane_seen (reuses_vector rd ri) load_lane_opcode (number_of rd) (element_code size) size lane mem
 vector_seen (VecLoadLaneRev size rd ri mem lane) = lane_seen (reuses_vector rd ri) load_reversed_opcode (number_of rd) (reversed_code size) size lane mem
 vector_seen (VecLoadLaneUndef size rd mem lane) =
