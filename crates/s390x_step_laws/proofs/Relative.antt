@@ -22,6 +22,7 @@ use Rattle.s390x_inst.specs.declared.whole.WholeAccess.{WholeAccess}
 use Rattle.s390x_inst.specs.declared.state.IsaFlags.{IsaFlags}
 use Rattle.s390x_inst.specs.declared.vec_inst.VecInst.{VecInst}
 use Rattle.s390x_inst.specs.declared.vec_inst.VecInst.TheVariants.{VecLoadReplicate, VecLoadReplicateRev, VecLoadLane, VecLoadLaneRev, VecLoadLaneUndef, VecLoadLaneRevUndef, VecStoreLane, VecStoreLaneRev}
+use Rattle.s390x_rows.specs.declared.opcodes.TheConstants as opcodes
 use Rattle.s390x_typed_steps.specs.Baseline.{whole_or_loaded, body_for, tree_for}
 use Rattle.s390x_typed_steps.specs.Folding.{folded, fold, shortened, remainder, branches_of, folded_before, folded_from, next_block}
 use Rattle.s390x_typed_steps.specs.MachineInstruction.{MachineInstruction}
@@ -186,8 +187,8 @@ whole_or_none (Some w) = inl refl
 
 -- the last clause is a copy for each load and store of a whole register, and for each that has no operand in memory
 vector_accesses : (v : VecInst) → MayAccess (vector_memory v)
-vector_accesses (VecLoadReplicate size rd mem) = elements 0xe705 rd (element_code size) mem
-vector_accesses (VecLoadReplicateRev size rd mem) = elements 0xe605 rd (reversed_code size) mem
+vector_accesses (VecLoadReplicate size rd mem) = elements opcodes.VLREP rd (element_code size) mem
+vector_accesses (VecLoadReplicateRev size rd mem) = elements opcodes.VLBRREP rd (reversed_code size) mem
 vector_accesses (VecLoadLane size rd ri mem lane) = one_lane (reuses_vector rd ri) load_lane_opcode (number_of rd) (element_code size) size lane mem
 vector_accesses (VecLoadLaneRev size rd ri mem lane) = one_lane (reuses_vector rd ri) load_reversed_opcode (number_of rd) (reversed_code size) size lane mem
 vector_accesses (VecLoadLaneUndef size rd mem lane) =
