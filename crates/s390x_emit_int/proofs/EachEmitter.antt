@@ -21,6 +21,7 @@ use Rattle.s390x_inst.specs.declared.ops.ALUOp.{ALUOp}
 use Rattle.s390x_inst.specs.declared.ops.ALUOp.TheVariants.{Add32, Add32Ext16, Add64, Add64Ext16, Add64Ext32, AddLogical32, AddLogical64, AddLogical64Ext32, Sub32, Sub32Ext16, Sub64, Sub64Ext16, Sub64Ext32, SubLogical32, SubLogical64, SubLogical64Ext32, Mul32, Mul32Ext16, Mul64, Mul64Ext16, Mul64Ext32, And32, And64, Orr32, Orr64, Xor32, Xor64}
 use Rattle.s390x_inst.specs.declared.ops.CmpOp.{CmpOp}
 use Rattle.s390x_inst.specs.declared.ops.CmpOp.TheVariants.{CmpS32, CmpS32Ext16, CmpS64, CmpS64Ext16, CmpS64Ext32, CmpL32, CmpL64, CmpL64Ext32}
+use Rattle.s390x_rows.specs.declared.opcodes.TheConstants as opcodes
 use Rattle.s390x_typed_steps.specs.General.{is_general, reuses}
 use Rattle.s390x_typed_steps.specs.Memory.{MemoryInstruction, StorageForm, RxForm, RsForm, VrxForm, FloatForm, load_memory, store_memory, whole_memory, memory, operate, access_vector, access_elements, access_lane, reversed_code, is_left_lane, load_left, store_left, load_lane_opcode, store_lane_opcode, load_reversed_opcode, store_reversed_opcode, vector_memory}
 use Rattle.s390x_typed_steps.specs.VectorInstruction.{element_code, is_lane, is_vector, reuses_vector}
@@ -186,13 +187,13 @@ whole_emitter_or None x e = absurd (cc)
 whole_emitter_or (Some w) x e = as_found _ x (w.rd, refl, refl) e
 
 vector_emitter : (w : VecInst) (x : MemoryInstruction) → vector_memory w ≡ Some x → x.operands_valid ≡ true → IsEmitted x
-vector_emitter (VecLoadReplicate size rd mem) x e v = elements_as 0xe705 rd (element_code size) mem x e
-vector_emitter (VecLoadReplicateRev size rd mem) x e v = elements_as 0xe605 rd (reversed_code size) mem x e
+vector_emitter (VecLoadReplicate size rd mem) x e v = elements_as opcodes.VLREP rd (element_code size) mem x e
+vector_emitter (VecLoadReplicateRev size rd mem) x e v = elements_as opcodes.VLBRREP rd (reversed_code size) mem x e
 vector_emitter (VecLoadLane size rd ri mem lane) x e v = lane_as (reuses_vector rd ri) load_lane_opcode rd (element_code size) size lane mem x (reused_vector rd ri) e v
 vector_emitter (VecLoadLaneRev size rd ri mem lane) x e v = lane_as (reuses_vector rd ri) load_reversed_opcode rd (reversed_code size) size lane mem x (reused_vector rd ri) e v
-vector_emitter (VecLoadLaneUndef size rd mem lane) x e v = left_as size lane rd load_left 0x78 0xed64 0x68 0xed65 load_lane_opcode mem x (λ n r. refl) e v
+vector_emitter (VecLoadLaneUndef size rd mem lane) x e v = left_as size lane rd load_left opcodes.LE opcodes.LEY opcodes.LD opcodes.LDY load_lane_opcode mem x (λ n r. refl) e v
 vector_emitter (VecLoadLaneRevUndef size rd mem lane) x e v = lane_as (is_vector rd) load_reversed_opcode rd (reversed_code size) size lane mem x (λ k. k) e v
-vector_emitter (VecStoreLane size rd mem lane) x e v = left_as size lane rd store_left 0x70 0xed66 0x60 0xed67 store_lane_opcode mem x (λ n r. refl) e v
+vector_emitter (VecStoreLane size rd mem lane) x e v = left_as size lane rd store_left opcodes.STE opcodes.STEY opcodes.STD opcodes.STDY store_lane_opcode mem x (λ n r. refl) e v
 vector_emitter (VecStoreLaneRev size rd mem lane) x e v = lane_as (is_vector rd) store_reversed_opcode rd (reversed_code size) size lane mem x (λ k. k) e v
 vector_emitter w x e v = whole_emitter_or (as_whole w) x e
 
@@ -224,18 +225,18 @@ each_emitter (StoreImm64SExt16 imm mem) x e v = as_found _ x (imm, refl) e
 each_emitter (LoadMultiple64 rt rt2 mem) x e v = as_found _ x (rt, rt2, refl) e
 each_emitter (StoreMultiple64 rt rt2 mem) x e v = as_found _ x (rt, rt2, refl) e
 each_emitter (LoadAddr rd mem) x e v = as_found _ x (rd, refl, refl) e
-each_emitter (AtomicRmw Add32 rd rn mem) x e v = atomic_as 0xebf8 rd rn mem x refl refl e v
-each_emitter (AtomicRmw Add64 rd rn mem) x e v = atomic_as 0xebe8 rd rn mem x refl refl e v
-each_emitter (AtomicRmw AddLogical32 rd rn mem) x e v = atomic_as 0xebfa rd rn mem x refl refl e v
-each_emitter (AtomicRmw AddLogical64 rd rn mem) x e v = atomic_as 0xebea rd rn mem x refl refl e v
-each_emitter (AtomicRmw And32 rd rn mem) x e v = atomic_as 0xebf4 rd rn mem x refl refl e v
-each_emitter (AtomicRmw And64 rd rn mem) x e v = atomic_as 0xebe4 rd rn mem x refl refl e v
-each_emitter (AtomicRmw Orr32 rd rn mem) x e v = atomic_as 0xebf6 rd rn mem x refl refl e v
-each_emitter (AtomicRmw Orr64 rd rn mem) x e v = atomic_as 0xebe6 rd rn mem x refl refl e v
-each_emitter (AtomicRmw Xor32 rd rn mem) x e v = atomic_as 0xebf7 rd rn mem x refl refl e v
-each_emitter (AtomicRmw Xor64 rd rn mem) x e v = atomic_as 0xebe7 rd rn mem x refl refl e v
+each_emitter (AtomicRmw Add32 rd rn mem) x e v = atomic_as opcodes.LAA rd rn mem x refl refl e v
+each_emitter (AtomicRmw Add64 rd rn mem) x e v = atomic_as opcodes.LAAG rd rn mem x refl refl e v
+each_emitter (AtomicRmw AddLogical32 rd rn mem) x e v = atomic_as opcodes.LAAL rd rn mem x refl refl e v
+each_emitter (AtomicRmw AddLogical64 rd rn mem) x e v = atomic_as opcodes.LAALG rd rn mem x refl refl e v
+each_emitter (AtomicRmw And32 rd rn mem) x e v = atomic_as opcodes.LAN rd rn mem x refl refl e v
+each_emitter (AtomicRmw And64 rd rn mem) x e v = atomic_as opcodes.LANG rd rn mem x refl refl e v
+each_emitter (AtomicRmw Orr32 rd rn mem) x e v = atomic_as opcodes.LAO rd rn mem x refl refl e v
+each_emitter (AtomicRmw Orr64 rd rn mem) x e v = atomic_as opcodes.LAOG rd rn mem x refl refl e v
+each_emitter (AtomicRmw Xor32 rd rn mem) x e v = atomic_as opcodes.LAX rd rn mem x refl refl e v
+each_emitter (AtomicRmw Xor64 rd rn mem) x e v = atomic_as opcodes.LAXG rd rn mem x refl refl e v
 each_emitter (AtomicRmw op rd rn mem) x e v = absurd (cc)
-each_emitter (AtomicCas32 rd ri rn mem) x e v = swap_as (Some 0xba) 0xeb14 rd ri rn mem x refl refl e v
-each_emitter (AtomicCas64 rd ri rn mem) x e v = swap_as None 0xeb30 rd ri rn mem x refl refl e v
+each_emitter (AtomicCas32 rd ri rn mem) x e v = swap_as (Some opcodes.CS) opcodes.CSY rd ri rn mem x refl refl e v
+each_emitter (AtomicCas64 rd ri rn mem) x e v = swap_as None opcodes.CSG rd ri rn mem x refl refl e v
 each_emitter (Vector w) x e v = vector_emitter w x e v
 each_emitter i x e v = transfer_emitter_or (as_transfer i) x e
