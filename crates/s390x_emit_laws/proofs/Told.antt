@@ -21,6 +21,7 @@ use Rattle.s390x_inst.specs.declared.inst.Inst.TheVariants.{AtomicCas64, Jump, C
 use Rattle.s390x_inst.specs.declared.vec_inst.VecInst.{VecInst}
 use Rattle.s390x_inst.specs.declared.vec_inst.VecInst.TheVariants.{VecRRR, VecRR, VecSelect, VecPermute, VecBlend, VecIntCmp, VecIntCmpS, VecIntEltCmp, VecMov, VecShiftRR, VecEvaluate, VecPermuteDWImm, MovToVec128, VecImmByteMask, VecImmReplicate, VecImmBitMask, VecReplicateLane, VecInsertLaneImm, VecInsertLaneImmUndef, VecInsertLane, VecInsertLaneUndef, VecExtractLane, FpuMove32, FpuMove64, VecEltRev, FpuCMov32, FpuCMov64, VecCMov}
 use Rattle.s390x_inst.specs.declared.vec_inst.VecInst.TheVariants.{VecInt128SCmpHi, VecInt128UCmpHi, VecLoadReplicate, VecLoadReplicateRev, VecLoadLane, VecLoadLaneRev, VecLoadLaneUndef, VecLoadLaneRevUndef, VecStoreLane, VecStoreLaneRev}
+use Rattle.s390x_rows.specs.declared.opcodes.TheConstants as opcodes
 use Rattle.s390x_typed_steps.proofs.RelativeRows.{alu_none, locked_none, vector_none}
 use Rattle.s390x_typed_steps.specs.Memory.{load_rows, store_rows, without_relative, StorageForm, RxForm, MemoryInstruction, loaded_memory, operate, load_and_operate, access_vector, access_elements, access_lane, reversed_code, load_lane_opcode, store_lane_opcode, load_reversed_opcode, store_reversed_opcode, is_left_lane, load_left, store_left}
 use Rattle.s390x_typed_steps.specs.General.{is_general}
@@ -122,8 +123,8 @@ told_vector L (FpuCMov64 rd mask ri rm) valid e = absurd (cc)
 told_vector L (VecCMov rd mask ri rm) valid e = absurd (cc)
 told_vector L (VecInt128SCmpHi tmp rn rm) valid e = absurd (cc)
 told_vector L (VecInt128UCmpHi tmp rn rm) valid e = absurd (cc)
-told_vector L (VecLoadReplicate size rd mem) valid e = access_told L (Vector (VecLoadReplicate size rd mem)) _ refl refl refl (elements L 0xe705 rd (element_code size) mem valid) e
-told_vector L (VecLoadReplicateRev size rd mem) valid e = access_told L (Vector (VecLoadReplicateRev size rd mem)) _ refl refl refl (elements L 0xe605 rd (reversed_code size) mem valid) e
+told_vector L (VecLoadReplicate size rd mem) valid e = access_told L (Vector (VecLoadReplicate size rd mem)) _ refl refl refl (elements L opcodes.VLREP rd (element_code size) mem valid) e
+told_vector L (VecLoadReplicateRev size rd mem) valid e = access_told L (Vector (VecLoadReplicateRev size rd mem)) _ refl refl refl (elements L opcodes.VLBRREP rd (reversed_code size) mem valid) e
 told_vector L (VecLoadLane size rd ri mem lane) valid e = access_told L (Vector (VecLoadLane size rd ri mem lane)) _ refl refl refl (one_lane L (reuses_vector rd ri) load_lane_opcode (number_of rd) (element_code size) size lane mem valid) e
 told_vector L (VecLoadLaneRev size rd ri mem lane) valid e = access_told L (Vector (VecLoadLaneRev size rd ri mem lane)) _ refl refl refl (one_lane L (reuses_vector rd ri) load_reversed_opcode (number_of rd) (reversed_code size) size lane mem valid) e
 told_vector L (VecLoadLaneUndef size rd mem lane) valid e = access_told L (Vector (VecLoadLaneUndef size rd mem lane)) _ refl refl refl (left_lane L (is_left_lane size lane (number_of rd)) (is_vector rd) (load_left size (number_of rd)) load_lane_opcode (number_of rd) (element_code size) size lane mem valid) e
