@@ -27,6 +27,7 @@ use Rattle.s390x_inst.specs.declared.inst.Inst.TheVariants.{CmpRUImm32, CmpTrapR
 use Rattle.s390x_inst.specs.declared.inst.Inst.TheVariants.{Mov64SImm16, Mov64SImm32, CMov32, CMov64, CMov32SImm16, CMov64SImm16, LoadAR, InsertAR, AluRX, CmpRX, LoadMultiple64, StoreMultiple64, LoadAddr, AtomicRmw, AtomicCas32, AtomicCas64}
 use Rattle.s390x_inst.specs.declared.inst.Inst.TheVariants.{StoreImm8, StoreImm16}
 use Rattle.s390x_inst.specs.declared.inst.Inst.TheVariants.{StoreImm32SExt16, StoreImm64SExt16}
+use Rattle.s390x_rows.specs.declared.opcodes.TheConstants as opcodes
 use Rattle.s390x_typed_steps.specs.MachineInstruction.{MachineInstruction}
 use Rattle.s390x_typed_steps.specs.SingleInstruction.{single_instruction, single_with, two_row, three_row, halfword_row, word_row, three_halfword_row, masked_row, masked_halfword_row, indexed_row}
 use Rattle.s390x_typed_steps.specs.Opcodes.{alu_three, alu_two, cmp_two, cmp_trap, cmp_trap_signed, cmp_trap_unsigned, alu_halfword, alu_three_halfword, alu_signed_word, alu_unsigned_word, cmp_halfword, cmp_signed_word, cmp_unsigned_word, of_one, of_two, of_four, alu_part, alu_half, load_part}
@@ -143,19 +144,19 @@ four_same a b c d x y z w n =
     (by_test (nat_eq n 2) (Some c) _ (Some z) _ refl (by_test (nat_eq n 3) (Some d) None (Some w) None refl refl)))
 
 part_same : (op : ALUOp) (n : ℕ) → is_some (alu_part_name op n) ≡ is_some (alu_part op n)
-part_same And32 n = two_same _ _ 0xa57 0xa56 n
-part_same And64 n = four_same _ _ _ _ 0xa57 0xa56 0xa55 0xa54 n
-part_same Orr32 n = two_same _ _ 0xa5b 0xa5a n
-part_same Orr64 n = four_same _ _ _ _ 0xa5b 0xa5a 0xa59 0xa58 n
+part_same And32 n = two_same _ _ opcodes.NILL opcodes.NILH n
+part_same And64 n = four_same _ _ _ _ opcodes.NILL opcodes.NILH opcodes.NIHL opcodes.NIHH n
+part_same Orr32 n = two_same _ _ opcodes.OILL opcodes.OILH n
+part_same Orr64 n = four_same _ _ _ _ opcodes.OILL opcodes.OILH opcodes.OIHL opcodes.OIHH n
 part_same op n = refl
 
 half_same : (op : ALUOp) (n : ℕ) → is_some (alu_half_name op n) ≡ is_some (alu_half op n)
-half_same And32 n = one_same _ 0xc0b n
-half_same And64 n = two_same _ _ 0xc0b 0xc0a n
-half_same Orr32 n = one_same _ 0xc0d n
-half_same Orr64 n = two_same _ _ 0xc0d 0xc0c n
-half_same Xor32 n = one_same _ 0xc07 n
-half_same Xor64 n = two_same _ _ 0xc07 0xc06 n
+half_same And32 n = one_same _ opcodes.NILF n
+half_same And64 n = two_same _ _ opcodes.NILF opcodes.NIHF n
+half_same Orr32 n = one_same _ opcodes.OILF n
+half_same Orr64 n = two_same _ _ opcodes.OILF opcodes.OIHF n
+half_same Xor32 n = one_same _ opcodes.XILF n
+half_same Xor64 n = two_same _ _ opcodes.XILF opcodes.XIHF n
 half_same op n = refl
 
 extend_same : (signed : Bool) (from to : ℕ) → is_some (extend_name signed from to) ≡ is_some (extend_two signed from to)
@@ -336,10 +337,10 @@ comparisons (CmpTrapRUImm16 op rn imm mask code) = masked_halfword_agrees (cmp_t
 comparisons i = tt
 
 moves : (i : Inst) → Agrees (move_text i) (is_some (single_instruction i))
-moves (Mov64UImm16Shifted rd imm) = halfword_agrees (load_part_name imm.shift) (load_part imm.shift) _ _ _ _ (four_same _ _ _ _ 0xa5f 0xa5e 0xa5d 0xa5c imm.shift)
-moves (Mov64UImm32Shifted rd imm) = word_agrees (load_half_name imm.shift) (load_half imm.shift) _ _ _ _ (two_same _ _ 0xc0f 0xc0e imm.shift)
-moves (Insert64UImm16Shifted rd ri imm) = halfword_agrees (insert_part_name imm.shift) (insert_part imm.shift) _ _ _ _ (four_same _ _ _ _ 0xa53 0xa52 0xa51 0xa50 imm.shift)
-moves (Insert64UImm32Shifted rd ri imm) = word_agrees (insert_half_name imm.shift) (insert_half imm.shift) _ _ _ _ (two_same _ _ 0xc09 0xc08 imm.shift)
+moves (Mov64UImm16Shifted rd imm) = halfword_agrees (load_part_name imm.shift) (load_part imm.shift) _ _ _ _ (four_same _ _ _ _ opcodes.LLILL opcodes.LLILH opcodes.LLIHL opcodes.LLIHH imm.shift)
+moves (Mov64UImm32Shifted rd imm) = word_agrees (load_half_name imm.shift) (load_half imm.shift) _ _ _ _ (two_same _ _ opcodes.LLILF opcodes.LLIHF imm.shift)
+moves (Insert64UImm16Shifted rd ri imm) = halfword_agrees (insert_part_name imm.shift) (insert_part imm.shift) _ _ _ _ (four_same _ _ _ _ opcodes.IILL opcodes.IILH opcodes.IIHL opcodes.IIHH imm.shift)
+moves (Insert64UImm32Shifted rd ri imm) = word_agrees (insert_half_name imm.shift) (insert_half imm.shift) _ _ _ _ (two_same _ _ opcodes.IILF opcodes.IIHF imm.shift)
 moves (Extend rd rn signed from to) = two_agrees (extend_name signed from to) (extend_two signed from to) _ _ _ _ (extend_same signed from to)
 moves (LoadIndexedAddr rd base index offset size) = indexed_agrees (indexed_name size) (indexed_opcode size) _ _ _ _ _ _ (indexed_same size)
 moves (LoadLogicalIndexedAddr rd base index offset size) = indexed_agrees (logical_indexed_name size) (logical_indexed_opcode size) _ _ _ _ _ _ (logical_same size)

@@ -18,6 +18,7 @@ use Rattle.s390x_inst.specs.Wholes.{as_whole, by_whole, whole_instruction}
 use Rattle.s390x_inst.specs.declared.vec_inst.VecInst.{VecInst}
 use Rattle.s390x_inst.specs.declared.vec_inst.VecInst.TheVariants.{VecMov, VecPermuteDWImm, VecImmReplicate, VecImmBitMask, VecReplicateLane, VecInsertLaneImm, VecInsertLaneImmUndef, VecInsertLane, VecInsertLaneUndef, VecExtractLane, FpuCMov32, FpuCMov64, VecCMov, VecEltRev, VecInt128SCmpHi, VecInt128UCmpHi}
 use Rattle.s390x_inst.specs.declared.vec_inst.VecInst.TheVariants.{VecLoadReplicate, VecLoadReplicateRev, VecLoadLane, VecLoadLaneRev, VecLoadLaneUndef, VecLoadLaneRevUndef, VecStoreLane, VecStoreLaneRev}
+use Rattle.s390x_rows.specs.declared.opcodes.TheConstants as opcodes
 use Rattle.s390x_typed_steps.specs.MachineInstruction.{MachineInstruction}
 use Rattle.s390x_typed_steps.specs.Memory.{MemoryInstruction, StorageForm, VrxForm, access_elements, access_lane, access_vector, is_left_lane, load_left, store_left, load_lane_opcode, load_reversed_opcode, store_lane_opcode, store_reversed_opcode, reversed_code}
 use Rattle.s390x_typed_steps.specs.Operands.{resolved}
@@ -317,8 +318,8 @@ vector_rows e bs k (VecCMov rd mask ri rm) = sym (valid_row (reuses_vector rd ri
 vector_rows e bs k (VecInt128SCmpHi tmp rn rm) = sym (valid_row (is_vector tmp && is_vector rn && is_vector rm))
 vector_rows e bs k (VecInt128UCmpHi tmp rn rm) = sym (valid_row (is_vector tmp && is_vector rn && is_vector rm))
 vector_rows e bs k (VecEltRev count rd rn) = reversal_agrees (nat_eq count 2) (nat_eq count 4) (nat_eq count 8) (nat_eq count 16) (is_vector rd && is_vector rn) _ _ _ _ _ _ _ _
-vector_rows e bs k (VecLoadReplicate size rd mem) = access_agrees _ _ _ (first_agrees _ _ _ _ size ∙ sym (elements_some 0xe705 rd (element_code size) mem))
-vector_rows e bs k (VecLoadReplicateRev size rd mem) = access_agrees _ _ _ (first_reversed_agrees _ _ _ size ∙ sym (elements_some 0xe605 rd (reversed_code size) mem))
+vector_rows e bs k (VecLoadReplicate size rd mem) = access_agrees _ _ _ (first_agrees _ _ _ _ size ∙ sym (elements_some opcodes.VLREP rd (element_code size) mem))
+vector_rows e bs k (VecLoadReplicateRev size rd mem) = access_agrees _ _ _ (first_reversed_agrees _ _ _ size ∙ sym (elements_some opcodes.VLBRREP rd (reversed_code size) mem))
 vector_rows e bs k (VecLoadLane size rd ri mem lane) = access_agrees _ _ _ (name_agrees _ _ _ _ size lane ∙ sym (lane_some (reuses_vector rd ri) load_lane_opcode (number_of rd) (element_code size) size lane mem))
 vector_rows e bs k (VecLoadLaneRev size rd ri mem lane) = access_agrees _ _ _ (reversed_agrees _ _ _ size lane ∙ sym (lane_some (reuses_vector rd ri) load_reversed_opcode (number_of rd) (reversed_code size) size lane mem))
 vector_rows e bs k (VecLoadLaneRevUndef size rd mem lane) = access_agrees _ _ _ (reversed_agrees _ _ _ size lane ∙ sym (lane_some (is_vector rd) load_reversed_opcode (number_of rd) (reversed_code size) size lane mem))
@@ -333,8 +334,8 @@ vector_rows e bs k v = whole_or_row e bs k v (as_whole v) refl
 -- ---- operands of the frame
 
 pub operands_stay : (e : Emission) (blocks depth : ℕ) (v : VecInst) → has_rows blocks depth (Vector (resolved_vector e v)) ≡ has_rows blocks depth (Vector v)
-operands_stay e bs k (VecLoadReplicate size rd mem) = ap (λ s. s || false) (elements_some 0xe705 rd (element_code size) (resolved e mem) ∙ sym (elements_some 0xe705 rd (element_code size) mem))
-operands_stay e bs k (VecLoadReplicateRev size rd mem) = ap (λ s. s || false) (elements_some 0xe605 rd (reversed_code size) (resolved e mem) ∙ sym (elements_some 0xe605 rd (reversed_code size) mem))
+operands_stay e bs k (VecLoadReplicate size rd mem) = ap (λ s. s || false) (elements_some opcodes.VLREP rd (element_code size) (resolved e mem) ∙ sym (elements_some opcodes.VLREP rd (element_code size) mem))
+operands_stay e bs k (VecLoadReplicateRev size rd mem) = ap (λ s. s || false) (elements_some opcodes.VLBRREP rd (reversed_code size) (resolved e mem) ∙ sym (elements_some opcodes.VLBRREP rd (reversed_code size) mem))
 operands_stay e bs k (VecLoadLane size rd ri mem lane) = ap (λ s. s || false) (lane_some (reuses_vector rd ri) load_lane_opcode (number_of rd) (element_code size) size lane (resolved e mem) ∙ sym (lane_some (reuses_vector rd ri) load_lane_opcode (number_of rd) (element_code size) size lane mem))
 operands_stay e bs k (VecLoadLaneRev size rd ri mem lane) = ap (λ s. s || false) (lane_some (reuses_vector rd ri) load_reversed_opcode (number_of rd) (reversed_code size) size lane (resolved e mem) ∙ sym (lane_some (reuses_vector rd ri) load_reversed_opcode (number_of rd) (reversed_code size) size lane mem))
 operands_stay e bs k (VecLoadLaneRevUndef size rd mem lane) = ap (λ s. s || false) (lane_some (is_vector rd) load_reversed_opcode (number_of rd) (reversed_code size) size lane (resolved e mem) ∙ sym (lane_some (is_vector rd) load_reversed_opcode (number_of rd) (reversed_code size) size lane mem))

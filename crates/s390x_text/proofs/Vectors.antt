@@ -17,6 +17,7 @@ use Rattle.s390x_inst.specs.Wholes.{as_whole, by_whole, whole_instruction}
 use Rattle.s390x_inst.specs.declared.vec_inst.VecInst.{VecInst}
 use Rattle.s390x_inst.specs.declared.vec_inst.VecInst.TheVariants.{VecPermuteDWImm, VecImmReplicate, VecImmBitMask, VecReplicateLane, VecInsertLaneImm, VecInsertLaneImmUndef, VecInsertLane, VecInsertLaneUndef, VecExtractLane, FpuCMov32, FpuCMov64, VecCMov, VecEltRev, VecInt128SCmpHi, VecInt128UCmpHi}
 use Rattle.s390x_inst.specs.declared.vec_inst.VecInst.TheVariants.{VecLoadReplicate, VecLoadReplicateRev, VecLoadLane, VecLoadLaneRev, VecLoadLaneUndef, VecLoadLaneRevUndef, VecStoreLane, VecStoreLaneRev}
+use Rattle.s390x_rows.specs.declared.opcodes.TheConstants as opcodes
 use Rattle.s390x_typed_steps.specs.Causes.{Declared, cause_or, memory_cause_or}
 use Rattle.s390x_typed_steps.specs.MachineInstruction.{MachineInstruction}
 use Rattle.s390x_typed_steps.specs.Memory.{MemoryInstruction, load_lane_opcode, load_reversed_opcode, store_lane_opcode, store_reversed_opcode, vector_memory}
@@ -143,16 +144,16 @@ whole_or_row e v (Some w) some m = whole_fine e w.direction w.layout w.rd w.mem 
 pub vector_fine : (e : Emission) (D : Declared) (v : VecInst)
     → cause_or (single_with (vector_operands_valid (resolved_vector e v)) (vector_row (resolved_vector e v))) (memory_cause_or D (vector_memory (resolved_vector e v)) (composite_cause (resolved_vector e v))) ≡ None
     → access_refusal (vector_memory (resolved_vector e v)) ≡ None → (vector_text e v).cause ≡ None
-vector_fine e D (VecLoadReplicate size rd mem) h m = replicated_fine D _ _ _ _ 0xe705 rd size (resolved e mem) BadOperator h m
-vector_fine e D (VecLoadReplicateRev size rd mem) h m = reversed_replicated_fine D _ _ _ 0xe605 rd size (resolved e mem) BadOperator h m
+vector_fine e D (VecLoadReplicate size rd mem) h m = replicated_fine D _ _ _ _ opcodes.VLREP rd size (resolved e mem) BadOperator h m
+vector_fine e D (VecLoadReplicateRev size rd mem) h m = reversed_replicated_fine D _ _ _ opcodes.VLBRREP rd size (resolved e mem) BadOperator h m
 vector_fine e D (VecLoadLane size rd ri mem lane) h m = lane_fine D _ _ _ _ (reuses_vector rd ri) load_lane_opcode (number_of rd) size lane (resolved e mem) BadOperator h m
 vector_fine e D (VecLoadLaneRev size rd ri mem lane) h m = reversed_lane_fine D _ _ _ (reuses_vector rd ri) load_reversed_opcode (number_of rd) size lane (resolved e mem) BadOperator h m
 vector_fine e D (VecLoadLaneRevUndef size rd mem lane) h m = reversed_lane_fine D _ _ _ (is_vector rd) load_reversed_opcode (number_of rd) size lane (resolved e mem) BadOperator h m
 vector_fine e D (VecStoreLaneRev size rd mem lane) h m = reversed_lane_fine D _ _ _ (is_vector rd) store_reversed_opcode (number_of rd) size lane (resolved e mem) BadOperator h m
 vector_fine e D (VecLoadLaneUndef size rd mem lane) h m =
-    left_lane_fine D (codes "vleb") (codes "vleh") (codes "vlef") (codes "vleg") rd 0x78 0xed64 0x68 0xed65 load_lane_opcode size lane (resolved e mem) BadOperator _ _ _ h m (λ fine. (address_fine _ fine, address_fine _ fine)) refl
+    left_lane_fine D (codes "vleb") (codes "vleh") (codes "vlef") (codes "vleg") rd opcodes.LE opcodes.LEY opcodes.LD opcodes.LDY load_lane_opcode size lane (resolved e mem) BadOperator _ _ _ h m (λ fine. (address_fine _ fine, address_fine _ fine)) refl
 vector_fine e D (VecStoreLane size rd mem lane) h m =
-    left_lane_fine D (codes "vsteb") (codes "vsteh") (codes "vstef") (codes "vsteg") rd 0x70 0xed66 0x60 0xed67 store_lane_opcode size lane (resolved e mem) BadOperator _ _ _ h m (λ fine. (address_fine _ fine, address_fine _ fine)) refl
+    left_lane_fine D (codes "vsteb") (codes "vsteh") (codes "vstef") (codes "vsteg") rd opcodes.STE opcodes.STEY opcodes.STD opcodes.STDY store_lane_opcode size lane (resolved e mem) BadOperator _ _ _ h m (λ fine. (address_fine _ fine, address_fine _ fine)) refl
 -- moves under a condition and comparisons have a text at any values, elements in reverse order at the counts that have machine instructions
 vector_fine e D (FpuCMov32 rd mask ri rm) h m = refl
 vector_fine e D (FpuCMov64 rd mask ri rm) h m = refl
