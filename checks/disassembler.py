@@ -20,6 +20,8 @@ import subprocess
 import sys
 import tempfile
 
+from opcodes import plain
+
 ROOT = os.path.dirname(os.path.dirname(os.path.abspath(__file__)))
 FORMAT = os.path.join(ROOT, "crates", "s390x_format", "src")
 CRATE = os.path.join(ROOT, "crates", "s390x_disassembler_example")
@@ -44,7 +46,7 @@ RULES = [
 
 def read(name):
     with open(os.path.join(FORMAT, name)) as file:
-        return file.read()
+        return plain(file.read())
 
 
 class Rows:

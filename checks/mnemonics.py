@@ -20,6 +20,8 @@ READERS = {
         ["CmpRR", "CmpRSImm16", "CmpRSImm32", "CmpRUImm32", "CmpRX", "CmpRX", "CmpTrapRR", "CmpTrapRSImm16", "CmpTrapRUImm16"],
     "CMP_RELATIVE_MNEMONICS": ["CmpRX"],
     "LOAD_MNEMONICS": [None, None, None],
+    "STORE_MNEMONICS": [None, None, None],
+    "WHOLE_MNEMONICS": ["VecLoad", "VecStore"],
     "SHIFT_MNEMONICS": ["ShiftRR"],
     "ROTATE_MNEMONICS": ["RxSBG"],
     "UNARY_MNEMONICS": ["UnaryRR"],
@@ -30,6 +32,9 @@ READERS = {
     "VEC_COMPARE_SET_MNEMONICS": ["VecIntCmpS"],
     "VEC_ELEMENT_COMPARE_MNEMONICS": ["VecIntEltCmp"],
 }
+# What stands behind `VecLoad` and `VecStore` in the name of an instruction, by the layout of its row.
+LAYOUTS = {"Straight": "", "Reversed": "Rev", "Bytes16": "Byte16Rev", "Bytes32": "Byte32Rev", "Bytes64": "Byte64Rev", "Elements16": "Elt16Rev",
+           "Elements32": "Elt32Rev", "Elements64": "Elt64Rev"}
 # What stands behind a mnemonic with a condition, and the mnemonics that have one.
 CONDITIONS = "o h nle l nhe lh ne e nlh he nl le nh no".split()
 CONDITIONAL = "crt cgrt clrt clgrt cit cgit clfit clgit locr locgr lochi locghi".split()
@@ -68,7 +73,9 @@ def table_entries():
             for row in rows.splitlines():
                 operator = re.match(r" *\(\w+::(\w+),", row).group(1)
                 for name, mnemonic in zip(READERS[table], re.findall(r'"(\w*)"', row), strict=True):
-                    if mnemonic:
+                    if mnemonic and table == "WHOLE_MNEMONICS":
+                        yield table, (name + LAYOUTS[operator], "", mnemonic)
+                    elif mnemonic:
                         yield table, (name, operator, mnemonic) if name else (operator, "", mnemonic)
 
 

@@ -17,6 +17,7 @@ import sys
 import tempfile
 
 import emulator
+from opcodes import plain
 import program
 from random_jobs import CODE_BASE, RandomJob
 
@@ -40,7 +41,7 @@ def row_names():
     """The mnemonic of each opcode of the decoder's table."""
     path = os.path.join(program.ROOT, "crates", "s390x_format", "src", "table.rt")
     with open(path) as file:
-        found = re.findall(r"opcode: 0x([0-9a-f]+).*// (.*)", file.read())
+        found = re.findall(r"opcode: 0x([0-9a-f]+).*// (.*)", plain(file.read()))
     return {int(opcode, 16): names.split()[0] for opcode, names in found}
 
 

@@ -26,6 +26,7 @@ import sys
 import tempfile
 
 import emulator
+from opcodes import plain
 from random_functions import LACKING, LACKING_SIZES
 from random_jobs import interesting
 
@@ -54,7 +55,7 @@ LAYOUT = struct.Struct("<16Q16I32Q32QQB7xQ1024s")
 
 def read(name):
     with open(os.path.join(SOURCES, name)) as file:
-        return file.read()
+        return plain(file.read())
 
 
 def layouts():

@@ -15,7 +15,7 @@ import tempfile
 
 ROOT = pathlib.Path(__file__).resolve().parent.parent
 TABLE = "crates/s390x_machine/src/semantics.rt"
-LINE = re.compile(r"^    OpcodeSemantics \{ opcode: (0x[0-9a-f]+), semantics: (.*) \}, // (\S+)$")
+LINE = re.compile(r"^    OpcodeSemantics \{ opcode: (opcodes::\w+), semantics: (.*) \}, // (\S+)$")
 
 # What a word is changed into: another of its kind.
 WORDS = {
@@ -70,7 +70,7 @@ def changes(semantics, names, opcodes):
         for place in re.finditer(r"\b" + name + r"\b", semantics):
             others = [other for other in names if related(name, other)]
             found += [semantics[:place.start()] + other + semantics[place.end():] for other in others]
-    place = re.search(r"Elements\((0x[0-9a-f]+)\)", semantics)
+    place = re.search(r"Elements\((opcodes::\w+)\)", semantics)
     if place:
         at = opcodes.index(place[1])
         found += [semantics.replace(place[1], other) for other in opcodes[max(0, at - 1):at + 2] if other != place[1]]
@@ -99,7 +99,7 @@ def main():
     text = (ROOT / TABLE).read_text()
     lines = [line for line in text.splitlines() if LINE.match(line)]
     names = operands(text)
-    vector = re.findall(r"Elements\((0x[0-9a-f]+)\)", text)
+    vector = re.findall(r"Elements\((opcodes::\w+)\)", text)
     # some of the steps are wrong on purpose
     wanted = (ROOT / "crates/s390x_step_vectors/stdout").read_text().splitlines()[-1]
     missed = 0

@@ -79,8 +79,7 @@ class JobLists:
 
     def flag(self, name, declared, vector):
         """The word of `flags` that an instruction needs, or some of its operators."""
-        clauses = self.coverage.by_variant(self.found.facilities["vec_facility" if vector else "facility_of"])
-        body = clauses.get(name, clauses[None])
+        body = self.found.needed(name, vector)
         if not body.endswith(" op"):
             return f"`{self.spelled(body)}`"
         needed, by_flag = self.coverage.by_variant(self.found.facilities[body.split()[0]]), {}

@@ -6,6 +6,7 @@ use Rattle.s390x_base.specs.declared.error.EmitError.{EmitError}
 use Rattle.s390x_buffer.specs.State.{BufferState, mark_cause, put_cause}
 use Rattle.s390x_inst.specs.declared.args.MemArg.{MemArg}
 use Rattle.s390x_inst.specs.declared.state.EmitInfo.{EmitInfo}
+use Rattle.s390x_rows.specs.declared.opcodes.TheConstants as opcodes
 use Rattle.s390x_typed_steps.specs.Causes.{first_emit_cause, declared_in, memory_cause}
 use Rattle.s390x_typed_steps.specs.General.{is_general, low_halfword}
 use Rattle.s390x_typed_steps.specs.Memory.{MemoryInstruction, RxForm, RsForm, SiForm, SilForm, VrxForm, FloatForm, holds_scratch}
@@ -20,9 +21,9 @@ access_cause s x = first_emit_cause (mark_cause s) (first_emit_cause (memory_cau
 -- the rows of loads and of LOAD ADDRESS, which write their register and don't read it, with displacements of 20 bits
 abbrev pub loads_register : ℕ → Bool
 loads_register opcode =
-    nat_eq opcode 0xe304 || nat_eq opcode 0xe30f || nat_eq opcode 0xe314 || nat_eq opcode 0xe315 || nat_eq opcode 0xe316 || nat_eq opcode 0xe31e
-    || nat_eq opcode 0xe31f || nat_eq opcode 0xe358 || nat_eq opcode 0xe371 || nat_eq opcode 0xe376 || nat_eq opcode 0xe377 || nat_eq opcode 0xe378
-    || nat_eq opcode 0xe390 || nat_eq opcode 0xe391 || nat_eq opcode 0xe394 || nat_eq opcode 0xe395
+    nat_eq opcode opcodes.LG || nat_eq opcode opcodes.LRVG || nat_eq opcode opcodes.LGF || nat_eq opcode opcodes.LGH || nat_eq opcode opcodes.LLGF || nat_eq opcode opcodes.LRV
+    || nat_eq opcode opcodes.LRVH || nat_eq opcode opcodes.LY || nat_eq opcode opcodes.LAY || nat_eq opcode opcodes.LB || nat_eq opcode opcodes.LGB || nat_eq opcode opcodes.LHY
+    || nat_eq opcode opcodes.LLGC || nat_eq opcode opcodes.LLGH || nat_eq opcode opcodes.LLC || nat_eq opcode opcodes.LLH
 
 -- each instruction that has rows with a displacement has one of 20 bits
 abbrev pub reads_register : Option ℕ → Bool
@@ -48,14 +49,14 @@ byte_immediate imm si_opcode siy_opcode accesses mem =
 abbrev pub reads_registers : Option ℕ → (rd rn : Reg) → Bool
 reads_registers None rd rn = is_numbered 1 rd || is_numbered 1 rn
 reads_registers (Some opcode) rd rn =
-    cond (nat_eq opcode 0xeb04) false
-    (cond (nat_eq opcode 0xeb24) (holds_scratch rd rn)
-    (cond (nat_eq opcode 0xeb14 || nat_eq opcode 0xeb30) (is_numbered 1 rd || is_numbered 1 rn) (is_numbered 1 rn)))
+    cond (nat_eq opcode opcodes.LMG) false
+    (cond (nat_eq opcode opcodes.STMG) (holds_scratch rd rn)
+    (cond (nat_eq opcode opcodes.CSY || nat_eq opcode opcodes.CSG) (is_numbered 1 rd || is_numbered 1 rn) (is_numbered 1 rn)))
 
 -- the rows of a multiple load and a multiple store, which name the registers from the first to the last
 abbrev pub is_multiple : Option ℕ → Bool
 is_multiple None = false
-is_multiple (Some opcode) = nat_eq opcode 0xeb04 || nat_eq opcode 0xeb24
+is_multiple (Some opcode) = nat_eq opcode opcodes.LMG || nat_eq opcode opcodes.STMG
 
 -- both registers are real Int ones, and of a multiple load or store the first isn't above the last
 abbrev pub pair_valid : Option ℕ → (rd rn : Reg) → Bool

@@ -20,6 +20,7 @@ use crate::rows::StorageRows;
 use s390x_base::{EmitError, Reg};
 use s390x_buffer::MachBuffer;
 use s390x_inst::{EmitInfo, EmitState, MemArg};
+use s390x_rows::opcodes;
 use std::alloc::Global;
 
 /// Code ends below this length.
@@ -96,22 +97,22 @@ fn short(opcode: Option<u16>) -> Option<u8>
 fn loads_register(opcode: u16) -> bool
     ensures { result ≡ loads_register opcode }
 {
-    opcode == 0xe304
-        || opcode == 0xe30f
-        || opcode == 0xe314
-        || opcode == 0xe315
-        || opcode == 0xe316
-        || opcode == 0xe31e
-        || opcode == 0xe31f
-        || opcode == 0xe358
-        || opcode == 0xe371
-        || opcode == 0xe376
-        || opcode == 0xe377
-        || opcode == 0xe378
-        || opcode == 0xe390
-        || opcode == 0xe391
-        || opcode == 0xe394
-        || opcode == 0xe395
+    opcode == opcodes::LG
+        || opcode == opcodes::LRVG
+        || opcode == opcodes::LGF
+        || opcode == opcodes::LGH
+        || opcode == opcodes::LLGF
+        || opcode == opcodes::LRV
+        || opcode == opcodes::LRVH
+        || opcode == opcodes::LY
+        || opcode == opcodes::LAY
+        || opcode == opcodes::LB
+        || opcode == opcodes::LGB
+        || opcode == opcodes::LHY
+        || opcode == opcodes::LLGC
+        || opcode == opcodes::LLGH
+        || opcode == opcodes::LLC
+        || opcode == opcodes::LLH
 }
 
 // Whether the rows read their register.
@@ -153,11 +154,11 @@ fn reads_registers(opcode_rsy: Option<u16>, rd: &Reg, rn: &Reg) -> bool
 {
     match opcode_rsy {
         Some(opcode) => {
-            if opcode == 0xeb04 {
+            if opcode == opcodes::LMG {
                 false
-            } else if opcode == 0xeb24 {
+            } else if opcode == opcodes::STMG {
                 holds_scratch(rd, rn)
-            } else if opcode == 0xeb14 || opcode == 0xeb30 {
+            } else if opcode == opcodes::CSY || opcode == opcodes::CSG {
                 is_scratch(rd) || is_scratch(rn)
             } else {
                 is_scratch(rn)
@@ -172,7 +173,7 @@ fn is_multiple(opcode_rsy: Option<u16>) -> bool
     ensures { result ≡ is_multiple opcode_rsy }
 {
     match opcode_rsy {
-        Some(opcode) => opcode == 0xeb04 || opcode == 0xeb24,
+        Some(opcode) => opcode == opcodes::LMG || opcode == opcodes::STMG,
         None => false,
     }
 }

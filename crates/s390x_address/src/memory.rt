@@ -29,6 +29,7 @@ use s390x_base::{Code, EmitError, Reg, RegClass, TrapCode, spilltmp_reg, stack_r
 use s390x_buffer::MachBuffer;
 use s390x_enc::enc_ril_a;
 use s390x_inst::{EmitState, MemArg};
+use s390x_rows::opcodes;
 use s390x_typed_steps::{MemInstType, bits_of_word};
 
 /// An instruction with a memory operand: its machine rows, and the registers that it names.
@@ -125,7 +126,7 @@ fn put_offset(sink: &mut MachBuffer, off: i32) -> Result<(), EmitError>
     ensures lacks { put_cause sink.old 6 ≡ None → IfErr result (λ e. e ≡ NoMemory) }
     ensures kept { Extends sink.old sink.new }
 {
-    let code = enc_ril_a(0xc01, spilltmp_reg(), bits_of_word(off))?;
+    let code = enc_ril_a(opcodes::LGFI, spilltmp_reg(), bits_of_word(off))?;
     sink.put_code(&code)
 }
 
@@ -213,9 +214,9 @@ fn address_rows() -> StorageRows
 {
     StorageRows::OneRegister {
         register: spilltmp_reg(),
-        rx: Some(0x41),
-        rxy: Some(0xe371),
-        ril: Some(0xc00),
+        rx: Some(opcodes::LA as u8),
+        rxy: Some(opcodes::LAY),
+        ril: Some(opcodes::LARL),
     }
 }
 

@@ -23,23 +23,28 @@ use s390x_base::{Code, EmitError, ExternalName, MachLabel, Reg, Reloc, TrapCode,
 use s390x_buffer::{LabelUse, MachBuffer};
 use s390x_enc::enc_ril_b;
 use s390x_inst::MemArg;
+use s390x_rows::opcodes;
 
 /// How many bytes the row of an opcode accesses that is relative to the instruction.
 pub fn relative_bytes(opcode: u16) -> u32
     ensures { result ≡ relative_bytes opcode }
 {
-    if opcode == 0xc42
-        || opcode == 0xc44
-        || opcode == 0xc45
-        || opcode == 0xc46
-        || opcode == 0xc47
-        || opcode == 0xc64
-        || opcode == 0xc65
-        || opcode == 0xc66
-        || opcode == 0xc67
+    if opcode == opcodes::LLHRL
+        || opcode == opcodes::LGHRL
+        || opcode == opcodes::LHRL
+        || opcode == opcodes::LLGHRL
+        || opcode == opcodes::STHRL
+        || opcode == opcodes::CGHRL
+        || opcode == opcodes::CHRL
+        || opcode == opcodes::CLGHRL
+        || opcode == opcodes::CLHRL
     {
         2
-    } else if opcode == 0xc48 || opcode == 0xc4b || opcode == 0xc68 || opcode == 0xc6a {
+    } else if opcode == opcodes::LGRL
+        || opcode == opcodes::STGRL
+        || opcode == opcodes::CGRL
+        || opcode == opcodes::CLGRL
+    {
         8
     } else {
         4

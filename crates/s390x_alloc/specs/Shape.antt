@@ -6,11 +6,12 @@ use Rattle.s390x_inst.specs.declared.args.MemArg.TheVariants.{Label}
 use Rattle.s390x_inst.specs.declared.inst.Inst.{Inst}
 use Rattle.s390x_inst.specs.declared.inst.Inst.TheVariants.{Jump, CondBr, IndirectBr, JTSequence, Ret, ReturnCall, Trap, Call, LabelAddress, Vector}
 use Rattle.s390x_inst.specs.declared.inst.Inst.TheVariants.{AluRX, CmpRX}
-use Rattle.s390x_inst.specs.declared.inst.Inst.TheVariants.{Store8, Store16, Store32, Store64, StoreRev16, StoreRev32, StoreRev64, StoreImm8, StoreImm16, StoreImm32SExt16, StoreImm64SExt16, LoadMultiple64, StoreMultiple64, LoadAddr, AtomicRmw, AtomicCas32, AtomicCas64}
+use Rattle.s390x_inst.specs.declared.inst.Inst.TheVariants.{StoreImm8, StoreImm16, StoreImm32SExt16, StoreImm64SExt16, LoadMultiple64, StoreMultiple64, LoadAddr, AtomicRmw, AtomicCas32, AtomicCas64}
 use Rattle.s390x_inst.specs.Loads.{as_load, by_load}
+use Rattle.s390x_inst.specs.Stores.{as_store, by_store}
+use Rattle.s390x_inst.specs.Wholes.{as_whole, by_whole}
 use Rattle.s390x_inst.specs.declared.vec_inst.VecInst.{VecInst}
-use Rattle.s390x_inst.specs.declared.vec_inst.VecInst.TheVariants.{VecLoad, VecLoadRev, VecLoadByte16Rev, VecLoadByte32Rev, VecLoadByte64Rev, VecLoadElt16Rev, VecLoadElt32Rev, VecLoadElt64Rev, VecStore, VecStoreRev, VecStoreByte16Rev, VecStoreByte32Rev, VecStoreByte64Rev}
-use Rattle.s390x_inst.specs.declared.vec_inst.VecInst.TheVariants.{VecStoreElt16Rev, VecStoreElt32Rev, VecStoreElt64Rev, VecLoadReplicate, VecLoadReplicateRev, VecLoadLane, VecLoadLaneRev, VecLoadLaneUndef, VecLoadLaneRevUndef, VecStoreLane, VecStoreLaneRev}
+use Rattle.s390x_inst.specs.declared.vec_inst.VecInst.TheVariants.{VecLoadReplicate, VecLoadReplicateRev, VecLoadLane, VecLoadLaneRev, VecLoadLaneUndef, VecLoadLaneRevUndef, VecStoreLane, VecStoreLaneRev}
 use Rattle.s390x_operands.specs.Operands.{is_loop}
 
 -- ---- where a block leads
@@ -72,57 +73,42 @@ precedes count here is n = ends_before count here (block_ending is) n
 
 -- ---- the labels that an instruction names
 
+-- the operand in memory of a load or a store of elements
+abbrev pub part_operand : VecInst → Option MemArg
+part_operand (VecLoadReplicate size rd mem) = Some mem
+part_operand (VecLoadReplicateRev size rd mem) = Some mem
+part_operand (VecLoadLane size rd ri mem lane_imm) = Some mem
+part_operand (VecLoadLaneRev size rd ri mem lane_imm) = Some mem
+part_operand (VecLoadLaneUndef size rd mem lane_imm) = Some mem
+part_operand (VecLoadLaneRevUndef size rd mem lane_imm) = Some mem
+part_operand (VecStoreLane size rd mem lane_imm) = Some mem
+part_operand (VecStoreLaneRev size rd mem lane_imm) = Some mem
+part_operand v = None
+
 -- the operand in memory of a vector instruction
 abbrev pub vector_memory : VecInst → Option MemArg
-vector_memory (VecLoad rd mem) = Some mem
-vector_memory (VecLoadRev rd mem) = Some mem
-vector_memory (VecLoadByte16Rev rd mem) = Some mem
-vector_memory (VecLoadByte32Rev rd mem) = Some mem
-vector_memory (VecLoadByte64Rev rd mem) = Some mem
-vector_memory (VecLoadElt16Rev rd mem) = Some mem
-vector_memory (VecLoadElt32Rev rd mem) = Some mem
-vector_memory (VecLoadElt64Rev rd mem) = Some mem
-vector_memory (VecStore rd mem) = Some mem
-vector_memory (VecStoreRev rd mem) = Some mem
-vector_memory (VecStoreByte16Rev rd mem) = Some mem
-vector_memory (VecStoreByte32Rev rd mem) = Some mem
-vector_memory (VecStoreByte64Rev rd mem) = Some mem
-vector_memory (VecStoreElt16Rev rd mem) = Some mem
-vector_memory (VecStoreElt32Rev rd mem) = Some mem
-vector_memory (VecStoreElt64Rev rd mem) = Some mem
-vector_memory (VecLoadReplicate size rd mem) = Some mem
-vector_memory (VecLoadReplicateRev size rd mem) = Some mem
-vector_memory (VecLoadLane size rd ri mem lane_imm) = Some mem
-vector_memory (VecLoadLaneRev size rd ri mem lane_imm) = Some mem
-vector_memory (VecLoadLaneUndef size rd mem lane_imm) = Some mem
-vector_memory (VecLoadLaneRevUndef size rd mem lane_imm) = Some mem
-vector_memory (VecStoreLane size rd mem lane_imm) = Some mem
-vector_memory (VecStoreLaneRev size rd mem lane_imm) = Some mem
-vector_memory v = None
+vector_memory v = by_whole (λ w. Some w.mem) (part_operand v) (as_whole v)
 
--- the operand in memory of an instruction that is no load of one register
+-- the operand in memory of an instruction that is neither a load nor a store of one register
+abbrev pub rest_operand : Inst → Option MemArg
+rest_operand (AluRX alu_op rd ri mem) = Some mem
+rest_operand (CmpRX op rn mem) = Some mem
+rest_operand (StoreImm8 imm mem) = Some mem
+rest_operand (StoreImm16 imm mem) = Some mem
+rest_operand (StoreImm32SExt16 imm mem) = Some mem
+rest_operand (StoreImm64SExt16 imm mem) = Some mem
+rest_operand (LoadMultiple64 rt rt2 mem) = Some mem
+rest_operand (StoreMultiple64 rt rt2 mem) = Some mem
+rest_operand (LoadAddr rd mem) = Some mem
+rest_operand (AtomicRmw alu_op rd rn mem) = Some mem
+rest_operand (AtomicCas32 rd ri rn mem) = Some mem
+rest_operand (AtomicCas64 rd ri rn mem) = Some mem
+rest_operand (Vector v) = vector_memory v
+rest_operand i = None
+
+-- the same of one that is no load
 abbrev pub other_operand : Inst → Option MemArg
-other_operand (AluRX alu_op rd ri mem) = Some mem
-other_operand (CmpRX op rn mem) = Some mem
-other_operand (Store8 rd mem) = Some mem
-other_operand (Store16 rd mem) = Some mem
-other_operand (Store32 rd mem) = Some mem
-other_operand (Store64 rd mem) = Some mem
-other_operand (StoreRev16 rd mem) = Some mem
-other_operand (StoreRev32 rd mem) = Some mem
-other_operand (StoreRev64 rd mem) = Some mem
-other_operand (StoreImm8 imm mem) = Some mem
-other_operand (StoreImm16 imm mem) = Some mem
-other_operand (StoreImm32SExt16 imm mem) = Some mem
-other_operand (StoreImm64SExt16 imm mem) = Some mem
-other_operand (LoadMultiple64 rt rt2 mem) = Some mem
-other_operand (StoreMultiple64 rt rt2 mem) = Some mem
-other_operand (LoadAddr rd mem) = Some mem
-other_operand (AtomicRmw alu_op rd rn mem) = Some mem
-other_operand (AtomicCas32 rd ri rn mem) = Some mem
-other_operand (AtomicCas64 rd ri rn mem) = Some mem
-other_operand (Vector v) = vector_memory v
-other_operand i = None
+other_operand i = by_store (λ s. Some s.mem) (rest_operand i) (as_store i)
 
 -- the operand in memory of an instruction
 abbrev pub memory_operand : Inst → Option MemArg

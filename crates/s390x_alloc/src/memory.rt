@@ -1,31 +1,15 @@
 //! Operands in memory.
 ghost use Rattle.std.specs.Prelude.{◌≡◌};
-ghost use Rattle.s390x_alloc.specs.Shape.{memory_operand, other_operand, vector_memory};
+ghost use Rattle.s390x_alloc.specs.Shape.{memory_operand, rest_operand, vector_memory, part_operand};
 
 use s390x_inst::{Inst, MemArg, VecInst};
 
-// The operand in memory of a vector instruction.
-fn vector_memory(inst: &VecInst) -> Option<MemArg>
-    ensures { result ≡ vector_memory inst.now }
+// The operand in memory of a load or a store of elements.
+fn part_operand(inst: &VecInst) -> Option<MemArg>
+    ensures { result ≡ part_operand inst.now }
 {
     match inst {
-        VecInst::VecLoad { mem, .. }
-        | VecInst::VecLoadRev { mem, .. }
-        | VecInst::VecLoadByte16Rev { mem, .. }
-        | VecInst::VecLoadByte32Rev { mem, .. }
-        | VecInst::VecLoadByte64Rev { mem, .. }
-        | VecInst::VecLoadElt16Rev { mem, .. }
-        | VecInst::VecLoadElt32Rev { mem, .. }
-        | VecInst::VecLoadElt64Rev { mem, .. }
-        | VecInst::VecStore { mem, .. }
-        | VecInst::VecStoreRev { mem, .. }
-        | VecInst::VecStoreByte16Rev { mem, .. }
-        | VecInst::VecStoreByte32Rev { mem, .. }
-        | VecInst::VecStoreByte64Rev { mem, .. }
-        | VecInst::VecStoreElt16Rev { mem, .. }
-        | VecInst::VecStoreElt32Rev { mem, .. }
-        | VecInst::VecStoreElt64Rev { mem, .. }
-        | VecInst::VecLoadReplicate { mem, .. }
+        VecInst::VecLoadReplicate { mem, .. }
         | VecInst::VecLoadReplicateRev { mem, .. }
         | VecInst::VecLoadLane { mem, .. }
         | VecInst::VecLoadLaneRev { mem, .. }
@@ -37,20 +21,23 @@ fn vector_memory(inst: &VecInst) -> Option<MemArg>
     }
 }
 
-// The operand in memory of an instruction that is no load of one register.
-fn other_operand(inst: &Inst) -> Option<MemArg>
-    ensures { result ≡ other_operand inst.now }
+// The operand in memory of a vector instruction.
+fn vector_memory(inst: &VecInst) -> Option<MemArg>
+    ensures { result ≡ vector_memory inst.now }
+{
+    match inst.as_whole() {
+        Some(whole) => Some(whole.mem),
+        None => part_operand(inst),
+    }
+}
+
+// The operand in memory of an instruction that is neither a load nor a store of one register.
+fn rest_operand(inst: &Inst) -> Option<MemArg>
+    ensures { result ≡ rest_operand inst.now }
 {
     match inst {
         Inst::AluRX { mem, .. }
         | Inst::CmpRX { mem, .. }
-        | Inst::Store8 { mem, .. }
-        | Inst::Store16 { mem, .. }
-        | Inst::Store32 { mem, .. }
-        | Inst::Store64 { mem, .. }
-        | Inst::StoreRev16 { mem, .. }
-        | Inst::StoreRev32 { mem, .. }
-        | Inst::StoreRev64 { mem, .. }
         | Inst::StoreImm8 { mem, .. }
         | Inst::StoreImm16 { mem, .. }
         | Inst::StoreImm32SExt16 { mem, .. }
@@ -72,6 +59,9 @@ pub fn memory_operand(inst: &Inst) -> Option<MemArg>
 {
     match inst.as_load() {
         Some(load) => Some(load.mem),
-        None => other_operand(inst),
+        None => match inst.as_store() {
+            Some(store) => Some(store.mem),
+            None => rest_operand(inst),
+        },
     }
 }

@@ -13,6 +13,7 @@ use Rattle.s390x_inst.specs.declared.inst.Inst.{Inst}
 use Rattle.s390x_operands.specs.declared.constraint.Reported.{Reported}
 use Rattle.s390x_operands.specs.Requests.{items_of, memory_requests, scratch_request, used, defined, reused, range_requests}
 use Rattle.s390x_assign.specs.Assignments.{register_at, after, memory_at}
+use Rattle.s390x_rows.specs.declared.opcodes.TheConstants as opcodes
 use Rattle.s390x_typed_steps.proofs.Causes.{first_left, first_right, unless_true}
 use Rattle.s390x_typed_steps.specs.Causes.{first_emit_cause, unless, facility_cause, Declared, bound_cause, alignment_cause, boundary, late_cause, target_cause, loses_scratch, addend_fits, memory_cause, memory_cause_or, instruction_cause}
 use Rattle.s390x_typed_steps.specs.Resolved.{resolved_instruction}
@@ -200,12 +201,12 @@ range_spares (Virtual n c) last f = absurd f
 pub load_range : (P : Place) (first last : Reg) (m : MemArg) (s s' : List Reg) → MemoryMayStand m → Gives s s' s s' (items_of (memory_requests m ++ range_requests first last)) →
     refusal P (LoadMultiple64 first last (memory_at m s').0) ≡ None → IsNotBlamed (refusal P (LoadMultiple64 first last (memory_at m s).0))
 load_range P first last m s s' may g h =
-    access_before P (LoadMultiple64 first last) (multiple first last 0xeb04 false) (λ x x' p k. record { valid = λ z. z; general = p; keeps_base = k; reads_none = refl }) (λ x. (refl, refl)) m (range_requests first last) s s' may g h
+    access_before P (LoadMultiple64 first last) (multiple first last opcodes.LMG false) (λ x x' p k. record { valid = λ z. z; general = p; keeps_base = k; reads_none = refl }) (λ x. (refl, refl)) m (range_requests first last) s s' may g h
 
 pub store_range : (P : Place) (first last : Reg) (m : MemArg) (s s' : List Reg) → IsFreeRange first last → MemoryMayStand m → Gives s s' s s' (items_of (memory_requests m ++ range_requests first last)) →
     refusal P (StoreMultiple64 first last (memory_at m s').0) ≡ None → IsNotBlamed (refusal P (StoreMultiple64 first last (memory_at m s).0))
 store_range P first last m s s' free may g h =
-    access_before P (StoreMultiple64 first last) (multiple first last 0xeb24 (holds_scratch first last)) (λ x x' p k. record { valid = λ z. z; general = p; keeps_base = k; reads_none = range_spares first last free }) (λ x. (refl, refl)) m (range_requests first last) s s' may g h
+    access_before P (StoreMultiple64 first last) (multiple first last opcodes.STMG (holds_scratch first last)) (λ x x' p k. record { valid = λ z. z; general = p; keeps_base = k; reads_none = range_spares first last free }) (λ x. (refl, refl)) m (range_requests first last) s s' may g h
 
 operate_follows : (row : Bool) (rx rxy : Option ℕ) (d d' i i' : Reg) (m m' : MemArg) → Passes (reuses d' i') (reuses d i) → is_numbered 1 i ≡ false → Passes (operand_general m') (operand_general m) → loses_base m ≡ false → AllFollow (operate row rx rxy d i m) (operate row rx rxy d' i' m')
 operate_follows true rx rxy d d' i i' m m' v n p k = record { valid = v; general = p; keeps_base = k; reads_none = n }

@@ -5,7 +5,8 @@ use Rattle.s390x_base.specs.declared.regs.Reg.{Reg}
 use Rattle.s390x_base.specs.declared.regs.Reg.TheVariants.{Real}
 use Rattle.s390x_inst.specs.declared.inst.Inst.{Inst}
 use Rattle.s390x_operands.specs.Requests.{items_of, scratch_request, used, defined}
-use Rattle.s390x_typed_steps.specs.Memory.{SiForm, SilForm, address_form, load_memory, store, store_immediate, compare, access_elements, reversed_code, load_lane_opcode, store_lane_opcode, load_reversed_opcode, store_reversed_opcode, load_left}
+use Rattle.s390x_rows.specs.declared.opcodes.TheConstants as opcodes
+use Rattle.s390x_typed_steps.specs.Memory.{SiForm, SilForm, address_form, layout_rows, load_memory, store_memory, store_immediate, compare, access_elements, reversed_code, load_lane_opcode, store_lane_opcode, load_reversed_opcode, store_reversed_opcode, load_left}
 use Rattle.s390x_typed_steps.specs.Memory.{store_left, vector_memory}
 use Rattle.s390x_typed_steps.specs.General.{is_general, is_access, four_bits, low_byte, low_displacement, low_halfword, low_word, rotation}
 use Rattle.s390x_typed_steps.specs.VectorInstruction.{is_vector, vector_row, reuses_vector, element_code, move_left_row}
@@ -17,25 +18,34 @@ use Rattle.s390x_typed_steps.specs.SingleInstruction.{halfword_row, indexed_row,
 use Rattle.s390x_typed_steps.specs.MachineInstruction.{rie_g, rre, rrf_cde, rsy, vrr_a}
 use Rattle.s390x_inst.specs.declared.vec_inst.VecInst.TheVariants.{VecRRR, VecRR, VecShiftRR, VecSelect, VecPermute, VecBlend, VecEvaluate, VecPermuteDWImm, VecIntCmp, VecIntCmpS, VecIntEltCmp, VecMov, FpuMove32, FpuMove64}
 use Rattle.s390x_inst.specs.declared.vec_inst.VecInst.TheVariants.{MovToVec128, VecImmByteMask, VecImmBitMask, VecImmReplicate, VecInsertLaneUndef, VecExtractLane, VecInsertLaneImmUndef, VecReplicateLane, VecInsertLane, VecInsertLaneImm, FpuCMov32, FpuCMov64, VecCMov, VecEltRev}
-use Rattle.s390x_inst.specs.declared.vec_inst.VecInst.TheVariants.{VecInt128SCmpHi, VecInt128UCmpHi, VecLoad, VecLoadRev, VecLoadByte16Rev, VecLoadByte32Rev, VecLoadByte64Rev, VecLoadElt16Rev, VecLoadElt32Rev, VecLoadElt64Rev, VecStore, VecStoreRev, VecStoreByte16Rev, VecStoreByte32Rev}
-use Rattle.s390x_inst.specs.declared.vec_inst.VecInst.TheVariants.{VecStoreByte64Rev, VecStoreElt16Rev, VecStoreElt32Rev, VecStoreElt64Rev, VecLoadReplicate, VecLoadReplicateRev, VecLoadLane, VecLoadLaneRev, VecLoadLaneUndef, VecLoadLaneRevUndef, VecStoreLane, VecStoreLaneRev}
+use Rattle.s390x_inst.specs.declared.vec_inst.VecInst.TheVariants.{VecInt128SCmpHi, VecInt128UCmpHi}
+use Rattle.s390x_inst.specs.declared.vec_inst.VecInst.TheVariants.{VecLoadReplicate, VecLoadReplicateRev, VecLoadLane, VecLoadLaneRev, VecLoadLaneUndef, VecLoadLaneRevUndef, VecStoreLane, VecStoreLaneRev}
 use Rattle.s390x_inst.specs.declared.inst.Inst.TheVariants.{Loop', Call, ReturnCall, Ret, AllocateArgs}
 use Rattle.s390x_inst.specs.declared.inst.Inst.TheVariants.{AluRR, AluRRR, AluRRSImm16, AluRSImm16, AluRSImm32, AluRUImm16Shifted, AluRUImm32, AluRUImm32Shifted, AluRX, AtomicCas32, AtomicCas64, CMov32, CMov32SImm16, CMov64}
 use Rattle.s390x_inst.specs.declared.inst.Inst.TheVariants.{CMov64SImm16, CmpRR, CmpRSImm16, CmpRSImm32, CmpRUImm32, CmpRX, CmpTrapRR, CmpTrapRSImm16, CmpTrapRUImm16, CondBr, CondBreak, Debugtrap, DummyUse, Extend}
 use Rattle.s390x_inst.specs.declared.inst.Inst.TheVariants.{Fence, Flogr, Insert64UImm16Shifted, Insert64UImm32Shifted, InsertAR, Jump}
 use Rattle.s390x_inst.specs.declared.inst.Inst.TheVariants.{LoadAR, LoadAddr, LoadIndexedAddr, LoadLogicalIndexedAddr, Mov32, Mov32Imm, Mov32SImm16}
 use Rattle.s390x_inst.specs.declared.inst.Inst.TheVariants.{Mov64, Mov64SImm16, Mov64SImm32, Mov64UImm16Shifted, Mov64UImm32Shifted, MovPReg, Nop0, Nop2, RxSBG, RxSBGTest, SDivMod32, SDivMod64, SMulWide, SequencePoint}
-use Rattle.s390x_inst.specs.declared.inst.Inst.TheVariants.{ShiftRR, Store16, Store32, Store64, Store8, StoreImm16, StoreImm32SExt16, StoreImm64SExt16, StoreImm8, StoreRev16, StoreRev32, StoreRev64, Trap, TrapIf}
+use Rattle.s390x_inst.specs.declared.inst.Inst.TheVariants.{ShiftRR, StoreImm16, StoreImm32SExt16, StoreImm64SExt16, StoreImm8, Trap, TrapIf}
 use Rattle.s390x_inst.specs.declared.inst.Inst.TheVariants.{UDivMod32, UDivMod64, UMulWide, UnaryRR, Vector, IndirectBr, JTSequence, LoadSymbolReloc, LabelAddress, Args, Rets, LoadMultiple64, StoreMultiple64, AtomicRmw}
 use Rattle.s390x_operands.specs.declared.constraint.Reported.TheVariants.{Fixed}
 use Rattle.s390x_operands.specs.Operands.{leaf_requests}
 use Rattle.s390x_inst.specs.declared.args.MemArg.{MemArg}
-use Rattle.s390x_inst.specs.declared.load.Load.{Load}
 use Rattle.s390x_inst.specs.declared.load.LoadOp.{LoadOp}
 use Rattle.s390x_inst.specs.declared.load.LoadOp.TheVariants as LoadOps
-use Rattle.s390x_inst.specs.Loads.{as_load, load_instruction}
+use Rattle.s390x_inst.specs.Loads.{load_instruction}
+use Rattle.s390x_inst.specs.declared.store.StoreOp.{StoreOp}
+use Rattle.s390x_inst.specs.declared.store.StoreOp.TheVariants as StoreOps
+use Rattle.s390x_inst.specs.Stores.{store_instruction}
+use Rattle.s390x_inst.specs.declared.whole.WholeAccess.{WholeAccess}
+use Rattle.s390x_inst.specs.declared.whole.Direction.{Direction}
+use Rattle.s390x_inst.specs.declared.whole.Direction.TheVariants.{Load, Store}
+use Rattle.s390x_inst.specs.declared.whole.WholeLayout.{WholeLayout}
+use Rattle.s390x_inst.specs.declared.whole.WholeLayout.TheVariants.{Straight}
+use Rattle.s390x_inst.specs.Wholes.{as_whole, whole_instruction}
+use Rattle.s390x_inst.proofs.Transfers.{Transfer, LoadOf, StoreOf, as_transfer, transfer_instruction, the_transfer}
+use Rattle.s390x_inst.proofs.Wholes.{the_whole}
 use Rattle.s390x_inst.specs.Portions.{first_portion}
-use Rattle.s390x_inst.proofs.Loads.{the_load}
 use Rattle.s390x_assign.specs.Assignments.{portion_at}
 use Rattle.s390x_alloc_laws.proofs.Given.{clear, Gives, used_given, defined_given, int_kept, float_kept}
 use Rattle.s390x_alloc_laws.proofs.Single.{general1_before, general1, general2, general3, reuse1, reuse2, general1_and, reuse1_and}
@@ -50,24 +60,43 @@ load_blames : (P : Place) (op : LoadOp) (rd : Reg) (mem : MemArg) (s s' : List R
 load_blames P LoadOps.Load64 rd mem s s' m g h = access1 P defined defined_given (load_instruction LoadOps.Load64) (λ rd mem. load_memory (record { op = LoadOps.Load64; rd = rd; mem = mem })) (λ q q' x x' v n p k. record { valid = v; general = p; keeps_base = k; reads_none = refl }) (λ a x. (refl, refl)) rd mem s s' m.0 m.1 g h
 load_blames P op rd mem s s' m g h = access1 P defined defined_given (load_instruction op) (λ rd mem. load_memory (record { op = op; rd = rd; mem = mem })) (λ q q' x x' v n p k. record { valid = v; general = p; keeps_base = k; reads_none = refl }) (λ a x. (refl, refl)) rd mem s s' m.0 m.1 g h
 
--- each instruction, by the shape of its registers; the last clause is a copy for each load
+-- a store, likewise
+store_blames : (P : Place) (op : StoreOp) (rd : Reg) (mem : MemArg) (s s' : List Reg) → MayStand (store_instruction op rd mem) → Gives s s' s s' (items_of (leaf_requests (store_instruction op rd mem))) → portion_refusal P (portion_at (first_portion (store_instruction op rd mem)) s').0 ≡ None →
+    IsNotBlamed (portion_refusal P (portion_at (first_portion (store_instruction op rd mem)) s).0)
+store_blames P StoreOps.Store64 rd mem s s' m g h = access1 P used used_given (store_instruction StoreOps.Store64) (λ rd mem. store_memory (record { op = StoreOps.Store64; rd = rd; mem = mem })) (λ q q' x x' v n p k. record { valid = v; general = p; keeps_base = k; reads_none = n }) (λ a x. (refl, refl)) rd mem s s' m.0 m.1 g h
+store_blames P op rd mem s s' m g h = access1 P used used_given (store_instruction op) (λ rd mem. store_memory (record { op = op; rd = rd; mem = mem })) (λ q q' x x' v n p k. record { valid = v; general = p; keeps_base = k; reads_none = n }) (λ a x. (refl, refl)) rd mem s s' m.0 m.1 g h
+
+transfer_blames : (P : Place) (t : Transfer) (s s' : List Reg) → MayStand (transfer_instruction t) → Gives s s' s s' (items_of (leaf_requests (transfer_instruction t))) → portion_refusal P (portion_at (first_portion (transfer_instruction t)) s').0 ≡ None →
+    IsNotBlamed (portion_refusal P (portion_at (first_portion (transfer_instruction t)) s).0)
+transfer_blames P (LoadOf l) s s' m g h = load_blames P l.op l.rd l.mem s s' m g h
+transfer_blames P (StoreOf t) s s' m g h = store_blames P t.op t.rd t.mem s s' m g h
+
+-- a load or a store of a whole vector register: the clauses without `Straight` are a copy for each other layout
+whole_blames : (P : Place) (direction : Direction) (layout : WholeLayout) (rd : Reg) (mem : MemArg) (s s' : List Reg) → MayStand (Vector (whole_instruction direction layout rd mem)) → Gives s s' s s' (items_of (leaf_requests (Vector (whole_instruction direction layout rd mem)))) → portion_refusal P (portion_at (first_portion (Vector (whole_instruction direction layout rd mem))) s').0 ≡ None →
+    IsNotBlamed (portion_refusal P (portion_at (first_portion (Vector (whole_instruction direction layout rd mem))) s).0)
+whole_blames P Load Straight rd mem s s' m g h = vector_access P defined defined_given (λ a x. Vector (whole_instruction Load Straight a x)) (λ a x. access_elements (layout_rows Straight).load_opcode a (Some (layout_rows Straight).mask) x) (λ a x. elements_accessed (layout_rows Straight).load_opcode a (Some (layout_rows Straight).mask) x) (λ a x. (refl, refl)) rd mem s s' m.1 g h
+whole_blames P Load layout rd mem s s' m g h = vector_access P defined defined_given (λ a x. Vector (whole_instruction Load layout a x)) (λ a x. access_elements (layout_rows layout).load_opcode a (Some (layout_rows layout).mask) x) (λ a x. elements_accessed (layout_rows layout).load_opcode a (Some (layout_rows layout).mask) x) (λ a x. (refl, refl)) rd mem s s' m.1 g h
+whole_blames P Store Straight rd mem s s' m g h = vector_access P used used_given (λ a x. Vector (whole_instruction Store Straight a x)) (λ a x. access_elements (layout_rows Straight).store_opcode a (Some (layout_rows Straight).mask) x) (λ a x. elements_accessed (layout_rows Straight).store_opcode a (Some (layout_rows Straight).mask) x) (λ a x. (refl, refl)) rd mem s s' m.1 g h
+whole_blames P Store layout rd mem s s' m g h = vector_access P used used_given (λ a x. Vector (whole_instruction Store layout a x)) (λ a x. access_elements (layout_rows layout).store_opcode a (Some (layout_rows layout).mask) x) (λ a x. elements_accessed (layout_rows layout).store_opcode a (Some (layout_rows layout).mask) x) (λ a x. (refl, refl)) rd mem s s' m.1 g h
+
+-- each instruction, by the shape of its registers; the last two clauses are a copy for each load and store of a vector register and of another one
 pub blames : (P : Place) (i : Inst) (s s' : List Reg) → MayStand i → Gives s s' s s' (items_of (leaf_requests i)) → portion_refusal P (portion_at (first_portion i) s').0 ≡ None → IsNotBlamed (portion_refusal P (portion_at (first_portion i) s).0)
 blames P (LoadIndexedAddr rd base index offset size) s s' m g h = general3 P defined defined_given (λ rd base index. LoadIndexedAddr rd base index offset size) (λ rd base index. indexed_row (indexed_opcode size) (number_of rd) (number_of base) (number_of index) (low_displacement offset)) (λ rd base index. refl) rd base index s s' g h
 blames P (LoadLogicalIndexedAddr rd base index offset size) s s' m g h = general3 P defined defined_given (λ rd base index. LoadLogicalIndexedAddr rd base index offset size) (λ rd base index. indexed_row (logical_indexed_opcode size) (number_of rd) (number_of base) (number_of index) (low_displacement offset)) (λ rd base index. refl) rd base index s s' g h
-blames P (Mov64 rd rm) s s' m g h = general2 P defined defined_given (λ rd rm. Mov64 rd rm) (λ rd rm. two_row (Some 0xb904) (number_of rd) (number_of rm)) (λ rd rm. refl) rd rm s s' g h
-blames P (Mov32 rd rm) s s' m g h = general2 P defined defined_given (λ rd rm. Mov32 rd rm) (λ rd rm. two_row (Some 0x18) (number_of rd) (number_of rm)) (λ rd rm. refl) rd rm s s' g h
-blames P (Mov32Imm rd imm) s s' m g h = general1 P defined defined_given (λ rd. Mov32Imm rd imm) (λ rd. word_row (Some 0xc09) (number_of rd) (low_word (pos imm))) (λ rd. refl) rd s s' g h
-blames P (Mov32SImm16 rd imm) s s' m g h = general1 P defined defined_given (λ rd. Mov32SImm16 rd imm) (λ rd. halfword_row (Some 0xa78) (number_of rd) (low_halfword imm)) (λ rd. refl) rd s s' g h
-blames P (Mov64SImm16 rd imm) s s' m g h = general1 P defined defined_given (λ rd. Mov64SImm16 rd imm) (λ rd. halfword_row (Some 0xa79) (number_of rd) (low_halfword imm)) (λ rd. refl) rd s s' g h
-blames P (Mov64SImm32 rd imm) s s' m g h = general1 P defined defined_given (λ rd. Mov64SImm32 rd imm) (λ rd. word_row (Some 0xc01) (number_of rd) (low_word imm)) (λ rd. refl) rd s s' g h
+blames P (Mov64 rd rm) s s' m g h = general2 P defined defined_given (λ rd rm. Mov64 rd rm) (λ rd rm. two_row (Some opcodes.LGR) (number_of rd) (number_of rm)) (λ rd rm. refl) rd rm s s' g h
+blames P (Mov32 rd rm) s s' m g h = general2 P defined defined_given (λ rd rm. Mov32 rd rm) (λ rd rm. two_row (Some opcodes.LR) (number_of rd) (number_of rm)) (λ rd rm. refl) rd rm s s' g h
+blames P (Mov32Imm rd imm) s s' m g h = general1 P defined defined_given (λ rd. Mov32Imm rd imm) (λ rd. word_row (Some opcodes.IILF) (number_of rd) (low_word (pos imm))) (λ rd. refl) rd s s' g h
+blames P (Mov32SImm16 rd imm) s s' m g h = general1 P defined defined_given (λ rd. Mov32SImm16 rd imm) (λ rd. halfword_row (Some opcodes.LHI) (number_of rd) (low_halfword imm)) (λ rd. refl) rd s s' g h
+blames P (Mov64SImm16 rd imm) s s' m g h = general1 P defined defined_given (λ rd. Mov64SImm16 rd imm) (λ rd. halfword_row (Some opcodes.LGHI) (number_of rd) (low_halfword imm)) (λ rd. refl) rd s s' g h
+blames P (Mov64SImm32 rd imm) s s' m g h = general1 P defined defined_given (λ rd. Mov64SImm32 rd imm) (λ rd. word_row (Some opcodes.LGFI) (number_of rd) (low_word imm)) (λ rd. refl) rd s s' g h
 blames P (Mov64UImm16Shifted rd imm) s s' m g h = general1 P defined defined_given (λ rd. Mov64UImm16Shifted rd imm) (λ rd. halfword_row (load_part imm.shift) (number_of rd) (low_halfword (pos imm.bits))) (λ rd. refl) rd s s' g h
 blames P (Mov64UImm32Shifted rd imm) s s' m g h = general1 P defined defined_given (λ rd. Mov64UImm32Shifted rd imm) (λ rd. word_row (load_half imm.shift) (number_of rd) (low_word (pos imm.bits))) (λ rd. refl) rd s s' g h
 blames P (Insert64UImm16Shifted rd ri imm) s s' m g h = reuse1 P (λ rd ri. Insert64UImm16Shifted rd ri imm) (λ rd ri. halfword_row (insert_part imm.shift) (number_of rd) (low_halfword (pos imm.bits))) (λ rd ri. refl) rd ri s s' m.0 m.1 g h
 blames P (Insert64UImm32Shifted rd ri imm) s s' m g h = reuse1 P (λ rd ri. Insert64UImm32Shifted rd ri imm) (λ rd ri. word_row (insert_half imm.shift) (number_of rd) (low_word (pos imm.bits))) (λ rd ri. refl) rd ri s s' m.0 m.1 g h
-blames P (CMov32 rd mask ri rm) s s' m g h = reuse2 P (λ rd ri rm. CMov32 rd mask ri rm) (λ rd ri rm. Some (rrf_cde 0xb9f2 (number_of rd) (number_of rm) (four_bits mask) 0)) (λ rd ri rm. refl) rd ri rm s s' m.0 m.1 g h
-blames P (CMov64 rd mask ri rm) s s' m g h = reuse2 P (λ rd ri rm. CMov64 rd mask ri rm) (λ rd ri rm. Some (rrf_cde 0xb9e2 (number_of rd) (number_of rm) (four_bits mask) 0)) (λ rd ri rm. refl) rd ri rm s s' m.0 m.1 g h
-blames P (CMov32SImm16 rd mask ri imm) s s' m g h = reuse1 P (λ rd ri. CMov32SImm16 rd mask ri imm) (λ rd ri. Some (rie_g 0xec42 (number_of rd) (low_halfword imm) (four_bits mask))) (λ rd ri. refl) rd ri s s' m.0 m.1 g h
-blames P (CMov64SImm16 rd mask ri imm) s s' m g h = reuse1 P (λ rd ri. CMov64SImm16 rd mask ri imm) (λ rd ri. Some (rie_g 0xec46 (number_of rd) (low_halfword imm) (four_bits mask))) (λ rd ri. refl) rd ri s s' m.0 m.1 g h
+blames P (CMov32 rd mask ri rm) s s' m g h = reuse2 P (λ rd ri rm. CMov32 rd mask ri rm) (λ rd ri rm. Some (rrf_cde opcodes.LOCR (number_of rd) (number_of rm) (four_bits mask) 0)) (λ rd ri rm. refl) rd ri rm s s' m.0 m.1 g h
+blames P (CMov64 rd mask ri rm) s s' m g h = reuse2 P (λ rd ri rm. CMov64 rd mask ri rm) (λ rd ri rm. Some (rrf_cde opcodes.LOCGR (number_of rd) (number_of rm) (four_bits mask) 0)) (λ rd ri rm. refl) rd ri rm s s' m.0 m.1 g h
+blames P (CMov32SImm16 rd mask ri imm) s s' m g h = reuse1 P (λ rd ri. CMov32SImm16 rd mask ri imm) (λ rd ri. Some (rie_g opcodes.LOCHI (number_of rd) (low_halfword imm) (four_bits mask))) (λ rd ri. refl) rd ri s s' m.0 m.1 g h
+blames P (CMov64SImm16 rd mask ri imm) s s' m g h = reuse1 P (λ rd ri. CMov64SImm16 rd mask ri imm) (λ rd ri. Some (rie_g opcodes.LOCGHI (number_of rd) (low_halfword imm) (four_bits mask))) (λ rd ri. refl) rd ri s s' m.0 m.1 g h
 blames P (Extend rd rn signed from to) s s' m g h = general2 P defined defined_given (λ rd rn. Extend rd rn signed from to) (λ rd rn. two_row (extend_two signed from to) (number_of rd) (number_of rn)) (λ rd rn. refl) rd rn s s' g h
 blames P (AluRRR op rd rn rm) s s' m g h = general3 P defined defined_given (λ rd rn rm. AluRRR op rd rn rm) (λ rd rn rm. three_row (alu_three op) (alu_two op) (number_of rd) (number_of rn) (number_of rm)) (λ rd rn rm. refl) rd rn rm s s' g h
 blames P (AluRRSImm16 op rd rn imm) s s' m g h = general2 P defined defined_given (λ rd rn. AluRRSImm16 op rd rn imm) (λ rd rn. three_halfword_row (alu_three_halfword op) (alu_halfword op) (number_of rd) (number_of rn) (low_halfword imm)) (λ rd rn. refl) rd rn s s' g h
@@ -88,16 +117,16 @@ blames P (CmpRUImm32 op rn imm) s s' m g h = general1 P used used_given (λ rn. 
 blames P (CmpTrapRR op rn rm mask code) s s' m g h = general2 P used used_given (λ rn rm. CmpTrapRR op rn rm mask code) (λ rn rm. masked_row (cmp_trap op) (number_of rn) (number_of rm) (four_bits mask)) (λ rn rm. refl) rn rm s s' g h
 blames P (CmpTrapRSImm16 op rn imm mask code) s s' m g h = general1 P used used_given (λ rn. CmpTrapRSImm16 op rn imm mask code) (λ rn. masked_halfword_row (cmp_trap_signed op) (number_of rn) (low_halfword imm) (four_bits mask)) (λ rn. refl) rn s s' g h
 blames P (CmpTrapRUImm16 op rn imm mask code) s s' m g h = general1 P used used_given (λ rn. CmpTrapRUImm16 op rn imm mask code) (λ rn. masked_halfword_row (cmp_trap_unsigned op) (number_of rn) (low_halfword (pos imm)) (four_bits mask)) (λ rn. refl) rn s s' g h
-blames P (LoadAR rd ar) s s' m g h = general1_and P defined defined_given (λ d. LoadAR d ar) (is_access ar) (λ d. two_row (Some 0xb24f) (number_of d) (four_bits ar)) (λ d. refl) rd [] s s' g h
-blames P (InsertAR rd ri ar) s s' m g h = reuse1_and P (λ d i. InsertAR d i ar) (is_access ar) (λ d i. two_row (Some 0xb24f) (number_of d) (four_bits ar)) (λ d i. refl) rd ri s s' m.0 m.1 g h
-blames P (MovPReg rd rm) s s' m g h = general1_and P defined defined_given (λ d. MovPReg d rm) (is_general (Real rm)) (λ d. two_row (Some 0xb904) (number_of d) (number_of (Real rm))) (λ d. refl) rd (Some (Fixed rm) ∷ []) s s' g h
+blames P (LoadAR rd ar) s s' m g h = general1_and P defined defined_given (λ d. LoadAR d ar) (is_access ar) (λ d. two_row (Some opcodes.EAR) (number_of d) (four_bits ar)) (λ d. refl) rd [] s s' g h
+blames P (InsertAR rd ri ar) s s' m g h = reuse1_and P (λ d i. InsertAR d i ar) (is_access ar) (λ d i. two_row (Some opcodes.EAR) (number_of d) (four_bits ar)) (λ d i. refl) rd ri s s' m.0 m.1 g h
+blames P (MovPReg rd rm) s s' m g h = general1_and P defined defined_given (λ d. MovPReg d rm) (is_general (Real rm)) (λ d. two_row (Some opcodes.LGR) (number_of d) (number_of (Real rm))) (λ d. refl) rd (Some (Fixed rm) ∷ []) s s' g h
 blames P (SMulWide rd rn rm) s s' m g h = products P rd rn rm s s' g h
-blames P (Flogr rd rn) s s' m g h = by_one P (λ d n. Flogr d n) (λ d n. Some (rre 0xb983 (number_of d.hi) (number_of n))) (λ d n. refl) rd rn s s' g h
-blames P (UMulWide rd ri rn) s s' m g h = by_low P (λ d i n. UMulWide d i n) (λ d i n. Some (rre 0xb986 (number_of d.hi) (number_of n))) (λ d i n. refl) rd ri rn s s' g h
-blames P (SDivMod32 rd ri rn) s s' m g h = by_low P (λ d i n. SDivMod32 d i n) (λ d i n. Some (rre 0xb91d (number_of d.hi) (number_of n))) (λ d i n. refl) rd ri rn s s' g h
-blames P (SDivMod64 rd ri rn) s s' m g h = by_low P (λ d i n. SDivMod64 d i n) (λ d i n. Some (rre 0xb90d (number_of d.hi) (number_of n))) (λ d i n. refl) rd ri rn s s' g h
-blames P (UDivMod32 rd ri rn) s s' m g h = by_pair P (λ d i n. UDivMod32 d i n) (λ d i n. Some (rre 0xb997 (number_of d.hi) (number_of n))) (λ d i n. refl) rd ri rn s s' g h
-blames P (UDivMod64 rd ri rn) s s' m g h = by_pair P (λ d i n. UDivMod64 d i n) (λ d i n. Some (rre 0xb987 (number_of d.hi) (number_of n))) (λ d i n. refl) rd ri rn s s' g h
+blames P (Flogr rd rn) s s' m g h = by_one P (λ d n. Flogr d n) (λ d n. Some (rre opcodes.FLOGR (number_of d.hi) (number_of n))) (λ d n. refl) rd rn s s' g h
+blames P (UMulWide rd ri rn) s s' m g h = by_low P (λ d i n. UMulWide d i n) (λ d i n. Some (rre opcodes.MLGR (number_of d.hi) (number_of n))) (λ d i n. refl) rd ri rn s s' g h
+blames P (SDivMod32 rd ri rn) s s' m g h = by_low P (λ d i n. SDivMod32 d i n) (λ d i n. Some (rre opcodes.DSGFR (number_of d.hi) (number_of n))) (λ d i n. refl) rd ri rn s s' g h
+blames P (SDivMod64 rd ri rn) s s' m g h = by_low P (λ d i n. SDivMod64 d i n) (λ d i n. Some (rre opcodes.DSGR (number_of d.hi) (number_of n))) (λ d i n. refl) rd ri rn s s' g h
+blames P (UDivMod32 rd ri rn) s s' m g h = by_pair P (λ d i n. UDivMod32 d i n) (λ d i n. Some (rre opcodes.DLR (number_of d.hi) (number_of n))) (λ d i n. refl) rd ri rn s s' g h
+blames P (UDivMod64 rd ri rn) s s' m g h = by_pair P (λ d i n. UDivMod64 d i n) (λ d i n. Some (rre opcodes.DLGR (number_of d.hi) (number_of n))) (λ d i n. refl) rd ri rn s s' g h
 blames P (Vector (VecRRR op rd rn rm)) s s' m g h = mixed3 P defined defined_given (λ rd rn rm. Vector (VecRRR op rd rn rm)) is_vector is_vector is_vector float_kept float_kept float_kept (λ rd rn rm. vector_row (VecRRR op rd rn rm)) (λ rd rn rm. refl) rd rn rm s s' g h
 blames P (Vector (VecRR op rd rn)) s s' m g h = mixed2 P defined defined_given (λ rd rn. Vector (VecRR op rd rn)) is_vector is_vector float_kept float_kept (λ rd rn. vector_row (VecRR op rd rn)) (λ rd rn. refl) rd rn s s' g h
 blames P (Vector (VecShiftRR op rd rn amount register)) s s' m g h = mixed3 P defined defined_given (λ rd rn register. Vector (VecShiftRR op rd rn amount register)) is_vector is_vector is_general float_kept float_kept int_kept (λ rd rn register. vector_row (VecShiftRR op rd rn amount register)) (λ rd rn register. refl) rd rn register s s' g h
@@ -121,8 +150,8 @@ blames P (Vector (VecExtractLane size rd rn lane base)) s s' m g h = mixed3 P de
 blames P (Vector (VecInsertLaneImmUndef size rd imm lane)) s s' m g h = mixed1 P defined defined_given (λ rd. Vector (VecInsertLaneImmUndef size rd imm lane)) is_vector float_kept (λ rd. vector_row (VecInsertLaneImmUndef size rd imm lane)) (λ rd. refl) rd s s' g h
 blames P (Vector (VecReplicateLane size rd rn lane)) s s' m g h = mixed2 P defined defined_given (λ rd rn. Vector (VecReplicateLane size rd rn lane)) is_vector is_vector float_kept float_kept (λ rd rn. vector_row (VecReplicateLane size rd rn lane)) (λ rd rn. refl) rd rn s s' g h
 blames P (AluRX op rd ri mem) s s' m g h = reuse_access P (λ d i x. AluRX op d i x) (is_some (alu_rx op) || is_some (alu_rxy op)) (alu_rx op) (alu_rxy op) (λ d i x. (refl, refl)) rd ri mem s s' m.0 m.1 m.2 g h
-blames P (AtomicCas32 rd ri rn mem) s s' m g h = swap_access P (λ d i n x. AtomicCas32 d i n x) (Some 0xba) 0xeb14 (λ d i n x. (refl, refl)) rd ri rn mem s s' m.0 m.1 m.2 m.3 g h
-blames P (AtomicCas64 rd ri rn mem) s s' m g h = swap_access P (λ d i n x. AtomicCas64 d i n x) None 0xeb30 (λ d i n x. (refl, refl)) rd ri rn mem s s' m.0 m.1 m.2 m.3 g h
+blames P (AtomicCas32 rd ri rn mem) s s' m g h = swap_access P (λ d i n x. AtomicCas32 d i n x) (Some opcodes.CS) opcodes.CSY (λ d i n x. (refl, refl)) rd ri rn mem s s' m.0 m.1 m.2 m.3 g h
+blames P (AtomicCas64 rd ri rn mem) s s' m g h = swap_access P (λ d i n x. AtomicCas64 d i n x) None opcodes.CSG (λ d i n x. (refl, refl)) rd ri rn mem s s' m.0 m.1 m.2 m.3 g h
 blames P (Jump dest) s s' m g h = unread _ h
 blames P (CondBr taken not_taken mask) s s' m g h = unread _ h
 blames P (CondBreak mask) s s' m g h = unread _ h
@@ -135,53 +164,30 @@ blames P Debugtrap s s' m g h = unread _ h
 blames P SequencePoint s s' m g h = unread _ h
 blames P (DummyUse reg) s s' m g h = unread _ h
 blames P (CmpRX op rn mem) s s' m g h = access1 P used used_given (λ a x. CmpRX op a x) (λ rn mem. compare rn (cmp_rx op) (cmp_rxy op) (cmp_ril op) mem) (λ q q' x x' v n p k. record { valid = v; general = p; keeps_base = k; reads_none = n }) (λ a x. (refl, refl)) rn mem s s' m.0 m.1 g h
-blames P (Store8 rd mem) s s' m g h = access1 P used used_given (λ a x. Store8 a x) (λ rd mem. store rd (Some 0x42) (Some 0xe372) None mem) (λ q q' x x' v n p k. record { valid = v; general = p; keeps_base = k; reads_none = n }) (λ a x. (refl, refl)) rd mem s s' m.0 m.1 g h
-blames P (Store16 rd mem) s s' m g h = access1 P used used_given (λ a x. Store16 a x) (λ rd mem. store rd (Some 0x40) (Some 0xe370) (Some 0xc47) mem) (λ q q' x x' v n p k. record { valid = v; general = p; keeps_base = k; reads_none = n }) (λ a x. (refl, refl)) rd mem s s' m.0 m.1 g h
-blames P (Store32 rd mem) s s' m g h = access1 P used used_given (λ a x. Store32 a x) (λ rd mem. store rd (Some 0x50) (Some 0xe350) (Some 0xc4f) mem) (λ q q' x x' v n p k. record { valid = v; general = p; keeps_base = k; reads_none = n }) (λ a x. (refl, refl)) rd mem s s' m.0 m.1 g h
-blames P (Store64 rd mem) s s' m g h = access1 P used used_given (λ a x. Store64 a x) (λ rd mem. store rd None (Some 0xe324) (Some 0xc4b) mem) (λ q q' x x' v n p k. record { valid = v; general = p; keeps_base = k; reads_none = n }) (λ a x. (refl, refl)) rd mem s s' m.0 m.1 g h
-blames P (StoreRev16 rd mem) s s' m g h = access1 P used used_given (λ a x. StoreRev16 a x) (λ rd mem. store rd None (Some 0xe33f) None mem) (λ q q' x x' v n p k. record { valid = v; general = p; keeps_base = k; reads_none = n }) (λ a x. (refl, refl)) rd mem s s' m.0 m.1 g h
-blames P (StoreRev32 rd mem) s s' m g h = access1 P used used_given (λ a x. StoreRev32 a x) (λ rd mem. store rd None (Some 0xe33e) None mem) (λ q q' x x' v n p k. record { valid = v; general = p; keeps_base = k; reads_none = n }) (λ a x. (refl, refl)) rd mem s s' m.0 m.1 g h
-blames P (StoreRev64 rd mem) s s' m g h = access1 P used used_given (λ a x. StoreRev64 a x) (λ rd mem. store rd None (Some 0xe32f) None mem) (λ q q' x x' v n p k. record { valid = v; general = p; keeps_base = k; reads_none = n }) (λ a x. (refl, refl)) rd mem s s' m.0 m.1 g h
-blames P (StoreImm8 imm mem) s s' m g h = access0 P (λ x. StoreImm8 imm x) (λ mem. store_immediate (SiForm (low_byte imm) 0x92 0xeb52) mem) (λ x x' p k. record { valid = λ z. z; general = p; keeps_base = k; reads_none = refl }) (λ x. (refl, refl)) mem s s' m g h
-blames P (StoreImm16 imm mem) s s' m g h = access0 P (λ x. StoreImm16 imm x) (λ mem. store_immediate (SilForm (low_halfword imm) 0xe544) mem) (λ x x' p k. record { valid = λ z. z; general = p; keeps_base = k; reads_none = refl }) (λ x. (refl, refl)) mem s s' m g h
-blames P (StoreImm32SExt16 imm mem) s s' m g h = access0 P (λ x. StoreImm32SExt16 imm x) (λ mem. store_immediate (SilForm (low_halfword imm) 0xe54c) mem) (λ x x' p k. record { valid = λ z. z; general = p; keeps_base = k; reads_none = refl }) (λ x. (refl, refl)) mem s s' m g h
-blames P (StoreImm64SExt16 imm mem) s s' m g h = access0 P (λ x. StoreImm64SExt16 imm x) (λ mem. store_immediate (SilForm (low_halfword imm) 0xe548) mem) (λ x x' p k. record { valid = λ z. z; general = p; keeps_base = k; reads_none = refl }) (λ x. (refl, refl)) mem s s' m g h
+blames P (StoreImm8 imm mem) s s' m g h = access0 P (λ x. StoreImm8 imm x) (λ mem. store_immediate (SiForm (low_byte imm) opcodes.MVI opcodes.MVIY) mem) (λ x x' p k. record { valid = λ z. z; general = p; keeps_base = k; reads_none = refl }) (λ x. (refl, refl)) mem s s' m g h
+blames P (StoreImm16 imm mem) s s' m g h = access0 P (λ x. StoreImm16 imm x) (λ mem. store_immediate (SilForm (low_halfword imm) opcodes.MVHHI) mem) (λ x x' p k. record { valid = λ z. z; general = p; keeps_base = k; reads_none = refl }) (λ x. (refl, refl)) mem s s' m g h
+blames P (StoreImm32SExt16 imm mem) s s' m g h = access0 P (λ x. StoreImm32SExt16 imm x) (λ mem. store_immediate (SilForm (low_halfword imm) opcodes.MVHI) mem) (λ x x' p k. record { valid = λ z. z; general = p; keeps_base = k; reads_none = refl }) (λ x. (refl, refl)) mem s s' m g h
+blames P (StoreImm64SExt16 imm mem) s s' m g h = access0 P (λ x. StoreImm64SExt16 imm x) (λ mem. store_immediate (SilForm (low_halfword imm) opcodes.MVGHI) mem) (λ x x' p k. record { valid = λ z. z; general = p; keeps_base = k; reads_none = refl }) (λ x. (refl, refl)) mem s s' m g h
 blames P (LoadAddr rd mem) s s' m g h = access1 P defined defined_given (λ a x. LoadAddr a x) (λ rd mem. Some (record { form = address_form rd; operand = mem; accesses = false; operands_valid = is_general rd; reads_scratch = false })) (λ q q' x x' v n p k. record { valid = v; general = p; keeps_base = k; reads_none = refl }) (λ a x. (refl, refl)) rd mem s s' m.0 m.1 g h
 blames P (LoadMultiple64 rt rt2 mem) s s' m g h = load_range P rt rt2 mem s s' m.1 g h
 blames P (StoreMultiple64 rt rt2 mem) s s' m g h = store_range P rt rt2 mem s s' m.0 m.1 g h
 blames P (AtomicRmw op rd rn mem) s s' m g h = change_access P (λ d n x. AtomicRmw op d n x) (atomic_rsy op) (λ d n x. (refl, refl)) rd rn mem s s' m.1 m.2 g h
 blames P (IndirectBr rn targets) s s' m g h = branch P rn targets.items s s' m g h
 blames P (JTSequence ridx other mask targets) s s' m g h = table P ridx other mask targets.items s s' m g h
-blames P (LoadSymbolReloc rd reloc) s s' m g h = general1_before P defined defined_given (λ d. LoadSymbolReloc d reloc) (λ d. two_row (Some 0xb904) (number_of d) 0) (λ d. refl) rd (scratch_request ∷ []) s s' g h
+blames P (LoadSymbolReloc rd reloc) s s' m g h = general1_before P defined defined_given (λ d. LoadSymbolReloc d reloc) (λ d. two_row (Some opcodes.LGR) (number_of d) 0) (λ d. refl) rd (scratch_request ∷ []) s s' g h
 blames P (LabelAddress dst label) s s' m g h = label_address P dst label s s' g h
 blames P (Args args) s s' m g h = clear
 blames P (Rets rets) s s' m g h = clear
 blames P (Vector (VecInsertLane size rd ri rn lane base)) s s' m g h = reuse_vector3 P (λ d i n b. Vector (VecInsertLane size d i n lane b)) (λ d i n b. vector_row (VecInsertLane size d i n lane b)) (λ d i n b. refl) rd ri rn base s s' m.0 m.1 g h
 blames P (Vector (VecInsertLaneImm size rd ri imm lane)) s s' m g h = reuse_vector1 P (λ d i. Vector (VecInsertLaneImm size d i imm lane)) (λ d i. vector_row (VecInsertLaneImm size d i imm lane)) (λ d i. refl) rd ri s s' m.0 m.1 g h
-blames P (Vector (FpuCMov32 rd mask ri rm)) s s' m g h = reuse_vector2 P (λ d i n. Vector (FpuCMov32 d mask i n)) (λ d i n. Some (move_left_row 0x38 (number_of d) (number_of n))) (λ d i n. refl) rd ri rm s s' m.0 m.1 g h
-blames P (Vector (FpuCMov64 rd mask ri rm)) s s' m g h = reuse_vector2 P (λ d i n. Vector (FpuCMov64 d mask i n)) (λ d i n. Some (move_left_row 0x28 (number_of d) (number_of n))) (λ d i n. refl) rd ri rm s s' m.0 m.1 g h
-blames P (Vector (VecCMov rd mask ri rm)) s s' m g h = reuse_vector2 P (λ d i n. Vector (VecCMov d mask i n)) (λ d i n. Some (vrr_a 0xe756 (number_of d) (number_of n) 0)) (λ d i n. refl) rd ri rm s s' m.0 m.1 g h
+blames P (Vector (FpuCMov32 rd mask ri rm)) s s' m g h = reuse_vector2 P (λ d i n. Vector (FpuCMov32 d mask i n)) (λ d i n. Some (move_left_row opcodes.LER (number_of d) (number_of n))) (λ d i n. refl) rd ri rm s s' m.0 m.1 g h
+blames P (Vector (FpuCMov64 rd mask ri rm)) s s' m g h = reuse_vector2 P (λ d i n. Vector (FpuCMov64 d mask i n)) (λ d i n. Some (move_left_row opcodes.LDR (number_of d) (number_of n))) (λ d i n. refl) rd ri rm s s' m.0 m.1 g h
+blames P (Vector (VecCMov rd mask ri rm)) s s' m g h = reuse_vector2 P (λ d i n. Vector (VecCMov d mask i n)) (λ d i n. Some (vrr_a opcodes.VLR (number_of d) (number_of n) 0)) (λ d i n. refl) rd ri rm s s' m.0 m.1 g h
 blames P (Vector (VecEltRev count rd rn)) s s' m g h = reverse P count rd rn s s' g h
-blames P (Vector (VecInt128SCmpHi tmp rn rm)) s s' m g h = mixed3 P defined defined_given (λ d n m. Vector (VecInt128SCmpHi d n m)) is_vector is_vector is_vector float_kept float_kept float_kept (λ d n m. Some (vrr_a 0xe7db (number_of m) (number_of n) 3)) (λ d n m. refl) tmp rn rm s s' g h
-blames P (Vector (VecInt128UCmpHi tmp rn rm)) s s' m g h = mixed3 P defined defined_given (λ d n m. Vector (VecInt128UCmpHi d n m)) is_vector is_vector is_vector float_kept float_kept float_kept (λ d n m. Some (vrr_a 0xe7d9 (number_of m) (number_of n) 3)) (λ d n m. refl) tmp rn rm s s' g h
-blames P (Vector (VecLoad rd mem)) s s' m g h = vector_access P defined defined_given (λ a x. Vector (VecLoad a x)) (λ a x. access_elements 0xe706 a (Some 0) x) (λ a x. elements_accessed 0xe706 a (Some 0) x) (λ a x. (refl, refl)) rd mem s s' m.1 g h
-blames P (Vector (VecLoadRev rd mem)) s s' m g h = vector_access P defined defined_given (λ a x. Vector (VecLoadRev a x)) (λ a x. access_elements 0xe606 a (Some 4) x) (λ a x. elements_accessed 0xe606 a (Some 4) x) (λ a x. (refl, refl)) rd mem s s' m.1 g h
-blames P (Vector (VecLoadByte16Rev rd mem)) s s' m g h = vector_access P defined defined_given (λ a x. Vector (VecLoadByte16Rev a x)) (λ a x. access_elements 0xe606 a (Some 1) x) (λ a x. elements_accessed 0xe606 a (Some 1) x) (λ a x. (refl, refl)) rd mem s s' m.1 g h
-blames P (Vector (VecLoadByte32Rev rd mem)) s s' m g h = vector_access P defined defined_given (λ a x. Vector (VecLoadByte32Rev a x)) (λ a x. access_elements 0xe606 a (Some 2) x) (λ a x. elements_accessed 0xe606 a (Some 2) x) (λ a x. (refl, refl)) rd mem s s' m.1 g h
-blames P (Vector (VecLoadByte64Rev rd mem)) s s' m g h = vector_access P defined defined_given (λ a x. Vector (VecLoadByte64Rev a x)) (λ a x. access_elements 0xe606 a (Some 3) x) (λ a x. elements_accessed 0xe606 a (Some 3) x) (λ a x. (refl, refl)) rd mem s s' m.1 g h
-blames P (Vector (VecLoadElt16Rev rd mem)) s s' m g h = vector_access P defined defined_given (λ a x. Vector (VecLoadElt16Rev a x)) (λ a x. access_elements 0xe607 a (Some 1) x) (λ a x. elements_accessed 0xe607 a (Some 1) x) (λ a x. (refl, refl)) rd mem s s' m.1 g h
-blames P (Vector (VecLoadElt32Rev rd mem)) s s' m g h = vector_access P defined defined_given (λ a x. Vector (VecLoadElt32Rev a x)) (λ a x. access_elements 0xe607 a (Some 2) x) (λ a x. elements_accessed 0xe607 a (Some 2) x) (λ a x. (refl, refl)) rd mem s s' m.1 g h
-blames P (Vector (VecLoadElt64Rev rd mem)) s s' m g h = vector_access P defined defined_given (λ a x. Vector (VecLoadElt64Rev a x)) (λ a x. access_elements 0xe607 a (Some 3) x) (λ a x. elements_accessed 0xe607 a (Some 3) x) (λ a x. (refl, refl)) rd mem s s' m.1 g h
-blames P (Vector (VecStore rd mem)) s s' m g h = vector_access P used used_given (λ a x. Vector (VecStore a x)) (λ a x. access_elements 0xe70e a (Some 0) x) (λ a x. elements_accessed 0xe70e a (Some 0) x) (λ a x. (refl, refl)) rd mem s s' m.1 g h
-blames P (Vector (VecStoreRev rd mem)) s s' m g h = vector_access P used used_given (λ a x. Vector (VecStoreRev a x)) (λ a x. access_elements 0xe60e a (Some 4) x) (λ a x. elements_accessed 0xe60e a (Some 4) x) (λ a x. (refl, refl)) rd mem s s' m.1 g h
-blames P (Vector (VecStoreByte16Rev rd mem)) s s' m g h = vector_access P used used_given (λ a x. Vector (VecStoreByte16Rev a x)) (λ a x. access_elements 0xe60e a (Some 1) x) (λ a x. elements_accessed 0xe60e a (Some 1) x) (λ a x. (refl, refl)) rd mem s s' m.1 g h
-blames P (Vector (VecStoreByte32Rev rd mem)) s s' m g h = vector_access P used used_given (λ a x. Vector (VecStoreByte32Rev a x)) (λ a x. access_elements 0xe60e a (Some 2) x) (λ a x. elements_accessed 0xe60e a (Some 2) x) (λ a x. (refl, refl)) rd mem s s' m.1 g h
-blames P (Vector (VecStoreByte64Rev rd mem)) s s' m g h = vector_access P used used_given (λ a x. Vector (VecStoreByte64Rev a x)) (λ a x. access_elements 0xe60e a (Some 3) x) (λ a x. elements_accessed 0xe60e a (Some 3) x) (λ a x. (refl, refl)) rd mem s s' m.1 g h
-blames P (Vector (VecStoreElt16Rev rd mem)) s s' m g h = vector_access P used used_given (λ a x. Vector (VecStoreElt16Rev a x)) (λ a x. access_elements 0xe60f a (Some 1) x) (λ a x. elements_accessed 0xe60f a (Some 1) x) (λ a x. (refl, refl)) rd mem s s' m.1 g h
-blames P (Vector (VecStoreElt32Rev rd mem)) s s' m g h = vector_access P used used_given (λ a x. Vector (VecStoreElt32Rev a x)) (λ a x. access_elements 0xe60f a (Some 2) x) (λ a x. elements_accessed 0xe60f a (Some 2) x) (λ a x. (refl, refl)) rd mem s s' m.1 g h
-blames P (Vector (VecStoreElt64Rev rd mem)) s s' m g h = vector_access P used used_given (λ a x. Vector (VecStoreElt64Rev a x)) (λ a x. access_elements 0xe60f a (Some 3) x) (λ a x. elements_accessed 0xe60f a (Some 3) x) (λ a x. (refl, refl)) rd mem s s' m.1 g h
-blames P (Vector (VecLoadReplicate size rd mem)) s s' m g h = vector_access P defined defined_given (λ a x. Vector (VecLoadReplicate size a x)) (λ a x. access_elements 0xe705 a (element_code size) x) (λ a x. elements_accessed 0xe705 a (element_code size) x) (λ a x. (refl, refl)) rd mem s s' m.1 g h
-blames P (Vector (VecLoadReplicateRev size rd mem)) s s' m g h = vector_access P defined defined_given (λ a x. Vector (VecLoadReplicateRev size a x)) (λ a x. access_elements 0xe605 a (reversed_code size) x) (λ a x. elements_accessed 0xe605 a (reversed_code size) x) (λ a x. (refl, refl)) rd mem s s' m.1 g h
+blames P (Vector (VecInt128SCmpHi tmp rn rm)) s s' m g h = mixed3 P defined defined_given (λ d n m. Vector (VecInt128SCmpHi d n m)) is_vector is_vector is_vector float_kept float_kept float_kept (λ d n m. Some (vrr_a opcodes.VEC (number_of m) (number_of n) 3)) (λ d n m. refl) tmp rn rm s s' g h
+blames P (Vector (VecInt128UCmpHi tmp rn rm)) s s' m g h = mixed3 P defined defined_given (λ d n m. Vector (VecInt128UCmpHi d n m)) is_vector is_vector is_vector float_kept float_kept float_kept (λ d n m. Some (vrr_a opcodes.VECL (number_of m) (number_of n) 3)) (λ d n m. refl) tmp rn rm s s' g h
+blames P (Vector (VecLoadReplicate size rd mem)) s s' m g h = vector_access P defined defined_given (λ a x. Vector (VecLoadReplicate size a x)) (λ a x. access_elements opcodes.VLREP a (element_code size) x) (λ a x. elements_accessed opcodes.VLREP a (element_code size) x) (λ a x. (refl, refl)) rd mem s s' m.1 g h
+blames P (Vector (VecLoadReplicateRev size rd mem)) s s' m g h = vector_access P defined defined_given (λ a x. Vector (VecLoadReplicateRev size a x)) (λ a x. access_elements opcodes.VLBRREP a (reversed_code size) x) (λ a x. elements_accessed opcodes.VLBRREP a (reversed_code size) x) (λ a x. (refl, refl)) rd mem s s' m.1 g h
 blames P (Vector (VecLoadLane size rd ri mem lane)) s s' m g h = reuse_vector_access P (λ d i x. Vector (VecLoadLane size d i x lane)) (λ d i x. vector_memory (VecLoadLane size d i x lane)) (λ d i x. lane_accessed (reuses_vector d i) (λ c. load_lane_opcode c) (number_of d) (element_code size) size lane x) (λ d i x. (refl, refl)) rd ri mem s s' m.0 m.1 m.2 g h
 blames P (Vector (VecLoadLaneRev size rd ri mem lane)) s s' m g h = reuse_vector_access P (λ d i x. Vector (VecLoadLaneRev size d i x lane)) (λ d i x. vector_memory (VecLoadLaneRev size d i x lane)) (λ d i x. lane_accessed (reuses_vector d i) (λ c. load_reversed_opcode c) (number_of d) (reversed_code size) size lane x) (λ d i x. (refl, refl)) rd ri mem s s' m.0 m.1 m.2 g h
 blames P (Vector (VecLoadLaneUndef size rd mem lane)) s s' m g h = vector_access P defined defined_given (λ a x. Vector (VecLoadLaneUndef size a x lane)) (λ a x. vector_memory (VecLoadLaneUndef size a x lane)) (λ a x. left_accessed (λ z r. load_left z r) (λ c. load_lane_opcode c) a size lane x) (λ a x. (refl, refl)) rd mem s s' m.1 g h
@@ -193,4 +199,5 @@ blames P (Call link info) s s' m g h = absurd m
 blames P (ReturnCall info) s s' m g h = absurd m
 blames P (Ret link) s s' m g h = absurd m
 blames P (AllocateArgs size) s s' m g h = absurd m
-blames P i s s' m g h = let l : Load = the_load (as_load i) refl in load_blames P l.op l.rd l.mem s s' m g h
+blames P (Vector v) s s' m g h = let w : WholeAccess = the_whole (as_whole v) refl in whole_blames P w.direction w.layout w.rd w.mem s s' m g h
+blames P i s s' m g h = transfer_blames P (the_transfer (as_transfer i) refl) s s' m g h

@@ -19,6 +19,7 @@ use Rattle.s390x_lanes.specs.declared.size.ElementSize.{ElementSize}
 use Rattle.s390x_operands.specs.Meets.{MeetsEach}
 use Rattle.s390x_operands.specs.Requests.{items_of, scratch_request, defined}
 use Rattle.s390x_assign.specs.Assignments.{register_at, after}
+use Rattle.s390x_rows.specs.declared.opcodes.TheConstants as opcodes
 use Rattle.s390x_typed_steps.proofs.Causes.{first_left, unless_true}
 use Rattle.s390x_typed_steps.specs.Causes.{unless, target_label_cause}
 use Rattle.s390x_typed_steps.specs.General.{is_general, reuses}
@@ -123,7 +124,7 @@ pub relocation_kept : (P : Place) (L : Layout) (rd : Reg) (reloc : SymbolReloc) 
 relocation_kept P L rd reloc s m g h =
     let x : Reg = register_at rd s in
     let changed : List Reg = outputs (items_of (defined rd ∷ scratch_request ∷ [])) s in
-    let valid : is_general x ≡ true = single_valid P (LoadSymbolReloc x reloc) (is_general x) (two_row (Some 0xb904) (number_of x) 0) refl h in
+    let valid : is_general x ≡ true = single_valid P (LoadSymbolReloc x reloc) (is_general x) (two_row (Some opcodes.LGR) (number_of x) 0) refl h in
     let rest = defined_passed rd (scratch_request ∷ []) s s g in
     (performs_keeps L changed true (computes_immediate Kept (on_doublewords Move) (number_of x) (number_of x) (linked_value L reloc)) no_code (λ r. first_listed defined defined_output is_general general_target general_written rd (scratch_request ∷ []) s m g valid) (λ q a. scratch_listed [] (after rd s) q (rest.0 q a)), nothing L changed)
 

@@ -3,16 +3,26 @@ use Rattle.std.proofs.Common.{◌≡◌, pos, false, ◌||◌, List, [], ◌∷�
 use Rattle.s390x_base.specs.Regs.{number_of}
 use Rattle.s390x_base.specs.declared.regs.Reg.{Reg}
 use Rattle.s390x_base.specs.declared.regs.Reg.TheVariants.{Real, Virtual}
-use Rattle.s390x_inst.specs.declared.load.Load.{Load}
 use Rattle.s390x_inst.specs.declared.load.LoadOp.{LoadOp}
 use Rattle.s390x_inst.specs.declared.load.LoadOp.TheVariants as LoadOps
-use Rattle.s390x_inst.specs.Loads.{as_load, load_instruction}
-use Rattle.s390x_inst.proofs.Loads.{the_load}
+use Rattle.s390x_inst.specs.Loads.{load_instruction}
+use Rattle.s390x_inst.specs.declared.store.StoreOp.{StoreOp}
+use Rattle.s390x_inst.specs.declared.store.StoreOp.TheVariants as StoreOps
+use Rattle.s390x_inst.specs.Stores.{store_instruction}
+use Rattle.s390x_inst.specs.declared.whole.WholeAccess.{WholeAccess}
+use Rattle.s390x_inst.specs.declared.whole.Direction.{Direction}
+use Rattle.s390x_inst.specs.declared.whole.Direction.TheVariants.{Load, Store}
+use Rattle.s390x_inst.specs.declared.whole.WholeLayout.{WholeLayout}
+use Rattle.s390x_inst.specs.declared.whole.WholeLayout.TheVariants.{Straight}
+use Rattle.s390x_inst.specs.Wholes.{as_whole, whole_instruction}
+use Rattle.s390x_inst.proofs.Transfers.{Transfer, LoadOf, StoreOf, as_transfer, transfer_instruction, the_transfer}
+use Rattle.s390x_inst.proofs.Wholes.{the_whole}
 use Rattle.s390x_inst.specs.declared.args.MemArg.{MemArg}
 use Rattle.s390x_inst.specs.declared.inst.Inst.{Inst}
 use Rattle.s390x_inst.specs.declared.inst.Inst.TheVariants.{Loop', Call, ReturnCall, Ret, AllocateArgs}
 use Rattle.s390x_operands.specs.Requests.{items_of, scratch_request, used, defined, reused, range_requests, fixed_use, fixed_def}
-use Rattle.s390x_typed_steps.specs.Memory.{address_form, load_memory, access_elements, reversed_code, load_lane_opcode, load_reversed_opcode, load_left, vector_memory, operate, compare_and_swap, load_and_operate}
+use Rattle.s390x_rows.specs.declared.opcodes.TheConstants as opcodes
+use Rattle.s390x_typed_steps.specs.Memory.{address_form, layout_rows, load_memory, access_elements, reversed_code, load_lane_opcode, load_reversed_opcode, load_left, vector_memory, operate, compare_and_swap, load_and_operate}
 use Rattle.s390x_typed_steps.specs.General.{is_general, is_access, four_bits, low_byte, low_displacement, low_halfword, low_word, rotation, reuses}
 use Rattle.s390x_typed_steps.specs.VectorInstruction.{is_vector, vector_row, reuses_vector, element_code, move_left_row}
 use Rattle.s390x_alloc_laws.specs.Allocatable.{Place, MayStand}
@@ -23,14 +33,14 @@ use Rattle.s390x_typed_steps.specs.SingleInstruction.{halfword_row, indexed_row,
 use Rattle.s390x_typed_steps.specs.MachineInstruction.{rie_g, rrf_cde, rsy, vrr_a}
 use Rattle.s390x_inst.specs.declared.vec_inst.VecInst.TheVariants.{VecRRR, VecRR, VecShiftRR, VecSelect, VecPermute, VecBlend, VecEvaluate, VecPermuteDWImm, VecIntCmp, VecIntCmpS, VecIntEltCmp, VecMov, FpuMove32, FpuMove64}
 use Rattle.s390x_inst.specs.declared.vec_inst.VecInst.TheVariants.{MovToVec128, VecImmByteMask, VecImmBitMask, VecImmReplicate, VecInsertLaneUndef, VecExtractLane, VecInsertLaneImmUndef, VecReplicateLane, VecInsertLane, VecInsertLaneImm, FpuCMov32, FpuCMov64, VecCMov, VecEltRev}
-use Rattle.s390x_inst.specs.declared.vec_inst.VecInst.TheVariants.{VecInt128SCmpHi, VecInt128UCmpHi, VecLoad, VecLoadRev, VecLoadByte16Rev, VecLoadByte32Rev, VecLoadByte64Rev, VecLoadElt16Rev, VecLoadElt32Rev, VecLoadElt64Rev, VecStore, VecStoreRev, VecStoreByte16Rev, VecStoreByte32Rev}
-use Rattle.s390x_inst.specs.declared.vec_inst.VecInst.TheVariants.{VecStoreByte64Rev, VecStoreElt16Rev, VecStoreElt32Rev, VecStoreElt64Rev, VecLoadReplicate, VecLoadReplicateRev, VecLoadLane, VecLoadLaneRev, VecLoadLaneUndef, VecLoadLaneRevUndef, VecStoreLane, VecStoreLaneRev}
+use Rattle.s390x_inst.specs.declared.vec_inst.VecInst.TheVariants.{VecInt128SCmpHi, VecInt128UCmpHi}
+use Rattle.s390x_inst.specs.declared.vec_inst.VecInst.TheVariants.{VecLoadReplicate, VecLoadReplicateRev, VecLoadLane, VecLoadLaneRev, VecLoadLaneUndef, VecLoadLaneRevUndef, VecStoreLane, VecStoreLaneRev}
 use Rattle.s390x_inst.specs.declared.inst.Inst.TheVariants.{AluRR, AluRRR, AluRRSImm16, AluRSImm16, AluRSImm32, AluRUImm16Shifted, AluRUImm32, AluRUImm32Shifted, AluRX, AtomicCas32, AtomicCas64, CMov32, CMov32SImm16, CMov64}
 use Rattle.s390x_inst.specs.declared.inst.Inst.TheVariants.{CMov64SImm16, CmpRR, CmpRSImm16, CmpRSImm32, CmpRUImm32, CmpRX, CmpTrapRR, CmpTrapRSImm16, CmpTrapRUImm16, CondBr, CondBreak, Debugtrap, DummyUse, Extend}
 use Rattle.s390x_inst.specs.declared.inst.Inst.TheVariants.{Fence, Flogr, Insert64UImm16Shifted, Insert64UImm32Shifted, InsertAR, Jump}
 use Rattle.s390x_inst.specs.declared.inst.Inst.TheVariants.{LoadAR, LoadAddr, LoadIndexedAddr, LoadLogicalIndexedAddr, Mov32, Mov32Imm, Mov32SImm16}
 use Rattle.s390x_inst.specs.declared.inst.Inst.TheVariants.{Mov64, Mov64SImm16, Mov64SImm32, Mov64UImm16Shifted, Mov64UImm32Shifted, MovPReg, Nop0, Nop2, RxSBG, RxSBGTest, SDivMod32, SDivMod64, SMulWide, SequencePoint}
-use Rattle.s390x_inst.specs.declared.inst.Inst.TheVariants.{ShiftRR, Store16, Store32, Store64, Store8, StoreImm16, StoreImm32SExt16, StoreImm64SExt16, StoreImm8, StoreRev16, StoreRev32, StoreRev64, Trap, TrapIf}
+use Rattle.s390x_inst.specs.declared.inst.Inst.TheVariants.{ShiftRR, StoreImm16, StoreImm32SExt16, StoreImm64SExt16, StoreImm8, Trap, TrapIf}
 use Rattle.s390x_inst.specs.declared.inst.Inst.TheVariants.{UDivMod32, UDivMod64, UMulWide, UnaryRR, Vector, IndirectBr, JTSequence, LoadSymbolReloc, LabelAddress, Args, Rets, LoadMultiple64, StoreMultiple64, AtomicRmw}
 use Rattle.s390x_operands.specs.declared.constraint.Reported.TheVariants.{Fixed}
 use Rattle.s390x_operands.specs.Operands.{leaf_requests}
@@ -79,7 +89,30 @@ kept_load P L op rd mem s m g h =
     load_kept P L is_general general_target general_written defined defined_output defined_passed (load_instruction op) (λ rd mem. load_memory (record { op = op; rd = rd; mem = mem })) (λ a m v. and_left (is_general a) (operand_general m) v) (λ a x. (refl, refl))
     (λ a x changed f free. accessed L changed (operand_step (load_instruction op a (resolved P.state x))) (λ address r. f) free) rd mem s m.0 g h
 
--- the last clause is a copy for each load
+-- a store, likewise
+kept_store : (P : Place) (L : Layout) (op : StoreOp) (rd : Reg) (mem : MemArg) (s : List Reg) → MayStand (store_instruction op rd mem) → MeetsEach s (items_of (leaf_requests (store_instruction op rd mem))) s → portion_refusal P (portion_at (first_portion (store_instruction op rd mem)) s).0 ≡ None →
+    BothKeep L (loaded_range (store_instruction op rd mem) ++ outputs (items_of (leaf_requests (store_instruction op rd mem))) s) (portion_kind L P.state (portion_at (first_portion (store_instruction op rd mem)) s).0) (portion_loaded_kind L P.state (portion_at (first_portion (store_instruction op rd mem)) s).0)
+kept_store P L StoreOps.Store64 rd mem s m g h = store_kept P L (store_instruction StoreOps.Store64) (λ a x changed f free. accessed L changed (operand_step (store_instruction StoreOps.Store64 a (resolved P.state x))) (λ address r. f) free) rd mem s g
+kept_store P L op rd mem s m g h = store_kept P L (store_instruction op) (λ a x changed f free. accessed L changed (operand_step (store_instruction op a (resolved P.state x))) (λ address r. f) free) rd mem s g
+
+kept_transfer : (P : Place) (L : Layout) (t : Transfer) (s : List Reg) → MayStand (transfer_instruction t) → MeetsEach s (items_of (leaf_requests (transfer_instruction t))) s → portion_refusal P (portion_at (first_portion (transfer_instruction t)) s).0 ≡ None →
+    BothKeep L (loaded_range (transfer_instruction t) ++ outputs (items_of (leaf_requests (transfer_instruction t))) s) (portion_kind L P.state (portion_at (first_portion (transfer_instruction t)) s).0) (portion_loaded_kind L P.state (portion_at (first_portion (transfer_instruction t)) s).0)
+kept_transfer P L (LoadOf l) s m g h = kept_load P L l.op l.rd l.mem s m g h
+kept_transfer P L (StoreOf t) s m g h = kept_store P L t.op t.rd t.mem s m g h
+
+-- a load or a store of a whole vector register: the clauses without `Straight` are a copy for each other layout
+kept_whole : (P : Place) (L : Layout) (direction : Direction) (layout : WholeLayout) (rd : Reg) (mem : MemArg) (s : List Reg) → MayStand (Vector (whole_instruction direction layout rd mem)) → MeetsEach s (items_of (leaf_requests (Vector (whole_instruction direction layout rd mem)))) s → portion_refusal P (portion_at (first_portion (Vector (whole_instruction direction layout rd mem))) s).0 ≡ None →
+    BothKeep L (loaded_range (Vector (whole_instruction direction layout rd mem)) ++ outputs (items_of (leaf_requests (Vector (whole_instruction direction layout rd mem)))) s) (portion_kind L P.state (portion_at (first_portion (Vector (whole_instruction direction layout rd mem))) s).0) (portion_loaded_kind L P.state (portion_at (first_portion (Vector (whole_instruction direction layout rd mem))) s).0)
+kept_whole P L Load Straight rd mem s m g h =
+    load_kept P L is_vector vector_target vector_written defined defined_output defined_passed (λ a x. Vector (whole_instruction Load Straight a x)) (λ a x. access_elements (layout_rows Straight).load_opcode a (Some (layout_rows Straight).mask) x) (λ a x v. vector_valid (is_vector a) x (access_elements (layout_rows Straight).load_opcode a (Some (layout_rows Straight).mask) x) (elements_accessed (layout_rows Straight).load_opcode a (Some (layout_rows Straight).mask) x) v) (λ a x. (refl, refl))
+    (λ a x changed f free. accessed L changed (operand_step (Vector (whole_instruction Load Straight a (resolved P.state x)))) (λ address r. f) free) rd mem s m.0 g h
+kept_whole P L Load layout rd mem s m g h =
+    load_kept P L is_vector vector_target vector_written defined defined_output defined_passed (λ a x. Vector (whole_instruction Load layout a x)) (λ a x. access_elements (layout_rows layout).load_opcode a (Some (layout_rows layout).mask) x) (λ a x v. vector_valid (is_vector a) x (access_elements (layout_rows layout).load_opcode a (Some (layout_rows layout).mask) x) (elements_accessed (layout_rows layout).load_opcode a (Some (layout_rows layout).mask) x) v) (λ a x. (refl, refl))
+    (λ a x changed f free. accessed L changed (operand_step (Vector (whole_instruction Load layout a (resolved P.state x)))) (λ address r. f) free) rd mem s m.0 g h
+kept_whole P L Store Straight rd mem s m g h = store_kept P L (λ a x. Vector (whole_instruction Store Straight a x)) (λ a x changed f free. accessed L changed (operand_step (Vector (whole_instruction Store Straight a (resolved P.state x)))) (λ address r. f) free) rd mem s g
+kept_whole P L Store layout rd mem s m g h = store_kept P L (λ a x. Vector (whole_instruction Store layout a x)) (λ a x changed f free. accessed L changed (operand_step (Vector (whole_instruction Store layout a (resolved P.state x)))) (λ address r. f) free) rd mem s g
+
+-- the last two clauses are a copy for each load and store of a vector register and of another one
 pub kept : (P : Place) (L : Layout) (i : Inst) (s : List Reg) → MayStand i → MeetsEach s (items_of (leaf_requests i)) s → portion_refusal P (portion_at (first_portion i) s).0 ≡ None →
     BothKeep L (loaded_range i ++ outputs (items_of (leaf_requests i)) s) (portion_kind L P.state (portion_at (first_portion i) s).0) (portion_loaded_kind L P.state (portion_at (first_portion i) s).0)
 kept P L (LoadIndexedAddr rd base index offset size) s m g h =
@@ -90,22 +123,22 @@ kept P L (LoadLogicalIndexedAddr rd base index offset size) s m g h =
     (λ rd base index. indexed_row (logical_indexed_opcode size) (number_of rd) (number_of base) (number_of index) (low_displacement offset)) (λ rd base index. refl)
     (λ rd base index changed f. does L changed (havocs (number_of rd)) no_code (λ r. f)) rd base index (used base ∷ used index ∷ []) s m.0 g h
 kept P L (Mov64 rd rm) s m g h =
-    kept2 P L defined defined_output is_general general_target general_written (λ rd rm. Mov64 rd rm) is_general (λ rd rm. two_row (Some 0xb904) (number_of rd) (number_of rm)) (λ rd rm. refl)
+    kept2 P L defined defined_output is_general general_target general_written (λ rd rm. Mov64 rd rm) is_general (λ rd rm. two_row (Some opcodes.LGR) (number_of rd) (number_of rm)) (λ rd rm. refl)
     (λ rd rm changed f. does L changed (computes Kept (on_doublewords Move) (number_of rd) (number_of rd) (number_of rm)) no_code (λ r. f)) rd rm (used rm ∷ []) s m.0 g h
 kept P L (Mov32 rd rm) s m g h =
-    kept2 P L defined defined_output is_general general_target general_written (λ rd rm. Mov32 rd rm) is_general (λ rd rm. two_row (Some 0x18) (number_of rd) (number_of rm)) (λ rd rm. refl)
+    kept2 P L defined defined_output is_general general_target general_written (λ rd rm. Mov32 rd rm) is_general (λ rd rm. two_row (Some opcodes.LR) (number_of rd) (number_of rm)) (λ rd rm. refl)
     (λ rd rm changed f. does L changed (computes Kept (on_words Move) (number_of rd) (number_of rd) (number_of rm)) no_code (λ r. f)) rd rm (used rm ∷ []) s m.0 g h
 kept P L (Mov32Imm rd imm) s m g h =
-    kept1 P L defined defined_output is_general general_target general_written (λ rd. Mov32Imm rd imm) (λ rd. word_row (Some 0xc09) (number_of rd) (low_word (pos imm))) (λ rd. refl)
+    kept1 P L defined defined_output is_general general_target general_written (λ rd. Mov32Imm rd imm) (λ rd. word_row (Some opcodes.IILF) (number_of rd) (low_word (pos imm))) (λ rd. refl)
     (λ rd changed f. does L changed (computes_immediate Kept (on_words Move) (number_of rd) (number_of rd) (low_word (pos imm))) no_code (λ r. f)) rd [] s m g h
 kept P L (Mov32SImm16 rd imm) s m g h =
-    kept1 P L defined defined_output is_general general_target general_written (λ rd. Mov32SImm16 rd imm) (λ rd. halfword_row (Some 0xa78) (number_of rd) (low_halfword imm)) (λ rd. refl)
+    kept1 P L defined defined_output is_general general_target general_written (λ rd. Mov32SImm16 rd imm) (λ rd. halfword_row (Some opcodes.LHI) (number_of rd) (low_halfword imm)) (λ rd. refl)
     (λ rd changed f. does L changed (computes_immediate Kept (on_immediate (on_words Move) signed_halfword) (number_of rd) (number_of rd) (low_halfword imm)) no_code (λ r. f)) rd [] s m g h
 kept P L (Mov64SImm16 rd imm) s m g h =
-    kept1 P L defined defined_output is_general general_target general_written (λ rd. Mov64SImm16 rd imm) (λ rd. halfword_row (Some 0xa79) (number_of rd) (low_halfword imm)) (λ rd. refl)
+    kept1 P L defined defined_output is_general general_target general_written (λ rd. Mov64SImm16 rd imm) (λ rd. halfword_row (Some opcodes.LGHI) (number_of rd) (low_halfword imm)) (λ rd. refl)
     (λ rd changed f. does L changed (computes_immediate Kept (on_immediate (on_doublewords Move) signed_halfword) (number_of rd) (number_of rd) (low_halfword imm)) no_code (λ r. f)) rd [] s m g h
 kept P L (Mov64SImm32 rd imm) s m g h =
-    kept1 P L defined defined_output is_general general_target general_written (λ rd. Mov64SImm32 rd imm) (λ rd. word_row (Some 0xc01) (number_of rd) (low_word imm)) (λ rd. refl)
+    kept1 P L defined defined_output is_general general_target general_written (λ rd. Mov64SImm32 rd imm) (λ rd. word_row (Some opcodes.LGFI) (number_of rd) (low_word imm)) (λ rd. refl)
     (λ rd changed f. does L changed (computes_immediate Kept (on_immediate (on_doublewords Move) signed_word) (number_of rd) (number_of rd) (low_word imm)) no_code (λ r. f)) rd [] s m g h
 kept P L (Mov64UImm16Shifted rd imm) s m g h =
     kept1 P L defined defined_output is_general general_target general_written (λ rd. Mov64UImm16Shifted rd imm) (λ rd. halfword_row (load_part imm.shift) (number_of rd) (low_halfword (pos imm.bits))) (λ rd. refl)
@@ -120,16 +153,16 @@ kept P L (Insert64UImm32Shifted rd ri imm) s m g h =
     kept_reuse1 P L is_general general_target general_written (λ rd ri. Insert64UImm32Shifted rd ri imm) (λ rd ri. word_row (insert_half imm.shift) (number_of rd) (low_word (pos imm.bits))) (λ rd ri. refl)
     (λ rd ri changed f. does L changed (computes_immediate Kept (inserts_half imm.shift) (number_of rd) (number_of rd) (at_half imm.shift (low_word (pos imm.bits)))) no_code (λ r. f)) rd ri (used ri ∷ []) s m.0 g h
 kept P L (CMov32 rd mask ri rm) s m g h =
-    kept_reuse2 P L is_general general_target general_written (λ rd ri rm. CMov32 rd mask ri rm) is_general (λ rd ri rm. Some (rrf_cde 0xb9f2 (number_of rd) (number_of rm) (four_bits mask) 0)) (λ rd ri rm. refl)
+    kept_reuse2 P L is_general general_target general_written (λ rd ri rm. CMov32 rd mask ri rm) is_general (λ rd ri rm. Some (rrf_cde opcodes.LOCR (number_of rd) (number_of rm) (four_bits mask) 0)) (λ rd ri rm. refl)
     (λ rd ri rm changed f. does L changed (moves_where Word unsigned_word (four_bits mask) (number_of rd) (number_of rm)) no_code (λ r. moves_written Word unsigned_word (four_bits mask) (number_of rd) (number_of rm) r changed f)) rd ri rm (used ri ∷ used rm ∷ []) s m.0 g h
 kept P L (CMov64 rd mask ri rm) s m g h =
-    kept_reuse2 P L is_general general_target general_written (λ rd ri rm. CMov64 rd mask ri rm) is_general (λ rd ri rm. Some (rrf_cde 0xb9e2 (number_of rd) (number_of rm) (four_bits mask) 0)) (λ rd ri rm. refl)
+    kept_reuse2 P L is_general general_target general_written (λ rd ri rm. CMov64 rd mask ri rm) is_general (λ rd ri rm. Some (rrf_cde opcodes.LOCGR (number_of rd) (number_of rm) (four_bits mask) 0)) (λ rd ri rm. refl)
     (λ rd ri rm changed f. does L changed (moves_where Doubleword doubleword (four_bits mask) (number_of rd) (number_of rm)) no_code (λ r. moves_written Doubleword doubleword (four_bits mask) (number_of rd) (number_of rm) r changed f)) rd ri rm (used ri ∷ used rm ∷ []) s m.0 g h
 kept P L (CMov32SImm16 rd mask ri imm) s m g h =
-    kept_reuse1 P L is_general general_target general_written (λ rd ri. CMov32SImm16 rd mask ri imm) (λ rd ri. Some (rie_g 0xec42 (number_of rd) (low_halfword imm) (four_bits mask))) (λ rd ri. refl)
+    kept_reuse1 P L is_general general_target general_written (λ rd ri. CMov32SImm16 rd mask ri imm) (λ rd ri. Some (rie_g opcodes.LOCHI (number_of rd) (low_halfword imm) (four_bits mask))) (λ rd ri. refl)
     (λ rd ri changed f. does L changed (moves_immediate_where Word (four_bits mask) (number_of rd) (low_halfword imm)) no_code (λ r. moves_immediate_written Word (four_bits mask) (number_of rd) (low_halfword imm) r changed f)) rd ri (used ri ∷ []) s m.0 g h
 kept P L (CMov64SImm16 rd mask ri imm) s m g h =
-    kept_reuse1 P L is_general general_target general_written (λ rd ri. CMov64SImm16 rd mask ri imm) (λ rd ri. Some (rie_g 0xec46 (number_of rd) (low_halfword imm) (four_bits mask))) (λ rd ri. refl)
+    kept_reuse1 P L is_general general_target general_written (λ rd ri. CMov64SImm16 rd mask ri imm) (λ rd ri. Some (rie_g opcodes.LOCGHI (number_of rd) (low_halfword imm) (four_bits mask))) (λ rd ri. refl)
     (λ rd ri changed f. does L changed (moves_immediate_where Doubleword (four_bits mask) (number_of rd) (low_halfword imm)) no_code (λ r. moves_immediate_written Doubleword (four_bits mask) (number_of rd) (low_halfword imm) r changed f)) rd ri (used ri ∷ []) s m.0 g h
 kept P L (Extend rd rn signed from to) s m g h =
     kept2 P L defined defined_output is_general general_target general_written (λ rd rn. Extend rd rn signed from to) is_general (λ rd rn. two_row (extend_two signed from to) (number_of rd) (number_of rn)) (λ rd rn. refl)
@@ -175,12 +208,12 @@ kept P L (CmpRUImm32 op rn imm) s m g h = does L _ (compares_immediate (compares
 kept P L (CmpTrapRR op rn rm mask code) s m g h = does L _ (compares_and_traps (comparison op) (number_of (register_at rn s)) (number_of (register_at rm (after rn s))) (four_bits mask)) (comparison_code code) (λ r q a. tt)
 kept P L (CmpTrapRSImm16 op rn imm mask code) s m g h = does L _ (compares_immediate_and_traps (comparison op) (number_of (register_at rn s)) (low_halfword imm) (four_bits mask)) (comparison_code code) (λ r q a. tt)
 kept P L (CmpTrapRUImm16 op rn imm mask code) s m g h = does L _ (compares_immediate_and_traps (comparison op) (number_of (register_at rn s)) (low_halfword (pos imm)) (four_bits mask)) (comparison_code code) (λ r q a. tt)
-kept P L (LoadAR rd ar) s m g h = kept1_and P L defined defined_output is_general general_target general_written (λ d. LoadAR d ar) (is_access ar) (λ d. two_row (Some 0xb24f) (number_of d) (four_bits ar)) (λ d. refl) (λ rd changed f. does L changed (copies_access (number_of rd) (four_bits ar)) no_code (λ r. f)) rd [] s m g h
+kept P L (LoadAR rd ar) s m g h = kept1_and P L defined defined_output is_general general_target general_written (λ d. LoadAR d ar) (is_access ar) (λ d. two_row (Some opcodes.EAR) (number_of d) (four_bits ar)) (λ d. refl) (λ rd changed f. does L changed (copies_access (number_of rd) (four_bits ar)) no_code (λ r. f)) rd [] s m g h
 kept P L (InsertAR rd ri ar) s m g h =
-    kept_reuse1_and P L is_general general_target general_written (λ d i. InsertAR d i ar) (is_access ar) (λ d i. two_row (Some 0xb24f) (number_of d) (four_bits ar)) (λ d i. refl)
+    kept_reuse1_and P L is_general general_target general_written (λ d i. InsertAR d i ar) (is_access ar) (λ d i. two_row (Some opcodes.EAR) (number_of d) (four_bits ar)) (λ d i. refl)
     (λ rd ri changed f. does L changed (copies_access (number_of rd) (four_bits ar)) no_code (λ r. f)) rd ri (used ri ∷ []) s m.0 g h
 kept P L (MovPReg rd rm) s m g h =
-    kept1_and P L defined defined_output is_general general_target general_written (λ d. MovPReg d rm) (is_general (Real rm)) (λ d. two_row (Some 0xb904) (number_of d) (number_of (Real rm))) (λ d. refl)
+    kept1_and P L defined defined_output is_general general_target general_written (λ d. MovPReg d rm) (is_general (Real rm)) (λ d. two_row (Some opcodes.LGR) (number_of d) (number_of (Real rm))) (λ d. refl)
     (λ rd changed f. does L changed (computes Kept (on_doublewords Move) (number_of rd) (number_of rd) (number_of (Real rm))) no_code (λ r. f)) rd (Some (Fixed rm) ∷ []) s m.0 g h
 kept P L (SMulWide rd rn rm) s m g h =
     does L _ (multiplies_signed (number_of (pair_at rd (after rm (after rn s))).hi) (number_of (register_at rn s)) (number_of (register_at rm (after rn s)))) no_code
@@ -271,10 +304,10 @@ kept P L (AluRX op rd ri mem) s m g h =
     (λ d i x v. alike_first is_general d i (operate_valid (is_some (alu_rx op) || is_some (alu_rxy op)) (alu_rx op) (alu_rxy op) d i x v)) (λ d i x. (refl, refl))
     (λ d i x changed f free. accessed L changed (operand_step (AluRX op d i (resolved P.state x))) (λ address r. f) free) rd ri mem s m.0 g h
 kept P L (AtomicCas32 rd ri rn mem) s m g h =
-    swap_kept P L (λ d i n x. AtomicCas32 d i n x) (compare_and_swap (Some 0xba) 0xeb14) (λ d i n x v. alike_first is_general d i (and_left (reuses d i) (is_general n) (and_left (reuses d i && is_general n) (operand_general x) v))) (λ d i n x. (refl, refl))
+    swap_kept P L (λ d i n x. AtomicCas32 d i n x) (compare_and_swap (Some opcodes.CS) opcodes.CSY) (λ d i n x v. alike_first is_general d i (and_left (reuses d i) (is_general n) (and_left (reuses d i && is_general n) (operand_general x) v))) (λ d i n x. (refl, refl))
     (λ d i n x changed f free. accessed L changed (operand_step (AtomicCas32 d i n (resolved P.state x))) (λ address r. f) free) general_written rd ri rn mem s m.0 g h
 kept P L (AtomicCas64 rd ri rn mem) s m g h =
-    swap_kept P L (λ d i n x. AtomicCas64 d i n x) (compare_and_swap None 0xeb30) (λ d i n x v. alike_first is_general d i (and_left (reuses d i) (is_general n) (and_left (reuses d i && is_general n) (operand_general x) v))) (λ d i n x. (refl, refl))
+    swap_kept P L (λ d i n x. AtomicCas64 d i n x) (compare_and_swap None opcodes.CSG) (λ d i n x v. alike_first is_general d i (and_left (reuses d i) (is_general n) (and_left (reuses d i && is_general n) (operand_general x) v))) (λ d i n x. (refl, refl))
     (λ d i n x changed f free. accessed L changed (operand_step (AtomicCas64 d i n (resolved P.state x))) (λ address r. f) free) general_written rd ri rn mem s m.0 g h
 kept P L (Jump dest) s m g h = (jump_keeps L _ dest.0, nothing L _)
 kept P L (CondBr taken not_taken mask) s m g h = (choice_keeps L _ mask taken.0 not_taken.0, nothing L _)
@@ -288,13 +321,6 @@ kept P L Debugtrap s m g h = (debug_keeps L _, nothing L _)
 kept P L SequencePoint s m g h = (silence L _, nothing L _)
 kept P L (DummyUse reg) s m g h = (silence L _, nothing L _)
 kept P L (CmpRX op rn mem) s m g h = store_kept P L (λ a x. CmpRX op a x) (λ a x changed f free. accessed L changed (operand_step (CmpRX op a (resolved P.state x))) (λ address r. f) free) rn mem s g
-kept P L (Store8 rd mem) s m g h = store_kept P L (λ a x. Store8 a x) (λ a x changed f free. accessed L changed (operand_step (Store8 a (resolved P.state x))) (λ address r. f) free) rd mem s g
-kept P L (Store16 rd mem) s m g h = store_kept P L (λ a x. Store16 a x) (λ a x changed f free. accessed L changed (operand_step (Store16 a (resolved P.state x))) (λ address r. f) free) rd mem s g
-kept P L (Store32 rd mem) s m g h = store_kept P L (λ a x. Store32 a x) (λ a x changed f free. accessed L changed (operand_step (Store32 a (resolved P.state x))) (λ address r. f) free) rd mem s g
-kept P L (Store64 rd mem) s m g h = store_kept P L (λ a x. Store64 a x) (λ a x changed f free. accessed L changed (operand_step (Store64 a (resolved P.state x))) (λ address r. f) free) rd mem s g
-kept P L (StoreRev16 rd mem) s m g h = store_kept P L (λ a x. StoreRev16 a x) (λ a x changed f free. accessed L changed (operand_step (StoreRev16 a (resolved P.state x))) (λ address r. f) free) rd mem s g
-kept P L (StoreRev32 rd mem) s m g h = store_kept P L (λ a x. StoreRev32 a x) (λ a x changed f free. accessed L changed (operand_step (StoreRev32 a (resolved P.state x))) (λ address r. f) free) rd mem s g
-kept P L (StoreRev64 rd mem) s m g h = store_kept P L (λ a x. StoreRev64 a x) (λ a x changed f free. accessed L changed (operand_step (StoreRev64 a (resolved P.state x))) (λ address r. f) free) rd mem s g
 kept P L (StoreImm8 imm mem) s m g h = accessed L _ (operand_step (StoreImm8 imm (resolved P.state (memory_at mem s).0))) (λ address r q a. tt) (memory_listed mem s s g)
 kept P L (StoreImm16 imm mem) s m g h = accessed L _ (operand_step (StoreImm16 imm (resolved P.state (memory_at mem s).0))) (λ address r q a. tt) (memory_listed mem s s g)
 kept P L (StoreImm32SExt16 imm mem) s m g h = accessed L _ (operand_step (StoreImm32SExt16 imm (resolved P.state (memory_at mem s).0))) (λ address r q a. tt) (memory_listed mem s s g)
@@ -323,60 +349,28 @@ kept P L (Vector (VecInsertLaneImm size rd ri imm lane)) s m g h =
     kept_reuse1 P L is_vector vector_target vector_written (λ d i. Vector (VecInsertLaneImm size d i imm lane)) (λ d i. vector_row (VecInsertLaneImm size d i imm lane)) (λ d i. refl)
     (λ rd ri changed f. does L changed (generates_vector (Lanes.InsertImmediate (elements_of size) (low_halfword imm) lane) (number_of rd)) no_code (λ r. f)) rd ri (used ri ∷ []) s m.0 g h
 kept P L (Vector (FpuCMov32 rd mask ri rm)) s m g h =
-    kept_reuse2 P L is_vector vector_target vector_written (λ d i n. Vector (FpuCMov32 d mask i n)) is_vector (λ d i n. Some (move_left_row 0x38 (number_of d) (number_of n))) (λ d i n. refl)
+    kept_reuse2 P L is_vector vector_target vector_written (λ d i n. Vector (FpuCMov32 d mask i n)) is_vector (λ d i n. Some (move_left_row opcodes.LER (number_of d) (number_of n))) (λ d i n. refl)
     (λ rd ri rm changed f. (condition_keeps L changed (four_bits mask) (moves_left ElementSize.Word (number_of rd) (number_of rm)) (λ r. f), nothing L changed)) rd ri rm (used ri ∷ used rm ∷ []) s m.0 g h
 kept P L (Vector (FpuCMov64 rd mask ri rm)) s m g h =
-    kept_reuse2 P L is_vector vector_target vector_written (λ d i n. Vector (FpuCMov64 d mask i n)) is_vector (λ d i n. Some (move_left_row 0x28 (number_of d) (number_of n))) (λ d i n. refl)
+    kept_reuse2 P L is_vector vector_target vector_written (λ d i n. Vector (FpuCMov64 d mask i n)) is_vector (λ d i n. Some (move_left_row opcodes.LDR (number_of d) (number_of n))) (λ d i n. refl)
     (λ rd ri rm changed f. (condition_keeps L changed (four_bits mask) (moves_left ElementSize.Doubleword (number_of rd) (number_of rm)) (λ r. f), nothing L changed)) rd ri rm (used ri ∷ used rm ∷ []) s m.0 g h
 kept P L (Vector (VecCMov rd mask ri rm)) s m g h =
-    kept_reuse2 P L is_vector vector_target vector_written (λ d i n. Vector (VecCMov d mask i n)) is_vector (λ d i n. Some (vrr_a 0xe756 (number_of d) (number_of n) 0)) (λ d i n. refl)
+    kept_reuse2 P L is_vector vector_target vector_written (λ d i n. Vector (VecCMov d mask i n)) is_vector (λ d i n. Some (vrr_a opcodes.VLR (number_of d) (number_of n) 0)) (λ d i n. refl)
     (λ rd ri rm changed f. (condition_keeps L changed (four_bits mask) (computes_one_vector Lanes.Move (number_of rd) (number_of rm)) (λ r. f), nothing L changed)) rd ri rm (used ri ∷ used rm ∷ []) s m.0 g h
 kept P L (Vector (VecEltRev count rd rn)) s m g h =
     kept2 P L defined defined_output is_vector vector_target vector_written (λ rd rn. Vector (VecEltRev count rd rn)) is_vector (λ rd rn. first_row (reversing_rows count (number_of rd) (number_of rn))) (λ rd rn. reverse_single P count rd rn)
     (λ rd rn changed f. does L changed (reverses_elements (elements_of (128 / count)) (number_of rd) (number_of rn)) no_code (λ r. f)) rd rn (used rn ∷ []) s m.0 g h
 kept P L (Vector (VecInt128SCmpHi tmp rn rm)) s m g h =
-    kept3 P L defined defined_output is_vector vector_target vector_written (λ d n m. Vector (VecInt128SCmpHi d n m)) is_vector is_vector (λ d n m. Some (vrr_a 0xe7db (number_of m) (number_of n) 3)) (λ d n m. refl)
+    kept3 P L defined defined_output is_vector vector_target vector_written (λ d n m. Vector (VecInt128SCmpHi d n m)) is_vector is_vector (λ d n m. Some (vrr_a opcodes.VEC (number_of m) (number_of n) 3)) (λ d n m. refl)
     (λ d n m changed f. (comparison_keeps L changed Signed (number_of d) (number_of n) (number_of m) f, nothing L changed)) tmp rn rm (used rn ∷ used rm ∷ []) s m.0 g h
 kept P L (Vector (VecInt128UCmpHi tmp rn rm)) s m g h =
-    kept3 P L defined defined_output is_vector vector_target vector_written (λ d n m. Vector (VecInt128UCmpHi d n m)) is_vector is_vector (λ d n m. Some (vrr_a 0xe7d9 (number_of m) (number_of n) 3)) (λ d n m. refl)
+    kept3 P L defined defined_output is_vector vector_target vector_written (λ d n m. Vector (VecInt128UCmpHi d n m)) is_vector is_vector (λ d n m. Some (vrr_a opcodes.VECL (number_of m) (number_of n) 3)) (λ d n m. refl)
     (λ d n m changed f. (comparison_keeps L changed Unsigned (number_of d) (number_of n) (number_of m) f, nothing L changed)) tmp rn rm (used rn ∷ used rm ∷ []) s m.0 g h
-kept P L (Vector (VecLoad rd mem)) s m g h =
-    load_kept P L is_vector vector_target vector_written defined defined_output defined_passed (λ a x. Vector (VecLoad a x)) (λ a x. access_elements 0xe706 a (Some 0) x) (λ a x v. vector_valid (is_vector a) x (access_elements 0xe706 a (Some 0) x) (elements_accessed 0xe706 a (Some 0) x) v) (λ a x. (refl, refl))
-    (λ a x changed f free. accessed L changed (operand_step (Vector (VecLoad a (resolved P.state x)))) (λ address r. f) free) rd mem s m.0 g h
-kept P L (Vector (VecLoadRev rd mem)) s m g h =
-    load_kept P L is_vector vector_target vector_written defined defined_output defined_passed (λ a x. Vector (VecLoadRev a x)) (λ a x. access_elements 0xe606 a (Some 4) x) (λ a x v. vector_valid (is_vector a) x (access_elements 0xe606 a (Some 4) x) (elements_accessed 0xe606 a (Some 4) x) v) (λ a x. (refl, refl))
-    (λ a x changed f free. accessed L changed (operand_step (Vector (VecLoadRev a (resolved P.state x)))) (λ address r. f) free) rd mem s m.0 g h
-kept P L (Vector (VecLoadByte16Rev rd mem)) s m g h =
-    load_kept P L is_vector vector_target vector_written defined defined_output defined_passed (λ a x. Vector (VecLoadByte16Rev a x)) (λ a x. access_elements 0xe606 a (Some 1) x) (λ a x v. vector_valid (is_vector a) x (access_elements 0xe606 a (Some 1) x) (elements_accessed 0xe606 a (Some 1) x) v) (λ a x. (refl, refl))
-    (λ a x changed f free. accessed L changed (operand_step (Vector (VecLoadByte16Rev a (resolved P.state x)))) (λ address r. f) free) rd mem s m.0 g h
-kept P L (Vector (VecLoadByte32Rev rd mem)) s m g h =
-    load_kept P L is_vector vector_target vector_written defined defined_output defined_passed (λ a x. Vector (VecLoadByte32Rev a x)) (λ a x. access_elements 0xe606 a (Some 2) x) (λ a x v. vector_valid (is_vector a) x (access_elements 0xe606 a (Some 2) x) (elements_accessed 0xe606 a (Some 2) x) v) (λ a x. (refl, refl))
-    (λ a x changed f free. accessed L changed (operand_step (Vector (VecLoadByte32Rev a (resolved P.state x)))) (λ address r. f) free) rd mem s m.0 g h
-kept P L (Vector (VecLoadByte64Rev rd mem)) s m g h =
-    load_kept P L is_vector vector_target vector_written defined defined_output defined_passed (λ a x. Vector (VecLoadByte64Rev a x)) (λ a x. access_elements 0xe606 a (Some 3) x) (λ a x v. vector_valid (is_vector a) x (access_elements 0xe606 a (Some 3) x) (elements_accessed 0xe606 a (Some 3) x) v) (λ a x. (refl, refl))
-    (λ a x changed f free. accessed L changed (operand_step (Vector (VecLoadByte64Rev a (resolved P.state x)))) (λ address r. f) free) rd mem s m.0 g h
-kept P L (Vector (VecLoadElt16Rev rd mem)) s m g h =
-    load_kept P L is_vector vector_target vector_written defined defined_output defined_passed (λ a x. Vector (VecLoadElt16Rev a x)) (λ a x. access_elements 0xe607 a (Some 1) x) (λ a x v. vector_valid (is_vector a) x (access_elements 0xe607 a (Some 1) x) (elements_accessed 0xe607 a (Some 1) x) v) (λ a x. (refl, refl))
-    (λ a x changed f free. accessed L changed (operand_step (Vector (VecLoadElt16Rev a (resolved P.state x)))) (λ address r. f) free) rd mem s m.0 g h
-kept P L (Vector (VecLoadElt32Rev rd mem)) s m g h =
-    load_kept P L is_vector vector_target vector_written defined defined_output defined_passed (λ a x. Vector (VecLoadElt32Rev a x)) (λ a x. access_elements 0xe607 a (Some 2) x) (λ a x v. vector_valid (is_vector a) x (access_elements 0xe607 a (Some 2) x) (elements_accessed 0xe607 a (Some 2) x) v) (λ a x. (refl, refl))
-    (λ a x changed f free. accessed L changed (operand_step (Vector (VecLoadElt32Rev a (resolved P.state x)))) (λ address r. f) free) rd mem s m.0 g h
-kept P L (Vector (VecLoadElt64Rev rd mem)) s m g h =
-    load_kept P L is_vector vector_target vector_written defined defined_output defined_passed (λ a x. Vector (VecLoadElt64Rev a x)) (λ a x. access_elements 0xe607 a (Some 3) x) (λ a x v. vector_valid (is_vector a) x (access_elements 0xe607 a (Some 3) x) (elements_accessed 0xe607 a (Some 3) x) v) (λ a x. (refl, refl))
-    (λ a x changed f free. accessed L changed (operand_step (Vector (VecLoadElt64Rev a (resolved P.state x)))) (λ address r. f) free) rd mem s m.0 g h
-kept P L (Vector (VecStore rd mem)) s m g h = store_kept P L (λ a x. Vector (VecStore a x)) (λ a x changed f free. accessed L changed (operand_step (Vector (VecStore a (resolved P.state x)))) (λ address r. f) free) rd mem s g
-kept P L (Vector (VecStoreRev rd mem)) s m g h = store_kept P L (λ a x. Vector (VecStoreRev a x)) (λ a x changed f free. accessed L changed (operand_step (Vector (VecStoreRev a (resolved P.state x)))) (λ address r. f) free) rd mem s g
-kept P L (Vector (VecStoreByte16Rev rd mem)) s m g h = store_kept P L (λ a x. Vector (VecStoreByte16Rev a x)) (λ a x changed f free. accessed L changed (operand_step (Vector (VecStoreByte16Rev a (resolved P.state x)))) (λ address r. f) free) rd mem s g
-kept P L (Vector (VecStoreByte32Rev rd mem)) s m g h = store_kept P L (λ a x. Vector (VecStoreByte32Rev a x)) (λ a x changed f free. accessed L changed (operand_step (Vector (VecStoreByte32Rev a (resolved P.state x)))) (λ address r. f) free) rd mem s g
-kept P L (Vector (VecStoreByte64Rev rd mem)) s m g h = store_kept P L (λ a x. Vector (VecStoreByte64Rev a x)) (λ a x changed f free. accessed L changed (operand_step (Vector (VecStoreByte64Rev a (resolved P.state x)))) (λ address r. f) free) rd mem s g
-kept P L (Vector (VecStoreElt16Rev rd mem)) s m g h = store_kept P L (λ a x. Vector (VecStoreElt16Rev a x)) (λ a x changed f free. accessed L changed (operand_step (Vector (VecStoreElt16Rev a (resolved P.state x)))) (λ address r. f) free) rd mem s g
-kept P L (Vector (VecStoreElt32Rev rd mem)) s m g h = store_kept P L (λ a x. Vector (VecStoreElt32Rev a x)) (λ a x changed f free. accessed L changed (operand_step (Vector (VecStoreElt32Rev a (resolved P.state x)))) (λ address r. f) free) rd mem s g
-kept P L (Vector (VecStoreElt64Rev rd mem)) s m g h = store_kept P L (λ a x. Vector (VecStoreElt64Rev a x)) (λ a x changed f free. accessed L changed (operand_step (Vector (VecStoreElt64Rev a (resolved P.state x)))) (λ address r. f) free) rd mem s g
 kept P L (Vector (VecLoadReplicate size rd mem)) s m g h =
-    load_kept P L is_vector vector_target vector_written defined defined_output defined_passed (λ a x. Vector (VecLoadReplicate size a x)) (λ a x. access_elements 0xe705 a (element_code size) x) (λ a x v. vector_valid (is_vector a) x (access_elements 0xe705 a (element_code size) x) (elements_accessed 0xe705 a (element_code size) x) v)
+    load_kept P L is_vector vector_target vector_written defined defined_output defined_passed (λ a x. Vector (VecLoadReplicate size a x)) (λ a x. access_elements opcodes.VLREP a (element_code size) x) (λ a x v. vector_valid (is_vector a) x (access_elements opcodes.VLREP a (element_code size) x) (elements_accessed opcodes.VLREP a (element_code size) x) v)
     (λ a x. (refl, refl)) (λ a x changed f free. accessed L changed (operand_step (Vector (VecLoadReplicate size a (resolved P.state x)))) (λ address r. f) free) rd mem s m.0 g h
 kept P L (Vector (VecLoadReplicateRev size rd mem)) s m g h =
-    load_kept P L is_vector vector_target vector_written defined defined_output defined_passed (λ a x. Vector (VecLoadReplicateRev size a x)) (λ a x. access_elements 0xe605 a (reversed_code size) x) (λ a x v. vector_valid (is_vector a) x (access_elements 0xe605 a (reversed_code size) x) (elements_accessed 0xe605 a (reversed_code size) x) v)
+    load_kept P L is_vector vector_target vector_written defined defined_output defined_passed (λ a x. Vector (VecLoadReplicateRev size a x)) (λ a x. access_elements opcodes.VLBRREP a (reversed_code size) x) (λ a x v. vector_valid (is_vector a) x (access_elements opcodes.VLBRREP a (reversed_code size) x) (elements_accessed opcodes.VLBRREP a (reversed_code size) x) v)
     (λ a x. (refl, refl)) (λ a x changed f free. accessed L changed (operand_step (Vector (VecLoadReplicateRev size a (resolved P.state x)))) (λ address r. f) free) rd mem s m.0 g h
 kept P L (Vector (VecLoadLane size rd ri mem lane)) s m g h =
     load_kept2 P L is_vector vector_target vector_written reused reused_output reused_passed (λ d i x. Vector (VecLoadLane size d i x lane)) (λ d i x. vector_memory (VecLoadLane size d i x lane))
@@ -401,4 +395,5 @@ kept P L (Call link info) s m g h = absurd m
 kept P L (ReturnCall info) s m g h = absurd m
 kept P L (Ret link) s m g h = absurd m
 kept P L (AllocateArgs size) s m g h = absurd m
-kept P L i s m g h = let l : Load = the_load (as_load i) refl in kept_load P L l.op l.rd l.mem s m g h
+kept P L (Vector v) s m g h = let w : WholeAccess = the_whole (as_whole v) refl in kept_whole P L w.direction w.layout w.rd w.mem s m g h
+kept P L i s m g h = kept_transfer P L (the_transfer (as_transfer i) refl) s m g h

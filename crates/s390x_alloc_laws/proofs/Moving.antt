@@ -18,6 +18,7 @@ use Rattle.s390x_alloc.proofs.Sameness.{class-same}
 use Rattle.s390x_alloc_laws.specs.Allocatable as Emitted
 use Rattle.s390x_alloc_laws.specs.Allocatable.{IsNotBlamed, refusal}
 use Rattle.s390x_alloc_laws.proofs.Given.{clear, facility_clear, first_clear, unless_clear}
+use Rattle.s390x_rows.specs.declared.opcodes.TheConstants as opcodes
 use Rattle.s390x_typed_steps.specs.Causes.{addend_fits, facility_cause, first_emit_cause, loses_scratch, unless}
 use Rattle.s390x_typed_steps.specs.General.{is_general}
 use Rattle.s390x_typed_steps.specs.Memory.{MemoryInstruction, RxForm, type_of}
@@ -103,7 +104,7 @@ load_clear P Float p s h e =
 
 -- the access of a store
 abbrev stored : RealRegister → MemArg → MemoryInstruction
-stored p m = record { form = RxForm (number_of (Real p)) None (Some 0xe324) (Some 0xc4b); operand = m; accesses = true; operands_valid = is_general (Real p); reads_scratch = is_numbered 1 (Real p) }
+stored p m = record { form = RxForm (number_of (Real p)) None (Some opcodes.STG) (Some opcodes.STGRL); operand = m; accesses = true; operands_valid = is_general (Real p); reads_scratch = is_numbered 1 (Real p) }
 
 store_clear : (P : Emitted.Place) (c : RegClass) (p : RealRegister) (s : ℕ) → p.class ≡ c → IsRegister p → is_reserved p ≡ false → IsNotBlamed (refusal P (store_of c p s))
 store_clear P Int p s h e r =

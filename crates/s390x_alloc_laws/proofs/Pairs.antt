@@ -11,6 +11,7 @@ use Rattle.s390x_inst.specs.declared.inst.Inst.{Inst}
 use Rattle.s390x_operands.specs.declared.constraint.Reported.{Reported}
 use Rattle.s390x_operands.specs.Requests.{items_of, used, fixed_use, fixed_def}
 use Rattle.s390x_assign.specs.Assignments.{operand_at, register_at, after, pair_at, dividend_at}
+use Rattle.s390x_rows.specs.declared.opcodes.TheConstants as opcodes
 use Rattle.s390x_typed_steps.specs.General.{is_general, is_even_pair, reuses, reuses_pair}
 use Rattle.s390x_typed_steps.specs.MachineInstruction.{MachineInstruction, rrf_ab}
 use Rattle.s390x_alloc_laws.specs.Allocatable.{IsNotBlamed, Place, refusal}
@@ -69,7 +70,7 @@ products P d a b s s' g h =
     let x : Reg = register_at a s in let x' : Reg = register_at a s' in
     let y : Reg = register_at b (after a s) in let y' : Reg = register_at b (after a s') in
     single P (SMulWide e x y) (SMulWide e' x' y') (is_even_pair e.hi e.lo && is_general x && is_general y) (is_even_pair e'.hi e'.lo && is_general x' && is_general y')
-    (Some (rrf_ab 0xb9ec (number_of e.hi) (number_of x) (number_of y) 0)) (Some (rrf_ab 0xb9ec (number_of e'.hi) (number_of x') (number_of y') 0)) refl refl h
+    (Some (rrf_ab opcodes.MGRK (number_of e.hi) (number_of x) (number_of y) 0)) (Some (rrf_ab opcodes.MGRK (number_of e'.hi) (number_of x') (number_of y') 0)) refl refl h
     (and_passes (is_even_pair e.hi e.lo && is_general x) (is_even_pair e'.hi e'.lo && is_general x') (is_general y) (is_general y') (and_passes (is_even_pair e.hi e.lo) (is_even_pair e'.hi e'.lo) (is_general x) (is_general x') (λ z. p.even) n.given.passes) m.given.passes)
 
 -- a pair from one register

@@ -1,4 +1,4 @@
--- The operand that the checker of a plan looks at is that of the typed step: each instruction that has one and is no load of a register owes a line.
+-- The operand that the checker of a plan looks at is that of the typed step: each instruction that has one and is no load or store of one register owes a line.
 use Rattle.std.proofs.Common.{ℕ, Bool, true, false, Option, Some, None, refl, cond}
 use Rattle.std.specs.Prelude.{◌||◌, is_some}
 use Rattle.s390x_base.specs.Regs.{number_of}
@@ -6,13 +6,17 @@ use Rattle.s390x_base.specs.declared.regs.Reg.{Reg}
 use Rattle.s390x_inst.specs.Loads.{as_load, by_load}
 use Rattle.s390x_inst.specs.declared.args.MemArg.{MemArg}
 use Rattle.s390x_inst.specs.declared.inst.Inst.{Inst}
-use Rattle.s390x_inst.specs.declared.inst.Inst.TheVariants.{Loop', AluRX, CmpRX, Store8, Store16, Store32, Store64, StoreRev16, StoreRev32, StoreRev64, StoreImm8, StoreImm16, StoreImm32SExt16, StoreImm64SExt16}
+use Rattle.s390x_inst.specs.declared.inst.Inst.TheVariants.{Loop', AluRX, CmpRX, StoreImm8, StoreImm16, StoreImm32SExt16, StoreImm64SExt16}
 use Rattle.s390x_inst.specs.declared.inst.Inst.TheVariants.{LoadMultiple64, StoreMultiple64, LoadAddr, AtomicRmw, AtomicCas32, AtomicCas64, Vector}
 use Rattle.s390x_inst.specs.declared.load.Load.{Load}
+use Rattle.s390x_inst.specs.declared.store.Store.{Store}
+use Rattle.s390x_inst.specs.declared.whole.WholeAccess.{WholeAccess}
+use Rattle.s390x_inst.specs.Stores.{as_store, by_store}
+use Rattle.s390x_inst.specs.Wholes.{as_whole, by_whole}
 use Rattle.s390x_inst.specs.declared.vec_inst.VecInst.{VecInst}
-use Rattle.s390x_inst.specs.declared.vec_inst.VecInst.TheVariants.{VecLoad, VecLoadRev, VecLoadByte16Rev, VecLoadByte32Rev, VecLoadByte64Rev, VecLoadElt16Rev, VecLoadElt32Rev, VecLoadElt64Rev, VecStore, VecStoreRev, VecStoreByte16Rev, VecStoreByte32Rev, VecStoreByte64Rev}
-use Rattle.s390x_inst.specs.declared.vec_inst.VecInst.TheVariants.{VecStoreElt16Rev, VecStoreElt32Rev, VecStoreElt64Rev, VecLoadReplicate, VecLoadReplicateRev, VecLoadLane, VecLoadLaneRev, VecLoadLaneUndef, VecLoadLaneRevUndef, VecStoreLane, VecStoreLaneRev}
-use Rattle.s390x_typed_steps.specs.Memory.{MemoryInstruction, VrxForm, operate, load_and_operate, access_elements, access_lane, access_vector, load_lane_opcode, load_left, load_memory, load_reversed_opcode, is_left_lane, other_memory, reversed_code, store_lane_opcode, store_left, store_reversed_opcode}
+use Rattle.s390x_inst.specs.declared.vec_inst.VecInst.TheVariants.{VecLoadReplicate, VecLoadReplicateRev, VecLoadLane, VecLoadLaneRev, VecLoadLaneUndef, VecLoadLaneRevUndef, VecStoreLane, VecStoreLaneRev}
+use Rattle.s390x_rows.specs.declared.opcodes.TheConstants as opcodes
+use Rattle.s390x_typed_steps.specs.Memory.{MemoryInstruction, VrxForm, operate, load_and_operate, access_elements, access_lane, access_vector, load_lane_opcode, load_left, load_memory, load_reversed_opcode, is_left_lane, other_memory, reversed_code, store_memory, whole_memory, store_lane_opcode, store_left, store_reversed_opcode}
 use Rattle.s390x_typed_steps.specs.Memory.{vector_memory as step_vector}
 use Rattle.s390x_typed_steps.specs.Storage.{alu_rx, alu_rxy, atomic_rsy}
 use Rattle.s390x_typed_steps.specs.VectorInstruction.{element_code, is_lane, is_vector, reuses_vector}
@@ -39,25 +43,13 @@ lane_seen : (valid : Bool) (opcode : ℕ → ℕ) (register : ℕ) (code : Optio
 lane_seen valid opcode register None size lane mem = tt
 lane_seen valid opcode register (Some code) size lane mem = either_seen (is_lane size lane) (access_vector valid (VrxForm register (opcode code) lane) mem) None (Some mem) refl tt
 
+whole_seen : (o : Option WholeAccess) → IsOperandOf (by_whole whole_memory None o) (by_whole (λ (w : WholeAccess). Some w.mem) None o)
+whole_seen None = tt
+whole_seen (Some w) = refl
+
 vector_seen : (v : VecInst) → IsOperandOf (step_vector v) (vector_memory v)
-vector_seen (VecLoad rd mem) = refl
-vector_seen (VecLoadRev rd mem) = refl
-vector_seen (VecLoadByte16Rev rd mem) = refl
-vector_seen (VecLoadByte32Rev rd mem) = refl
-vector_seen (VecLoadByte64Rev rd mem) = refl
-vector_seen (VecLoadElt16Rev rd mem) = refl
-vector_seen (VecLoadElt32Rev rd mem) = refl
-vector_seen (VecLoadElt64Rev rd mem) = refl
-vector_seen (VecStore rd mem) = refl
-vector_seen (VecStoreRev rd mem) = refl
-vector_seen (VecStoreByte16Rev rd mem) = refl
-vector_seen (VecStoreByte32Rev rd mem) = refl
-vector_seen (VecStoreByte64Rev rd mem) = refl
-vector_seen (VecStoreElt16Rev rd mem) = refl
-vector_seen (VecStoreElt32Rev rd mem) = refl
-vector_seen (VecStoreElt64Rev rd mem) = refl
-vector_seen (VecLoadReplicate size rd mem) = elements_seen 0xe705 rd (element_code size) mem
-vector_seen (VecLoadReplicateRev size rd mem) = elements_seen 0xe605 rd (reversed_code size) mem
+vector_seen (VecLoadReplicate size rd mem) = elements_seen opcodes.VLREP rd (element_code size) mem
+vector_seen (VecLoadReplicateRev size rd mem) = elements_seen opcodes.VLBRREP rd (reversed_code size) mem
 vector_seen (VecLoadLane size rd ri mem lane) = lane_seen (reuses_vector rd ri) load_lane_opcode (number_of rd) (element_code size) size lane mem
 vector_seen (VecLoadLaneRev size rd ri mem lane) = lane_seen (reuses_vector rd ri) load_reversed_opcode (number_of rd) (reversed_code size) size lane mem
 vector_seen (VecLoadLaneUndef size rd mem lane) =
@@ -68,18 +60,15 @@ vector_seen (VecStoreLane size rd mem lane) =
     either_seen (is_left_lane size lane (number_of rd)) (access_vector (is_vector rd) (store_left size (number_of rd)) mem) (access_lane (is_vector rd) store_lane_opcode (number_of rd) (element_code size) size lane mem) (Some mem) refl
     (lane_seen (is_vector rd) store_lane_opcode (number_of rd) (element_code size) size lane mem)
 vector_seen (VecStoreLaneRev size rd mem lane) = lane_seen (is_vector rd) store_reversed_opcode (number_of rd) (reversed_code size) size lane mem
-vector_seen v = tt
+vector_seen v = whole_seen (as_whole v)
+
+store_seen : (o : Option Store) → IsOperandOf (by_store store_memory None o) (by_store (λ (s : Store). Some s.mem) None o)
+store_seen None = tt
+store_seen (Some s) = refl
 
 other_seen : (i : Inst) → IsOperandOf (other_memory i) (other_operand i)
 other_seen (AluRX op rd ri mem) = operate_seen (is_some (alu_rx op) || is_some (alu_rxy op)) (alu_rx op) (alu_rxy op) rd ri mem
 other_seen (CmpRX op rn mem) = refl
-other_seen (Store8 rd mem) = refl
-other_seen (Store16 rd mem) = refl
-other_seen (Store32 rd mem) = refl
-other_seen (Store64 rd mem) = refl
-other_seen (StoreRev16 rd mem) = refl
-other_seen (StoreRev32 rd mem) = refl
-other_seen (StoreRev64 rd mem) = refl
 other_seen (StoreImm8 imm mem) = refl
 other_seen (StoreImm16 imm mem) = refl
 other_seen (StoreImm32SExt16 imm mem) = refl
@@ -92,7 +81,7 @@ other_seen (AtomicCas32 rd ri rn mem) = refl
 other_seen (AtomicCas64 rd ri rn mem) = refl
 other_seen (Vector v) = vector_seen v
 other_seen (Loop' mask body all) = tt
-other_seen i = tt
+other_seen i = store_seen (as_store i)
 
 loaded_or : (i : Inst) (o : Option Load) → IsOperandOf (other_memory i) (other_operand i) → IsOperandOf (by_load load_memory (other_memory i) o) (by_load (λ (l : Load). Some l.mem) (other_operand i) o)
 loaded_or i None h = h

@@ -14,6 +14,7 @@ use Rattle.s390x_operands.specs.Meets.{MeetsEach}
 use Rattle.s390x_operands.specs.Requests.{items_of, memory_requests, range_requests, used, reused, fixed_def}
 use Rattle.s390x_operands.specs.declared.constraint.Reported.{Reported}
 use Rattle.s390x_assign.specs.Assignments.{register_at, after, memory_at, pair_at}
+use Rattle.s390x_rows.specs.declared.opcodes.TheConstants as opcodes
 use Rattle.s390x_typed_steps.specs.General.{is_general}
 use Rattle.s390x_typed_steps.specs.Memory.{MemoryInstruction, multiple}
 use Rattle.s390x_typed_steps.specs.Operands.{operand_general}
@@ -111,9 +112,9 @@ range_fits first last le lt = omega arith
 abbrev pub range_listed : Reg → Reg → List Reg
 range_listed first last = generals (number_of first) (number_of last + 1 - number_of first)
 
-range_valid : (P : Place) (first last : Reg) (m : MemArg) → IsAccess P (LoadMultiple64 first last m) (multiple first last 0xeb04 false (resolved P.state m)) → refusal P (LoadMultiple64 first last m) ≡ None → number_of first + (number_of last + 1 - number_of first) ≤ 16
+range_valid : (P : Place) (first last : Reg) (m : MemArg) → IsAccess P (LoadMultiple64 first last m) (multiple first last opcodes.LMG false (resolved P.state m)) → refusal P (LoadMultiple64 first last m) ≡ None → number_of first + (number_of last + 1 - number_of first) ≤ 16
 range_valid P first last m is h =
-    let valid = access_valid P (LoadMultiple64 first last m) (multiple first last 0xeb04 false (resolved P.state m)) is h in
+    let valid = access_valid P (LoadMultiple64 first last m) (multiple first last opcodes.LMG false (resolved P.state m)) is h in
     let range : (is_general first && is_general last && nat_le (number_of first) (number_of last)) ≡ true = and_left (is_general first && is_general last && nat_le (number_of first) (number_of last)) (operand_general (resolved P.state m)) valid in
     let ends : (is_general first && is_general last) ≡ true = and_left (is_general first && is_general last) (nat_le (number_of first) (number_of last)) range in
     range_fits (number_of first) (number_of last) (leb-true (number_of first) (number_of last) (and_right (is_general first && is_general last) (nat_le (number_of first) (number_of last)) range)) (below_sixteen last (and_right (is_general first) (is_general last) ends))
@@ -123,7 +124,7 @@ range_valid P first last m is h =
     below_sixteen (Virtual n c) g = absurd (cc)
 
 pub load_range_kept : (P : Place) (L : Layout) (first last : Reg) (m : MemArg) (s : List Reg) → KeepsAccess L (multiple_targets (number_of first) (number_of last + 1 - number_of first)) (placed_in P (LoadMultiple64 first last (memory_at m s).0)) →
-    IsAccess P (LoadMultiple64 first last (memory_at m s).0) (multiple first last 0xeb04 false (resolved P.state (memory_at m s).0)) → MeetsEach s (items_of (memory_requests m ++ range_requests first last)) s → refusal P (LoadMultiple64 first last (memory_at m s).0) ≡ None →
+    IsAccess P (LoadMultiple64 first last (memory_at m s).0) (multiple first last opcodes.LMG false (resolved P.state (memory_at m s).0)) → MeetsEach s (items_of (memory_requests m ++ range_requests first last)) s → refusal P (LoadMultiple64 first last (memory_at m s).0) ≡ None →
     InstKeeps L (range_listed first last ++ outputs (items_of (memory_requests m ++ range_requests first last)) s) (placed_in P (LoadMultiple64 first last (memory_at m s).0))
 load_range_kept P L first last m s keeps is meet h =
     let own : List Reg = range_listed first last in

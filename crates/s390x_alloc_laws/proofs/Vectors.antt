@@ -9,6 +9,7 @@ use Rattle.s390x_inst.specs.declared.inst.Inst.{Inst}
 use Rattle.s390x_operands.specs.declared.constraint.Reported.{Reported}
 use Rattle.s390x_operands.specs.Requests.{items_of, memory_requests, used, defined, reused}
 use Rattle.s390x_assign.specs.Assignments.{register_at, after, memory_at}
+use Rattle.s390x_rows.specs.declared.opcodes.TheConstants as opcodes
 use Rattle.s390x_typed_steps.specs.Causes.{first_emit_cause, facility_cause, cause_or}
 use Rattle.s390x_typed_steps.specs.Operands.{resolved, loses_base, operand_general}
 use Rattle.s390x_typed_steps.specs.Memory.{MemoryInstruction, StorageForm, VrxForm, access_vector, access_elements, access_lane, is_left_lane}
@@ -112,7 +113,7 @@ reuse_vector3 P mk row is d i m b s s' v w g h =
 -- they have the causes of their first machine instruction
 pub first_row : Option (List MachineInstruction) → Option MachineInstruction
 first_row None = None
-first_row (Some []) = Some (rr 0x07 0 7)
+first_row (Some []) = Some (rr opcodes.BCR 0 7)
 first_row (Some (row ∷ rows)) = Some row
 
 pub rows_single : (rows : Option (List MachineInstruction)) (valid : Bool) → rows_cause rows valid ≡ cause_or (single_with valid (first_row rows)) (Some BadOperator)

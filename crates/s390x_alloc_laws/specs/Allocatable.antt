@@ -14,8 +14,7 @@ use Rattle.s390x_inst.specs.declared.calls.ArgPair.{ArgPair}
 use Rattle.s390x_inst.specs.declared.calls.RetPair.{RetPair}
 use Rattle.s390x_inst.specs.declared.inst.Inst.{Inst}
 use Rattle.s390x_inst.specs.declared.inst.Inst.TheVariants.{IndirectBr, JTSequence, Call, ReturnCall, LoadSymbolReloc, LabelAddress, Args, Rets, DummyUse, Vector}
-use Rattle.s390x_inst.specs.declared.inst.Inst.TheVariants.{Store8, Store16, Store32}
-use Rattle.s390x_inst.specs.declared.inst.Inst.TheVariants.{Store64, StoreRev16, StoreRev32, StoreRev64, StoreImm8, StoreImm16, StoreImm32SExt16, StoreImm64SExt16, LoadMultiple64, StoreMultiple64, LoadAddr, LoadIndexedAddr, LoadLogicalIndexedAddr, AtomicRmw}
+use Rattle.s390x_inst.specs.declared.inst.Inst.TheVariants.{StoreImm8, StoreImm16, StoreImm32SExt16, StoreImm64SExt16, LoadMultiple64, StoreMultiple64, LoadAddr, LoadIndexedAddr, LoadLogicalIndexedAddr, AtomicRmw}
 use Rattle.s390x_inst.specs.declared.inst.Inst.TheVariants.{AtomicCas32, AtomicCas64, Mov64, MovPReg, Mov32, Mov32Imm, Mov32SImm16, Mov64SImm16, Mov64SImm32, Mov64UImm16Shifted, Mov64UImm32Shifted, Insert64UImm16Shifted, Insert64UImm32Shifted, CMov32}
 use Rattle.s390x_inst.specs.declared.inst.Inst.TheVariants.{CMov64, CMov32SImm16, CMov64SImm16, Extend, LoadAR, InsertAR, AluRRR, AluRRSImm16, AluRR, AluRX, AluRSImm16, AluRSImm32, AluRUImm32, AluRUImm16Shifted}
 use Rattle.s390x_inst.specs.declared.inst.Inst.TheVariants.{AluRUImm32Shifted, SMulWide, UMulWide, SDivMod32, SDivMod64, UDivMod32, UDivMod64, Flogr, ShiftRR, RxSBG, RxSBGTest, UnaryRR, CmpRR, CmpRX}
@@ -23,11 +22,13 @@ use Rattle.s390x_inst.specs.declared.inst.Inst.TheVariants.{CmpRSImm16, CmpRSImm
 use Rattle.s390x_inst.specs.declared.inst.Inst.TheVariants.{Debugtrap, SequencePoint}
 use Rattle.s390x_inst.specs.declared.state.IsaFlags.{IsaFlags}
 use Rattle.s390x_inst.specs.Loads.{as_load, by_load}
+use Rattle.s390x_inst.specs.Stores.{as_store, by_store}
+use Rattle.s390x_inst.specs.Wholes.{as_whole, by_whole}
 use Rattle.s390x_inst.specs.declared.vec_inst.VecInst.{VecInst}
 use Rattle.s390x_inst.specs.declared.vec_inst.VecInst.TheVariants.{VecRRR, VecRR, VecShiftRR, VecSelect, VecPermute, VecBlend, VecEvaluate, VecPermuteDWImm, VecIntCmp, VecIntCmpS, VecIntEltCmp, VecInt128SCmpHi, VecInt128UCmpHi, VecMov}
 use Rattle.s390x_inst.specs.declared.vec_inst.VecInst.TheVariants.{FpuMove32, FpuMove64, FpuCMov32, FpuCMov64, VecCMov, MovToVec128, VecImmByteMask, VecImmBitMask, VecImmReplicate, VecInsertLane, VecInsertLaneUndef, VecExtractLane, VecInsertLaneImm, VecInsertLaneImmUndef}
-use Rattle.s390x_inst.specs.declared.vec_inst.VecInst.TheVariants.{VecReplicateLane, VecEltRev, VecLoad, VecLoadRev, VecLoadByte16Rev, VecLoadByte32Rev, VecLoadByte64Rev, VecLoadElt16Rev, VecLoadElt32Rev, VecLoadElt64Rev, VecStore, VecStoreRev, VecStoreByte16Rev, VecStoreByte32Rev}
-use Rattle.s390x_inst.specs.declared.vec_inst.VecInst.TheVariants.{VecStoreByte64Rev, VecStoreElt16Rev, VecStoreElt32Rev, VecStoreElt64Rev, VecLoadReplicate, VecLoadReplicateRev, VecLoadLane, VecLoadLaneRev, VecLoadLaneUndef, VecLoadLaneRevUndef, VecStoreLane, VecStoreLaneRev}
+use Rattle.s390x_inst.specs.declared.vec_inst.VecInst.TheVariants.{VecReplicateLane, VecEltRev}
+use Rattle.s390x_inst.specs.declared.vec_inst.VecInst.TheVariants.{VecLoadReplicate, VecLoadReplicateRev, VecLoadLane, VecLoadLaneRev, VecLoadLaneUndef, VecLoadLaneRevUndef, VecStoreLane, VecStoreLaneRev}
 use Rattle.s390x_operands.specs.Meets.{Meets}
 use Rattle.s390x_operands.specs.Operands.{operands}
 use Rattle.s390x_operands.specs.declared.constraint.Reported.{Reported}
@@ -77,61 +78,50 @@ abbrev pub IsFreeRange : Reg → Reg → Type 0
 IsFreeRange (Real p) (Real q) = (1 < p.number) ⊎ (q.number < 1)
 IsFreeRange first last = ⊥
 
+-- of a vector instruction that is no load or store of a whole register
+abbrev pub PartMayStand : VecInst → Type 0
+PartMayStand (VecRRR op rd rn rm) = IsVirtual rd × IsVirtual rn × IsVirtual rm
+PartMayStand (VecRR op rd rn) = IsVirtual rd × IsVirtual rn
+PartMayStand (VecShiftRR shift_op rd rn shift_imm shift_reg) = IsVirtual rd × IsVirtual rn × MayAddress shift_reg
+PartMayStand (VecSelect rd rn rm ra) = IsVirtual rd × IsVirtual rn × IsVirtual rm × IsVirtual ra
+PartMayStand (VecPermute rd rn rm ra) = IsVirtual rd × IsVirtual rn × IsVirtual rm × IsVirtual ra
+PartMayStand (VecBlend rd rn rm ra) = IsVirtual rd × IsVirtual rn × IsVirtual rm × IsVirtual ra
+PartMayStand (VecEvaluate imm rd rn rm ra) = IsVirtual rd × IsVirtual rn × IsVirtual rm × IsVirtual ra
+PartMayStand (VecPermuteDWImm rd rn rm idx1 idx2) = IsVirtual rd × IsVirtual rn × IsVirtual rm
+PartMayStand (VecIntCmp op rd rn rm) = IsVirtual rd × IsVirtual rn × IsVirtual rm
+PartMayStand (VecIntCmpS op rd rn rm) = IsVirtual rd × IsVirtual rn × IsVirtual rm
+PartMayStand (VecIntEltCmp op rn rm) = IsVirtual rn × IsVirtual rm
+PartMayStand (VecInt128SCmpHi tmp rn rm) = IsVirtual tmp × IsVirtual rn × IsVirtual rm
+PartMayStand (VecInt128UCmpHi tmp rn rm) = IsVirtual tmp × IsVirtual rn × IsVirtual rm
+PartMayStand (VecMov rd rn) = IsVirtual rd × IsVirtual rn
+PartMayStand (FpuMove32 rd rn) = IsVirtual rd × IsVirtual rn
+PartMayStand (FpuMove64 rd rn) = IsVirtual rd × IsVirtual rn
+PartMayStand (FpuCMov32 rd cond ri rm) = IsVirtual rd × IsVirtual ri × IsVirtual rm
+PartMayStand (FpuCMov64 rd cond ri rm) = IsVirtual rd × IsVirtual ri × IsVirtual rm
+PartMayStand (VecCMov rd cond ri rm) = IsVirtual rd × IsVirtual ri × IsVirtual rm
+PartMayStand (MovToVec128 rd rn rm) = IsVirtual rd × IsVirtual rn × IsVirtual rm
+PartMayStand (VecImmByteMask rd mask) = IsVirtual rd
+PartMayStand (VecImmBitMask size rd start_bit end_bit) = IsVirtual rd
+PartMayStand (VecImmReplicate size rd imm) = IsVirtual rd
+PartMayStand (VecInsertLane size rd ri rn lane_imm lane_reg) = IsVirtual rd × IsVirtual ri × IsVirtual rn × MayAddress lane_reg
+PartMayStand (VecInsertLaneUndef size rd rn lane_imm lane_reg) = IsVirtual rd × IsVirtual rn × MayAddress lane_reg
+PartMayStand (VecExtractLane size rd rn lane_imm lane_reg) = IsVirtual rd × IsVirtual rn × MayAddress lane_reg
+PartMayStand (VecInsertLaneImm size rd ri imm lane_imm) = IsVirtual rd × IsVirtual ri
+PartMayStand (VecInsertLaneImmUndef size rd imm lane_imm) = IsVirtual rd
+PartMayStand (VecReplicateLane size rd rn lane_imm) = IsVirtual rd × IsVirtual rn
+PartMayStand (VecEltRev lane_count rd rn) = IsVirtual rd × IsVirtual rn
+PartMayStand (VecLoadReplicate size rd mem) = IsVirtual rd × MemoryMayStand mem
+PartMayStand (VecLoadReplicateRev size rd mem) = IsVirtual rd × MemoryMayStand mem
+PartMayStand (VecLoadLane size rd ri mem lane_imm) = IsVirtual rd × IsVirtual ri × MemoryMayStand mem
+PartMayStand (VecLoadLaneRev size rd ri mem lane_imm) = IsVirtual rd × IsVirtual ri × MemoryMayStand mem
+PartMayStand (VecLoadLaneUndef size rd mem lane_imm) = IsVirtual rd × MemoryMayStand mem
+PartMayStand (VecLoadLaneRevUndef size rd mem lane_imm) = IsVirtual rd × MemoryMayStand mem
+PartMayStand (VecStoreLane size rd mem lane_imm) = IsVirtual rd × MemoryMayStand mem
+PartMayStand (VecStoreLaneRev size rd mem lane_imm) = IsVirtual rd × MemoryMayStand mem
+PartMayStand v = ⊥
+
 abbrev pub VectorMayStand : VecInst → Type 0
-VectorMayStand (VecRRR op rd rn rm) = IsVirtual rd × IsVirtual rn × IsVirtual rm
-VectorMayStand (VecRR op rd rn) = IsVirtual rd × IsVirtual rn
-VectorMayStand (VecShiftRR shift_op rd rn shift_imm shift_reg) = IsVirtual rd × IsVirtual rn × MayAddress shift_reg
-VectorMayStand (VecSelect rd rn rm ra) = IsVirtual rd × IsVirtual rn × IsVirtual rm × IsVirtual ra
-VectorMayStand (VecPermute rd rn rm ra) = IsVirtual rd × IsVirtual rn × IsVirtual rm × IsVirtual ra
-VectorMayStand (VecBlend rd rn rm ra) = IsVirtual rd × IsVirtual rn × IsVirtual rm × IsVirtual ra
-VectorMayStand (VecEvaluate imm rd rn rm ra) = IsVirtual rd × IsVirtual rn × IsVirtual rm × IsVirtual ra
-VectorMayStand (VecPermuteDWImm rd rn rm idx1 idx2) = IsVirtual rd × IsVirtual rn × IsVirtual rm
-VectorMayStand (VecIntCmp op rd rn rm) = IsVirtual rd × IsVirtual rn × IsVirtual rm
-VectorMayStand (VecIntCmpS op rd rn rm) = IsVirtual rd × IsVirtual rn × IsVirtual rm
-VectorMayStand (VecIntEltCmp op rn rm) = IsVirtual rn × IsVirtual rm
-VectorMayStand (VecInt128SCmpHi tmp rn rm) = IsVirtual tmp × IsVirtual rn × IsVirtual rm
-VectorMayStand (VecInt128UCmpHi tmp rn rm) = IsVirtual tmp × IsVirtual rn × IsVirtual rm
-VectorMayStand (VecMov rd rn) = IsVirtual rd × IsVirtual rn
-VectorMayStand (FpuMove32 rd rn) = IsVirtual rd × IsVirtual rn
-VectorMayStand (FpuMove64 rd rn) = IsVirtual rd × IsVirtual rn
-VectorMayStand (FpuCMov32 rd cond ri rm) = IsVirtual rd × IsVirtual ri × IsVirtual rm
-VectorMayStand (FpuCMov64 rd cond ri rm) = IsVirtual rd × IsVirtual ri × IsVirtual rm
-VectorMayStand (VecCMov rd cond ri rm) = IsVirtual rd × IsVirtual ri × IsVirtual rm
-VectorMayStand (MovToVec128 rd rn rm) = IsVirtual rd × IsVirtual rn × IsVirtual rm
-VectorMayStand (VecImmByteMask rd mask) = IsVirtual rd
-VectorMayStand (VecImmBitMask size rd start_bit end_bit) = IsVirtual rd
-VectorMayStand (VecImmReplicate size rd imm) = IsVirtual rd
-VectorMayStand (VecInsertLane size rd ri rn lane_imm lane_reg) = IsVirtual rd × IsVirtual ri × IsVirtual rn × MayAddress lane_reg
-VectorMayStand (VecInsertLaneUndef size rd rn lane_imm lane_reg) = IsVirtual rd × IsVirtual rn × MayAddress lane_reg
-VectorMayStand (VecExtractLane size rd rn lane_imm lane_reg) = IsVirtual rd × IsVirtual rn × MayAddress lane_reg
-VectorMayStand (VecInsertLaneImm size rd ri imm lane_imm) = IsVirtual rd × IsVirtual ri
-VectorMayStand (VecInsertLaneImmUndef size rd imm lane_imm) = IsVirtual rd
-VectorMayStand (VecReplicateLane size rd rn lane_imm) = IsVirtual rd × IsVirtual rn
-VectorMayStand (VecEltRev lane_count rd rn) = IsVirtual rd × IsVirtual rn
-VectorMayStand (VecLoad rd mem) = IsVirtual rd × MemoryMayStand mem
-VectorMayStand (VecLoadRev rd mem) = IsVirtual rd × MemoryMayStand mem
-VectorMayStand (VecLoadByte16Rev rd mem) = IsVirtual rd × MemoryMayStand mem
-VectorMayStand (VecLoadByte32Rev rd mem) = IsVirtual rd × MemoryMayStand mem
-VectorMayStand (VecLoadByte64Rev rd mem) = IsVirtual rd × MemoryMayStand mem
-VectorMayStand (VecLoadElt16Rev rd mem) = IsVirtual rd × MemoryMayStand mem
-VectorMayStand (VecLoadElt32Rev rd mem) = IsVirtual rd × MemoryMayStand mem
-VectorMayStand (VecLoadElt64Rev rd mem) = IsVirtual rd × MemoryMayStand mem
-VectorMayStand (VecStore rd mem) = IsVirtual rd × MemoryMayStand mem
-VectorMayStand (VecStoreRev rd mem) = IsVirtual rd × MemoryMayStand mem
-VectorMayStand (VecStoreByte16Rev rd mem) = IsVirtual rd × MemoryMayStand mem
-VectorMayStand (VecStoreByte32Rev rd mem) = IsVirtual rd × MemoryMayStand mem
-VectorMayStand (VecStoreByte64Rev rd mem) = IsVirtual rd × MemoryMayStand mem
-VectorMayStand (VecStoreElt16Rev rd mem) = IsVirtual rd × MemoryMayStand mem
-VectorMayStand (VecStoreElt32Rev rd mem) = IsVirtual rd × MemoryMayStand mem
-VectorMayStand (VecStoreElt64Rev rd mem) = IsVirtual rd × MemoryMayStand mem
-VectorMayStand (VecLoadReplicate size rd mem) = IsVirtual rd × MemoryMayStand mem
-VectorMayStand (VecLoadReplicateRev size rd mem) = IsVirtual rd × MemoryMayStand mem
-VectorMayStand (VecLoadLane size rd ri mem lane_imm) = IsVirtual rd × IsVirtual ri × MemoryMayStand mem
-VectorMayStand (VecLoadLaneRev size rd ri mem lane_imm) = IsVirtual rd × IsVirtual ri × MemoryMayStand mem
-VectorMayStand (VecLoadLaneUndef size rd mem lane_imm) = IsVirtual rd × MemoryMayStand mem
-VectorMayStand (VecLoadLaneRevUndef size rd mem lane_imm) = IsVirtual rd × MemoryMayStand mem
-VectorMayStand (VecStoreLane size rd mem lane_imm) = IsVirtual rd × MemoryMayStand mem
-VectorMayStand (VecStoreLaneRev size rd mem lane_imm) = IsVirtual rd × MemoryMayStand mem
+VectorMayStand v = by_whole (λ w. IsVirtual w.rd × MemoryMayStand w.mem) (PartMayStand v) (as_whole v)
 
 -- All other registers are virtual. A `Loop`, a call and an allocation of arguments aren't meant, and the register of a `Ret` isn't reported.
 abbrev pub OtherMayStand : Inst → Type 0
@@ -145,13 +135,6 @@ OtherMayStand (Args args) = All MayTakeIn args.items
 OtherMayStand (Rets rets) = All MayHandBack rets.items
 OtherMayStand (DummyUse reg) = IsVirtual reg
 OtherMayStand (Vector v) = VectorMayStand v
-OtherMayStand (Store8 rd mem) = IsVirtual rd × MemoryMayStand mem
-OtherMayStand (Store16 rd mem) = IsVirtual rd × MemoryMayStand mem
-OtherMayStand (Store32 rd mem) = IsVirtual rd × MemoryMayStand mem
-OtherMayStand (Store64 rd mem) = IsVirtual rd × MemoryMayStand mem
-OtherMayStand (StoreRev16 rd mem) = IsVirtual rd × MemoryMayStand mem
-OtherMayStand (StoreRev32 rd mem) = IsVirtual rd × MemoryMayStand mem
-OtherMayStand (StoreRev64 rd mem) = IsVirtual rd × MemoryMayStand mem
 OtherMayStand (StoreImm8 imm mem) = MemoryMayStand mem
 OtherMayStand (StoreImm16 imm mem) = MemoryMayStand mem
 OtherMayStand (StoreImm32SExt16 imm mem) = MemoryMayStand mem
@@ -224,7 +207,7 @@ OtherMayStand i = ⊥
 
 -- the same of each instruction
 abbrev pub MayStand : Inst → Type 0
-MayStand i = by_load (λ l. IsVirtual l.rd × MemoryMayStand l.mem) (OtherMayStand i) (as_load i)
+MayStand i = by_load (λ l. IsVirtual l.rd × MemoryMayStand l.mem) (by_store (λ s. IsVirtual s.rd × MemoryMayStand s.mem) (OtherMayStand i) (as_store i)) (as_load i)
 
 -- ---- what an allocator may give
 

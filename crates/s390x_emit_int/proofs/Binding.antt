@@ -8,6 +8,7 @@ use Rattle.s390x_buffer.specs.Patch.{offset_of_label, bound_offset}
 use Rattle.s390x_base.specs.Regs.{number_of}
 use Rattle.s390x_inst.specs.declared.inst.Inst.{Inst}
 use Rattle.s390x_inst.specs.declared.inst.Inst.TheVariants.{JTSequence}
+use Rattle.s390x_rows.specs.declared.opcodes.TheConstants as opcodes
 use Rattle.s390x_typed_steps.specs.Tree.{Tree, empty, leaf, loop_node, Whole, StepBody}
 use Rattle.s390x_typed_steps.specs.Sizes.{tree_size, body_size}
 use Rattle.s390x_typed_steps.specs.Causes.{fresh_labels, body_fresh_labels}
@@ -75,7 +76,7 @@ tree_bound (loop_node mask members rest) s n after off e tells =
     let tells0 : Tells off n0 (apply_all s (fragments n0 after (loop_node mask members rest))) = subst (λ x. Tells off x (apply_all s (fragments x after (loop_node mask members rest)))) e tells in
     let tellsu : Tells off n0 u = subst (Tells off n0) whole tells0 in
     let tells3 : Tells off n0 s3 = tells_before off n0 n0 s3 u _ _ (omega arith) gr tellsu in
-    let end = Some (length (s2.bytes ++ bytes_of (ril_c 0xc04 mask 0))) in
+    let end = Some (length (s2.bytes ++ bytes_of (ril_c opcodes.BRCL mask 0))) in
     let lo : n0 < length o.labels = omega (arith, opened_labels s1) in
     let l2 : length s2.labels ≡ n0 + (2 + fresh_labels members) = g2.labels in
     let ne : n0 ≢ n0 + 1 = omega arith in
@@ -84,7 +85,7 @@ tree_bound (loop_node mask members rest) s n after off e tells =
     let in2' : n0 + 1 < length s2.labels = omega (arith, l2) in
     let start_at : off n0 ≡ length s.bytes = tells3 n0 (omega arith) in3 ∙ ap bound_offset (get_or-set_other s2.labels (n0 + 1) n0 end None ne ∙ gb.kept n0 lo ∙ opened_start s1) in
     let b2 : length s2.bytes ≡ length s.bytes + tree_size members = omega (arith, g2.bytes) in
-    let end_at : off (n0 + 1) ≡ length s.bytes + tree_size members + 6 = tells3 (n0 + 1) (omega arith) in3' ∙ ap bound_offset (get_or-set_same s2.labels (n0 + 1) end None in2') ∙ length-append s2.bytes (bytes_of (ril_c 0xc04 mask 0)) ∙ omega (arith, b2, length-branch mask) in
+    let end_at : off (n0 + 1) ≡ length s.bytes + tree_size members + 6 = tells3 (n0 + 1) (omega arith) in3' ∙ ap bound_offset (get_or-set_same s2.labels (n0 + 1) end None in2') ∙ length-append s2.bytes (bytes_of (ril_c opcodes.BRCL mask 0)) ∙ omega (arith, b2, length-branch mask) in
     let set_long = length-set s2.labels (n0 + 1) end in
     let inner = tree_bound members o (n0 + 2) (n0 + 1) off (sym (opened_labels s1)) (λ l low hi. let ne' : l ≢ n0 + 1 = omega arith in let hi' : l < length s3.labels = omega (arith, set_long) in tells3 l (omega arith) hi' ∙ ap bound_offset (get_or-set_other s2.labels (n0 + 1) l end None ne')) in
     let outer = tree_bound rest s3 (n0 + 2 + fresh_labels members) after off n3 (λ l low hi. tellsu l (omega arith) hi) in

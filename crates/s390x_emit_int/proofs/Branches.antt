@@ -6,6 +6,7 @@ use Rattle.s390x_buffer.specs.declared.label_use.LabelUse.TheVariants.{BranchRIL
 use Rattle.s390x_format.specs.Formats.{length_of, layout_of}
 use Rattle.s390x_format.specs.Layout.{number, bits}
 use Rattle.s390x_format.specs.Reading.{be_bytes}
+use Rattle.s390x_rows.specs.declared.opcodes.TheConstants as opcodes
 use Rattle.s390x_typed_steps.specs.MachineInstruction.{ril_b, ril_c, bytes_of}
 use Rattle.s390x_typed_steps.specs.Rows.{half_distance, table_distance, word_bytes}
 
@@ -44,7 +45,7 @@ below_word x = omega arith
 mask_below : (mask : ℕ) → mask / 2 ^ 0 % 2 ^ 4 < 16
 mask_below mask = omega arith
 
-pub patched_branch : (mask p target : ℕ) → patch BranchRIL 0 p target (bytes_of (ril_c 0xc04 mask 0)) ≡ bytes_of (ril_c 0xc04 mask (half_distance p target))
+pub patched_branch : (mask p target : ℕ) → patch BranchRIL 0 p target (bytes_of (ril_c opcodes.BRCL mask 0)) ≡ bytes_of (ril_c opcodes.BRCL mask (half_distance p target))
 unfolding length_of layout_of number bits be_bytes
 patched_branch mask p target =
     let m : ℕ = mask / 2 ^ 0 % 2 ^ 4 in

@@ -8,6 +8,7 @@ use Rattle.s390x_buffer.specs.Patch.{is_bound}
 use Rattle.s390x_base.specs.Regs.{number_of}
 use Rattle.s390x_inst.specs.declared.inst.Inst.{Inst}
 use Rattle.s390x_inst.specs.declared.inst.Inst.TheVariants.{JTSequence}
+use Rattle.s390x_rows.specs.declared.opcodes.TheConstants as opcodes
 use Rattle.s390x_typed_steps.specs.Tree.{Tree, empty, leaf, loop_node, Whole, StepBody}
 use Rattle.s390x_typed_steps.specs.Sizes.{tree_size, body_size}
 use Rattle.s390x_typed_steps.specs.Causes.{instruction_fresh_labels, fresh_labels, body_fresh_labels}
@@ -71,7 +72,7 @@ tree_closed (loop_node mask members rest) s n after l e lo hi =
     let whole = first ∙ second in
     let hiu : l < length u.labels = omega (arith, hi, ap (λ x. length x.labels) whole) in
     let l2 : length s2.labels ≡ n0 + (2 + fresh_labels members) = g2.labels in
-    let long = length-set s2.labels (n0 + 1) (Some (length (s2.bytes ++ bytes_of (ril_c 0xc04 mask 0)))) in
+    let long = length-set s2.labels (n0 + 1) (Some (length (s2.bytes ++ bytes_of (ril_c opcodes.BRCL mask 0)))) in
     let start_in : n0 < length o.labels = omega (arith, opened_labels s1) in
     let inner : (j : ℕ) → n0 ≤ j → j < length s2.labels → j ≢ n0 + 1 → is_bound s2.labels j ≡ true = λ j low high ne.
     elim (cases_eq j n0) [

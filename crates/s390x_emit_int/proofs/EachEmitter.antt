@@ -7,20 +7,23 @@ use Rattle.s390x_base.specs.declared.regs.Reg.TheVariants.{Real, Virtual}
 use Rattle.s390x_inst.specs.declared.args.MemArg.{MemArg}
 use Rattle.s390x_inst.specs.declared.inst.Inst.{Inst}
 use Rattle.s390x_inst.specs.declared.inst.Inst.TheVariants.{AluRX, CmpRX}
-use Rattle.s390x_inst.specs.declared.inst.Inst.TheVariants.{Store8, Store16, Store32, Store64, StoreRev16, StoreRev32, StoreRev64, StoreImm8, StoreImm16, StoreImm32SExt16, StoreImm64SExt16, LoadMultiple64, StoreMultiple64, LoadAddr, AtomicRmw, AtomicCas32, AtomicCas64, Vector}
-use Rattle.s390x_inst.specs.declared.load.Load.{Load}
+use Rattle.s390x_inst.specs.declared.inst.Inst.TheVariants.{StoreImm8, StoreImm16, StoreImm32SExt16, StoreImm64SExt16, LoadMultiple64, StoreMultiple64, LoadAddr, AtomicRmw, AtomicCas32, AtomicCas64, Vector}
 use Rattle.s390x_inst.specs.declared.load.LoadOp.{LoadOp}
 use Rattle.s390x_inst.specs.declared.load.LoadOp.TheVariants as LoadOps
-use Rattle.s390x_inst.specs.Loads.{as_load, by_load}
+use Rattle.s390x_inst.specs.declared.store.StoreOp.{StoreOp}
+use Rattle.s390x_inst.specs.declared.store.StoreOp.TheVariants as StoreOps
+use Rattle.s390x_inst.specs.declared.whole.WholeAccess.{WholeAccess}
+use Rattle.s390x_inst.specs.Wholes.{as_whole, by_whole}
+use Rattle.s390x_inst.proofs.Transfers.{Transfer, LoadOf, StoreOf, as_transfer, by_transfer}
 use Rattle.s390x_inst.specs.declared.vec_inst.VecInst.{VecInst}
-use Rattle.s390x_inst.specs.declared.vec_inst.VecInst.TheVariants.{VecLoad, VecLoadRev, VecLoadByte16Rev, VecLoadByte32Rev, VecLoadByte64Rev, VecLoadElt16Rev, VecLoadElt32Rev, VecLoadElt64Rev, VecStore, VecStoreRev, VecStoreByte16Rev, VecStoreByte32Rev, VecStoreByte64Rev, VecStoreElt16Rev, VecStoreElt32Rev, VecStoreElt64Rev}
 use Rattle.s390x_inst.specs.declared.vec_inst.VecInst.TheVariants.{VecLoadReplicate, VecLoadReplicateRev, VecLoadLane, VecLoadLaneRev, VecLoadLaneUndef, VecLoadLaneRevUndef, VecStoreLane, VecStoreLaneRev}
 use Rattle.s390x_inst.specs.declared.ops.ALUOp.{ALUOp}
 use Rattle.s390x_inst.specs.declared.ops.ALUOp.TheVariants.{Add32, Add32Ext16, Add64, Add64Ext16, Add64Ext32, AddLogical32, AddLogical64, AddLogical64Ext32, Sub32, Sub32Ext16, Sub64, Sub64Ext16, Sub64Ext32, SubLogical32, SubLogical64, SubLogical64Ext32, Mul32, Mul32Ext16, Mul64, Mul64Ext16, Mul64Ext32, And32, And64, Orr32, Orr64, Xor32, Xor64}
 use Rattle.s390x_inst.specs.declared.ops.CmpOp.{CmpOp}
 use Rattle.s390x_inst.specs.declared.ops.CmpOp.TheVariants.{CmpS32, CmpS32Ext16, CmpS64, CmpS64Ext16, CmpS64Ext32, CmpL32, CmpL64, CmpL64Ext32}
+use Rattle.s390x_rows.specs.declared.opcodes.TheConstants as opcodes
 use Rattle.s390x_typed_steps.specs.General.{is_general, reuses}
-use Rattle.s390x_typed_steps.specs.Memory.{MemoryInstruction, StorageForm, RxForm, RsForm, VrxForm, FloatForm, load_memory, memory, operate, access_vector, access_elements, access_lane, reversed_code, is_left_lane, load_left, store_left, load_lane_opcode, store_lane_opcode, load_reversed_opcode, store_reversed_opcode, vector_memory}
+use Rattle.s390x_typed_steps.specs.Memory.{MemoryInstruction, StorageForm, RxForm, RsForm, VrxForm, FloatForm, load_memory, store_memory, whole_memory, memory, operate, access_vector, access_elements, access_lane, reversed_code, is_left_lane, load_left, store_left, load_lane_opcode, store_lane_opcode, load_reversed_opcode, store_reversed_opcode, vector_memory}
 use Rattle.s390x_typed_steps.specs.VectorInstruction.{element_code, is_lane, is_vector, reuses_vector}
 use Rattle.s390x_typed_steps.specs.Operands.{is_numbered}
 use Rattle.s390x_typed_steps.specs.Storage.{alu_rx, alu_rxy, cmp_rx, cmp_rxy, cmp_ril}
@@ -178,56 +181,43 @@ left_as size lane rd rows a b c d opcode mem x is e v = go (is_left_lane size la
 reused_vector : (rd ri : Reg) → reuses_vector rd ri ≡ true → is_vector rd ≡ true
 reused_vector rd ri h = (and_parts (is_vector rd) (is_vector ri) (and_parts (is_vector rd && is_vector ri) (nat_eq (number_of rd) (number_of ri)) h).0).0
 
+-- a whole register, or no access
+whole_emitter_or : (o : Option WholeAccess) (x : MemoryInstruction) → by_whole whole_memory None o ≡ Some x → IsEmitted x
+whole_emitter_or None x e = absurd (cc)
+whole_emitter_or (Some w) x e = as_found _ x (w.rd, refl, refl) e
+
 vector_emitter : (w : VecInst) (x : MemoryInstruction) → vector_memory w ≡ Some x → x.operands_valid ≡ true → IsEmitted x
-vector_emitter (VecLoad rd mem) x e v = as_found _ x (rd, refl, refl) e
-vector_emitter (VecLoadRev rd mem) x e v = as_found _ x (rd, refl, refl) e
-vector_emitter (VecLoadByte16Rev rd mem) x e v = as_found _ x (rd, refl, refl) e
-vector_emitter (VecLoadByte32Rev rd mem) x e v = as_found _ x (rd, refl, refl) e
-vector_emitter (VecLoadByte64Rev rd mem) x e v = as_found _ x (rd, refl, refl) e
-vector_emitter (VecLoadElt16Rev rd mem) x e v = as_found _ x (rd, refl, refl) e
-vector_emitter (VecLoadElt32Rev rd mem) x e v = as_found _ x (rd, refl, refl) e
-vector_emitter (VecLoadElt64Rev rd mem) x e v = as_found _ x (rd, refl, refl) e
-vector_emitter (VecStore rd mem) x e v = as_found _ x (rd, refl, refl) e
-vector_emitter (VecStoreRev rd mem) x e v = as_found _ x (rd, refl, refl) e
-vector_emitter (VecStoreByte16Rev rd mem) x e v = as_found _ x (rd, refl, refl) e
-vector_emitter (VecStoreByte32Rev rd mem) x e v = as_found _ x (rd, refl, refl) e
-vector_emitter (VecStoreByte64Rev rd mem) x e v = as_found _ x (rd, refl, refl) e
-vector_emitter (VecStoreElt16Rev rd mem) x e v = as_found _ x (rd, refl, refl) e
-vector_emitter (VecStoreElt32Rev rd mem) x e v = as_found _ x (rd, refl, refl) e
-vector_emitter (VecStoreElt64Rev rd mem) x e v = as_found _ x (rd, refl, refl) e
-vector_emitter (VecLoadReplicate size rd mem) x e v = elements_as 0xe705 rd (element_code size) mem x e
-vector_emitter (VecLoadReplicateRev size rd mem) x e v = elements_as 0xe605 rd (reversed_code size) mem x e
+vector_emitter (VecLoadReplicate size rd mem) x e v = elements_as opcodes.VLREP rd (element_code size) mem x e
+vector_emitter (VecLoadReplicateRev size rd mem) x e v = elements_as opcodes.VLBRREP rd (reversed_code size) mem x e
 vector_emitter (VecLoadLane size rd ri mem lane) x e v = lane_as (reuses_vector rd ri) load_lane_opcode rd (element_code size) size lane mem x (reused_vector rd ri) e v
 vector_emitter (VecLoadLaneRev size rd ri mem lane) x e v = lane_as (reuses_vector rd ri) load_reversed_opcode rd (reversed_code size) size lane mem x (reused_vector rd ri) e v
-vector_emitter (VecLoadLaneUndef size rd mem lane) x e v = left_as size lane rd load_left 0x78 0xed64 0x68 0xed65 load_lane_opcode mem x (λ n r. refl) e v
+vector_emitter (VecLoadLaneUndef size rd mem lane) x e v = left_as size lane rd load_left opcodes.LE opcodes.LEY opcodes.LD opcodes.LDY load_lane_opcode mem x (λ n r. refl) e v
 vector_emitter (VecLoadLaneRevUndef size rd mem lane) x e v = lane_as (is_vector rd) load_reversed_opcode rd (reversed_code size) size lane mem x (λ k. k) e v
-vector_emitter (VecStoreLane size rd mem lane) x e v = left_as size lane rd store_left 0x70 0xed66 0x60 0xed67 store_lane_opcode mem x (λ n r. refl) e v
+vector_emitter (VecStoreLane size rd mem lane) x e v = left_as size lane rd store_left opcodes.STE opcodes.STEY opcodes.STD opcodes.STDY store_lane_opcode mem x (λ n r. refl) e v
 vector_emitter (VecStoreLaneRev size rd mem lane) x e v = lane_as (is_vector rd) store_reversed_opcode rd (reversed_code size) size lane mem x (λ k. k) e v
-vector_emitter w x e v = absurd (cc)
+vector_emitter w x e v = whole_emitter_or (as_whole w) x e
 
 abbrev Emits : Option MemoryInstruction → Type 0
 Emits (Some x) = IsEmitted x
 Emits None = Unit {0}
 
--- a load: the last clause is a copy for each
+-- a load, and a store: the last clause is a copy for each
 load_is_emitted : (op : LoadOp) (rd : Reg) (mem : MemArg) → Emits (load_memory (record { op = op; rd = rd; mem = mem }))
 load_is_emitted LoadOps.Load64 rd mem = (rd, refl, refl)
 load_is_emitted op rd mem = (rd, refl, refl)
 
-load_emitter_or : (o : Option Load) (x : MemoryInstruction) → by_load load_memory None o ≡ Some x → IsEmitted x
-load_emitter_or None x e = absurd (cc)
-load_emitter_or (Some l) x e = subst Emits e (load_is_emitted l.op l.rd l.mem)
+store_is_emitted : (op : StoreOp) (rd : Reg) (mem : MemArg) → Emits (store_memory (record { op = op; rd = rd; mem = mem }))
+store_is_emitted StoreOps.Store64 rd mem = (rd, refl, refl)
+store_is_emitted op rd mem = (rd, refl, refl)
+
+transfer_emitter_or : (o : Option Transfer) (x : MemoryInstruction) → by_transfer load_memory store_memory None o ≡ Some x → IsEmitted x
+transfer_emitter_or None x e = absurd (cc)
+transfer_emitter_or (Some (LoadOf l)) x e = subst Emits e (load_is_emitted l.op l.rd l.mem)
+transfer_emitter_or (Some (StoreOf s)) x e = subst Emits e (store_is_emitted s.op s.rd s.mem)
 
 pub each_emitter : (i : Inst) (x : MemoryInstruction) → memory i ≡ Some x → x.operands_valid ≡ true → IsEmitted x
 each_emitter (AluRX op rd ri mem) x e v = operator_as (is_some (alu_rx op) || is_some (alu_rxy op)) (alu_rx op) (alu_rxy op) rd ri mem x (alu_reads op) e v
 each_emitter (CmpRX op rn mem) x e v = as_found _ x (rn, refl, one_as rn (cmp_rx op) (cmp_rxy op) (Some (cmp_ril op)) true (is_general rn) (is_numbered 1 rn) mem refl (ap (λ t. t && is_numbered 1 rn) (sym (cmp_reads op)))) e
-each_emitter (Store8 rd mem) x e v = as_found _ x (rd, refl, refl) e
-each_emitter (Store16 rd mem) x e v = as_found _ x (rd, refl, refl) e
-each_emitter (Store32 rd mem) x e v = as_found _ x (rd, refl, refl) e
-each_emitter (Store64 rd mem) x e v = as_found _ x (rd, refl, refl) e
-each_emitter (StoreRev16 rd mem) x e v = as_found _ x (rd, refl, refl) e
-each_emitter (StoreRev32 rd mem) x e v = as_found _ x (rd, refl, refl) e
-each_emitter (StoreRev64 rd mem) x e v = as_found _ x (rd, refl, refl) e
 each_emitter (StoreImm8 imm mem) x e v = as_found _ x refl e
 each_emitter (StoreImm16 imm mem) x e v = as_found _ x (imm, refl) e
 each_emitter (StoreImm32SExt16 imm mem) x e v = as_found _ x (imm, refl) e
@@ -235,18 +225,18 @@ each_emitter (StoreImm64SExt16 imm mem) x e v = as_found _ x (imm, refl) e
 each_emitter (LoadMultiple64 rt rt2 mem) x e v = as_found _ x (rt, rt2, refl) e
 each_emitter (StoreMultiple64 rt rt2 mem) x e v = as_found _ x (rt, rt2, refl) e
 each_emitter (LoadAddr rd mem) x e v = as_found _ x (rd, refl, refl) e
-each_emitter (AtomicRmw Add32 rd rn mem) x e v = atomic_as 0xebf8 rd rn mem x refl refl e v
-each_emitter (AtomicRmw Add64 rd rn mem) x e v = atomic_as 0xebe8 rd rn mem x refl refl e v
-each_emitter (AtomicRmw AddLogical32 rd rn mem) x e v = atomic_as 0xebfa rd rn mem x refl refl e v
-each_emitter (AtomicRmw AddLogical64 rd rn mem) x e v = atomic_as 0xebea rd rn mem x refl refl e v
-each_emitter (AtomicRmw And32 rd rn mem) x e v = atomic_as 0xebf4 rd rn mem x refl refl e v
-each_emitter (AtomicRmw And64 rd rn mem) x e v = atomic_as 0xebe4 rd rn mem x refl refl e v
-each_emitter (AtomicRmw Orr32 rd rn mem) x e v = atomic_as 0xebf6 rd rn mem x refl refl e v
-each_emitter (AtomicRmw Orr64 rd rn mem) x e v = atomic_as 0xebe6 rd rn mem x refl refl e v
-each_emitter (AtomicRmw Xor32 rd rn mem) x e v = atomic_as 0xebf7 rd rn mem x refl refl e v
-each_emitter (AtomicRmw Xor64 rd rn mem) x e v = atomic_as 0xebe7 rd rn mem x refl refl e v
+each_emitter (AtomicRmw Add32 rd rn mem) x e v = atomic_as opcodes.LAA rd rn mem x refl refl e v
+each_emitter (AtomicRmw Add64 rd rn mem) x e v = atomic_as opcodes.LAAG rd rn mem x refl refl e v
+each_emitter (AtomicRmw AddLogical32 rd rn mem) x e v = atomic_as opcodes.LAAL rd rn mem x refl refl e v
+each_emitter (AtomicRmw AddLogical64 rd rn mem) x e v = atomic_as opcodes.LAALG rd rn mem x refl refl e v
+each_emitter (AtomicRmw And32 rd rn mem) x e v = atomic_as opcodes.LAN rd rn mem x refl refl e v
+each_emitter (AtomicRmw And64 rd rn mem) x e v = atomic_as opcodes.LANG rd rn mem x refl refl e v
+each_emitter (AtomicRmw Orr32 rd rn mem) x e v = atomic_as opcodes.LAO rd rn mem x refl refl e v
+each_emitter (AtomicRmw Orr64 rd rn mem) x e v = atomic_as opcodes.LAOG rd rn mem x refl refl e v
+each_emitter (AtomicRmw Xor32 rd rn mem) x e v = atomic_as opcodes.LAX rd rn mem x refl refl e v
+each_emitter (AtomicRmw Xor64 rd rn mem) x e v = atomic_as opcodes.LAXG rd rn mem x refl refl e v
 each_emitter (AtomicRmw op rd rn mem) x e v = absurd (cc)
-each_emitter (AtomicCas32 rd ri rn mem) x e v = swap_as (Some 0xba) 0xeb14 rd ri rn mem x refl refl e v
-each_emitter (AtomicCas64 rd ri rn mem) x e v = swap_as None 0xeb30 rd ri rn mem x refl refl e v
+each_emitter (AtomicCas32 rd ri rn mem) x e v = swap_as (Some opcodes.CS) opcodes.CSY rd ri rn mem x refl refl e v
+each_emitter (AtomicCas64 rd ri rn mem) x e v = swap_as None opcodes.CSG rd ri rn mem x refl refl e v
 each_emitter (Vector w) x e v = vector_emitter w x e v
-each_emitter i x e v = load_emitter_or (as_load i) x e
+each_emitter i x e v = transfer_emitter_or (as_transfer i) x e

@@ -7,6 +7,7 @@ use Rattle.s390x_buffer.specs.State.{BufferState}
 use Rattle.s390x_buffer.specs.declared.entries.RecordedBranches.TheVariants.{NoBranch}
 use Rattle.s390x_buffer.proofs.Ended.{jump_cut, jump_stays, second_cut, both_cut, first_inverted, both_stay}
 use Rattle.s390x_inst.specs.declared.inst.Inst.TheVariants.{Jump, CondBr, CondBreak, JTSequence}
+use Rattle.s390x_rows.specs.declared.opcodes.TheConstants as opcodes
 use Rattle.s390x_typed_steps.specs.Causes.{body_fresh_labels, fresh_labels}
 use Rattle.s390x_typed_steps.specs.Folding.{shortened, fold, folded, folded_before}
 use Rattle.s390x_typed_steps.specs.MachineInstruction.{ril_c, bytes_of}
@@ -57,20 +58,20 @@ jump_ended : (s : BufferState) (n after : ℕ) (dest next : MachLabel) (t : Bool
     ended (Some next) (apply_all s (jump_fragments dest.0)) ≡ apply_all s (body_fragments n after (shortened (cond t (Some NothingLeft) None) (Jump dest)))
 jump_ended s n after dest next true e none =
     ap (λ m. ended (Some (record { 0 = m })) (apply_all s (jump_fragments dest.0))) (sym (eqb-true dest.0 next.0 e))
-    ∙ jump_cut s dest (bytes_of (ril_c 0xc04 15 0)) none (length-branch 15)
-jump_ended s n after dest next false e none = jump_stays s dest next (bytes_of (ril_c 0xc04 15 0)) none (length-branch 15) (differs dest.0 next.0 e)
+    ∙ jump_cut s dest (bytes_of (ril_c opcodes.BRCL 15 0)) none (length-branch 15)
+jump_ended s n after dest next false e none = jump_stays s dest next (bytes_of (ril_c opcodes.BRCL 15 0)) none (length-branch 15) (differs dest.0 next.0 e)
 
 choice_ended : (s : BufferState) (n after : ℕ) (taken not_taken : MachLabel) (mask : ℕ) (next : MachLabel) (u t : Bool) → nat_eq not_taken.0 next.0 ≡ u → nat_eq taken.0 next.0 ≡ t → s.branches ≡ NoBranch →
     ended (Some next) (apply_all s (choice_fragments mask taken.0 not_taken.0))
     ≡ apply_all s (body_fragments n after (shortened (cond u (cond t (Some NothingLeft) (Some (BranchLeft mask taken.0))) (cond t (Some (BranchLeft (15 - mask) not_taken.0)) None)) (CondBr taken not_taken mask)))
 choice_ended s n after taken not_taken mask next true true e f none =
-    both_cut s taken not_taken (bytes_of (ril_c 0xc04 mask 0)) (bytes_of (ril_c 0xc04 15 0)) (bytes_of (ril_c 0xc04 (15 - mask) 0)) none (length-branch mask) (length-branch 15) next (eqb-true not_taken.0 next.0 e) (eqb-true taken.0 next.0 f)
+    both_cut s taken not_taken (bytes_of (ril_c opcodes.BRCL mask 0)) (bytes_of (ril_c opcodes.BRCL 15 0)) (bytes_of (ril_c opcodes.BRCL (15 - mask) 0)) none (length-branch mask) (length-branch 15) next (eqb-true not_taken.0 next.0 e) (eqb-true taken.0 next.0 f)
 choice_ended s n after taken not_taken mask next true false e f none =
-    second_cut s taken not_taken (bytes_of (ril_c 0xc04 mask 0)) (bytes_of (ril_c 0xc04 15 0)) (bytes_of (ril_c 0xc04 (15 - mask) 0)) none (length-branch mask) (length-branch 15) next (eqb-true not_taken.0 next.0 e) (differs taken.0 next.0 f)
+    second_cut s taken not_taken (bytes_of (ril_c opcodes.BRCL mask 0)) (bytes_of (ril_c opcodes.BRCL 15 0)) (bytes_of (ril_c opcodes.BRCL (15 - mask) 0)) none (length-branch mask) (length-branch 15) next (eqb-true not_taken.0 next.0 e) (differs taken.0 next.0 f)
 choice_ended s n after taken not_taken mask next false true e f none =
-    first_inverted s taken not_taken (bytes_of (ril_c 0xc04 mask 0)) (bytes_of (ril_c 0xc04 15 0)) (bytes_of (ril_c 0xc04 (15 - mask) 0)) none (length-branch mask) (length-branch 15) next (differs not_taken.0 next.0 e) (eqb-true taken.0 next.0 f)
+    first_inverted s taken not_taken (bytes_of (ril_c opcodes.BRCL mask 0)) (bytes_of (ril_c opcodes.BRCL 15 0)) (bytes_of (ril_c opcodes.BRCL (15 - mask) 0)) none (length-branch mask) (length-branch 15) next (differs not_taken.0 next.0 e) (eqb-true taken.0 next.0 f)
 choice_ended s n after taken not_taken mask next false false e f none =
-    both_stay s taken not_taken (bytes_of (ril_c 0xc04 mask 0)) (bytes_of (ril_c 0xc04 15 0)) (bytes_of (ril_c 0xc04 (15 - mask) 0)) none (length-branch mask) (length-branch 15) next (differs not_taken.0 next.0 e) (differs taken.0 next.0 f)
+    both_stay s taken not_taken (bytes_of (ril_c opcodes.BRCL mask 0)) (bytes_of (ril_c opcodes.BRCL 15 0)) (bytes_of (ril_c opcodes.BRCL (15 - mask) 0)) none (length-branch mask) (length-branch 15) next (differs not_taken.0 next.0 e) (differs taken.0 next.0 f)
 
 body_ended : (s : BufferState) (n after : ℕ) (next : MachLabel) (b : StepBody) → s.branches ≡ NoBranch → ended (Some next) (apply_all s (body_fragments n after b)) ≡ apply_all s (body_fragments n after (fold next.0 b))
 body_ended s n after next (Whole (Jump dest)) none = jump_ended s n after dest next (nat_eq dest.0 next.0) refl none

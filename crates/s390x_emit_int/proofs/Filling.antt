@@ -16,6 +16,7 @@ use Rattle.s390x_image.specs.Symbols.{Symbols, address_of}
 use Rattle.s390x_base.specs.declared.ir.Reloc.TheVariants.{S390xPCRel32Dbl, S390xPLTRel32Dbl}
 use Rattle.s390x_image.specs.Fields.{address_or_zero, stored, filled, LiesIn}
 use Rattle.s390x_image.specs.Values.{symbol_value, symbol_distance}
+use Rattle.s390x_rows.specs.declared.opcodes.TheConstants as opcodes
 use Rattle.s390x_typed_steps.specs.Tree.{Tree}
 use Rattle.s390x_typed_steps.specs.Steps.{Step, function_steps}
 use Rattle.s390x_typed_steps.specs.Parts.{CodePart, Row, Trapping, Branch, Relative, RelativeConstant, RelativeSymbol, SymbolValue, TrapHere, TableWord, ToBlock, ToStep, part_size, parts_size, step_parts, CallSymbol, SiteHere}
@@ -73,7 +74,7 @@ relative_filled base table opcode register p name offset earlier later e =
     ∙ new
 
 -- a branch that is always taken has the bytes of an address relative to the instruction
-jump_bytes : (half : ℕ) → bytes_of (ril_c 0xc04 15 half) ≡ bytes_of (ril_b 0xc04 15 half)
+jump_bytes : (half : ℕ) → bytes_of (ril_c opcodes.BRCL 15 half) ≡ bytes_of (ril_b opcodes.BRCL 15 half)
 unfolding length_of layout_of number bits be_bytes
 jump_bytes half = refl
 
@@ -81,11 +82,11 @@ jump_bytes half = refl
 call_filled : (base : ℕ) (table : Symbols) (link : Option ℕ) (p : ℕ) (name : ExternalName) (earlier later : List ℕ) → p ≡ length earlier →
     filled base table (record { offset = p + 2; kind = S390xPLTRel32Dbl; name = name; addend = pos 2 } ∷ []) (earlier ++ (bytes_of (symbol_call link 0) ++ later))
     ≡ earlier ++ (bytes_of (symbol_call link (symbol_distance base table p name (pos 0))) ++ later)
-call_filled base table (Some link) p name earlier later e = relative_filled base table 0xc05 link p name (pos 0) earlier later e
+call_filled base table (Some link) p name earlier later e = relative_filled base table opcodes.BRASL link p name (pos 0) earlier later e
 call_filled base table None p name earlier later e =
     let r : RelocEntry = record { offset = p + 2; kind = S390xPLTRel32Dbl; name = name; addend = pos 2 } in
     ap (λ bs. filled base table (r ∷ []) (earlier ++ (bs ++ later))) (jump_bytes 0)
-    ∙ relative_filled base table 0xc04 15 p name (pos 0) earlier later e
+    ∙ relative_filled base table opcodes.BRCL 15 p name (pos 0) earlier later e
     ∙ ap (λ bs. earlier ++ (bs ++ later)) (sym (jump_bytes (symbol_distance base table p name (pos 0))))
 
 module _ (base : ℕ) (table : Symbols) (ts : List Tree) (cs : List Constant) where

@@ -5,6 +5,7 @@ use Rattle.s390x_buffer.specs.State.{BufferState}
 use Rattle.s390x_buffer.specs.Patch.{offset_of_label, bound_offset}
 use Rattle.s390x_inst.specs.declared.inst.Inst.{Inst}
 use Rattle.s390x_inst.specs.declared.inst.Inst.TheVariants.{CondBreak, JTSequence}
+use Rattle.s390x_rows.specs.declared.opcodes.TheConstants as opcodes
 use Rattle.s390x_typed_steps.specs.Tree.{Tree, empty, leaf, loop_node, Whole, StepBody}
 use Rattle.s390x_typed_steps.specs.Steps.{Step as TypedStep, step_count, steps_of, steps_from, first_step, step_of}
 use Rattle.s390x_typed_steps.specs.MachineInstruction.{ril_b, ril_c, bytes_of}
@@ -35,7 +36,7 @@ wide_append (Bind l ∷ a) b v w = wide_append a b v w
 wide_append (AddSite site ∷ a) b v w = wide_append a b v w
 wide_append (RecordBranch noted ∷ a) b v w = wide_append a b v w
 
-wide_branch : (mask : ℕ) → 6 ≤ length (bytes_of (ril_c 0xc04 mask 0))
+wide_branch : (mask : ℕ) → 6 ≤ length (bytes_of (ril_c opcodes.BRCL mask 0))
 wide_branch mask = omega (arith, length-branch mask)
 
 wide_relative : (opcode register : ℕ) → 6 ≤ length (bytes_of (ril_b opcode register 0))
@@ -60,7 +61,7 @@ parts_wide (SiteHere site ∷ parts) = parts_wide parts
 
 leaf_wide : (i : Inst) (n after : ℕ) → Wide (leaf_fragments n after i)
 leaf_wide (CondBreak mask) n after = (wide_branch mask, tt)
-leaf_wide (JTSequence ridx other mask targets) n after = (wide_branch mask, (wide_relative 0xc00 1, parts_wide (table_words 0 targets.items)))
+leaf_wide (JTSequence ridx other mask targets) n after = (wide_branch mask, (wide_relative opcodes.LARL 1, parts_wide (table_words 0 targets.items)))
 leaf_wide i n after = parts_wide (instruction_parts i)
 
 body_wide : (b : StepBody) (n after : ℕ) → Wide (body_fragments n after b)

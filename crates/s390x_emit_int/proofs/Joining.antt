@@ -9,6 +9,7 @@ use Rattle.s390x_inst.specs.declared.inst.Inst.{Inst}
 use Rattle.s390x_inst.specs.declared.inst.Inst.TheVariants.{CondBreak, JTSequence}
 use Rattle.s390x_base.specs.Regs.{number_of}
 use Rattle.s390x_base.specs.declared.ir.MachLabel.{MachLabel}
+use Rattle.s390x_rows.specs.declared.opcodes.TheConstants as opcodes
 use Rattle.s390x_typed_steps.specs.Tree.{Tree, empty, leaf, loop_node, Whole, StepBody}
 use Rattle.s390x_typed_steps.specs.Steps.{Step as TypedStep, Back, step_count, step_of, steps_of}
 use Rattle.s390x_typed_steps.specs.MachineInstruction.{rr, ril_b, ril_c, rxy, bytes_of, size_of}
@@ -69,7 +70,7 @@ parts_put (SiteHere site ∷ parts) = omega (arith, parts_put parts)
 
 table_put : (n index mask other : ℕ) (targets : List MachLabel) → put_length (table_fragments n index mask other targets) ≡ parts_size (table_parts index mask other targets)
 table_put n index mask other targets =
-    omega (arith, length-branch mask, length-relative 0xc00 1, length-bytes (rxy 0xe318 1 1 index 0), length-bytes (rr 0x07 15 1), parts_put (table_words 0 targets), length-bytes (ril_b 0xc00 1 7), size-relative 0xc00 1 7)
+    omega (arith, length-branch mask, length-relative opcodes.LARL 1, length-bytes (rxy opcodes.AGF 1 1 index 0), length-bytes (rr opcodes.BCR 15 1), parts_put (table_words 0 targets), length-bytes (ril_b opcodes.LARL 1 7), size-relative opcodes.LARL 1 7)
 
 pub leaf_put : (n after : ℕ) (i : Inst) → put_length (leaf_fragments n after i) ≡ instruction_size i
 leaf_put n after (CondBreak mask) = omega (arith, length-branch mask)
@@ -101,10 +102,10 @@ parts_join (Row m ∷ parts) off P count constants p agree names =
 parts_join (Trapping m byte code ∷ parts) off P count constants p agree names =
     ap (λ n. bytes_of m ++ resolve count off (p + n) (part_fragments parts)) (length-bytes m) ∙ ap (λ l. bytes_of m ++ l) (parts_join parts off P count constants (p + size_of m) agree names.1)
 parts_join (Branch mask (ToBlock b) ∷ parts) off P count constants p agree names =
-    ap (λ l. l ++ resolve count off (p + length (bytes_of (ril_c 0xc04 mask 0))) (part_fragments parts)) (patched_branch mask p (off b))
-    ∙ ap (λ x. bytes_of (ril_c 0xc04 mask (half_distance p x)) ++ resolve count off (p + length (bytes_of (ril_c 0xc04 mask 0))) (part_fragments parts)) (agree.0 b names.0)
-    ∙ ap (λ n. bytes_of (ril_c 0xc04 mask (half_distance p (P.block b))) ++ resolve count off (p + n) (part_fragments parts)) (length-branch mask)
-    ∙ ap (λ l. bytes_of (ril_c 0xc04 mask (half_distance p (P.block b))) ++ l) (parts_join parts off P count constants (p + 6) agree names.1)
+    ap (λ l. l ++ resolve count off (p + length (bytes_of (ril_c opcodes.BRCL mask 0))) (part_fragments parts)) (patched_branch mask p (off b))
+    ∙ ap (λ x. bytes_of (ril_c opcodes.BRCL mask (half_distance p x)) ++ resolve count off (p + length (bytes_of (ril_c opcodes.BRCL mask 0))) (part_fragments parts)) (agree.0 b names.0)
+    ∙ ap (λ n. bytes_of (ril_c opcodes.BRCL mask (half_distance p (P.block b))) ++ resolve count off (p + n) (part_fragments parts)) (length-branch mask)
+    ∙ ap (λ l. bytes_of (ril_c opcodes.BRCL mask (half_distance p (P.block b))) ++ l) (parts_join parts off P count constants (p + 6) agree names.1)
 parts_join (Branch mask (ToStep k) ∷ parts) off P count constants p agree names = absurd names.0
 parts_join (Relative opcode register (ToBlock b) ∷ parts) off P count constants p agree names =
     let bare = bytes_of (ril_b opcode register 0) in
@@ -148,28 +149,28 @@ table_join : (off : ℕ → ℕ) (P : Offsets) (count constants n p index mask o
     resolve count off p (table_fragments n index mask other targets) ≡ parts_bytes P p (table_parts index mask other targets)
 table_join off P count constants n p index mask other targets agree names at =
     let words = table_words 0 targets in
-    let agf = rxy 0xe318 1 1 index 0 in
-    let bcr = rr 0x07 15 1 in
-    let bare = bytes_of (ril_c 0xc04 mask 0) in
-    let relative = bytes_of (ril_b 0xc00 1 0) in
-    let sizes : p + 6 + size_of (ril_b 0xc00 1 7) + size_of agf + size_of bcr ≡ p + length bare + length relative + length (bytes_of agf) + length (bytes_of bcr) = omega (arith, length-branch mask, length-relative 0xc00 1, size-relative 0xc00 1 7, length-bytes agf, length-bytes bcr) in
+    let agf = rxy opcodes.AGF 1 1 index 0 in
+    let bcr = rr opcodes.BCR 15 1 in
+    let bare = bytes_of (ril_c opcodes.BRCL mask 0) in
+    let relative = bytes_of (ril_b opcodes.LARL 1 0) in
+    let sizes : p + 6 + size_of (ril_b opcodes.LARL 1 7) + size_of agf + size_of bcr ≡ p + length bare + length relative + length (bytes_of agf) + length (bytes_of bcr) = omega (arith, length-branch mask, length-relative opcodes.LARL 1, size-relative opcodes.LARL 1 7, length-bytes agf, length-bytes bcr) in
     let behind : ℕ → List ℕ = λ q. bytes_of agf ++ (bytes_of bcr ++ resolve count off q (part_fragments words)) in
     let q = p + length bare + length relative + length (bytes_of agf) + length (bytes_of bcr) in
-    let q' = p + 6 + size_of (ril_b 0xc00 1 7) + size_of agf + size_of bcr in
-    ap (λ l. l ++ (patch BranchRIL 0 (p + length bare) (off n) relative ++ behind q)) (patched_branch mask p (off other) ∙ ap (λ x. bytes_of (ril_c 0xc04 mask (half_distance p x))) (agree.0 other names.0))
-    ∙ ap (λ l. bytes_of (ril_c 0xc04 mask (half_distance p (P.block other))) ++ (l ++ behind q)) (
+    let q' = p + 6 + size_of (ril_b opcodes.LARL 1 7) + size_of agf + size_of bcr in
+    ap (λ l. l ++ (patch BranchRIL 0 (p + length bare) (off n) relative ++ behind q)) (patched_branch mask p (off other) ∙ ap (λ x. bytes_of (ril_c opcodes.BRCL mask (half_distance p x))) (agree.0 other names.0))
+    ∙ ap (λ l. bytes_of (ril_c opcodes.BRCL mask (half_distance p (P.block other))) ++ (l ++ behind q)) (
     ap (λ m. patch BranchRIL 0 (p + m) (off n) relative) (length-branch mask)
-    ∙ patched_relative 0xc00 1 (p + 6) (off n)
-    ∙ ap (λ x. bytes_of (ril_b 0xc00 1 (half_distance (p + 6) x))) at
-    ∙ ap (λ h. bytes_of (ril_b 0xc00 1 h)) (seven_halfwords p)
+    ∙ patched_relative opcodes.LARL 1 (p + 6) (off n)
+    ∙ ap (λ x. bytes_of (ril_b opcodes.LARL 1 (half_distance (p + 6) x))) at
+    ∙ ap (λ h. bytes_of (ril_b opcodes.LARL 1 h)) (seven_halfwords p)
     )
-    ∙ ap (λ m. bytes_of (ril_c 0xc04 mask (half_distance p (P.block other))) ++ (bytes_of (ril_b 0xc00 1 7) ++ behind m)) (sym sizes)
-    ∙ ap (λ l. bytes_of (ril_c 0xc04 mask (half_distance p (P.block other))) ++ (bytes_of (ril_b 0xc00 1 7) ++ (bytes_of agf ++ (bytes_of bcr ++ l)))) (parts_join words off P count constants q' agree names.1.1.1.1)
+    ∙ ap (λ m. bytes_of (ril_c opcodes.BRCL mask (half_distance p (P.block other))) ++ (bytes_of (ril_b opcodes.LARL 1 7) ++ behind m)) (sym sizes)
+    ∙ ap (λ l. bytes_of (ril_c opcodes.BRCL mask (half_distance p (P.block other))) ++ (bytes_of (ril_b opcodes.LARL 1 7) ++ (bytes_of agf ++ (bytes_of bcr ++ l)))) (parts_join words off P count constants q' agree names.1.1.1.1)
 
 pub leaf_join : (i : Inst) (off : ℕ → ℕ) (P : Offsets) (count constants n after end p : ℕ) → Agrees off P count constants → PartsName count constants (instruction_parts i) → LeafBound off n p i → off after ≡ P.step end → resolve count off p (leaf_fragments n after i) ≡ step_bytes P p (step_of end (Whole i))
 leaf_join (JTSequence ridx other mask targets) off P count constants n after end p agree names at e = table_join off P count constants n p (number_of ridx) mask other.0 targets.items agree names at
 leaf_join (CondBreak mask) off P count constants n after end p agree names at e =
-    append-nil (patch BranchRIL 0 p (off after) (bytes_of (ril_c 0xc04 mask 0))) ∙ patched_branch mask p (off after) ∙ ap (λ x. bytes_of (ril_c 0xc04 mask (half_distance p x))) e ∙ sym (append-nil (bytes_of (ril_c 0xc04 mask (half_distance p (P.step end)))))
+    append-nil (patch BranchRIL 0 p (off after) (bytes_of (ril_c opcodes.BRCL mask 0))) ∙ patched_branch mask p (off after) ∙ ap (λ x. bytes_of (ril_c opcodes.BRCL mask (half_distance p x))) e ∙ sym (append-nil (bytes_of (ril_c opcodes.BRCL mask (half_distance p (P.step end)))))
 leaf_join i off P count constants n after end p agree names at e = parts_join (instruction_parts i) off P count constants p agree names
 
 -- the sizes of typed steps
@@ -275,7 +276,7 @@ tree_join (loop_node mask members rest) off P blocks constants n after k e agree
     let fr = steps_of k2 e rest in
     let pb = fragments (n + 2) (n + 1) members in
     let pr = fragments (n + 2 + fresh_labels members) after rest in
-    let b0 = bytes_of (ril_c 0xc04 mask 0) in
+    let b0 = bytes_of (ril_c opcodes.BRCL mask 0) in
     let w : LoopPlaces at k e members rest = loop_places at k e mask members rest follow in
     let inner = tree_join members off P blocks constants (n + 2) (n + 1) (k + 1) k2 agree names.0 (subst (λ m. Bound off (n + 2) m members) (sym w.start) bound.2) w.inner (bound.1 ∙ sym w.next) in
     let outer = tree_join rest off P blocks constants (n + 2 + fresh_labels members) after k2 e agree names.1 (subst (λ m. Bound off (n + 2 + fresh_labels members) m rest) (sym w.next) bound.3) w.outer oe in
@@ -283,20 +284,20 @@ tree_join (loop_node mask members rest) off P blocks constants n after k e agree
     let lb : k + 1 + length fb ≡ k1 = ap (λ m. k + 1 + m) (steps_length members (k + 1) k2) in
     let k12 : k1 + 1 ≡ k2 = omega arith in
     let after_back : p + tree_size members + length b0 ≡ at k2 = ap (λ m. p + tree_size members + m) (length-branch mask) ∙ sym w.next in
-    let tail : resolve blocks off (p + tree_size members) (back_fragments n mask ++ pr) ≡ bytes_of (ril_c 0xc04 mask (half_distance (at k1) (at (k + 1)))) ++ code P k2 fr =
+    let tail : resolve blocks off (p + tree_size members) (back_fragments n mask ++ pr) ≡ bytes_of (ril_c opcodes.BRCL mask (half_distance (at k1) (at (k + 1)))) ++ code P k2 fr =
     ap (λ l. l ++ resolve blocks off (p + tree_size members + length b0) pr) (patched_branch mask (p + tree_size members) (off n))
-    ∙ ap (λ m. bytes_of (ril_c 0xc04 mask (half_distance m (off n))) ++ resolve blocks off (p + tree_size members + length b0) pr) (sym w.turn)
-    ∙ ap (λ m. bytes_of (ril_c 0xc04 mask (half_distance (at k1) m)) ++ resolve blocks off (p + tree_size members + length b0) pr) back_off
-    ∙ ap (λ m. bytes_of (ril_c 0xc04 mask (half_distance (at k1) (at (k + 1)))) ++ resolve blocks off m pr) after_back
-    ∙ ap (λ l. bytes_of (ril_c 0xc04 mask (half_distance (at k1) (at (k + 1)))) ++ l) outer in
-    let left : resolve blocks off p (fragments n after (loop_node mask members rest)) ≡ code P (k + 1) fb ++ (bytes_of (ril_c 0xc04 mask (half_distance (at k1) (at (k + 1)))) ++ code P k2 fr) =
+    ∙ ap (λ m. bytes_of (ril_c opcodes.BRCL mask (half_distance m (off n))) ++ resolve blocks off (p + tree_size members + length b0) pr) (sym w.turn)
+    ∙ ap (λ m. bytes_of (ril_c opcodes.BRCL mask (half_distance (at k1) m)) ++ resolve blocks off (p + tree_size members + length b0) pr) back_off
+    ∙ ap (λ m. bytes_of (ril_c opcodes.BRCL mask (half_distance (at k1) (at (k + 1)))) ++ resolve blocks off m pr) after_back
+    ∙ ap (λ l. bytes_of (ril_c opcodes.BRCL mask (half_distance (at k1) (at (k + 1)))) ++ l) outer in
+    let left : resolve blocks off p (fragments n after (loop_node mask members rest)) ≡ code P (k + 1) fb ++ (bytes_of (ril_c opcodes.BRCL mask (half_distance (at k1) (at (k + 1)))) ++ code P k2 fr) =
     resolve-append blocks off pb (back_fragments n mask ++ pr) p
     ∙ ap (λ m. resolve blocks off p pb ++ resolve blocks off (p + m) (back_fragments n mask ++ pr)) (tree_put (n + 2) (n + 1) members)
     ∙ ap (λ l. resolve blocks off p pb ++ l) tail
-    ∙ ap (λ l. l ++ (bytes_of (ril_c 0xc04 mask (half_distance (at k1) (at (k + 1)))) ++ code P k2 fr)) (ap (λ m. resolve blocks off m pb) (sym w.start) ∙ inner) in
-    let right : code P (k + 1) (fb ++ Back mask (k + 1) ∷ fr) ≡ code P (k + 1) fb ++ (bytes_of (ril_c 0xc04 mask (half_distance (at k1) (at (k + 1)))) ++ code P k2 fr) =
+    ∙ ap (λ l. l ++ (bytes_of (ril_c opcodes.BRCL mask (half_distance (at k1) (at (k + 1)))) ++ code P k2 fr)) (ap (λ m. resolve blocks off m pb) (sym w.start) ∙ inner) in
+    let right : code P (k + 1) (fb ++ Back mask (k + 1) ∷ fr) ≡ code P (k + 1) fb ++ (bytes_of (ril_c opcodes.BRCL mask (half_distance (at k1) (at (k + 1)))) ++ code P k2 fr) =
     code_append P fb (Back mask (k + 1) ∷ fr) (k + 1)
     ∙ ap (λ m. code P (k + 1) fb ++ code P m (Back mask (k + 1) ∷ fr)) lb
-    ∙ ap (λ l. code P (k + 1) fb ++ (l ++ code P (k1 + 1) fr)) (append-nil (bytes_of (ril_c 0xc04 mask (half_distance (at k1) (at (k + 1))))))
-    ∙ ap (λ m. code P (k + 1) fb ++ (bytes_of (ril_c 0xc04 mask (half_distance (at k1) (at (k + 1)))) ++ code P m fr)) k12 in
+    ∙ ap (λ l. code P (k + 1) fb ++ (l ++ code P (k1 + 1) fr)) (append-nil (bytes_of (ril_c opcodes.BRCL mask (half_distance (at k1) (at (k + 1))))))
+    ∙ ap (λ m. code P (k + 1) fb ++ (bytes_of (ril_c opcodes.BRCL mask (half_distance (at k1) (at (k + 1)))) ++ code P m fr)) k12 in
     left ∙ sym right

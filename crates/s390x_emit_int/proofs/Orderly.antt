@@ -3,6 +3,7 @@
 use Rattle.s390x_base.specs.declared.regs.Reg.{Reg}
 use Rattle.s390x_inst.specs.declared.calls.CallInstDest.TheVariants.{Direct, Indirect}
 use Rattle.s390x_inst.specs.declared.calls.CallInstDest.{CallInstDest}
+use Rattle.s390x_rows.specs.declared.opcodes.TheConstants as opcodes
 use Rattle.s390x_typed_steps.specs.StepBody.{Site, AtCall}
 use Rattle.s390x_typed_steps.specs.Steps.{LoadedStep, CallingStep, TailJumpStep}
 use Rattle.std.proofs.Common.{◌≡◌, ℕ, ◌+◌, ◌%◌, ◌<◌, ◌≤◌, List, [], ◌∷◌, ◌++◌, length, get_or, Bool, true, false, cond, Option, refl, sym, ap, ◌∙◌, subst, arith, length-append, None, Some}
@@ -259,8 +260,8 @@ leaf_sound May (JTSequence ridx other mask targets) n after blocks constants nam
   (
     (length-branch mask, may other.0 names.0),
     (
-      (length-relative 0xc00 1, drawn n (omega arith) (omega arith)),
-      (even_bytes (rxy 0xe318 1 1 (number_of ridx) 0), (even_bytes (rr 0x07 15 1), (tt, parts_sound May (table_words 0 targets.items) blocks constants _ names.1.1.1.1 (words_begin targets.items 0 _ (omega arith)) may held))),
+      (length-relative opcodes.LARL 1, drawn n (omega arith) (omega arith)),
+      (even_bytes (rxy opcodes.AGF 1 1 (number_of ridx) 0), (even_bytes (rr opcodes.BCR 15 1), (tt, parts_sound May (table_words 0 targets.items) blocks constants _ names.1.1.1.1 (words_begin targets.items 0 _ (omega arith)) may held))),
     ),
   ),
 )

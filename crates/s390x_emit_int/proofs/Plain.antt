@@ -3,6 +3,7 @@ use Rattle.std.proofs.Common.{◌≡◌, ℕ, ◌+◌, ◌≤◌, true, false, i
 use Rattle.s390x_base.specs.declared.error.EmitError.TheVariants.{MissingFacility, LabelOutOfRange}
 use Rattle.s390x_base.specs.declared.regs.Reg.{Reg}
 use Rattle.s390x_inst.proofs.Loads.{each_instruction}
+use Rattle.s390x_inst.proofs.Stores.{each_store}
 use Rattle.s390x_inst.specs.Emission.{Emission}
 use Rattle.s390x_inst.specs.Facilities.{has_facility}
 use Rattle.s390x_inst.specs.Loads.{as_load, load_instruction}
@@ -11,6 +12,9 @@ use Rattle.s390x_inst.specs.declared.inst.Inst.{Inst}
 use Rattle.s390x_inst.specs.declared.inst.Inst.TheVariants.{AllocateArgs}
 use Rattle.s390x_inst.specs.declared.load.LoadOp.{LoadOp}
 use Rattle.s390x_inst.specs.declared.load.LoadOp.TheVariants.{Load64}
+use Rattle.s390x_inst.specs.declared.store.StoreOp.{StoreOp}
+use Rattle.s390x_inst.specs.declared.store.StoreOp.TheVariants.{Store64}
+use Rattle.s390x_inst.specs.Stores.{as_store, store_instruction}
 use Rattle.s390x_inst.specs.declared.state.IsaFlags.{IsaFlags}
 use Rattle.s390x_typed_steps.specs.Causes.{Declared, unless, facility_cause, stack_cause, numbers_cause, instruction_fresh_labels, cause_or, memory_cause_or, branch_cause, leaf_cause}
 use Rattle.s390x_typed_steps.specs.Memory.{memory}
@@ -28,6 +32,14 @@ plain_load op rd mem = (refl, refl, refl)
 -- a load is such an instruction
 pub load_is_plain : (i : Inst) → is_some (as_load i) ≡ true → IsPlain i
 load_is_plain = each_instruction (λ i. is_some (as_load i) ≡ true → IsPlain i) (λ op rd mem h. plain_load op rd mem) (λ i e h. let none : is_some (as_load i) ≡ false = ap is_some e in absurd (cc))
+
+-- the same of stores
+plain_store : (op : StoreOp) (rd : Reg) (mem : MemArg) → IsPlain (store_instruction op rd mem)
+plain_store Store64 rd mem = (refl, refl, refl)
+plain_store op rd mem = (refl, refl, refl)
+
+pub store_is_plain : (i : Inst) → is_some (as_store i) ≡ true → IsPlain i
+store_is_plain = each_store (λ i. is_some (as_store i) ≡ true → IsPlain i) (λ op rd mem h. plain_store op rd mem) (λ i e h. let none : is_some (as_store i) ≡ false = ap is_some e in absurd (cc))
 
 -- no label is drawn where all of them have numbers
 pub numbers_none : (n : ℕ) → n ≤ 4294967296 → numbers_cause n 0 ≡ None

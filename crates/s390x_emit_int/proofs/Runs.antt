@@ -1,4 +1,5 @@
 -- Running fragments: how the lists of a buffer grow.
+use Rattle.s390x_rows.specs.declared.opcodes.TheConstants as opcodes
 use Rattle.s390x_typed_steps.specs.Steps.{step_of}
 use Rattle.std.proofs.Common.{◌≡◌, ℕ, ◌+◌, ◌-◌, ◌<◌, ◌≢◌, Option, Some, None, List, [], ◌∷◌, ◌++◌, length, get_or, refl, sym, ap, ◌∙◌, subst, arith, length-append, length-set}
 use Rattle.std.proofs.lemmas.List.{get_or_append_left, get_or-set_other, get_or-set_same}
@@ -22,12 +23,12 @@ use Rattle.s390x_format.proofs.Encoding.{encode-length}
 pub length-bytes : (m : MachineInstruction) → length (bytes_of m) ≡ size_of m
 length-bytes m = encode-length m.format m.slots
 
-pub size-branch : (mask half : ℕ) → size_of (ril_c 0xc04 mask half) ≡ 6
+pub size-branch : (mask half : ℕ) → size_of (ril_c opcodes.BRCL mask half) ≡ 6
 unfolding length_of
 size-branch mask half = refl
 
-pub length-branch : (mask : ℕ) → length (bytes_of (ril_c 0xc04 mask 0)) ≡ 6
-length-branch mask = length-bytes (ril_c 0xc04 mask 0) ∙ size-branch mask 0
+pub length-branch : (mask : ℕ) → length (bytes_of (ril_c opcodes.BRCL mask 0)) ≡ 6
+length-branch mask = length-bytes (ril_c opcodes.BRCL mask 0) ∙ size-branch mask 0
 
 pub size-relative : (opcode register half : ℕ) → size_of (ril_b opcode register half) ≡ 6
 unfolding length_of
@@ -38,7 +39,7 @@ length-relative opcode register = length-bytes (ril_b opcode register 0) ∙ siz
 
 -- those of a call of a symbol, or of a jump to it
 pub length-call : (link : Option ℕ) → length (bytes_of (symbol_call link 0)) ≡ 6
-length-call (Some link) = length-relative 0xc05 link
+length-call (Some link) = length-relative opcodes.BRASL link
 length-call None = length-branch 15
 
 pub run-append : (s : BufferState) (a b : List Fragment) → apply_all s (a ++ b) ≡ apply_all (apply_all s a) b
@@ -62,7 +63,7 @@ branch_grows : (s : BufferState) (mask l : ℕ) → Grows s (apply s (branch mas
 branch_grows s mask l = record {
   labels = omega arith;
   kept = λ l h. refl;
-  bytes = length-append s.bytes (bytes_of (ril_c 0xc04 mask 0)) ∙ ap (λ m. length s.bytes + m) (length-branch mask);
+  bytes = length-append s.bytes (bytes_of (ril_c opcodes.BRCL mask 0)) ∙ ap (λ m. length s.bytes + m) (length-branch mask);
 }
 
 relative_grows : (s : BufferState) (opcode register l : ℕ) → Grows s (apply s (relative opcode register l)) 0 6
@@ -131,13 +132,13 @@ unfolding length_of
 begun_grows s n index mask other =
     let s1 = apply s Draw in
     let s2 = apply s1 (branch mask other) in
-    let s3 = apply s2 (relative 0xc00 1 n) in
-    let s4 = apply s3 (Put (bytes_of (rxy 0xe318 1 1 index 0))) in
+    let s3 = apply s2 (relative opcodes.LARL 1 n) in
+    let s4 = apply s3 (Put (bytes_of (rxy opcodes.AGF 1 1 index 0))) in
     let a = draw_grows s in
     let b = branch_grows s1 mask other in
-    let d = relative_grows s2 0xc00 1 n in
-    let e = part_grows (Row (rxy 0xe318 1 1 index 0)) s3 in
-    let f = part_grows (Row (rr 0x07 15 1)) s4 in
+    let d = relative_grows s2 opcodes.LARL 1 n in
+    let e = part_grows (Row (rxy opcodes.AGF 1 1 index 0)) s3 in
+    let f = part_grows (Row (rr opcodes.BCR 15 1)) s4 in
     let r = grows_on s s1 _ _ _ _ _ a (grows_on s1 s2 _ _ _ _ _ b (grows_on s2 s3 _ _ _ _ _ d (grows_on s3 s4 _ _ _ _ _ e f))) in
     record { labels = omega (arith, r.labels); kept = r.kept; bytes = omega (arith, r.bytes) }
 
@@ -180,7 +181,7 @@ jump_grows s l = noted_grows s _ (AlwaysTaken l) 0 6 (branch_grows (apply s (Rec
 
 where_grows : (s : BufferState) (mask l : ℕ) → Grows s (apply_all s (where_fragments mask l)) 0 6
 where_grows s mask l =
-    let noted = TakenWhere l (bytes_of (ril_c 0xc04 (15 - mask) 0)) in
+    let noted = TakenWhere l (bytes_of (ril_c opcodes.BRCL (15 - mask) 0)) in
     noted_grows s _ noted 0 6 (branch_grows (apply s (RecordBranch noted)) mask l)
 
 choice_grows : (s : BufferState) (mask taken not_taken : ℕ) → Grows s (apply_all s (choice_fragments mask taken not_taken)) 0 12
@@ -214,9 +215,9 @@ opened_grows s = record { labels = opened_labels s; kept = opened_kept s; bytes 
 -- a label that was drawn since has the next number, and may be bound
 pub end_grows : (s t : BufferState) (mask k m : ℕ) → Grows s t (2 + k) m → Grows s (apply_all t (back_fragments (length s.labels) mask)) (2 + k) (m + 6)
 end_grows s t mask k m g = record {
-  labels = omega (arith, g.labels, length-set t.labels (length s.labels + 1) (Some (length (t.bytes ++ bytes_of (ril_c 0xc04 mask 0)))));
+  labels = omega (arith, g.labels, length-set t.labels (length s.labels + 1) (Some (length (t.bytes ++ bytes_of (ril_c opcodes.BRCL mask 0)))));
   kept = λ l h. let ne : l ≢ length s.labels + 1 = omega arith in get_or-set_other t.labels (length s.labels + 1) l _ None ne ∙ g.kept l h;
-  bytes = omega (arith, g.bytes, length-append t.bytes (bytes_of (ril_c 0xc04 mask 0)), length-branch mask);
+  bytes = omega (arith, g.bytes, length-append t.bytes (bytes_of (ril_c opcodes.BRCL mask 0)), length-branch mask);
 }
 
 pub step_grows : (s t : BufferState) (k m : ℕ) → Grows (apply s StartStep) t k m → Grows s t k m

@@ -6,6 +6,7 @@ use Rattle.s390x_buffer.specs.State.{BufferState, put_cause}
 use Rattle.s390x_format.specs.Formats.{length_of}
 use Rattle.s390x_inst.specs.declared.vec_inst.VecInst.{VecInst}
 use Rattle.s390x_inst.specs.declared.vec_inst.VecInst.TheVariants.{FpuCMov32, FpuCMov64, VecCMov}
+use Rattle.s390x_rows.specs.declared.opcodes.TheConstants as opcodes
 use Rattle.s390x_typed_steps.specs.MachineInstruction.{size_of, ri_c, rr, vrr_a}
 use Rattle.s390x_typed_steps.specs.Parts.{Row, row_parts, parts_size}
 use Rattle.s390x_typed_steps.specs.SingleCode.{code_where}
@@ -42,7 +43,7 @@ valid_found x o f h = passed f.move.operands_valid (sym (ap cause_under f.is) �
 
 -- ---- its length
 
-left_short : (opcode d n : ℕ) (t : Bool) → size_of (cond t (rr opcode d n) (vrr_a 0xe756 d n 0)) ≡ cond t 2 6
+left_short : (opcode d n : ℕ) (t : Bool) → size_of (cond t (rr opcode d n) (vrr_a opcodes.VLR d n 0)) ≡ cond t 2 6
 unfolding length_of
 left_short opcode d n true = refl
 left_short opcode d n false = refl
@@ -52,8 +53,8 @@ same_row a b e = cc
 
 pub short_move : (v : VecInst) (m : Move) → move_under v ≡ Some m → size_of m.row ≡ cond (is_short_move v) 2 6
 unfolding length_of
-short_move (FpuCMov32 rd mask ri rm) m e = sym (ap (λ (x : Move). size_of x.row) (same_row _ m e)) ∙ left_short 0x38 (number_of rd) (number_of rm) (nat_lt (number_of rd) 16 && nat_lt (number_of rm) 16)
-short_move (FpuCMov64 rd mask ri rm) m e = sym (ap (λ (x : Move). size_of x.row) (same_row _ m e)) ∙ left_short 0x28 (number_of rd) (number_of rm) (nat_lt (number_of rd) 16 && nat_lt (number_of rm) 16)
+short_move (FpuCMov32 rd mask ri rm) m e = sym (ap (λ (x : Move). size_of x.row) (same_row _ m e)) ∙ left_short opcodes.LER (number_of rd) (number_of rm) (nat_lt (number_of rd) 16 && nat_lt (number_of rm) 16)
+short_move (FpuCMov64 rd mask ri rm) m e = sym (ap (λ (x : Move). size_of x.row) (same_row _ m e)) ∙ left_short opcodes.LDR (number_of rd) (number_of rm) (nat_lt (number_of rd) 16 && nat_lt (number_of rm) 16)
 short_move (VecCMov rd mask ri rm) m e = sym (ap (λ (x : Move). size_of x.row) (same_row _ m e))
 short_move v m e = absurd (cc)
 
@@ -69,10 +70,10 @@ halfwords true n e = ap (λ k. (4 + k) / 2) (sym e)
 halfwords false n e = ap (λ k. (4 + k) / 2) (sym e)
 
 -- the branch and the move are its rows
-pub found_rows : (x : MoveUnder) (o : Option Move) (f : Found x o) (short : Bool) → size_of f.move.row ≡ cond short 2 6 → (Row (ri_c 0xa74 (15 - x.mask) (cond short 3 5)) ∷ Row f.move.row ∷ []) ≡ row_parts (rows_under o)
+pub found_rows : (x : MoveUnder) (o : Option Move) (f : Found x o) (short : Bool) → size_of f.move.row ≡ cond short 2 6 → (Row (ri_c opcodes.BRC (15 - x.mask) (cond short 3 5)) ∷ Row f.move.row ∷ []) ≡ row_parts (rows_under o)
 found_rows x o f short e =
-    ap (λ n. Row (ri_c 0xa74 (15 - n) (cond short 3 5)) ∷ Row f.move.row ∷ []) f.mask
-    ∙ ap (λ n. Row (ri_c 0xa74 (15 - f.move.mask) n) ∷ Row f.move.row ∷ []) (halfwords short (size_of f.move.row) e)
+    ap (λ n. Row (ri_c opcodes.BRC (15 - n) (cond short 3 5)) ∷ Row f.move.row ∷ []) f.mask
+    ∙ ap (λ n. Row (ri_c opcodes.BRC (15 - f.move.mask) n) ∷ Row f.move.row ∷ []) (halfwords short (size_of f.move.row) e)
     ∙ sym (ap (λ (q : Option Move). row_parts (rows_under q)) f.is)
 
 -- ---- room
@@ -80,6 +81,6 @@ found_rows x o f short e =
 pub skip_room : (s : BufferState) (n : ℕ) → put_cause s (4 + n) ≡ None → put_cause s 4 ≡ None
 skip_room s n room = let p = put_parts s (4 + n) room in put_none s 4 p.0 (omega (arith, p.1))
 
-pub move_room : (s t : BufferState) (mask half n : ℕ) → put_cause s (4 + n) ≡ None → t ≡ apply_all s (part_fragments (Row (ri_c 0xa74 mask half) ∷ [])) → put_cause t n ≡ None
+pub move_room : (s t : BufferState) (mask half n : ℕ) → put_cause s (4 + n) ≡ None → t ≡ apply_all s (part_fragments (Row (ri_c opcodes.BRC mask half) ∷ [])) → put_cause t n ≡ None
 unfolding length_of
-move_room s t mask half n room e = room_behind s t (Row (ri_c 0xa74 mask half) ∷ []) (4 + n) n room e (omega arith)
+move_room s t mask half n room e = room_behind s t (Row (ri_c opcodes.BRC mask half) ∷ []) (4 + n) n room e (omega arith)

@@ -10,6 +10,7 @@ use Rattle.s390x_inst.specs.declared.inst.Inst.{Inst}
 use Rattle.s390x_inst.specs.declared.inst.Inst.TheVariants.{LoadSymbolReloc}
 use Rattle.s390x_buffer.specs.State.{BufferState, put_cause}
 use Rattle.s390x_format.specs.Formats.{length_of}
+use Rattle.s390x_rows.specs.declared.opcodes.TheConstants as opcodes
 use Rattle.s390x_typed_steps.specs.MachineInstruction.{ri_b}
 use Rattle.s390x_typed_steps.specs.Parts.{CodePart, Row, SymbolValue, parts_size}
 use Rattle.s390x_typed_steps.specs.Causes.{branch_cause}
@@ -31,14 +32,14 @@ room_behind s t parts n m room e le =
 pub branch_room : (s : BufferState) → put_cause s 18 ≡ None → put_cause s 4 ≡ None
 branch_room s room = let p = put_parts s 18 room in put_none s 4 p.0 (omega (arith, p.1))
 
-pub doubleword_room : (s s1 : BufferState) → put_cause s 18 ≡ None → s1 ≡ apply_all s (part_fragments (Row (ri_b 0xa75 1 6) ∷ [])) → put_cause s1 8 ≡ None
+pub doubleword_room : (s s1 : BufferState) → put_cause s 18 ≡ None → s1 ≡ apply_all s (part_fragments (Row (ri_b opcodes.BRAS 1 6) ∷ [])) → put_cause s1 8 ≡ None
 unfolding length_of
-doubleword_room s s1 room e = room_behind s s1 (Row (ri_b 0xa75 1 6) ∷ []) 18 8 room e (omega arith)
+doubleword_room s s1 room e = room_behind s s1 (Row (ri_b opcodes.BRAS 1 6) ∷ []) 18 8 room e (omega arith)
 
-pub load_room : (s s1 s2 : BufferState) (name : ExternalName) (offset : ℤ) → put_cause s 18 ≡ None → s1 ≡ apply_all s (part_fragments (Row (ri_b 0xa75 1 6) ∷ [])) → s2 ≡ apply s1 (PutReloc (to_be_bytes w64 0) 0 Abs8 name offset) → put_cause s2 6 ≡ None
+pub load_room : (s s1 s2 : BufferState) (name : ExternalName) (offset : ℤ) → put_cause s 18 ≡ None → s1 ≡ apply_all s (part_fragments (Row (ri_b opcodes.BRAS 1 6) ∷ [])) → s2 ≡ apply s1 (PutReloc (to_be_bytes w64 0) 0 Abs8 name offset) → put_cause s2 6 ≡ None
 unfolding length_of
 load_room s s1 s2 name offset room e f =
-    room_behind s s2 (Row (ri_b 0xa75 1 6) ∷ SymbolValue name offset ∷ []) 18 6 room (f ∙ ap (λ x. apply x (PutReloc (to_be_bytes w64 0) 0 Abs8 name offset)) e) (omega arith)
+    room_behind s s2 (Row (ri_b opcodes.BRAS 1 6) ∷ SymbolValue name offset ∷ []) 18 6 room (f ∙ ap (λ x. apply x (PutReloc (to_be_bytes w64 0) 0 Abs8 name offset)) e) (omega arith)
 
 -- what the check let pass of the instruction
 pub symbol_passed : (s : BufferState) (after depth : ℕ) (i : Inst) (rd : Reg) (reloc : SymbolReloc) → i ≡ LoadSymbolReloc rd reloc → MembersPassed s after depth (branch_size i) (branch_cause s.block_count depth i) → (put_cause s 18 ≡ None) × (is_general rd ≡ true)

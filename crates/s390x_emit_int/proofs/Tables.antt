@@ -11,6 +11,7 @@ use Rattle.s390x_inst.specs.declared.inst.Inst.{Inst}
 use Rattle.s390x_inst.specs.declared.inst.Inst.TheVariants.{JTSequence}
 use Rattle.s390x_buffer.specs.State.{BufferState, put_cause, draw_cause, label_cause, IsNoConstant}
 use Rattle.s390x_format.specs.Formats.{length_of}
+use Rattle.s390x_rows.specs.declared.opcodes.TheConstants as opcodes
 use Rattle.s390x_typed_steps.specs.MachineInstruction.{rxy}
 use Rattle.s390x_typed_steps.specs.Parts.{CodePart, Row, Relative, ToBlock, table_words, table_parts, parts_size}
 use Rattle.s390x_typed_steps.specs.Causes.{unless, target_label_cause as block_cause, labels_cause, table_cause, numbers_cause, branch_cause, instruction_fresh_labels}
@@ -60,19 +61,19 @@ first_passed s s1 mask other table p lt e =
     let u = branch_turns s s1 mask other e in
     passed_on s s1 other table 20 0 6 6 p u (omega arith) (omega (arith, u.labels))
 
-second_turns : (s s1 s2 : BufferState) (mask other table d : ℕ) → s1 ≡ apply s (branch mask other) → s2 ≡ apply_all s1 (part_fragments (Relative 0xc00 d (ToBlock table) ∷ [])) → Turns s s2 0 12
-second_turns s s1 s2 mask other table d e1 e2 = turns_on s s1 s2 0 6 0 6 (branch_turns s s1 mask other e1) (parts_turns s1 s2 (Relative 0xc00 d (ToBlock table) ∷ []) e2)
+second_turns : (s s1 s2 : BufferState) (mask other table d : ℕ) → s1 ≡ apply s (branch mask other) → s2 ≡ apply_all s1 (part_fragments (Relative opcodes.LARL d (ToBlock table) ∷ [])) → Turns s s2 0 12
+second_turns s s1 s2 mask other table d e1 e2 = turns_on s s1 s2 0 6 0 6 (branch_turns s s1 mask other e1) (parts_turns s1 s2 (Relative opcodes.LARL d (ToBlock table) ∷ []) e2)
 
-pub second_passed : (s s1 s2 : BufferState) (mask other table d : ℕ) → Passed s other 20 None → s1 ≡ apply s (branch mask other) → s2 ≡ apply_all s1 (part_fragments (Relative 0xc00 d (ToBlock table) ∷ [])) → put_cause s2 6 ≡ None
+pub second_passed : (s s1 s2 : BufferState) (mask other table d : ℕ) → Passed s other 20 None → s1 ≡ apply s (branch mask other) → s2 ≡ apply_all s1 (part_fragments (Relative opcodes.LARL d (ToBlock table) ∷ [])) → put_cause s2 6 ≡ None
 second_passed s s1 s2 mask other table d p e1 e2 =
     let u = second_turns s s1 s2 mask other table d e1 e2 in
     room_of s2 other 6 (passed_on s s2 other other 20 0 12 6 p u (omega arith) (omega (arith, u.labels, p.label)))
 
-sum_turns : (s t : BufferState) (index : ℕ) → t ≡ apply_all s (part_fragments (Row (rxy 0xe318 1 1 index 0) ∷ [])) → Turns s t 0 6
+sum_turns : (s t : BufferState) (index : ℕ) → t ≡ apply_all s (part_fragments (Row (rxy opcodes.AGF 1 1 index 0) ∷ [])) → Turns s t 0 6
 unfolding length_of
-sum_turns s t index e = parts_turns s t (Row (rxy 0xe318 1 1 index 0) ∷ []) e
+sum_turns s t index e = parts_turns s t (Row (rxy opcodes.AGF 1 1 index 0) ∷ []) e
 
-pub third_passed : (s s1 s2 s3 : BufferState) (mask other table d index : ℕ) → Passed s other 20 None → s1 ≡ apply s (branch mask other) → s2 ≡ apply_all s1 (part_fragments (Relative 0xc00 d (ToBlock table) ∷ [])) → s3 ≡ apply_all s2 (part_fragments (Row (rxy 0xe318 1 1 index 0) ∷ [])) → put_cause s3 2 ≡ None
+pub third_passed : (s s1 s2 s3 : BufferState) (mask other table d index : ℕ) → Passed s other 20 None → s1 ≡ apply s (branch mask other) → s2 ≡ apply_all s1 (part_fragments (Relative opcodes.LARL d (ToBlock table) ∷ [])) → s3 ≡ apply_all s2 (part_fragments (Row (rxy opcodes.AGF 1 1 index 0) ∷ [])) → put_cause s3 2 ≡ None
 third_passed s s1 s2 s3 mask other table d index p e1 e2 e3 =
     let u = turns_on s s2 s3 0 12 0 6 (second_turns s s1 s2 mask other table d e1 e2) (sum_turns s2 s3 index e3) in
     room_of s3 other 2 (passed_on s s3 other other 20 0 18 2 p u (omega arith) (omega (arith, u.labels, p.label)))

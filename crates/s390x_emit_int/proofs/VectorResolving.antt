@@ -8,6 +8,7 @@ use Rattle.s390x_inst.specs.Facilities.{vec_facility}
 use Rattle.s390x_inst.specs.declared.args.MemArg.{MemArg}
 use Rattle.s390x_inst.specs.declared.vec_inst.VecInst.{VecInst}
 use Rattle.s390x_inst.specs.declared.vec_inst.VecInst.TheVariants.{VecMov, VecLoadReplicate, VecLoadReplicateRev, VecLoadLane, VecLoadLaneRev, VecLoadLaneUndef, VecLoadLaneRevUndef, VecStoreLane, VecStoreLaneRev}
+use Rattle.s390x_rows.specs.declared.opcodes.TheConstants as opcodes
 use Rattle.s390x_typed_steps.specs.Memory.{MemoryInstruction, StorageForm, access_vector, access_elements, access_lane, reversed_code, is_left_lane, load_left, store_left, load_lane_opcode, store_lane_opcode, load_reversed_opcode, store_reversed_opcode, vector_memory}
 use Rattle.s390x_typed_steps.specs.Operands.{resolved}
 use Rattle.s390x_typed_steps.specs.Resolved.{resolved_vector}
@@ -55,8 +56,8 @@ left_resolved : (e : Emission) (t valid : Bool) (form : StorageForm) (opcode : �
 left_resolved e t valid form opcode register code size lane mem = either_resolved e t _ _ _ _ refl (lane_resolved e valid opcode register code size lane mem)
 
 pub vector_memories : (e : Emission) (v : VecInst) → vector_memory (resolved_vector e v) ≡ option_map (in_state e) (vector_memory v)
-vector_memories e (VecLoadReplicate size rd mem) = elements_resolved e 0xe705 rd (element_code size) mem
-vector_memories e (VecLoadReplicateRev size rd mem) = elements_resolved e 0xe605 rd (reversed_code size) mem
+vector_memories e (VecLoadReplicate size rd mem) = elements_resolved e opcodes.VLREP rd (element_code size) mem
+vector_memories e (VecLoadReplicateRev size rd mem) = elements_resolved e opcodes.VLBRREP rd (reversed_code size) mem
 vector_memories e (VecLoadLane size rd ri mem lane) = lane_resolved e (reuses_vector rd ri) load_lane_opcode (number_of rd) (element_code size) size lane mem
 vector_memories e (VecLoadLaneRev size rd ri mem lane) = lane_resolved e (reuses_vector rd ri) load_reversed_opcode (number_of rd) (reversed_code size) size lane mem
 vector_memories e (VecLoadLaneUndef size rd mem lane) = left_resolved e (is_left_lane size lane (number_of rd)) (is_vector rd) (load_left size (number_of rd)) load_lane_opcode (number_of rd) (element_code size) size lane mem

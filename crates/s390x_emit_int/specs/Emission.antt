@@ -1,4 +1,5 @@
 -- The fragments of a tree of instructions, with label numbers.
+use Rattle.s390x_rows.specs.declared.opcodes.TheConstants as opcodes
 use Rattle.s390x_typed_steps.specs.Steps.{step_of}
 use Rattle.std.specs.Prelude.{ℕ, ◌+◌, ◌-◌, pos, ◌+ℤ◌, List, [], ◌∷◌, ◌++◌, Option, Some, None}
 use Rattle.std.specs.Int.{w64, to_be_bytes}
@@ -18,7 +19,7 @@ use Rattle.s390x_emit_int.specs.Fragments.{Fragment, Put, PutTrapping, PutReloc,
 
 -- a branch to a label, its distance still zero
 abbrev pub branch : (mask label : ℕ) → Fragment
-branch mask label = Link BranchRIL label (bytes_of (ril_c 0xc04 mask 0))
+branch mask label = Link BranchRIL label (bytes_of (ril_c opcodes.BRCL mask 0))
 
 -- a branch that is always taken, recorded for the end of its block
 abbrev pub jump_fragments : (label : ℕ) → List Fragment
@@ -26,7 +27,7 @@ jump_fragments label = RecordBranch (AlwaysTaken label) ∷ branch 15 label ∷ 
 
 -- the same of one under the mask, recorded with its code under the inverse mask
 abbrev pub where_fragments : (mask label : ℕ) → List Fragment
-where_fragments mask label = RecordBranch (TakenWhere label (bytes_of (ril_c 0xc04 (15 - mask) 0))) ∷ branch mask label ∷ []
+where_fragments mask label = RecordBranch (TakenWhere label (bytes_of (ril_c opcodes.BRCL (15 - mask) 0))) ∷ branch mask label ∷ []
 
 -- a branch to one label under the mask, or else to the other, each recorded
 abbrev pub choice_fragments : (mask taken not_taken : ℕ) → List Fragment
@@ -64,7 +65,7 @@ part_fragments (part ∷ parts) = part_fragment part ∷ part_fragments parts
 
 -- the machine instructions before a table with the label n
 abbrev pub table_rows : (n index mask other : ℕ) → List Fragment
-table_rows n index mask other = branch mask other ∷ relative 0xc00 1 n ∷ Put (bytes_of (rxy 0xe318 1 1 index 0)) ∷ Put (bytes_of (rr 0x07 15 1)) ∷ []
+table_rows n index mask other = branch mask other ∷ relative opcodes.LARL 1 n ∷ Put (bytes_of (rxy opcodes.AGF 1 1 index 0)) ∷ Put (bytes_of (rr opcodes.BCR 15 1)) ∷ []
 
 -- what stands before the words of a table: its label, the next to be drawn, is bound behind the machine instructions
 abbrev pub table_head : (n index mask other : ℕ) → List Fragment

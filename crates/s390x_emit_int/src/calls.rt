@@ -40,6 +40,7 @@ use s390x_inst::{
     CallInfo, CallInstDest, CallRetPair, EmitState, FrameLayout, Inst, IsaFlags, MachInstEmitState,
     MemArg, RetLocation, ReturnCallInfo, TryCallHandler, TryCallInfo, gen_tail_epilogue,
 };
+use s390x_rows::opcodes;
 use s390x_typed_steps::MemInstType;
 use std::alloc::{AllocError, Global};
 
@@ -162,7 +163,7 @@ fn put_call_symbol(sink: &mut MachBuffer, link: Reg, name: ExternalName) -> Resu
     ensures lacks { put_cause sink.old 6 ≡ None → is_general link ≡ true → LacksMemory result }
     ensures kept { Extends sink.old sink.new }
 {
-    let code = enc_ril_b(0xc05, link, 0)?;
+    let code = enc_ril_b(opcodes::BRASL, link, 0)?;
     let field = sink.cur_offset() + 2;
     sink.add_reloc_at_offset(field, Reloc::S390xPLTRel32Dbl, name, 2)?;
     sink.put_code(&code)
@@ -176,7 +177,7 @@ fn put_call_register(sink: &mut MachBuffer, link: Reg, reg: Reg) -> Result<(), E
         → LacksMemory result }
     ensures kept { Extends sink.old sink.new }
 {
-    let code = enc_rr(0x0d, link, reg)?;
+    let code = enc_rr(opcodes::BASR, link, reg)?;
     sink.put_code(&code)
 }
 
@@ -681,7 +682,7 @@ fn put_jump_symbol(sink: &mut MachBuffer, name: ExternalName) -> Result<(), Emit
     ensures lacks { put_cause sink.old 6 ≡ None → LacksMemory result }
     ensures kept { Extends sink.old sink.new }
 {
-    let code = enc_ril_c(0xc04, 15, 0)?;
+    let code = enc_ril_c(opcodes::BRCL, 15, 0)?;
     let field = sink.cur_offset() + 2;
     sink.add_reloc_at_offset(field, Reloc::S390xPLTRel32Dbl, name, 2)?;
     sink.put_code(&code)

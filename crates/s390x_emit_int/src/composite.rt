@@ -6,6 +6,7 @@ ghost use Rattle.s390x_base.specs.Regs.{number_of};
 ghost use Rattle.s390x_base.specs.declared.error.EmitError.TheVariants.{BadRegister};
 ghost use Rattle.s390x_buffer.specs.Extends.{Extends};
 ghost use Rattle.s390x_buffer.specs.State.{put_cause};
+ghost use Rattle.s390x_rows.specs.declared.opcodes.TheConstants as opcodes;
 ghost use Rattle.s390x_typed_steps.specs.MachineInstruction.{MachineInstruction, bytes_of, size_of, ri_c, vrr_a, vrr_b};
 ghost use Rattle.s390x_typed_steps.specs.Parts.{Row, row_parts, parts_size};
 ghost use Rattle.s390x_typed_steps.specs.SingleCode.{code_where};
@@ -20,6 +21,7 @@ use s390x_base::{Code, EmitError, Reg, zero_reg};
 use s390x_buffer::MachBuffer;
 use s390x_emit_vec::{compared_vectors, real_vector, shifted_vector, three_vectors, two_vectors};
 use s390x_inst::VecInst;
+use s390x_rows::opcodes;
 use s390x_typed_steps::VectorOpcode;
 
 // Registers that may not stand there.
@@ -130,7 +132,7 @@ fn exchange_doublewords(sink: &mut MachBuffer, rd: &Reg, rn: &Reg) -> Result<(),
     ensures kept { Extends sink.old sink.new }
 {
     let row = VectorOpcode {
-        opcode: 0xe784,
+        opcode: opcodes::VPDI,
         code: 4,
     };
     let found = three_vectors(row, *rd, *rn, *rn);
@@ -149,7 +151,7 @@ fn exchange_halves(sink: &mut MachBuffer, rd: &Reg, code: u8, half: u32) -> Resu
     ensures kept { Extends sink.old sink.new }
 {
     let row = VectorOpcode {
-        opcode: 0xe733,
+        opcode: opcodes::VERLL,
         code,
     };
     let found = shifted_vector(row, *rd, *rd, zero_reg(), half);
@@ -248,14 +250,14 @@ fn compare_right(sink: &mut MachBuffer, tmp: &Reg, rn: &Reg, rm: &Reg) -> Result
         (sink.new
         ≡ apply_all sink.old
         (part_fragments
-        (Row (vrr_b 0xe7f9 (number_of tmp.now) (number_of rn.now) (number_of rm.now) 3 1)
+        (Row (vrr_b opcodes.VCHL (number_of tmp.now) (number_of rn.now) (number_of rm.now) 3 1)
         ∷ []))) }
     ensures lacks { put_cause sink.old 6 ≡ None
         → (is_vector tmp.now && is_vector rn.now && is_vector rm.now) ≡ true → LacksMemory result }
     ensures kept { Extends sink.old sink.new }
 {
     let row = VectorOpcode {
-        opcode: 0xe7f9,
+        opcode: opcodes::VCHL,
         code: 3,
     };
     let found = compared_vectors(row, *tmp, *rn, *rm, 1);
@@ -268,7 +270,7 @@ fn compare_first(sink: &mut MachBuffer, opcode: u16, rn: &Reg, rm: &Reg) -> Resu
         (sink.new
         ≡ apply_all sink.old
         (part_fragments
-        (Row (vrr_a opcode (number_of rn.now) (number_of rm.now) 3) ∷ Row (ri_c 0xa74 7 5)
+        (Row (vrr_a opcode (number_of rn.now) (number_of rm.now) 3) ∷ Row (ri_c opcodes.BRC 7 5)
         ∷ []))) }
     ensures lacks { put_cause sink.old 10 ≡ None → (is_vector rn.now && is_vector rm.now) ≡ true
         → LacksMemory result }
@@ -316,10 +318,10 @@ pub fn emit_composite(sink: &mut MachBuffer, inst: &VecInst) -> Result<(), EmitE
             emit_reversal(sink, *lane_count, &rd.to_reg(), rn)
         }
         VecInst::VecInt128SCmpHi { tmp, rn, rm } => {
-            emit_comparison(sink, 0xe7db, &tmp.to_reg(), rn, rm)
+            emit_comparison(sink, opcodes::VEC, &tmp.to_reg(), rn, rm)
         }
         VecInst::VecInt128UCmpHi { tmp, rn, rm } => {
-            emit_comparison(sink, 0xe7d9, &tmp.to_reg(), rn, rm)
+            emit_comparison(sink, opcodes::VECL, &tmp.to_reg(), rn, rm)
         }
         _ => emit_move(sink, inst),
     }

@@ -5,6 +5,7 @@ ghost use Rattle.std.specs.Prelude.{◌≡◌, ℕ, ◌<◌, ◌+◌, ◌&&◌, 
 ghost use Rattle.s390x_base.specs.Regs.{number_of};
 ghost use Rattle.s390x_buffer.specs.Extends.{Extends};
 ghost use Rattle.s390x_buffer.specs.State.{put_cause};
+ghost use Rattle.s390x_rows.specs.declared.opcodes.TheConstants as opcodes;
 ghost use Rattle.s390x_typed_steps.specs.MachineInstruction.{MachineInstruction, bytes_of, size_of, ri_c};
 ghost use Rattle.s390x_typed_steps.specs.Parts.{Row, row_parts, parts_size};
 ghost use Rattle.s390x_typed_steps.specs.SingleCode.{code_where};
@@ -21,6 +22,7 @@ use s390x_buffer::MachBuffer;
 use s390x_emit_vec::find_move_under;
 use s390x_enc::enc_ri_c;
 use s390x_inst::VecInst;
+use s390x_rows::opcodes;
 
 /// Why a move under a condition is refused; another instruction has no row.
 pub fn move_cause(inst: &VecInst) -> Option<EmitError>
@@ -74,11 +76,11 @@ fn under_size(short: bool) -> u64
 fn skip_two(sink: &mut MachBuffer, mask: u8) -> Result<(), EmitError>
     requires { mask < 16 }
     ensures answer { OnOk result
-        (sink.new ≡ apply_all sink.old (part_fragments (Row (ri_c 0xa74 mask 3) ∷ []))) }
+        (sink.new ≡ apply_all sink.old (part_fragments (Row (ri_c opcodes.BRC mask 3) ∷ []))) }
     ensures lacks { put_cause sink.old 4 ≡ None → LacksMemory result }
     ensures kept { Extends sink.old sink.new }
 {
-    let code = enc_ri_c(0xa74, mask, 6)?;
+    let code = enc_ri_c(opcodes::BRC, mask, 6)?;
     sink.put_code(&code)
 }
 
@@ -87,11 +89,11 @@ fn skip_two(sink: &mut MachBuffer, mask: u8) -> Result<(), EmitError>
 pub fn skip_six(sink: &mut MachBuffer, mask: u8) -> Result<(), EmitError>
     requires { mask < 16 }
     ensures answer { OnOk result
-        (sink.new ≡ apply_all sink.old (part_fragments (Row (ri_c 0xa74 mask 5) ∷ []))) }
+        (sink.new ≡ apply_all sink.old (part_fragments (Row (ri_c opcodes.BRC mask 5) ∷ []))) }
     ensures lacks { put_cause sink.old 4 ≡ None → LacksMemory result }
     ensures kept { Extends sink.old sink.new }
 {
-    let code = enc_ri_c(0xa74, mask, 10)?;
+    let code = enc_ri_c(opcodes::BRC, mask, 10)?;
     sink.put_code(&code)
 }
 
@@ -99,7 +101,7 @@ fn put_skip(sink: &mut MachBuffer, mask: u8, short: bool) -> Result<(), EmitErro
     requires { mask < 16 }
     ensures answer { OnOk result
         (sink.new
-        ≡ apply_all sink.old (part_fragments (Row (ri_c 0xa74 mask (cond short 3 5)) ∷ []))) }
+        ≡ apply_all sink.old (part_fragments (Row (ri_c opcodes.BRC mask (cond short 3 5)) ∷ []))) }
     ensures lacks { put_cause sink.old 4 ≡ None → LacksMemory result }
     ensures kept { Extends sink.old sink.new }
 {
@@ -117,7 +119,7 @@ fn put_under(sink: &mut MachBuffer, mask: u8, short: bool, code: &Code) -> Resul
         → OnOk result
         (sink.new
         ≡ apply_all sink.old
-        (part_fragments (Row (ri_c 0xa74 mask (cond short 3 5)) ∷ Row m ∷ []))) }
+        (part_fragments (Row (ri_c opcodes.BRC mask (cond short 3 5)) ∷ Row m ∷ []))) }
     ensures lacks { (m : MachineInstruction) → code.now ≡ bytes_of m
         → put_cause sink.old (4 + size_of m) ≡ None → LacksMemory result }
     ensures kept { Extends sink.old sink.new }
@@ -138,7 +140,7 @@ fn emit_under(
         → OnOk result
         (sink.new
         ≡ apply_all sink.old
-        (part_fragments (Row (ri_c 0xa74 mask (cond short 3 5)) ∷ Row m ∷ []))) }
+        (part_fragments (Row (ri_c opcodes.BRC mask (cond short 3 5)) ∷ Row m ∷ []))) }
     ensures lacks { (valid : Bool) (m : MachineInstruction) → found ≡ code_where valid m
         → put_cause sink.old (4 + size_of m) ≡ None → valid ≡ true → LacksMemory result }
     ensures kept { Extends sink.old sink.new }

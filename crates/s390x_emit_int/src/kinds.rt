@@ -51,6 +51,14 @@ fn is_load(inst: &Inst) -> bool
     inst.as_load().is_some()
 }
 
+// Whether it is a store of a general register.
+#[inline(always)]
+fn is_store(inst: &Inst) -> bool
+    ensures { result ≡ true → IsPlain inst.now }
+{
+    inst.as_store().is_some()
+}
+
 /// The kind of an instruction.
 #[inline(always)]
 pub fn kind_of(inst: &Inst) -> Kind
@@ -60,14 +68,7 @@ pub fn kind_of(inst: &Inst) -> Kind
     ensures register { result ≡ Register → IsRegister inst.now }
 {
     match inst {
-        Inst::Store8 { .. }
-        | Inst::Store16 { .. }
-        | Inst::Store32 { .. }
-        | Inst::Store64 { .. }
-        | Inst::LoadAddr { .. }
-        | Inst::StoreRev16 { .. }
-        | Inst::StoreRev32 { .. }
-        | Inst::StoreRev64 { .. }
+        Inst::LoadAddr { .. }
         | Inst::StoreImm8 { .. }
         | Inst::StoreImm16 { .. }
         | Inst::StoreImm32SExt16 { .. }
@@ -96,6 +97,8 @@ pub fn kind_of(inst: &Inst) -> Kind
         _ => {
             if is_load(inst) {
                 Kind::Load
+            } else if is_store(inst) {
+                Kind::Access
             } else {
                 Kind::Other
             }

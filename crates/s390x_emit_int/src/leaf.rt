@@ -5,6 +5,7 @@ ghost use Rattle.std.specs.Prelude.{◌≡◌, ℕ, ◌<◌, ◌&&◌, [], ◌�
 ghost use Rattle.s390x_base.specs.Regs.{number_of};
 ghost use Rattle.s390x_buffer.specs.Extends.{Extends};
 ghost use Rattle.s390x_buffer.specs.State.{put_cause};
+ghost use Rattle.s390x_rows.specs.declared.opcodes.TheConstants as opcodes;
 ghost use Rattle.s390x_typed_steps.specs.MachineInstruction.{MachineInstruction, format_e, rr, ril_c, bytes_of, size_of};
 ghost use Rattle.s390x_typed_steps.specs.Parts.{Row, Trapping, ToBlock, Relative, row_part, stopping, memory_parts, parts_size};
 ghost use Rattle.s390x_inst.specs.Emission.{Emission};
@@ -37,6 +38,7 @@ use s390x_buffer::{LabelUse, MachBuffer};
 use s390x_emit_rows::{find_memory, find_single_instruction, memory_of_load, stop_code, three_row};
 use s390x_enc::{enc_e, enc_ril_b, enc_ril_c, enc_rr};
 use s390x_inst::{EmitState, Inst, IsaFlags, MemArg};
+use s390x_rows::opcodes;
 
 // A code whose last four bytes are half of the distance to a label; the buffer's end fills it in.
 fn put_with_distance(sink: &mut MachBuffer, code: &Code, label: MachLabel) -> Result<(), EmitError>
@@ -58,7 +60,7 @@ pub fn put_branch(sink: &mut MachBuffer, mask: u8, label: MachLabel) -> Result<(
     ensures lacks { Passed sink.old label.0 6 None → LacksMemory result }
     ensures kept { Extends sink.old sink.new }
 {
-    let code = enc_ril_c(0xc04, mask, 0)?;
+    let code = enc_ril_c(opcodes::BRCL, mask, 0)?;
     put_with_distance(sink, &code, label)
 }
 
@@ -69,7 +71,7 @@ fn put_jump(sink: &mut MachBuffer, label: MachLabel) -> Result<(), EmitError>
     ensures lacks { Passed sink.old label.0 6 None → LacksMemory result }
     ensures kept { Extends sink.old sink.new }
 {
-    let code = enc_ril_c(0xc04, 15, 0)?;
+    let code = enc_ril_c(opcodes::BRCL, 15, 0)?;
     let offset = sink.cur_offset();
     sink.use_label_at_offset(offset, label, LabelUse::BranchRIL)?;
     sink.add_uncond_branch(offset, offset + 6, label)?;
@@ -84,8 +86,8 @@ fn put_where(sink: &mut MachBuffer, cond: Cond, label: MachLabel) -> Result<(), 
     ensures range { IsConditionMask cond }
     ensures kept { Extends sink.old sink.new }
 {
-    let code = enc_ril_c(0xc04, cond.bits(), 0)?;
-    let inverted = enc_ril_c(0xc04, cond.invert().bits(), 0)?;
+    let code = enc_ril_c(opcodes::BRCL, cond.bits(), 0)?;
+    let inverted = enc_ril_c(opcodes::BRCL, cond.invert().bits(), 0)?;
     let offset = sink.cur_offset();
     sink.use_label_at_offset(offset, label, LabelUse::BranchRIL)?;
     sink.add_cond_branch(offset, offset + 6, label, &inverted)?;
@@ -97,12 +99,13 @@ fn put_where(sink: &mut MachBuffer, cond: Cond, label: MachLabel) -> Result<(), 
 /// for want of memory (`NoMemory`).
 pub fn emit_branch_register(sink: &mut MachBuffer, rn: Reg) -> Result<(), EmitError>
     ensures answer { OnOk result
-        (sink.new ≡ apply_all sink.old (part_fragments (Row (rr 0x07 15 (number_of rn)) ∷ []))) }
+        (sink.new ≡ apply_all sink.old
+        (part_fragments (Row (rr opcodes.BCR 15 (number_of rn)) ∷ []))) }
     ensures lacks { put_cause sink.old 2 ≡ None → (is_general rn && is_nonzero rn) ≡ true
         → LacksMemory result }
     ensures kept { Extends sink.old sink.new }
 {
-    let code = enc_rr(0x07, gpr(15), rn)?;
+    let code = enc_rr(opcodes::BCR, gpr(15), rn)?;
     sink.put_code(&code)
 }
 
@@ -113,11 +116,11 @@ pub fn emit_address(sink: &mut MachBuffer, dst: Reg, label: MachLabel) -> Result
     ensures answer { OnOk result
         (sink.new
         ≡ apply_all sink.old
-        (part_fragments (Relative 0xc00 (number_of dst) (ToBlock label.0) ∷ []))) }
+        (part_fragments (Relative opcodes.LARL (number_of dst) (ToBlock label.0) ∷ []))) }
     ensures lacks { Passed sink.old label.0 6 None → is_general dst ≡ true → LacksMemory result }
     ensures kept { Extends sink.old sink.new }
 {
-    let code = enc_ril_b(0xc00, dst, 0)?;
+    let code = enc_ril_b(opcodes::LARL, dst, 0)?;
     put_with_distance(sink, &code, label)
 }
 
@@ -155,12 +158,12 @@ fn emit_trap_if(sink: &mut MachBuffer, cond: Cond, trap_code: TrapCode) -> Resul
     ensures answer { OnOk result
         (sink.new
         ≡ apply_all sink.old
-        (part_fragments (Trapping (ril_c 0xc04 cond 1) 3 trap_code ∷ []))) }
+        (part_fragments (Trapping (ril_c opcodes.BRCL cond 1) 3 trap_code ∷ []))) }
     ensures lacks { put_cause sink.old 6 ≡ None → LacksMemory result }
     ensures range { IsConditionMask cond }
     ensures kept { Extends sink.old sink.new }
 {
-    let code = enc_ril_c(0xc04, cond.bits(), 2)?;
+    let code = enc_ril_c(opcodes::BRCL, cond.bits(), 2)?;
     put_trapping(sink, &code, 3, trap_code)
 }
 

@@ -7,6 +7,7 @@ ghost use Rattle.s390x_base.specs.Regs.{number_of};
 ghost use Rattle.s390x_base.specs.declared.ir.Reloc.TheVariants.{Abs8};
 ghost use Rattle.s390x_buffer.specs.Extends.{Extends};
 ghost use Rattle.s390x_buffer.specs.State.{put_cause};
+ghost use Rattle.s390x_rows.specs.declared.opcodes.TheConstants as opcodes;
 ghost use Rattle.s390x_typed_steps.specs.MachineInstruction.{ri_b, rxy};
 ghost use Rattle.s390x_typed_steps.specs.Parts.{Row, name_in, offset_in, symbol_parts};
 ghost use Rattle.s390x_typed_steps.specs.General.{is_general};
@@ -18,15 +19,16 @@ use s390x_base::{EmitError, ExternalName, Reg, Reloc, gpr};
 use s390x_buffer::MachBuffer;
 use s390x_enc::{enc_ri_b, enc_rxy};
 use s390x_inst::SymbolReloc;
+use s390x_rows::opcodes;
 
 // BRANCH RELATIVE AND SAVE over the doubleword behind it, whose address goes into `%r1`.
 fn put_branch_over(sink: &mut MachBuffer) -> Result<(), EmitError>
     ensures answer { OnOk result
-        (sink.new ≡ apply_all sink.old (part_fragments (Row (ri_b 0xa75 1 6) ∷ []))) }
+        (sink.new ≡ apply_all sink.old (part_fragments (Row (ri_b opcodes.BRAS 1 6) ∷ []))) }
     ensures lacks { put_cause sink.old 4 ≡ None → LacksMemory result }
     ensures kept { Extends sink.old sink.new }
 {
-    let code = enc_ri_b(0xa75, gpr(1), 12)?;
+    let code = enc_ri_b(opcodes::BRAS, gpr(1), 12)?;
     sink.put_code(&code)
 }
 
@@ -60,11 +62,11 @@ fn put_reloc(sink: &mut MachBuffer, symbol_reloc: &SymbolReloc) -> Result<(), Em
 fn put_load(sink: &mut MachBuffer, rd: Reg) -> Result<(), EmitError>
     ensures answer { OnOk result
         (sink.new
-        ≡ apply_all sink.old (part_fragments (Row (rxy 0xe304 (number_of rd) 1 0 0) ∷ []))) }
+        ≡ apply_all sink.old (part_fragments (Row (rxy opcodes.LG (number_of rd) 1 0 0) ∷ []))) }
     ensures lacks { put_cause sink.old 6 ≡ None → is_general rd ≡ true → LacksMemory result }
     ensures kept { Extends sink.old sink.new }
 {
-    let code = enc_rxy(0xe304, rd, gpr(1), gpr(0), 0)?;
+    let code = enc_rxy(opcodes::LG, rd, gpr(1), gpr(0), 0)?;
     sink.put_code(&code)
 }
 

@@ -5,6 +5,7 @@ ghost use Rattle.std.specs.Prelude.{◌≡◌, ℕ, ◌+◌, ◌*◌, ◌<◌, [
 ghost use Rattle.s390x_base.specs.Regs.{number_of};
 ghost use Rattle.s390x_buffer.specs.Extends.{Extends};
 ghost use Rattle.s390x_buffer.specs.State.{put_cause};
+ghost use Rattle.s390x_rows.specs.declared.opcodes.TheConstants as opcodes;
 ghost use Rattle.s390x_typed_steps.specs.MachineInstruction.{rxy};
 ghost use Rattle.s390x_typed_steps.specs.Parts.{Row, table_words};
 ghost use Rattle.s390x_typed_steps.specs.Causes.{labels_cause, table_cause, numbers_cause};
@@ -18,6 +19,7 @@ use crate::leaf::{emit_address, emit_branch_register, put_branch};
 use s390x_base::{Cond, EmitError, MachLabel, Reg, gpr};
 use s390x_buffer::{LabelUse, MachBuffer};
 use s390x_enc::enc_rxy;
+use s390x_rows::opcodes;
 
 // A word of a table, so far its distance from the table's beginning; the buffer's end adds the distance to the label.
 fn put_word(sink: &mut MachBuffer, before: u32, label: MachLabel) -> Result<(), EmitError>
@@ -51,11 +53,12 @@ fn put_words(sink: &mut MachBuffer, targets: &[MachLabel]) -> Result<(), EmitErr
 fn put_word_sum(sink: &mut MachBuffer, index: Reg) -> Result<(), EmitError>
     ensures answer { OnOk result
         (sink.new
-        ≡ apply_all sink.old (part_fragments (Row (rxy 0xe318 1 1 (number_of index) 0) ∷ []))) }
+        ≡ apply_all sink.old
+        (part_fragments (Row (rxy opcodes.AGF 1 1 (number_of index) 0) ∷ []))) }
     ensures lacks { put_cause sink.old 6 ≡ None → is_general index ≡ true → LacksMemory result }
     ensures kept { Extends sink.old sink.new }
 {
-    let code = enc_rxy(0xe318, gpr(1), gpr(1), index, 0)?;
+    let code = enc_rxy(opcodes::AGF, gpr(1), gpr(1), index, 0)?;
     sink.put_code(&code)
 }
 

@@ -10,6 +10,7 @@ use Rattle.s390x_buffer.specs.declared.entries.RecordedBranches.TheVariants.{NoB
 use Rattle.s390x_inst.specs.declared.inst.Inst.{Inst}
 use Rattle.s390x_inst.specs.declared.inst.Inst.TheVariants.{CondBreak}
 use Rattle.s390x_inst.specs.declared.state.IsaFlags.{IsaFlags}
+use Rattle.s390x_rows.specs.declared.opcodes.TheConstants as opcodes
 use Rattle.s390x_typed_steps.specs.Causes.{Declared, declared_in, aligns_of, tree_cause, body_cause, body_fresh_labels, body_nominal_after, fresh_labels, nesting_cause, numbers_cause, first_emit_cause}
 use Rattle.s390x_typed_steps.specs.Image.{offsets, code, function_code, step_offset}
 use Rattle.s390x_typed_steps.specs.MachineInstruction.{bytes_of, ril_b, ril_c}
@@ -84,7 +85,7 @@ module _ (P Q : Offsets) (place bound count constants : ℕ) (steps : (j : ℕ) 
   part_moved : (part : CodePart) (q : ℕ) → PartNames count constants part → part_bytes P (place + q) part ≡ part_bytes Q q part
   part_moved (Row m) q names = refl
   part_moved (Trapping m byte c) q names = refl
-  part_moved (Branch mask (ToBlock b)) q names = ap (λ h. bytes_of (ril_c 0xc04 mask h)) (half_moved q (P.block b) (Q.block b) (blocks b names))
+  part_moved (Branch mask (ToBlock b)) q names = ap (λ h. bytes_of (ril_c opcodes.BRCL mask h)) (half_moved q (P.block b) (Q.block b) (blocks b names))
   part_moved (Branch mask (ToStep k)) q names = absurd names
   part_moved (Relative opcode register (ToBlock b)) q names = ap (λ h. bytes_of (ril_b opcode register h)) (half_moved q (P.block b) (Q.block b) (blocks b names))
   part_moved (Relative opcode register (ToStep k)) q names = absurd names
@@ -104,7 +105,7 @@ module _ (P Q : Offsets) (place bound count constants : ℕ) (steps : (j : ℕ) 
       ap (λ l. l ++ parts_bytes P (place + q + part_size part) parts) (part_moved part q names.0) ∙ ap (λ l. part_bytes Q q part ++ l) (ap (λ m. parts_bytes P m parts) e ∙ parts_moved parts (q + part_size part) names.1)
 
   branch_moved : (mask j q : ℕ) → j ≤ bound → parts_bytes P (place + q) (Branch mask (ToStep j) ∷ []) ≡ parts_bytes Q q (Branch mask (ToStep j) ∷ [])
-  branch_moved mask j q le = ap (λ h. bytes_of (ril_c 0xc04 mask h) ++ []) (half_moved q (P.step j) (Q.step j) (steps j le))
+  branch_moved mask j q le = ap (λ h. bytes_of (ril_c opcodes.BRCL mask h) ++ []) (half_moved q (P.step j) (Q.step j) (steps j le))
 
   whole_moved : (i : Inst) (e q : ℕ) → e ≤ bound → PartsName count constants (instruction_parts i) → step_bytes P (place + q) (step_of e (Whole i)) ≡ step_bytes Q q (step_of e (Whole i))
   whole_moved (CondBreak mask) e q le names = branch_moved mask e q le

@@ -15,6 +15,7 @@ use Rattle.s390x_format.proofs.Encoding.{listed}
 use Rattle.s390x_image.specs.Causes.{first_link_cause, symbol_cause}
 use Rattle.s390x_image.specs.Fields.{address_or_zero, fill, filled}
 use Rattle.s390x_image.specs.Symbols.{no_symbols, address_of, address_of-with_address}
+use Rattle.s390x_rows.specs.declared.opcodes.TheConstants as opcodes
 use Rattle.s390x_typed_steps.specs.Folding.{folded_trees}
 use Rattle.s390x_typed_steps.specs.MachineInstruction.{MachineInstruction, bytes_of, ril_b, ril_c, rxy}
 use Rattle.s390x_operations.specs.State.{State, IsLoaded, wrapping_add64}
@@ -96,37 +97,37 @@ step_at m o s event t even memory at stands fit listed acts = record {
   acts = acts;
 }
 
-address_stands : StandsAt image 0 (bytes_of (ril_b 0xc00 1 0))
+address_stands : StandsAt image 0 (bytes_of (ril_b opcodes.LARL 1 0))
 unfolding number bits layout_of length_of be_bytes
 address_stands = record { earlier = []; later = 0xe3 ∷ 0x20 ∷ 0x10 ∷ 0x00 ∷ 0x00 ∷ 0x04 ∷ 0xc0 ∷ 0xe5 ∷ 0x00 ∷ 0x00 ∷ 0x07 ∷ 0xfa ∷ 0xc0 ∷ 0xf4 ∷ 0x00 ∷ 0x00 ∷ 0x07 ∷ 0xf7 ∷ []; at = refl; is = refl }
 
-load_stands : StandsAt image 6 (bytes_of (rxy 0xe304 2 1 0 0))
+load_stands : StandsAt image 6 (bytes_of (rxy opcodes.LG 2 1 0 0))
 unfolding number bits layout_of length_of be_bytes
 load_stands = record { earlier = 0xc0 ∷ 0x10 ∷ 0x00 ∷ 0x00 ∷ 0x00 ∷ 0x00 ∷ []; later = 0xc0 ∷ 0xe5 ∷ 0x00 ∷ 0x00 ∷ 0x07 ∷ 0xfa ∷ 0xc0 ∷ 0xf4 ∷ 0x00 ∷ 0x00 ∷ 0x07 ∷ 0xf7 ∷ []; at = refl; is = refl }
 
-call_stands : StandsAt image 12 (bytes_of (ril_b 0xc05 14 2042))
+call_stands : StandsAt image 12 (bytes_of (ril_b opcodes.BRASL 14 2042))
 unfolding number bits layout_of length_of be_bytes
 call_stands = record { earlier = 0xc0 ∷ 0x10 ∷ 0x00 ∷ 0x00 ∷ 0x00 ∷ 0x00 ∷ 0xe3 ∷ 0x20 ∷ 0x10 ∷ 0x00 ∷ 0x00 ∷ 0x04 ∷ []; later = 0xc0 ∷ 0xf4 ∷ 0x00 ∷ 0x00 ∷ 0x07 ∷ 0xf7 ∷ []; at = refl; is = refl }
 
-jump_stands : StandsAt image 18 (bytes_of (ril_c 0xc04 15 2039))
+jump_stands : StandsAt image 18 (bytes_of (ril_c opcodes.BRCL 15 2039))
 unfolding number bits layout_of length_of be_bytes
 jump_stands = record { earlier = 0xc0 ∷ 0x10 ∷ 0x00 ∷ 0x00 ∷ 0x00 ∷ 0x00 ∷ 0xe3 ∷ 0x20 ∷ 0x10 ∷ 0x00 ∷ 0x00 ∷ 0x04 ∷ 0xc0 ∷ 0xe5 ∷ 0x00 ∷ 0x00 ∷ 0x07 ∷ 0xfa ∷ []; later = []; at = refl; is = refl }
 
-brasl_listed : (a half : ℕ) → IsEncoded machine_rows RilB (ril_b 0xc05 a half).slots
+brasl_listed : (a half : ℕ) → IsEncoded machine_rows RilB (ril_b opcodes.BRASL a half).slots
 unfolding machine_rows row_for
-brasl_listed a half = listed machine_rows RilB (ril_b 0xc05 a half).slots (omega arith) (refl, refl, refl)
+brasl_listed a half = listed machine_rows RilB (ril_b opcodes.BRASL a half).slots (omega arith) (refl, refl, refl)
 
-address_step : (s t : State) → s.core.memory ≡ core.memory → s.address ≡ 4096 → FetchedStep (Found (decoded_of RilB (ril_b 0xc00 1 0).slots)) s (Executed None) t → MachineStep s (Executed None) t
-address_step s t memory at acts = step_at (ril_b 0xc00 1 0) 0 s (Executed None) t refl memory at address_stands (fits_ril_b 0xc00 1 0 (omega arith) (omega arith) (omega arith)) (larl_listed 1 0) acts
+address_step : (s t : State) → s.core.memory ≡ core.memory → s.address ≡ 4096 → FetchedStep (Found (decoded_of RilB (ril_b opcodes.LARL 1 0).slots)) s (Executed None) t → MachineStep s (Executed None) t
+address_step s t memory at acts = step_at (ril_b opcodes.LARL 1 0) 0 s (Executed None) t refl memory at address_stands (fits_ril_b opcodes.LARL 1 0 (omega arith) (omega arith) (omega arith)) (larl_listed 1 0) acts
 
-load_step : (s t : State) → s.core.memory ≡ core.memory → s.address ≡ 4102 → FetchedStep (Found (decoded_of Rxy (rxy 0xe304 2 1 0 0).slots)) s (Executed None) t → MachineStep s (Executed None) t
-load_step s t memory at acts = step_at (rxy 0xe304 2 1 0 0) 6 s (Executed None) t refl memory at load_stands (fits_rxy 0xe304 2 1 0 0 (omega arith) (omega arith) (omega arith) (omega arith) (omega arith)) (lg_listed 2) acts
+load_step : (s t : State) → s.core.memory ≡ core.memory → s.address ≡ 4102 → FetchedStep (Found (decoded_of Rxy (rxy opcodes.LG 2 1 0 0).slots)) s (Executed None) t → MachineStep s (Executed None) t
+load_step s t memory at acts = step_at (rxy opcodes.LG 2 1 0 0) 6 s (Executed None) t refl memory at load_stands (fits_rxy opcodes.LG 2 1 0 0 (omega arith) (omega arith) (omega arith) (omega arith) (omega arith)) (lg_listed 2) acts
 
-call_step : (s t : State) → s.core.memory ≡ core.memory → s.address ≡ 4108 → FetchedStep (Found (decoded_of RilB (ril_b 0xc05 14 2042).slots)) s (Executed None) t → MachineStep s (Executed None) t
-call_step s t memory at acts = step_at (ril_b 0xc05 14 2042) 12 s (Executed None) t refl memory at call_stands (fits_ril_b 0xc05 14 2042 (omega arith) (omega arith) (omega arith)) (brasl_listed 14 2042) acts
+call_step : (s t : State) → s.core.memory ≡ core.memory → s.address ≡ 4108 → FetchedStep (Found (decoded_of RilB (ril_b opcodes.BRASL 14 2042).slots)) s (Executed None) t → MachineStep s (Executed None) t
+call_step s t memory at acts = step_at (ril_b opcodes.BRASL 14 2042) 12 s (Executed None) t refl memory at call_stands (fits_ril_b opcodes.BRASL 14 2042 (omega arith) (omega arith) (omega arith)) (brasl_listed 14 2042) acts
 
-jump_step : (s t : State) → s.core.memory ≡ core.memory → s.address ≡ 4114 → FetchedStep (Found (decoded_of RilC (ril_c 0xc04 15 2039).slots)) s (Executed None) t → MachineStep s (Executed None) t
-jump_step s t memory at acts = step_at (ril_c 0xc04 15 2039) 18 s (Executed None) t refl memory at jump_stands (fits_ril_c 0xc04 15 2039 (omega arith) (omega arith) (omega arith)) (brcl_listed 15 2039) acts
+jump_step : (s t : State) → s.core.memory ≡ core.memory → s.address ≡ 4114 → FetchedStep (Found (decoded_of RilC (ril_c opcodes.BRCL 15 2039).slots)) s (Executed None) t → MachineStep s (Executed None) t
+jump_step s t memory at acts = step_at (ril_c opcodes.BRCL 15 2039) 18 s (Executed None) t refl memory at jump_stands (fits_ril_c opcodes.BRCL 15 2039 (omega arith) (omega arith) (omega arith)) (brcl_listed 15 2039) acts
 
 run : Run image (record { core = core; address = 4096 }) trace
 unfolding length_of semantics_in semantics_of

@@ -13,6 +13,7 @@ use Rattle.s390x_operations.specs.Effects.{is_selected}
 use Rattle.s390x_operations.specs.State.{CodeImage, IsLoaded, Memory, State, number_at, wrapping_add64}
 use Rattle.s390x_operations.specs.declared.size.Size.TheVariants.{Doubleword}
 use Rattle.s390x_operations.specs.declared.size.Width.TheVariants.{Bits32}
+use Rattle.s390x_rows.specs.declared.opcodes.TheConstants as opcodes
 use Rattle.s390x_typed_steps.specs.Parts.{CodePart, Branch, ToBlock, ToStep, table_parts, step_parts}
 use Rattle.s390x_typed_steps.specs.MachineInstruction.{bytes_of, ril_c}
 use Rattle.s390x_typed_steps.specs.Rows.{half_distance, table_distance, word_bytes}
@@ -84,7 +85,7 @@ reaches base table j target lt small =
 -- ---- the steps
 
 -- a branch at an offset of placed code, to an even offset
-branch_leads : (L : Layout) → ImageAt L → (offset mask target : ℕ) → offset % 2 ≡ 0 → offset < 2 ^ 31 → mask < 16 → target % 2 ≡ 0 → target < 2 ^ 31 → StandsAt L.image offset (bytes_of (ril_c 0xc04 mask (half_distance offset target))) → BranchesTo L.image offset mask (wrapping_add64 L.image.base target)
+branch_leads : (L : Layout) → ImageAt L → (offset mask target : ℕ) → offset % 2 ≡ 0 → offset < 2 ^ 31 → mask < 16 → target % 2 ≡ 0 → target < 2 ^ 31 → StandsAt L.image offset (bytes_of (ril_c opcodes.BRCL mask (half_distance offset target))) → BranchesTo L.image offset mask (wrapping_add64 L.image.base target)
 unfolding length_of
 branch_leads L image offset mask target even small lm even_target small_target stands =
     leads_by L offset mask (wrapping_add64 L.image.base target) (brcl_at L image offset even mask target lm small even_target small_target stands)

@@ -5,22 +5,27 @@ use Rattle.s390x_base.specs.declared.error.EmitError.TheVariants.{BadOperator}
 use Rattle.s390x_base.specs.declared.regs.Reg.{Reg}
 use Rattle.s390x_inst.specs.declared.args.MemArg.{MemArg}
 use Rattle.s390x_inst.specs.declared.args.MemArg.TheVariants.{BXD12, BXD20, Label, Constant, Symbol, RegOffset, InitialSPOffset, IncomingArgOffset, OutgoingArgOffset, SlotOffset, SpillOffset}
-use Rattle.s390x_inst.specs.declared.load.Load.{Load}
 use Rattle.s390x_inst.specs.declared.load.LoadOp.{LoadOp}
 use Rattle.s390x_inst.specs.declared.load.LoadOp.TheVariants as LoadOps
-use Rattle.s390x_inst.specs.Loads.{as_load, by_load, load_instruction}
-use Rattle.s390x_inst.proofs.Loads.{the_load}
+use Rattle.s390x_inst.specs.Loads.{load_instruction}
+use Rattle.s390x_inst.specs.declared.store.StoreOp.{StoreOp}
+use Rattle.s390x_inst.specs.declared.store.StoreOp.TheVariants as StoreOps
+use Rattle.s390x_inst.specs.Stores.{store_instruction}
+use Rattle.s390x_inst.proofs.Transfers.{Transfer, LoadOf, StoreOf, as_transfer, by_transfer}
 use Rattle.s390x_inst.specs.declared.inst.Inst.{Inst}
 use Rattle.s390x_inst.specs.declared.inst.Inst.TheVariants.{Loop', CondBreak, Call, ReturnCall}
 use Rattle.s390x_inst.specs.declared.inst.Inst.TheVariants.{AluRRR, AluRR, UnaryRR, CmpRR, Mov64, MovPReg, Mov32, AluRRSImm16, AluRSImm16, AluRSImm32, AluRUImm32, CmpRSImm16, CmpRSImm32, CmpRUImm32, Mov32Imm, Mov32SImm16, Mov64SImm16, Mov64SImm32, AluRUImm16Shifted, AluRUImm32Shifted, Mov64UImm16Shifted, Mov64UImm32Shifted, Insert64UImm16Shifted, Insert64UImm32Shifted, Extend, LoadAR, InsertAR, ShiftRR}
 use Rattle.s390x_inst.specs.declared.inst.Inst.TheVariants.{RxSBG, RxSBGTest, SMulWide, UMulWide, Flogr, SDivMod32, SDivMod64, UDivMod32, UDivMod64, CmpTrapRR, CmpTrapRSImm16, CmpTrapRUImm16, CMov32, CMov64, CMov32SImm16, CMov64SImm16, LoadIndexedAddr, LoadLogicalIndexedAddr, AllocateArgs, Fence, Nop2, LabelAddress, LoadSymbolReloc, AluRX, CmpRX}
-use Rattle.s390x_inst.specs.declared.inst.Inst.TheVariants.{LoadAddr, Store8, Store16, Store32, Store64, StoreRev16, StoreRev32, StoreRev64, StoreImm8, StoreImm16, StoreImm32SExt16, StoreImm64SExt16, LoadMultiple64, StoreMultiple64, AtomicRmw, AtomicCas32}
+use Rattle.s390x_inst.specs.declared.inst.Inst.TheVariants.{LoadAddr, StoreImm8, StoreImm16, StoreImm32SExt16, StoreImm64SExt16, LoadMultiple64, StoreMultiple64, AtomicRmw, AtomicCas32}
 use Rattle.s390x_inst.specs.declared.inst.Inst.TheVariants.{AtomicCas64, Jump, CondBr, IndirectBr, Ret, JTSequence, Nop0, Args, Rets, DummyUse, SequencePoint, Trap, TrapIf, Debugtrap, Vector}
 use Rattle.s390x_inst.specs.declared.vec_inst.VecInst.{VecInst}
 use Rattle.s390x_inst.specs.declared.vec_inst.VecInst.TheVariants.{VecRRR, VecRR, VecSelect, VecPermute, VecBlend, VecIntCmp, VecIntCmpS, VecIntEltCmp, VecMov, VecShiftRR, VecEvaluate, VecPermuteDWImm, MovToVec128, VecImmByteMask, VecImmReplicate, VecImmBitMask, VecReplicateLane, VecInsertLaneImm, VecInsertLaneImmUndef, VecInsertLane, VecInsertLaneUndef, VecExtractLane, FpuMove32, FpuMove64, VecEltRev, FpuCMov32, FpuCMov64, VecCMov}
-use Rattle.s390x_inst.specs.declared.vec_inst.VecInst.TheVariants.{VecInt128SCmpHi, VecInt128UCmpHi, VecLoad, VecLoadRev, VecLoadByte16Rev, VecLoadByte32Rev, VecLoadByte64Rev, VecLoadElt16Rev, VecLoadElt32Rev, VecLoadElt64Rev, VecStore, VecStoreRev, VecStoreByte16Rev, VecStoreByte32Rev, VecStoreByte64Rev, VecStoreElt16Rev, VecStoreElt32Rev, VecStoreElt64Rev, VecLoadReplicate, VecLoadReplicateRev, VecLoadLane, VecLoadLaneRev, VecLoadLaneUndef, VecLoadLaneRevUndef, VecStoreLane, VecStoreLaneRev}
+use Rattle.s390x_inst.specs.declared.vec_inst.VecInst.TheVariants.{VecInt128SCmpHi, VecInt128UCmpHi, VecLoadReplicate, VecLoadReplicateRev, VecLoadLane, VecLoadLaneRev, VecLoadLaneUndef, VecLoadLaneRevUndef, VecStoreLane, VecStoreLaneRev}
+use Rattle.s390x_rows.specs.declared.opcodes.TheConstants as opcodes
 use Rattle.s390x_typed_steps.proofs.RelativeRows.{alu_none, locked_none, vector_none}
-use Rattle.s390x_typed_steps.specs.Memory.{load, load_rows, without_relative, StorageForm, MemoryInstruction, loaded_memory, operate, load_and_operate, access_vector, access_elements, access_lane, reversed_code, load_lane_opcode, store_lane_opcode, load_reversed_opcode, store_reversed_opcode, is_left_lane, load_left, store_left}
+use Rattle.s390x_typed_steps.specs.Memory.{load_rows, store_rows, without_relative, StorageForm, RxForm, MemoryInstruction, loaded_memory, operate, load_and_operate, access_vector, access_elements, access_lane, reversed_code, load_lane_opcode, store_lane_opcode, load_reversed_opcode, store_reversed_opcode, is_left_lane, load_left, store_left}
+use Rattle.s390x_typed_steps.specs.General.{is_general}
+use Rattle.s390x_typed_steps.specs.Operands.{is_numbered}
 use Rattle.s390x_typed_steps.specs.Ranges.{OperandInRange}
 use Rattle.s390x_typed_steps.specs.Steps.{Step, Plain, LoadedStep, Shortened, Opening, Back, Break, CallingStep, NoLoadStep, TailOpeningStep, TailJumpStep}
 use Rattle.s390x_typed_steps.specs.Storage.{alu_rx, alu_rxy, atomic_rsy}
@@ -86,6 +91,7 @@ refused L o e valid = subst (λ m. ValidMemoryOr L m ⊥) e valid
 
 -- ---- all of them
 
+-- the last clause is a copy for each load and store of a whole register
 told_vector : (L : Layout) (v : VecInst) → IsValidInstruction L (Vector v) → instruction_kind L (Vector v) ≡ Unsupported → ⊥
 told_vector L (VecRRR op rd rn rm) valid e = absurd (cc)
 told_vector L (VecRR op rd rn) valid e = absurd (cc)
@@ -117,36 +123,17 @@ told_vector L (FpuCMov64 rd mask ri rm) valid e = absurd (cc)
 told_vector L (VecCMov rd mask ri rm) valid e = absurd (cc)
 told_vector L (VecInt128SCmpHi tmp rn rm) valid e = absurd (cc)
 told_vector L (VecInt128UCmpHi tmp rn rm) valid e = absurd (cc)
-told_vector L (VecLoad rd mem) valid e = access_told L (Vector (VecLoad rd mem)) _ refl refl refl valid.range e
-told_vector L (VecLoadRev rd mem) valid e = access_told L (Vector (VecLoadRev rd mem)) _ refl refl refl valid.range e
-told_vector L (VecLoadByte16Rev rd mem) valid e = access_told L (Vector (VecLoadByte16Rev rd mem)) _ refl refl refl valid.range e
-told_vector L (VecLoadByte32Rev rd mem) valid e = access_told L (Vector (VecLoadByte32Rev rd mem)) _ refl refl refl valid.range e
-told_vector L (VecLoadByte64Rev rd mem) valid e = access_told L (Vector (VecLoadByte64Rev rd mem)) _ refl refl refl valid.range e
-told_vector L (VecLoadElt16Rev rd mem) valid e = access_told L (Vector (VecLoadElt16Rev rd mem)) _ refl refl refl valid.range e
-told_vector L (VecLoadElt32Rev rd mem) valid e = access_told L (Vector (VecLoadElt32Rev rd mem)) _ refl refl refl valid.range e
-told_vector L (VecLoadElt64Rev rd mem) valid e = access_told L (Vector (VecLoadElt64Rev rd mem)) _ refl refl refl valid.range e
-told_vector L (VecStore rd mem) valid e = access_told L (Vector (VecStore rd mem)) _ refl refl refl valid.range e
-told_vector L (VecStoreRev rd mem) valid e = access_told L (Vector (VecStoreRev rd mem)) _ refl refl refl valid.range e
-told_vector L (VecStoreByte16Rev rd mem) valid e = access_told L (Vector (VecStoreByte16Rev rd mem)) _ refl refl refl valid.range e
-told_vector L (VecStoreByte32Rev rd mem) valid e = access_told L (Vector (VecStoreByte32Rev rd mem)) _ refl refl refl valid.range e
-told_vector L (VecStoreByte64Rev rd mem) valid e = access_told L (Vector (VecStoreByte64Rev rd mem)) _ refl refl refl valid.range e
-told_vector L (VecStoreElt16Rev rd mem) valid e = access_told L (Vector (VecStoreElt16Rev rd mem)) _ refl refl refl valid.range e
-told_vector L (VecStoreElt32Rev rd mem) valid e = access_told L (Vector (VecStoreElt32Rev rd mem)) _ refl refl refl valid.range e
-told_vector L (VecStoreElt64Rev rd mem) valid e = access_told L (Vector (VecStoreElt64Rev rd mem)) _ refl refl refl valid.range e
-told_vector L (VecLoadReplicate size rd mem) valid e = access_told L (Vector (VecLoadReplicate size rd mem)) _ refl refl refl (elements L 0xe705 rd (element_code size) mem valid) e
-told_vector L (VecLoadReplicateRev size rd mem) valid e = access_told L (Vector (VecLoadReplicateRev size rd mem)) _ refl refl refl (elements L 0xe605 rd (reversed_code size) mem valid) e
+told_vector L (VecLoadReplicate size rd mem) valid e = access_told L (Vector (VecLoadReplicate size rd mem)) _ refl refl refl (elements L opcodes.VLREP rd (element_code size) mem valid) e
+told_vector L (VecLoadReplicateRev size rd mem) valid e = access_told L (Vector (VecLoadReplicateRev size rd mem)) _ refl refl refl (elements L opcodes.VLBRREP rd (reversed_code size) mem valid) e
 told_vector L (VecLoadLane size rd ri mem lane) valid e = access_told L (Vector (VecLoadLane size rd ri mem lane)) _ refl refl refl (one_lane L (reuses_vector rd ri) load_lane_opcode (number_of rd) (element_code size) size lane mem valid) e
 told_vector L (VecLoadLaneRev size rd ri mem lane) valid e = access_told L (Vector (VecLoadLaneRev size rd ri mem lane)) _ refl refl refl (one_lane L (reuses_vector rd ri) load_reversed_opcode (number_of rd) (reversed_code size) size lane mem valid) e
 told_vector L (VecLoadLaneUndef size rd mem lane) valid e = access_told L (Vector (VecLoadLaneUndef size rd mem lane)) _ refl refl refl (left_lane L (is_left_lane size lane (number_of rd)) (is_vector rd) (load_left size (number_of rd)) load_lane_opcode (number_of rd) (element_code size) size lane mem valid) e
 told_vector L (VecLoadLaneRevUndef size rd mem lane) valid e = access_told L (Vector (VecLoadLaneRevUndef size rd mem lane)) _ refl refl refl (one_lane L (is_vector rd) load_reversed_opcode (number_of rd) (reversed_code size) size lane mem valid) e
 told_vector L (VecStoreLane size rd mem lane) valid e = access_told L (Vector (VecStoreLane size rd mem lane)) _ refl refl refl (left_lane L (is_left_lane size lane (number_of rd)) (is_vector rd) (store_left size (number_of rd)) store_lane_opcode (number_of rd) (element_code size) size lane mem valid) e
 told_vector L (VecStoreLaneRev size rd mem lane) valid e = access_told L (Vector (VecStoreLaneRev size rd mem lane)) _ refl refl refl (one_lane L (is_vector rd) store_reversed_opcode (number_of rd) (reversed_code size) size lane mem valid) e
+told_vector L v valid e = access_told L (Vector v) _ refl refl refl valid.range e
 
--- a load: the last clause is a copy for each
-told_load : (L : Layout) (op : LoadOp) (rd : Reg) (mem : MemArg) → IsValidInstruction L (load_instruction op rd mem) → instruction_kind L (load_instruction op rd mem) ≡ Unsupported → ⊥
-told_load L LoadOps.Load64 rd mem valid e = access_told L (load_instruction LoadOps.Load64 rd mem) _ refl refl refl valid.range e
-told_load L op rd mem valid e = access_told L (load_instruction op rd mem) _ refl refl refl valid.range e
-
+-- the last clause is a copy for each load and store of one register
 told_instruction : (L : Layout) (i : Inst) → IsValidInstruction L i → instruction_kind L i ≡ Unsupported → ⊥
 told_instruction L (AluRRR op rd rn rm) valid e = absurd (cc)
 told_instruction L (AluRR op rd ri rm) valid e = absurd (cc)
@@ -202,13 +189,6 @@ told_instruction L (LoadSymbolReloc rd reloc) valid e = absurd (cc)
 told_instruction L (AluRX op rd ri mem) valid e = access_told L (AluRX op rd ri mem) _ refl refl refl (operated L (is_some (alu_rx op) || is_some (alu_rxy op)) (alu_rx op) (alu_rxy op) rd ri mem valid) e
 told_instruction L (CmpRX op rn mem) valid e = access_told L (CmpRX op rn mem) _ refl refl refl valid.range e
 told_instruction L (LoadAddr rd mem) valid e = access_told L (LoadAddr rd mem) _ refl refl refl valid.range e
-told_instruction L (Store8 rd mem) valid e = access_told L (Store8 rd mem) _ refl refl refl valid.range e
-told_instruction L (Store16 rd mem) valid e = access_told L (Store16 rd mem) _ refl refl refl valid.range e
-told_instruction L (Store32 rd mem) valid e = access_told L (Store32 rd mem) _ refl refl refl valid.range e
-told_instruction L (Store64 rd mem) valid e = access_told L (Store64 rd mem) _ refl refl refl valid.range e
-told_instruction L (StoreRev16 rd mem) valid e = access_told L (StoreRev16 rd mem) _ refl refl refl valid.range e
-told_instruction L (StoreRev32 rd mem) valid e = access_told L (StoreRev32 rd mem) _ refl refl refl valid.range e
-told_instruction L (StoreRev64 rd mem) valid e = access_told L (StoreRev64 rd mem) _ refl refl refl valid.range e
 told_instruction L (StoreImm8 imm mem) valid e = access_told L (StoreImm8 imm mem) _ refl refl refl valid.range e
 told_instruction L (StoreImm16 imm mem) valid e = access_told L (StoreImm16 imm mem) _ refl refl refl valid.range e
 told_instruction L (StoreImm32SExt16 imm mem) valid e = access_told L (StoreImm32SExt16 imm mem) _ refl refl refl valid.range e
@@ -236,30 +216,35 @@ told_instruction L (Loop' mask body all) valid e = absurd valid
 told_instruction L (CondBreak mask) valid e = absurd valid
 told_instruction L (Call link info) valid e = absurd valid
 told_instruction L (ReturnCall info) valid e = absurd valid
-told_instruction L i valid e = let l : Load = the_load (as_load i) refl in told_load L l.op l.rd l.mem valid e
+told_instruction L i valid e = access_told L i _ refl refl refl valid.range e
 
-load_range : (L : Layout) (rd : Reg) (rx_opcode rxy_opcode ril_opcode : Option ℕ) (mem : MemArg) → ValidMemoryOr L (without_relative (load rd rx_opcode rxy_opcode ril_opcode mem)) ⊥ → OperandInRange mem
-load_range L rd rx_opcode rxy_opcode (Some opcode) mem valid = valid.range
-load_range L rd rx_opcode rxy_opcode None mem valid = absurd valid
+row_range : (L : Layout) (register : ℕ) (short long relative : Option ℕ) (general reads : Bool) (mem : MemArg) →
+    ValidMemoryOr L (without_relative (Some (record { form = RxForm register short long relative; operand = mem; accesses = true; operands_valid = general; reads_scratch = reads }))) ⊥ → OperandInRange mem
+row_range L register short long (Some opcode) general reads mem valid = valid.range
+row_range L register short long None general reads mem valid = absurd valid
 
 -- the last clause is a copy for each
 told_load_loaded : (L : Layout) (op : LoadOp) (rd : Reg) (mem : MemArg) → ValidMemoryOr L (loaded_memory (load_instruction op rd mem)) ⊥ → loaded_kind L (load_instruction op rd mem) ≡ Unsupported → ⊥
-told_load_loaded L LoadOps.Load64 rd mem valid e = loaded_told L (load_instruction LoadOps.Load64 rd mem) _ refl (load_range L rd (load_rows LoadOps.Load64).rx (load_rows LoadOps.Load64).rxy (load_rows LoadOps.Load64).ril mem valid) e
-told_load_loaded L op rd mem valid e = loaded_told L (load_instruction op rd mem) _ refl (load_range L rd (load_rows op).rx (load_rows op).rxy (load_rows op).ril mem valid) e
+told_load_loaded L LoadOps.Load64 rd mem valid e = loaded_told L (load_instruction LoadOps.Load64 rd mem) _ refl (row_range L (number_of rd) (load_rows LoadOps.Load64).rx (load_rows LoadOps.Load64).rxy (load_rows LoadOps.Load64).ril (is_general rd) false mem valid) e
+told_load_loaded L op rd mem valid e = loaded_told L (load_instruction op rd mem) _ refl (row_range L (number_of rd) (load_rows op).rx (load_rows op).rxy (load_rows op).ril (is_general rd) false mem valid) e
 
-told_loaded_or : (L : Layout) (i : Inst) (o : Option Load) → ValidMemoryOr L (by_load (λ l. loaded_memory (load_instruction l.op l.rd l.mem)) None o) ⊥ → loaded_kind L (by_load (λ l. load_instruction l.op l.rd l.mem) i o) ≡ Unsupported → ⊥
+told_store_loaded : (L : Layout) (op : StoreOp) (rd : Reg) (mem : MemArg) → ValidMemoryOr L (loaded_memory (store_instruction op rd mem)) ⊥ → loaded_kind L (store_instruction op rd mem) ≡ Unsupported → ⊥
+told_store_loaded L StoreOps.Store64 rd mem valid e = loaded_told L (store_instruction StoreOps.Store64 rd mem) _ refl (row_range L (number_of rd) (store_rows StoreOps.Store64).rx (store_rows StoreOps.Store64).rxy (store_rows StoreOps.Store64).ril (is_general rd) (is_numbered 1 rd) mem valid) e
+told_store_loaded L op rd mem valid e = loaded_told L (store_instruction op rd mem) _ refl (row_range L (number_of rd) (store_rows op).rx (store_rows op).rxy (store_rows op).ril (is_general rd) (is_numbered 1 rd) mem valid) e
+
+told_loaded_or : (L : Layout) (i : Inst) (o : Option Transfer) →
+    ValidMemoryOr L (by_transfer (λ l. loaded_memory (load_instruction l.op l.rd l.mem)) (λ s. loaded_memory (store_instruction s.op s.rd s.mem)) None o) ⊥ →
+    loaded_kind L (by_transfer (λ l. load_instruction l.op l.rd l.mem) (λ s. store_instruction s.op s.rd s.mem) i o) ≡ Unsupported → ⊥
 told_loaded_or L i None valid e = absurd valid
-told_loaded_or L i (Some l) valid e = told_load_loaded L l.op l.rd l.mem valid e
+told_loaded_or L i (Some (LoadOf l)) valid e = told_load_loaded L l.op l.rd l.mem valid e
+told_loaded_or L i (Some (StoreOf s)) valid e = told_store_loaded L s.op s.rd s.mem valid e
 
 told_loaded : (L : Layout) (i : Inst) → ValidMemoryOr L (loaded_memory i) ⊥ → loaded_kind L i ≡ Unsupported → ⊥
 told_loaded L (CmpRX op rn mem) valid e = loaded_told L (CmpRX op rn mem) _ refl valid.range e
-told_loaded L (Store16 rd mem) valid e = loaded_told L (Store16 rd mem) _ refl valid.range e
-told_loaded L (Store32 rd mem) valid e = loaded_told L (Store32 rd mem) _ refl valid.range e
-told_loaded L (Store64 rd mem) valid e = loaded_told L (Store64 rd mem) _ refl valid.range e
 told_loaded L (AluRX op rd ri mem) valid e = refused L (loaded_memory (AluRX op rd ri mem)) (alu_none (is_some (alu_rx op) || is_some (alu_rxy op)) (alu_rx op) (alu_rxy op) rd ri mem) valid
 told_loaded L (AtomicRmw op rd rn mem) valid e = refused L (loaded_memory (AtomicRmw op rd rn mem)) (locked_none (atomic_rsy op) rd rn mem) valid
 told_loaded L (Vector v) valid e = refused L (loaded_memory (Vector v)) (vector_none v) valid
-told_loaded L i valid e = told_loaded_or L i (as_load i) valid e
+told_loaded L i valid e = told_loaded_or L i (as_transfer i) valid e
 
 pub told : (L : Layout) (s : Step) → IsValidStep L s → step_kind L s ≡ Unsupported → ⊥
 told L (Plain i) valid e = told_instruction L i valid e

@@ -6,7 +6,9 @@ use Rattle.s390x_base.specs.declared.regs.Reg.{Reg}
 use Rattle.s390x_enc.specs.Operands.{is_general_class as encodes_general}
 use Rattle.s390x_inst.specs.declared.load.LoadOp.{LoadOp}
 use Rattle.s390x_inst.specs.declared.load.LoadOp.TheVariants.{Load64}
-use Rattle.s390x_typed_steps.specs.Memory.{load_rows}
+use Rattle.s390x_inst.specs.declared.store.StoreOp.{StoreOp}
+use Rattle.s390x_inst.specs.declared.store.StoreOp.TheVariants.{Store64}
+use Rattle.s390x_typed_steps.specs.Memory.{load_rows, store_rows}
 use Rattle.s390x_typed_steps.specs.General.{is_general, reuses}
 use Rattle.s390x_typed_steps.specs.Memory.{is_range}
 use Rattle.s390x_address.specs.Rows.{rows_take_general, has_12_bits}
@@ -21,6 +23,11 @@ opcodes_encode r rx rxy h g =
 pub load_rows_encode : (op : LoadOp) → (rows_take_general (load_rows op).rx && rows_take_general (load_rows op).rxy && has_12_bits (load_rows op).ril) ≡ true
 load_rows_encode Load64 = refl
 load_rows_encode op = refl
+
+-- those of stores, likewise
+pub store_rows_encode : (op : StoreOp) → (rows_take_general (store_rows op).rx && rows_take_general (store_rows op).rxy && has_12_bits (store_rows op).ril) ≡ true
+store_rows_encode Store64 = refl
+store_rows_encode op = refl
 
 -- one register
 pub register_encodes : (r : Reg) (rx rxy ril : Option ℕ) → (rows_take_general rx && rows_take_general rxy && has_12_bits ril) ≡ true → (has_12_bits ril && (not (is_general r) || (encodes_general r && rows_take_general rx && rows_take_general rxy))) ≡ true

@@ -2,6 +2,7 @@
 ghost use Rattle.std.specs.Prelude.{◌≡◌, ◌<◌, ◌&&◌, true, Some};
 ghost use Rattle.std.specs.Option.{option_map};
 ghost use Rattle.s390x_base.specs.Regs.{number_of};
+ghost use Rattle.s390x_rows.specs.declared.opcodes.TheConstants as opcodes;
 ghost use Rattle.s390x_typed_steps.specs.General.{is_general, low_halfword};
 ghost use Rattle.s390x_typed_steps.specs.MachineInstruction.{rrf_cde};
 ghost use Rattle.s390x_typed_steps.specs.Opcodes.{alu_three, alu_two, cmp_two, unary_two, alu_halfword, alu_three_halfword, alu_signed_word, alu_unsigned_word, cmp_halfword, cmp_signed_word, cmp_unsigned_word};
@@ -15,6 +16,7 @@ use crate::registers::{same_number, three_general, two_general};
 use crate::shapes::into_row;
 use s390x_base::{Code, EmitError, Reg, Writable, gpr};
 use s390x_inst::{ALUOp, CmpOp, UnaryOp};
+use s390x_rows::opcodes;
 use s390x_typed_steps::{bits_of_halfword, bits_of_unsigned};
 
 /// The opcode of an operator's row with an output and two inputs (RRF). None where it has none.
@@ -22,32 +24,32 @@ pub fn three_opcode(op: ALUOp) -> Option<u16>
     ensures { result ≡ alu_three op }
 {
     match op {
-        ALUOp::Add32 => Some(0xb9f8),
-        ALUOp::Add64 => Some(0xb9e8),
-        ALUOp::AddLogical32 => Some(0xb9fa),
-        ALUOp::AddLogical64 => Some(0xb9ea),
-        ALUOp::Sub32 => Some(0xb9f9),
-        ALUOp::Sub64 => Some(0xb9e9),
-        ALUOp::SubLogical32 => Some(0xb9fb),
-        ALUOp::SubLogical64 => Some(0xb9eb),
-        ALUOp::Mul32 | ALUOp::Mul32CC => Some(0xb9fd),
-        ALUOp::Mul64 | ALUOp::Mul64CC => Some(0xb9ed),
-        ALUOp::And32 => Some(0xb9f4),
-        ALUOp::And64 => Some(0xb9e4),
-        ALUOp::Orr32 => Some(0xb9f6),
-        ALUOp::Orr64 => Some(0xb9e6),
-        ALUOp::Xor32 => Some(0xb9f7),
-        ALUOp::Xor64 => Some(0xb9e7),
-        ALUOp::NotAnd32 => Some(0xb974),
-        ALUOp::NotAnd64 => Some(0xb964),
-        ALUOp::NotOrr32 => Some(0xb976),
-        ALUOp::NotOrr64 => Some(0xb966),
-        ALUOp::NotXor32 => Some(0xb977),
-        ALUOp::NotXor64 => Some(0xb967),
-        ALUOp::AndNot32 => Some(0xb9f5),
-        ALUOp::AndNot64 => Some(0xb9e5),
-        ALUOp::OrrNot32 => Some(0xb975),
-        ALUOp::OrrNot64 => Some(0xb965),
+        ALUOp::Add32 => Some(opcodes::ARK),
+        ALUOp::Add64 => Some(opcodes::AGRK),
+        ALUOp::AddLogical32 => Some(opcodes::ALRK),
+        ALUOp::AddLogical64 => Some(opcodes::ALGRK),
+        ALUOp::Sub32 => Some(opcodes::SRK),
+        ALUOp::Sub64 => Some(opcodes::SGRK),
+        ALUOp::SubLogical32 => Some(opcodes::SLRK),
+        ALUOp::SubLogical64 => Some(opcodes::SLGRK),
+        ALUOp::Mul32 | ALUOp::Mul32CC => Some(opcodes::MSRKC),
+        ALUOp::Mul64 | ALUOp::Mul64CC => Some(opcodes::MSGRKC),
+        ALUOp::And32 => Some(opcodes::NRK),
+        ALUOp::And64 => Some(opcodes::NGRK),
+        ALUOp::Orr32 => Some(opcodes::ORK),
+        ALUOp::Orr64 => Some(opcodes::OGRK),
+        ALUOp::Xor32 => Some(opcodes::XRK),
+        ALUOp::Xor64 => Some(opcodes::XGRK),
+        ALUOp::NotAnd32 => Some(opcodes::NNRK),
+        ALUOp::NotAnd64 => Some(opcodes::NNGRK),
+        ALUOp::NotOrr32 => Some(opcodes::NORK),
+        ALUOp::NotOrr64 => Some(opcodes::NOGRK),
+        ALUOp::NotXor32 => Some(opcodes::NXRK),
+        ALUOp::NotXor64 => Some(opcodes::NXGRK),
+        ALUOp::AndNot32 => Some(opcodes::NCRK),
+        ALUOp::AndNot64 => Some(opcodes::NCGRK),
+        ALUOp::OrrNot32 => Some(opcodes::OCRK),
+        ALUOp::OrrNot64 => Some(opcodes::OCGRK),
         _ => None,
     }
 }
@@ -57,27 +59,27 @@ pub fn two_opcode(op: ALUOp) -> Option<u16>
     ensures { result ≡ alu_two op }
 {
     match op {
-        ALUOp::Add32 => Some(0x1a),
-        ALUOp::Add64 => Some(0xb908),
-        ALUOp::Add64Ext32 => Some(0xb918),
-        ALUOp::AddLogical32 => Some(0x1e),
-        ALUOp::AddLogical64 => Some(0xb90a),
-        ALUOp::AddLogical64Ext32 => Some(0xb91a),
-        ALUOp::Sub32 => Some(0x1b),
-        ALUOp::Sub64 => Some(0xb909),
-        ALUOp::Sub64Ext32 => Some(0xb919),
-        ALUOp::SubLogical32 => Some(0x1f),
-        ALUOp::SubLogical64 => Some(0xb90b),
-        ALUOp::SubLogical64Ext32 => Some(0xb91b),
-        ALUOp::Mul32 => Some(0xb252),
-        ALUOp::Mul64 => Some(0xb90c),
-        ALUOp::Mul64Ext32 => Some(0xb91c),
-        ALUOp::And32 => Some(0x14),
-        ALUOp::And64 => Some(0xb980),
-        ALUOp::Orr32 => Some(0x16),
-        ALUOp::Orr64 => Some(0xb981),
-        ALUOp::Xor32 => Some(0x17),
-        ALUOp::Xor64 => Some(0xb982),
+        ALUOp::Add32 => Some(opcodes::AR),
+        ALUOp::Add64 => Some(opcodes::AGR),
+        ALUOp::Add64Ext32 => Some(opcodes::AGFR),
+        ALUOp::AddLogical32 => Some(opcodes::ALR),
+        ALUOp::AddLogical64 => Some(opcodes::ALGR),
+        ALUOp::AddLogical64Ext32 => Some(opcodes::ALGFR),
+        ALUOp::Sub32 => Some(opcodes::SR),
+        ALUOp::Sub64 => Some(opcodes::SGR),
+        ALUOp::Sub64Ext32 => Some(opcodes::SGFR),
+        ALUOp::SubLogical32 => Some(opcodes::SLR),
+        ALUOp::SubLogical64 => Some(opcodes::SLGR),
+        ALUOp::SubLogical64Ext32 => Some(opcodes::SLGFR),
+        ALUOp::Mul32 => Some(opcodes::MSR),
+        ALUOp::Mul64 => Some(opcodes::MSGR),
+        ALUOp::Mul64Ext32 => Some(opcodes::MSGFR),
+        ALUOp::And32 => Some(opcodes::NR),
+        ALUOp::And64 => Some(opcodes::NGR),
+        ALUOp::Orr32 => Some(opcodes::OR),
+        ALUOp::Orr64 => Some(opcodes::OGR),
+        ALUOp::Xor32 => Some(opcodes::XR),
+        ALUOp::Xor64 => Some(opcodes::XGR),
         _ => None,
     }
 }
@@ -87,12 +89,12 @@ pub fn compare_opcode(op: CmpOp) -> Option<u16>
     ensures { result ≡ cmp_two op }
 {
     match op {
-        CmpOp::CmpS32 => Some(0x19),
-        CmpOp::CmpS64 => Some(0xb920),
-        CmpOp::CmpS64Ext32 => Some(0xb930),
-        CmpOp::CmpL32 => Some(0x15),
-        CmpOp::CmpL64 => Some(0xb921),
-        CmpOp::CmpL64Ext32 => Some(0xb931),
+        CmpOp::CmpS32 => Some(opcodes::CR),
+        CmpOp::CmpS64 => Some(opcodes::CGR),
+        CmpOp::CmpS64Ext32 => Some(opcodes::CGFR),
+        CmpOp::CmpL32 => Some(opcodes::CLR),
+        CmpOp::CmpL64 => Some(opcodes::CLGR),
+        CmpOp::CmpL64Ext32 => Some(opcodes::CLGFR),
         _ => None,
     }
 }
@@ -102,16 +104,16 @@ pub fn unary_opcode(op: UnaryOp) -> Option<u16>
     ensures { result ≡ unary_two op }
 {
     match op {
-        UnaryOp::Abs32 => Some(0x10),
-        UnaryOp::Abs64 => Some(0xb900),
-        UnaryOp::Abs64Ext32 => Some(0xb910),
-        UnaryOp::Neg32 => Some(0x13),
-        UnaryOp::Neg64 => Some(0xb903),
-        UnaryOp::Neg64Ext32 => Some(0xb913),
-        UnaryOp::BSwap32 => Some(0xb91f),
-        UnaryOp::BSwap64 => Some(0xb90f),
-        UnaryOp::Clz64 => Some(0xb968),
-        UnaryOp::Ctz64 => Some(0xb969),
+        UnaryOp::Abs32 => Some(opcodes::LPR),
+        UnaryOp::Abs64 => Some(opcodes::LPGR),
+        UnaryOp::Abs64Ext32 => Some(opcodes::LPGFR),
+        UnaryOp::Neg32 => Some(opcodes::LCR),
+        UnaryOp::Neg64 => Some(opcodes::LCGR),
+        UnaryOp::Neg64Ext32 => Some(opcodes::LCGFR),
+        UnaryOp::BSwap32 => Some(opcodes::LRVR),
+        UnaryOp::BSwap64 => Some(opcodes::LRVGR),
+        UnaryOp::Clz64 => Some(opcodes::CLZG),
+        UnaryOp::Ctz64 => Some(opcodes::CTZG),
         _ => None,
     }
 }
@@ -121,10 +123,10 @@ pub fn halfword_opcode(op: ALUOp) -> Option<ShortOpcode>
     ensures { option_map opcode_of result ≡ alu_halfword op }
 {
     match op {
-        ALUOp::Add32 => Some(short(0xa7a)),
-        ALUOp::Add64 => Some(short(0xa7b)),
-        ALUOp::Mul32 => Some(short(0xa7c)),
-        ALUOp::Mul64 => Some(short(0xa7d)),
+        ALUOp::Add32 => Some(short(opcodes::AHI)),
+        ALUOp::Add64 => Some(short(opcodes::AGHI)),
+        ALUOp::Mul32 => Some(short(opcodes::MHI)),
+        ALUOp::Mul64 => Some(short(opcodes::MGHI)),
         _ => None,
     }
 }
@@ -135,8 +137,8 @@ pub fn three_halfword_opcode(op: ALUOp) -> Option<u16>
     ensures { result ≡ alu_three_halfword op }
 {
     match op {
-        ALUOp::Add32 => Some(0xecd8),
-        ALUOp::Add64 => Some(0xecd9),
+        ALUOp::Add32 => Some(opcodes::AHIK),
+        ALUOp::Add64 => Some(opcodes::AGHIK),
         _ => None,
     }
 }
@@ -146,10 +148,10 @@ pub fn signed_word_opcode(op: ALUOp) -> Option<ShortOpcode>
     ensures { option_map opcode_of result ≡ alu_signed_word op }
 {
     match op {
-        ALUOp::Add32 => Some(short(0xc29)),
-        ALUOp::Add64 => Some(short(0xc28)),
-        ALUOp::Mul32 => Some(short(0xc21)),
-        ALUOp::Mul64 => Some(short(0xc20)),
+        ALUOp::Add32 => Some(short(opcodes::AFI)),
+        ALUOp::Add64 => Some(short(opcodes::AGFI)),
+        ALUOp::Mul32 => Some(short(opcodes::MSFI)),
+        ALUOp::Mul64 => Some(short(opcodes::MSGFI)),
         _ => None,
     }
 }
@@ -159,10 +161,10 @@ pub fn unsigned_word_opcode(op: ALUOp) -> Option<ShortOpcode>
     ensures { option_map opcode_of result ≡ alu_unsigned_word op }
 {
     match op {
-        ALUOp::AddLogical32 => Some(short(0xc2b)),
-        ALUOp::AddLogical64 => Some(short(0xc2a)),
-        ALUOp::SubLogical32 => Some(short(0xc25)),
-        ALUOp::SubLogical64 => Some(short(0xc24)),
+        ALUOp::AddLogical32 => Some(short(opcodes::ALFI)),
+        ALUOp::AddLogical64 => Some(short(opcodes::ALGFI)),
+        ALUOp::SubLogical32 => Some(short(opcodes::SLFI)),
+        ALUOp::SubLogical64 => Some(short(opcodes::SLGFI)),
         _ => None,
     }
 }
@@ -172,8 +174,8 @@ pub fn compare_halfword_opcode(op: CmpOp) -> Option<ShortOpcode>
     ensures { option_map opcode_of result ≡ cmp_halfword op }
 {
     match op {
-        CmpOp::CmpS32 => Some(short(0xa7e)),
-        CmpOp::CmpS64 => Some(short(0xa7f)),
+        CmpOp::CmpS32 => Some(short(opcodes::CHI)),
+        CmpOp::CmpS64 => Some(short(opcodes::CGHI)),
         _ => None,
     }
 }
@@ -183,8 +185,8 @@ pub fn compare_signed_word_opcode(op: CmpOp) -> Option<ShortOpcode>
     ensures { option_map opcode_of result ≡ cmp_signed_word op }
 {
     match op {
-        CmpOp::CmpS32 => Some(short(0xc2d)),
-        CmpOp::CmpS64 => Some(short(0xc2c)),
+        CmpOp::CmpS32 => Some(short(opcodes::CFI)),
+        CmpOp::CmpS64 => Some(short(opcodes::CGFI)),
         _ => None,
     }
 }
@@ -194,8 +196,8 @@ pub fn compare_unsigned_word_opcode(op: CmpOp) -> Option<ShortOpcode>
     ensures { option_map opcode_of result ≡ cmp_unsigned_word op }
 {
     match op {
-        CmpOp::CmpL32 => Some(short(0xc2f)),
-        CmpOp::CmpL64 => Some(short(0xc2e)),
+        CmpOp::CmpL32 => Some(short(opcodes::CLFI)),
+        CmpOp::CmpL64 => Some(short(opcodes::CLGFI)),
         _ => None,
     }
 }
@@ -206,10 +208,10 @@ fn count_ones(rd: &Writable<Reg>, rn: &Reg, mode: u8) -> Result<Code, EmitError>
     requires { mode < 16 }
     ensures { result
         ≡ code_where (is_general rd.now && is_general rn.now)
-        (rrf_cde 0xb9e1 (number_of rd.now) (number_of rn.now) mode 0) }
+        (rrf_cde opcodes.POPCNT (number_of rd.now) (number_of rn.now) mode 0) }
 {
     let output = rd.to_reg();
-    masked(two_general(&output, rn), 0xb9e1, output, *rn, mode)
+    masked(two_general(&output, rn), opcodes::POPCNT, output, *rn, mode)
 }
 
 /// One operand. The count of ones has its mode in a mask. None where there is no row; `BadRegister` comes where a
@@ -322,11 +324,11 @@ pub fn allocate_row(size: u32) -> Option<Result<Code, EmitError>>
     if size < 32768 {
         Some(halfword(
             true,
-            short(0xa7b),
+            short(opcodes::AGHI),
             gpr(15),
             bits_of_halfword(-(size as i16)),
         ))
     } else {
-        Some(word(true, short(0xc24), gpr(15), bits_of_unsigned(size)))
+        Some(word(true, short(opcodes::SLGFI), gpr(15), bits_of_unsigned(size)))
     }
 }

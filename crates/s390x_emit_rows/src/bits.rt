@@ -2,6 +2,7 @@
 ghost use Rattle.std.specs.Prelude.{◌≡◌, ◌+◌, ◌<◌, ◌&&◌, true, Some, nat_lt};
 ghost use Rattle.std.specs.Option.{option_map};
 ghost use Rattle.s390x_base.specs.Regs.{number_of};
+ghost use Rattle.s390x_rows.specs.declared.opcodes.TheConstants as opcodes;
 ghost use Rattle.s390x_typed_steps.specs.General.{is_general, is_even_pair, reuses, rotation, low_byte};
 ghost use Rattle.s390x_typed_steps.specs.MachineInstruction.{rrf_ab, rsy};
 ghost use Rattle.s390x_typed_steps.specs.Opcodes.{of_one, alu_part, alu_half, shift_opcode, rotate_then, rotate_then_test};
@@ -16,6 +17,7 @@ use crate::registers::{is_even_pair, is_reused, three_general, two_general};
 use s390x_address::general;
 use s390x_base::{Code, EmitError, Reg, Writable, WritableRegPair};
 use s390x_inst::{ALUOp, RxSBGOp, ShiftOp};
+use s390x_rows::opcodes;
 use s390x_typed_steps::low_byte;
 
 fn of_one(zeroth: u16, n: u8) -> Option<ShortOpcode>
@@ -31,10 +33,22 @@ pub fn part_opcode(op: ALUOp, shift: u8) -> Option<ShortOpcode>
     ensures { option_map opcode_of result ≡ alu_part op shift }
 {
     match op {
-        ALUOp::And32 => of_two(0xa57, 0xa56, shift),
-        ALUOp::And64 => of_four(0xa57, 0xa56, 0xa55, 0xa54, shift),
-        ALUOp::Orr32 => of_two(0xa5b, 0xa5a, shift),
-        ALUOp::Orr64 => of_four(0xa5b, 0xa5a, 0xa59, 0xa58, shift),
+        ALUOp::And32 => of_two(opcodes::NILL, opcodes::NILH, shift),
+        ALUOp::And64 => of_four(
+            opcodes::NILL,
+            opcodes::NILH,
+            opcodes::NIHL,
+            opcodes::NIHH,
+            shift,
+        ),
+        ALUOp::Orr32 => of_two(opcodes::OILL, opcodes::OILH, shift),
+        ALUOp::Orr64 => of_four(
+            opcodes::OILL,
+            opcodes::OILH,
+            opcodes::OIHL,
+            opcodes::OIHH,
+            shift,
+        ),
         _ => None,
     }
 }
@@ -45,12 +59,12 @@ pub fn half_opcode(op: ALUOp, shift: u8) -> Option<ShortOpcode>
     ensures { option_map opcode_of result ≡ alu_half op shift }
 {
     match op {
-        ALUOp::And32 => of_one(0xc0b, shift),
-        ALUOp::And64 => of_two(0xc0b, 0xc0a, shift),
-        ALUOp::Orr32 => of_one(0xc0d, shift),
-        ALUOp::Orr64 => of_two(0xc0d, 0xc0c, shift),
-        ALUOp::Xor32 => of_one(0xc07, shift),
-        ALUOp::Xor64 => of_two(0xc07, 0xc06, shift),
+        ALUOp::And32 => of_one(opcodes::NILF, shift),
+        ALUOp::And64 => of_two(opcodes::NILF, opcodes::NIHF, shift),
+        ALUOp::Orr32 => of_one(opcodes::OILF, shift),
+        ALUOp::Orr64 => of_two(opcodes::OILF, opcodes::OIHF, shift),
+        ALUOp::Xor32 => of_one(opcodes::XILF, shift),
+        ALUOp::Xor64 => of_two(opcodes::XILF, opcodes::XIHF, shift),
         _ => None,
     }
 }
@@ -59,14 +73,14 @@ fn shift_opcode(op: ShiftOp) -> u16
     ensures { result ≡ shift_opcode op }
 {
     match op {
-        ShiftOp::RotL32 => 0xeb1d,
-        ShiftOp::RotL64 => 0xeb1c,
-        ShiftOp::LShL32 => 0xebdf,
-        ShiftOp::LShL64 => 0xeb0d,
-        ShiftOp::LShR32 => 0xebde,
-        ShiftOp::LShR64 => 0xeb0c,
-        ShiftOp::AShR32 => 0xebdc,
-        ShiftOp::AShR64 => 0xeb0a,
+        ShiftOp::RotL32 => opcodes::RLL,
+        ShiftOp::RotL64 => opcodes::RLLG,
+        ShiftOp::LShL32 => opcodes::SLLK,
+        ShiftOp::LShL64 => opcodes::SLLG,
+        ShiftOp::LShR32 => opcodes::SRLK,
+        ShiftOp::LShR64 => opcodes::SRLG,
+        ShiftOp::AShR32 => opcodes::SRAK,
+        ShiftOp::AShR64 => opcodes::SRAG,
     }
 }
 
@@ -74,10 +88,10 @@ fn rotate_opcode(op: RxSBGOp) -> u16
     ensures { result ≡ rotate_then op }
 {
     match op {
-        RxSBGOp::Insert => 0xec59,
-        RxSBGOp::And => 0xec54,
-        RxSBGOp::Or => 0xec56,
-        RxSBGOp::Xor => 0xec57,
+        RxSBGOp::Insert => opcodes::RISBGN,
+        RxSBGOp::And => opcodes::RNSBG,
+        RxSBGOp::Or => opcodes::ROSBG,
+        RxSBGOp::Xor => opcodes::RXSBG,
     }
 }
 
@@ -86,9 +100,9 @@ fn test_opcode(op: RxSBGOp) -> Option<u16>
 {
     match op {
         RxSBGOp::Insert => None,
-        RxSBGOp::And => Some(0xec54),
-        RxSBGOp::Or => Some(0xec56),
-        RxSBGOp::Xor => Some(0xec57),
+        RxSBGOp::And => Some(opcodes::RNSBG),
+        RxSBGOp::Or => Some(opcodes::ROSBG),
+        RxSBGOp::Xor => Some(opcodes::RXSBG),
     }
 }
 
@@ -197,10 +211,11 @@ pub fn product_row(rd: &WritableRegPair, rn: &Reg, rm: &Reg) -> Option<Result<Co
         ≡ single_code
         (single_with
         (is_even_pair rd.now.hi rd.now.lo && is_general rn.now && is_general rm.now)
-        (Some (rrf_ab 0xb9ec (number_of rd.now.hi) (number_of rn.now) (number_of rm.now) 0))) }
+        (Some
+        (rrf_ab opcodes.MGRK (number_of rd.now.hi) (number_of rn.now) (number_of rm.now) 0))) }
 {
     if is_even_pair(rd) {
-        Some(three_operands(0xb9ec, &rd.hi.to_reg(), rn, rm))
+        Some(three_operands(opcodes::MGRK, &rd.hi.to_reg(), rn, rm))
     } else {
         Some(Err(EmitError::BadRegister))
     }

@@ -3,16 +3,19 @@ ghost use Rattle.std.specs.Prelude.{◌≡◌, ◌&&◌, if◌then◌else◌, tr
 ghost use Rattle.std.specs.Option.{option_map};
 ghost use Rattle.s390x_address.specs.Rows.{memory_instruction_of, storage_form_of, relative_encodes, rows_encode, may_encode, rows_take_general, has_12_bits};
 ghost use Rattle.s390x_inst.specs.Loads.{as_load, by_load};
+ghost use Rattle.s390x_inst.specs.Stores.{as_store, by_store};
+ghost use Rattle.s390x_rows.specs.declared.opcodes.TheConstants as opcodes;
 ghost use Rattle.s390x_typed_steps.specs.General.{low_byte, low_halfword};
-ghost use Rattle.s390x_typed_steps.specs.Memory.{load, load_memory, store, store_immediate, SiForm, SilForm, is_range, multiple, load_and_operate, compare_and_swap, memory};
+ghost use Rattle.s390x_typed_steps.specs.Memory.{load, load_memory, store, store_memory, store_immediate, SiForm, SilForm, is_range, multiple, load_and_operate, compare_and_swap, memory};
 ghost use Rattle.s390x_typed_steps.specs.Storage.{alu_rx, alu_rxy, cmp_rx, cmp_rxy, cmp_ril, atomic_rsy};
 
 use crate::registers::{is_reused, two_general};
 use s390x_address::{MemoryInst, StorageRows, general, holds_scratch, is_numbered, number};
 use s390x_base::{Reg, Writable};
 use s390x_emit_vec::find_vector_memory;
-use s390x_inst::{ALUOp, CmpOp, Inst, Load, MemArg};
-use s390x_typed_steps::{low_byte, rows_of_load};
+use s390x_inst::{ALUOp, CmpOp, Inst, Load, MemArg, Store};
+use s390x_rows::opcodes;
+use s390x_typed_steps::{low_byte, rows_of_load, rows_of_store};
 
 // An access by one register.
 #[tactic(auto, using(crate::proofs::Storing::register_encodes))]
@@ -60,19 +63,14 @@ pub fn memory_of_load(load: &Load) -> MemoryInst
     )
 }
 
-// A store of a register.
-fn store(
-    rd: &Reg,
-    rx: Option<u8>,
-    rxy: Option<u16>,
-    ril: Option<u16>,
-    operand: &MemArg,
-) -> Option<MemoryInst>
-    requires { (rows_take_general rx && rows_take_general rxy && has_12_bits ril) ≡ true }
-    ensures row { option_map memory_instruction_of result ≡ store rd.now rx rxy ril operand.now }
-    ensures encodes { IfSome result (λ x. may_encode x ≡ true) }
+// The machine rows and the operand of a store of a register.
+#[inline(always)]
+fn memory_of_store(store: &Store) -> MemoryInst
+    ensures row { Some (memory_instruction_of result) ≡ store_memory store.now }
+    ensures encodes { may_encode result ≡ true }
 {
-    Some(access(true, *rd, rx, rxy, ril, operand))
+    let rows = rows_of_store(store.op);
+    access(true, store.rd, rows.rx, rows.rxy, rows.ril, &store.mem)
 }
 
 // The address of the operand.
@@ -86,9 +84,9 @@ fn load_address(rd: &Writable<Reg>, operand: &MemArg) -> Option<MemoryInst>
     Some(MemoryInst {
         rows: StorageRows::OneRegister {
             register,
-            rx: Some(0x41),
-            rxy: Some(0xe371),
-            ril: Some(0xc00),
+            rx: Some(opcodes::LA as u8),
+            rxy: Some(opcodes::LAY),
+            ril: Some(opcodes::LARL),
         },
         operand: *operand,
         accesses: false,
@@ -124,14 +122,14 @@ fn store_halfword(imm: i16, sil: u16, operand: &MemArg) -> Option<MemoryInst>
 // A store of a byte.
 fn store_byte(imm: u8, operand: &MemArg) -> Option<MemoryInst>
     ensures row { option_map memory_instruction_of result
-        ≡ store_immediate (SiForm (low_byte imm) 0x92 0xeb52) operand.now }
+        ≡ store_immediate (SiForm (low_byte imm) opcodes.MVI opcodes.MVIY) operand.now }
     ensures encodes { IfSome result (λ x. may_encode x ≡ true) }
 {
     store_immediate(
         StorageRows::Byte {
             imm: low_byte(imm),
-            si: 0x92,
-            siy: 0xeb52,
+            si: opcodes::MVI as u8,
+            siy: opcodes::MVIY,
         },
         operand,
     )
@@ -143,17 +141,17 @@ fn alu_rx(op: ALUOp) -> Option<u8>
     ensures general { rows_take_general result ≡ true }
 {
     match op {
-        ALUOp::Add32 => Some(0x5a),
-        ALUOp::Add32Ext16 => Some(0x4a),
-        ALUOp::AddLogical32 => Some(0x5e),
-        ALUOp::Sub32 => Some(0x5b),
-        ALUOp::Sub32Ext16 => Some(0x4b),
-        ALUOp::SubLogical32 => Some(0x5f),
-        ALUOp::Mul32 => Some(0x71),
-        ALUOp::Mul32Ext16 => Some(0x4c),
-        ALUOp::And32 => Some(0x54),
-        ALUOp::Orr32 => Some(0x56),
-        ALUOp::Xor32 => Some(0x57),
+        ALUOp::Add32 => Some(opcodes::A as u8),
+        ALUOp::Add32Ext16 => Some(opcodes::AH as u8),
+        ALUOp::AddLogical32 => Some(opcodes::AL as u8),
+        ALUOp::Sub32 => Some(opcodes::S as u8),
+        ALUOp::Sub32Ext16 => Some(opcodes::SH as u8),
+        ALUOp::SubLogical32 => Some(opcodes::SL as u8),
+        ALUOp::Mul32 => Some(opcodes::MS as u8),
+        ALUOp::Mul32Ext16 => Some(opcodes::MH as u8),
+        ALUOp::And32 => Some(opcodes::N as u8),
+        ALUOp::Orr32 => Some(opcodes::O as u8),
+        ALUOp::Xor32 => Some(opcodes::X as u8),
         _ => None,
     }
 }
@@ -163,33 +161,33 @@ fn alu_rxy(op: ALUOp) -> Option<u16>
     ensures general { rows_take_general result ≡ true }
 {
     match op {
-        ALUOp::Add32 => Some(0xe35a),
-        ALUOp::Add32Ext16 => Some(0xe37a),
-        ALUOp::Add64 => Some(0xe308),
-        ALUOp::Add64Ext16 => Some(0xe338),
-        ALUOp::Add64Ext32 => Some(0xe318),
-        ALUOp::AddLogical32 => Some(0xe35e),
-        ALUOp::AddLogical64 => Some(0xe30a),
-        ALUOp::AddLogical64Ext32 => Some(0xe31a),
-        ALUOp::Sub32 => Some(0xe35b),
-        ALUOp::Sub32Ext16 => Some(0xe37b),
-        ALUOp::Sub64 => Some(0xe309),
-        ALUOp::Sub64Ext16 => Some(0xe339),
-        ALUOp::Sub64Ext32 => Some(0xe319),
-        ALUOp::SubLogical32 => Some(0xe35f),
-        ALUOp::SubLogical64 => Some(0xe30b),
-        ALUOp::SubLogical64Ext32 => Some(0xe31b),
-        ALUOp::Mul32 => Some(0xe351),
-        ALUOp::Mul32Ext16 => Some(0xe37c),
-        ALUOp::Mul64 => Some(0xe30c),
-        ALUOp::Mul64Ext16 => Some(0xe33c),
-        ALUOp::Mul64Ext32 => Some(0xe31c),
-        ALUOp::And32 => Some(0xe354),
-        ALUOp::And64 => Some(0xe380),
-        ALUOp::Orr32 => Some(0xe356),
-        ALUOp::Orr64 => Some(0xe381),
-        ALUOp::Xor32 => Some(0xe357),
-        ALUOp::Xor64 => Some(0xe382),
+        ALUOp::Add32 => Some(opcodes::AY),
+        ALUOp::Add32Ext16 => Some(opcodes::AHY),
+        ALUOp::Add64 => Some(opcodes::AG),
+        ALUOp::Add64Ext16 => Some(opcodes::AGH),
+        ALUOp::Add64Ext32 => Some(opcodes::AGF),
+        ALUOp::AddLogical32 => Some(opcodes::ALY),
+        ALUOp::AddLogical64 => Some(opcodes::ALG),
+        ALUOp::AddLogical64Ext32 => Some(opcodes::ALGF),
+        ALUOp::Sub32 => Some(opcodes::SY),
+        ALUOp::Sub32Ext16 => Some(opcodes::SHY),
+        ALUOp::Sub64 => Some(opcodes::SG),
+        ALUOp::Sub64Ext16 => Some(opcodes::SGH),
+        ALUOp::Sub64Ext32 => Some(opcodes::SGF),
+        ALUOp::SubLogical32 => Some(opcodes::SLY),
+        ALUOp::SubLogical64 => Some(opcodes::SLG),
+        ALUOp::SubLogical64Ext32 => Some(opcodes::SLGF),
+        ALUOp::Mul32 => Some(opcodes::MSY),
+        ALUOp::Mul32Ext16 => Some(opcodes::MHY),
+        ALUOp::Mul64 => Some(opcodes::MSG),
+        ALUOp::Mul64Ext16 => Some(opcodes::MGH),
+        ALUOp::Mul64Ext32 => Some(opcodes::MSGF),
+        ALUOp::And32 => Some(opcodes::NY),
+        ALUOp::And64 => Some(opcodes::NG),
+        ALUOp::Orr32 => Some(opcodes::OY),
+        ALUOp::Orr64 => Some(opcodes::OG),
+        ALUOp::Xor32 => Some(opcodes::XY),
+        ALUOp::Xor64 => Some(opcodes::XG),
         _ => None,
     }
 }
@@ -199,9 +197,9 @@ fn cmp_rx(op: CmpOp) -> Option<u8>
     ensures general { rows_take_general result ≡ true }
 {
     match op {
-        CmpOp::CmpS32 => Some(0x59),
-        CmpOp::CmpS32Ext16 => Some(0x49),
-        CmpOp::CmpL32 => Some(0x55),
+        CmpOp::CmpS32 => Some(opcodes::C as u8),
+        CmpOp::CmpS32Ext16 => Some(opcodes::CH as u8),
+        CmpOp::CmpL32 => Some(opcodes::CL as u8),
         _ => None,
     }
 }
@@ -211,14 +209,14 @@ fn cmp_rxy(op: CmpOp) -> Option<u16>
     ensures general { rows_take_general result ≡ true }
 {
     match op {
-        CmpOp::CmpS32 => Some(0xe359),
-        CmpOp::CmpS32Ext16 => Some(0xe379),
-        CmpOp::CmpS64 => Some(0xe320),
-        CmpOp::CmpS64Ext16 => Some(0xe334),
-        CmpOp::CmpS64Ext32 => Some(0xe330),
-        CmpOp::CmpL32 => Some(0xe355),
-        CmpOp::CmpL64 => Some(0xe321),
-        CmpOp::CmpL64Ext32 => Some(0xe331),
+        CmpOp::CmpS32 => Some(opcodes::CY),
+        CmpOp::CmpS32Ext16 => Some(opcodes::CHY),
+        CmpOp::CmpS64 => Some(opcodes::CG),
+        CmpOp::CmpS64Ext16 => Some(opcodes::CGH),
+        CmpOp::CmpS64Ext32 => Some(opcodes::CGF),
+        CmpOp::CmpL32 => Some(opcodes::CLY),
+        CmpOp::CmpL64 => Some(opcodes::CLG),
+        CmpOp::CmpL64Ext32 => Some(opcodes::CLGF),
         _ => None,
     }
 }
@@ -228,16 +226,16 @@ fn cmp_ril(op: CmpOp) -> u16
     ensures short { has_12_bits (Some result) ≡ true }
 {
     match op {
-        CmpOp::CmpS32 => 0xc6d,
-        CmpOp::CmpS32Ext16 => 0xc65,
-        CmpOp::CmpS64 => 0xc68,
-        CmpOp::CmpS64Ext16 => 0xc64,
-        CmpOp::CmpS64Ext32 => 0xc6c,
-        CmpOp::CmpL32 => 0xc6f,
-        CmpOp::CmpL32Ext16 => 0xc67,
-        CmpOp::CmpL64 => 0xc6a,
-        CmpOp::CmpL64Ext16 => 0xc66,
-        CmpOp::CmpL64Ext32 => 0xc6e,
+        CmpOp::CmpS32 => opcodes::CRL,
+        CmpOp::CmpS32Ext16 => opcodes::CHRL,
+        CmpOp::CmpS64 => opcodes::CGRL,
+        CmpOp::CmpS64Ext16 => opcodes::CGHRL,
+        CmpOp::CmpS64Ext32 => opcodes::CGFRL,
+        CmpOp::CmpL32 => opcodes::CLRL,
+        CmpOp::CmpL32Ext16 => opcodes::CLHRL,
+        CmpOp::CmpL64 => opcodes::CLGRL,
+        CmpOp::CmpL64Ext16 => opcodes::CLGHRL,
+        CmpOp::CmpL64Ext32 => opcodes::CLGFRL,
     }
 }
 
@@ -245,16 +243,16 @@ fn atomic_rsy(op: ALUOp) -> Option<u16>
     ensures { result ≡ atomic_rsy op }
 {
     match op {
-        ALUOp::Add32 => Some(0xebf8),
-        ALUOp::Add64 => Some(0xebe8),
-        ALUOp::AddLogical32 => Some(0xebfa),
-        ALUOp::AddLogical64 => Some(0xebea),
-        ALUOp::And32 => Some(0xebf4),
-        ALUOp::And64 => Some(0xebe4),
-        ALUOp::Orr32 => Some(0xebf6),
-        ALUOp::Orr64 => Some(0xebe6),
-        ALUOp::Xor32 => Some(0xebf7),
-        ALUOp::Xor64 => Some(0xebe7),
+        ALUOp::Add32 => Some(opcodes::LAA),
+        ALUOp::Add64 => Some(opcodes::LAAG),
+        ALUOp::AddLogical32 => Some(opcodes::LAAL),
+        ALUOp::AddLogical64 => Some(opcodes::LAALG),
+        ALUOp::And32 => Some(opcodes::LAN),
+        ALUOp::And64 => Some(opcodes::LANG),
+        ALUOp::Orr32 => Some(opcodes::LAO),
+        ALUOp::Orr64 => Some(opcodes::LAOG),
+        ALUOp::Xor32 => Some(opcodes::LAX),
+        ALUOp::Xor64 => Some(opcodes::LAXG),
         _ => None,
     }
 }
@@ -346,7 +344,7 @@ fn load_multiple(rt: &Writable<Reg>, rt2: &Writable<Reg>, operand: &MemArg) -> O
         ≡ memory (Inst.LoadMultiple64 rt.now rt2.now operand.now) }
     ensures encodes { IfSome result (λ x. may_encode x ≡ true) }
 {
-    multiple(rt.to_reg(), rt2.to_reg(), 0xeb04, false, operand)
+    multiple(rt.to_reg(), rt2.to_reg(), opcodes::LMG, false, operand)
 }
 
 fn store_multiple(rt: &Reg, rt2: &Reg, operand: &MemArg) -> Option<MemoryInst>
@@ -354,7 +352,7 @@ fn store_multiple(rt: &Reg, rt2: &Reg, operand: &MemArg) -> Option<MemoryInst>
         ≡ memory (Inst.StoreMultiple64 rt.now rt2.now operand.now) }
     ensures encodes { IfSome result (λ x. may_encode x ≡ true) }
 {
-    multiple(*rt, *rt2, 0xeb24, holds_scratch(rt, rt2), operand)
+    multiple(*rt, *rt2, opcodes::STMG, holds_scratch(rt, rt2), operand)
 }
 
 // An operand in memory that is changed in one access, where the operator has a row.
@@ -411,19 +409,23 @@ fn compare_and_swap(
     })
 }
 
-// A load of one register.
-fn find_load(inst: &Inst) -> Option<MemoryInst>
+// A load or a store of one register.
+fn find_transfer(inst: &Inst) -> Option<MemoryInst>
     ensures row { option_map memory_instruction_of result
-        ≡ by_load load_memory None (as_load inst.now) }
+        ≡ by_load load_memory (by_store store_memory None (as_store inst.now)) (as_load inst.now) }
     ensures encodes { IfSome result (λ x. may_encode x ≡ true) }
 {
     match inst.as_load() {
         Some(found) => Some(memory_of_load(&found)),
-        None => None,
+        None => match inst.as_store() {
+            Some(found) => Some(memory_of_store(&found)),
+            None => None,
+        },
     }
 }
 
 /// The machine rows and the operand of an instruction with a memory operand, where it is one.
+#[rattlefmt::skip]
 pub fn find_memory(inst: &Inst) -> Option<MemoryInst>
     ensures row { option_map memory_instruction_of result ≡ memory inst.now }
     ensures encodes { IfSome result (λ x. may_encode x ≡ true) }
@@ -431,17 +433,10 @@ pub fn find_memory(inst: &Inst) -> Option<MemoryInst>
     match inst {
         Inst::Vector(inst) => find_vector_memory(inst),
         Inst::LoadAddr { rd, mem } => load_address(rd, mem),
-        Inst::Store8 { rd, mem } => store(rd, Some(0x42), Some(0xe372), None, mem),
-        Inst::Store16 { rd, mem } => store(rd, Some(0x40), Some(0xe370), Some(0xc47), mem),
-        Inst::Store32 { rd, mem } => store(rd, Some(0x50), Some(0xe350), Some(0xc4f), mem),
-        Inst::Store64 { rd, mem } => store(rd, None, Some(0xe324), Some(0xc4b), mem),
-        Inst::StoreRev16 { rd, mem } => store(rd, None, Some(0xe33f), None, mem),
-        Inst::StoreRev32 { rd, mem } => store(rd, None, Some(0xe33e), None, mem),
-        Inst::StoreRev64 { rd, mem } => store(rd, None, Some(0xe32f), None, mem),
         Inst::StoreImm8 { imm, mem } => store_byte(*imm, mem),
-        Inst::StoreImm16 { imm, mem } => store_halfword(*imm, 0xe544, mem),
-        Inst::StoreImm32SExt16 { imm, mem } => store_halfword(*imm, 0xe54c, mem),
-        Inst::StoreImm64SExt16 { imm, mem } => store_halfword(*imm, 0xe548, mem),
+        Inst::StoreImm16 { imm, mem } => store_halfword(*imm, opcodes::MVHHI, mem),
+        Inst::StoreImm32SExt16 { imm, mem } => store_halfword(*imm, opcodes::MVHI, mem),
+        Inst::StoreImm64SExt16 { imm, mem } => store_halfword(*imm, opcodes::MVGHI, mem),
         Inst::AluRX {
             alu_op,
             rd,
@@ -458,14 +453,14 @@ pub fn find_memory(inst: &Inst) -> Option<MemoryInst>
             mem,
         } => load_and_operate(*alu_op, rd, rn, mem),
         Inst::AtomicCas32 { rd, ri, rn, mem } => compare_and_swap(
-            Some(0xba),
-            0xeb14,
+            Some(opcodes::CS as u8),
+            opcodes::CSY,
             rd,
             ri,
             rn,
             mem,
         ),
-        Inst::AtomicCas64 { rd, ri, rn, mem } => compare_and_swap(None, 0xeb30, rd, ri, rn, mem),
-        _ => find_load(inst),
+        Inst::AtomicCas64 { rd, ri, rn, mem } => compare_and_swap(None, opcodes::CSG, rd, ri, rn, mem),
+        _ => find_transfer(inst),
     }
 }

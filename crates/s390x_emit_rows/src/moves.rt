@@ -2,6 +2,7 @@
 ghost use Rattle.std.specs.Prelude.{◌≡◌, ◌<◌, ◌&&◌, true, Some};
 ghost use Rattle.std.specs.Option.{option_map};
 ghost use Rattle.s390x_base.specs.Regs.{number_of};
+ghost use Rattle.s390x_rows.specs.declared.opcodes.TheConstants as opcodes;
 ghost use Rattle.s390x_typed_steps.specs.General.{is_general, is_access, reuses, four_bits, low_halfword, low_displacement};
 ghost use Rattle.s390x_typed_steps.specs.MachineInstruction.{rr, rrf_cde, rie_g};
 ghost use Rattle.s390x_typed_steps.specs.Opcodes.{of_two, of_four, extend_to_word, extend_to_doubleword, extend_two, indexed_opcode, logical_indexed_opcode};
@@ -14,6 +15,7 @@ use crate::opcode::ShortOpcode;
 use crate::registers::{is_access, is_reused, three_general};
 use s390x_address::general;
 use s390x_base::{Code, Cond, EmitError, Reg, SImm20, Writable, gpr};
+use s390x_rows::opcodes;
 use s390x_typed_steps::bits_of_halfword;
 
 /// One of two opcodes by its number.
@@ -51,9 +53,9 @@ fn to_word(signed: bool, from: u8) -> Option<u16>
     ensures general { takes_general result ≡ true }
 {
     match from {
-        1 => Some(0xb926),
-        8 => Some(if signed { 0xb926 } else { 0xb994 }),
-        16 => Some(if signed { 0xb927 } else { 0xb995 }),
+        1 => Some(opcodes::LBR),
+        8 => Some(if signed { opcodes::LBR } else { opcodes::LLCR }),
+        16 => Some(if signed { opcodes::LHR } else { opcodes::LLHR }),
         _ => None,
     }
 }
@@ -63,10 +65,22 @@ fn to_doubleword(signed: bool, from: u8) -> Option<u16>
     ensures general { takes_general result ≡ true }
 {
     match from {
-        1 => Some(0xb906),
-        8 => Some(if signed { 0xb906 } else { 0xb984 }),
-        16 => Some(if signed { 0xb907 } else { 0xb985 }),
-        32 => Some(if signed { 0xb914 } else { 0xb916 }),
+        1 => Some(opcodes::LGBR),
+        8 => Some(if signed {
+            opcodes::LGBR
+        } else {
+            opcodes::LLGCR
+        }),
+        16 => Some(if signed {
+            opcodes::LGHR
+        } else {
+            opcodes::LLGHR
+        }),
+        32 => Some(if signed {
+            opcodes::LGFR
+        } else {
+            opcodes::LLGFR
+        }),
         _ => None,
     }
 }
@@ -90,10 +104,10 @@ pub fn indexed_opcode(size: u8) -> Option<u16>
     ensures general { takes_general result ≡ true }
 {
     match size {
-        1 => Some(0xe362),
-        2 => Some(0xe364),
-        3 => Some(0xe366),
-        4 => Some(0xe368),
+        1 => Some(opcodes::LXAH),
+        2 => Some(opcodes::LXAF),
+        3 => Some(opcodes::LXAG),
+        4 => Some(opcodes::LXAQ),
         _ => None,
     }
 }
@@ -105,10 +119,10 @@ pub fn logical_indexed_opcode(size: u8) -> Option<u16>
     ensures general { takes_general result ≡ true }
 {
     match size {
-        1 => Some(0xe363),
-        2 => Some(0xe365),
-        3 => Some(0xe367),
-        4 => Some(0xe369),
+        1 => Some(opcodes::LLXAH),
+        2 => Some(opcodes::LLXAF),
+        3 => Some(opcodes::LLXAG),
+        4 => Some(opcodes::LLXAQ),
         _ => None,
     }
 }
@@ -117,9 +131,9 @@ pub fn logical_indexed_opcode(size: u8) -> Option<u16>
 #[tactic(auto, using(crate::proofs::Encoding::with_access))]
 fn extract_access(valid: bool, rd: Reg, ar: u8) -> Result<Code, EmitError>
     requires { implies valid (is_general rd) ≡ true }
-    ensures { result ≡ code_where valid (two_operands 0xb24f (number_of rd) (four_bits ar)) }
+    ensures { result ≡ code_where valid (two_operands opcodes.EAR (number_of rd) (four_bits ar)) }
 {
-    two_operands(valid, 0xb24f, rd, gpr(ar % 16))
+    two_operands(valid, opcodes::EAR, rd, gpr(ar % 16))
 }
 
 /// The load of an access register. There is always a row; `BadRegister` comes where the register is not general, or
@@ -129,7 +143,7 @@ pub fn load_access_row(rd: &Writable<Reg>, ar: u8) -> Option<Result<Code, EmitEr
     ensures { result
         ≡ single_code
         (single_with (is_general rd.now && is_access ar)
-        (Some (two_operands 0xb24f (number_of rd.now) (four_bits ar)))) }
+        (Some (two_operands opcodes.EAR (number_of rd.now) (four_bits ar)))) }
 {
     let output = rd.to_reg();
     Some(extract_access(general(&output) && is_access(ar), output, ar))
@@ -142,7 +156,7 @@ pub fn insert_access_row(rd: &Writable<Reg>, ri: &Reg, ar: u8) -> Option<Result<
     ensures { result
         ≡ single_code
         (single_with (reuses rd.now ri.now && is_access ar)
-        (Some (two_operands 0xb24f (number_of rd.now) (four_bits ar)))) }
+        (Some (two_operands opcodes.EAR (number_of rd.now) (four_bits ar)))) }
 {
     let output = rd.to_reg();
     Some(extract_access(is_reused(&output, ri) && is_access(ar), output, ar))
@@ -234,7 +248,7 @@ pub fn indexed_row(
 pub fn branch_nowhere(mask: u8, target: u8) -> Option<Result<Code, EmitError>>
     requires mask { mask < 16 }
     requires target { target < 16 }
-    ensures { result ≡ single_code (single_with true (Some (rr 0x07 mask target))) }
+    ensures { result ≡ single_code (single_with true (Some (rr opcodes.BCR mask target))) }
 {
-    Some(two_operands(true, 0x07, gpr(mask), gpr(target)))
+    Some(two_operands(true, opcodes::BCR, gpr(mask), gpr(target)))
 }

@@ -13,16 +13,17 @@ use s390x_address::general;
 use s390x_base::{Code, Cond, EmitError, Reg, RegPair, TrapCode, WritableRegPair};
 use s390x_emit_vec::stop_of;
 use s390x_inst::{CmpOp, Inst};
+use s390x_rows::opcodes;
 
 /// The opcodes of a comparison that traps, by what its second operand is.
 pub fn compare_opcode(op: CmpOp) -> Option<u16>
     ensures { result ≡ cmp_trap op }
 {
     match op {
-        CmpOp::CmpS32 => Some(0xb972),
-        CmpOp::CmpS64 => Some(0xb960),
-        CmpOp::CmpL32 => Some(0xb973),
-        CmpOp::CmpL64 => Some(0xb961),
+        CmpOp::CmpS32 => Some(opcodes::CRT),
+        CmpOp::CmpS64 => Some(opcodes::CGRT),
+        CmpOp::CmpL32 => Some(opcodes::CLRT),
+        CmpOp::CmpL64 => Some(opcodes::CLGRT),
         _ => None,
     }
 }
@@ -32,8 +33,8 @@ pub fn compare_signed_opcode(op: CmpOp) -> Option<u16>
     ensures { result ≡ cmp_trap_signed op }
 {
     match op {
-        CmpOp::CmpS32 => Some(0xec72),
-        CmpOp::CmpS64 => Some(0xec70),
+        CmpOp::CmpS32 => Some(opcodes::CIT),
+        CmpOp::CmpS64 => Some(opcodes::CGIT),
         _ => None,
     }
 }
@@ -43,8 +44,8 @@ pub fn compare_unsigned_opcode(op: CmpOp) -> Option<u16>
     ensures { result ≡ cmp_trap_unsigned op }
 {
     match op {
-        CmpOp::CmpL32 => Some(0xec73),
-        CmpOp::CmpL64 => Some(0xec71),
+        CmpOp::CmpL32 => Some(opcodes::CLFIT),
+        CmpOp::CmpL64 => Some(opcodes::CLGIT),
         _ => None,
     }
 }

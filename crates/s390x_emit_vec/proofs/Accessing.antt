@@ -4,7 +4,9 @@ use Rattle.std.proofs.lemmas.Bool.{and_parts, and_from, ltb-true, lt-ltb}
 use Rattle.s390x_base.specs.Regs.{number_of}
 use Rattle.s390x_base.specs.declared.regs.Reg.{Reg}
 use Rattle.s390x_enc.specs.Operands.{is_first_float, is_float, may_stand_first, is_vector as encodes_vector, is_general_class as encodes_general}
-use Rattle.s390x_typed_steps.specs.Memory.{is_left_lane}
+use Rattle.s390x_inst.specs.declared.whole.WholeLayout.{WholeLayout}
+use Rattle.s390x_inst.specs.declared.whole.WholeLayout.TheVariants.{Straight}
+use Rattle.s390x_typed_steps.specs.Memory.{is_left_lane, layout_rows}
 use Rattle.s390x_typed_steps.specs.VectorInstruction.{is_vector, is_lane}
 use Rattle.s390x_emit_vec.proofs.Encoding.{vector_encodes, float_encodes}
 
@@ -31,3 +33,8 @@ few_lanes size lane le h = below lane size le (ltb-true (lane * size) 128 h)
 -- a register that is a float one
 pub left_low : (size lane register : ℕ) → is_left_lane size lane register ≡ true → register < 16
 left_low size lane register h = ltb-true register 16 (and_parts ((nat_eq size 32 || nat_eq size 64) && nat_eq lane 0) (nat_lt register 16) h).1
+
+-- the masks of whole registers: the last clause is a copy for each other layout
+pub few_masks : (layout : WholeLayout) → (layout_rows layout).mask < 16
+few_masks Straight = omega arith
+few_masks layout = omega arith

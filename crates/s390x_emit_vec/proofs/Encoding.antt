@@ -12,6 +12,7 @@ use Rattle.s390x_base.specs.declared.regs.Reg.TheVariants.{Real, Virtual}
 use Rattle.s390x_enc.specs.Operands.{is_float, is_first_float, is_second_float, may_stand_first, may_stand_second, is_float_class, is_int_class, is_vector as encodes_vector, is_general_class as encodes_general}
 use Rattle.s390x_format.specs.declared.kind.FormatKind.{FormatKind}
 use Rattle.s390x_format.specs.Encoded.{IsCode}
+use Rattle.s390x_rows.specs.declared.opcodes.TheConstants as opcodes
 use Rattle.s390x_typed_steps.specs.SingleCode.{code_where, single_code}
 use Rattle.s390x_typed_steps.specs.MachineInstruction.{MachineInstruction}
 use Rattle.s390x_typed_steps.specs.SingleInstruction.{single_with}
@@ -95,15 +96,15 @@ extract_encodes r v base h =
     and_from (encodes_general r && encodes_general base) (encodes_vector v) (and_from (encodes_general r) (encodes_general base) (general_encodes r q.0) (general_encodes base p.1)) (vector_encodes v q.1)
 
 -- a doubleword between a float register and a general one
-pub to_float_encodes : (v r : Reg) → (is_vector v && is_general r) ≡ true → nat_lt (number_of v) 16 ≡ true → (may_stand_first 0xb3c1 v && may_stand_second 0xb3c1 r) ≡ true
+pub to_float_encodes : (v r : Reg) → (is_vector v && is_general r) ≡ true → nat_lt (number_of v) 16 ≡ true → (may_stand_first opcodes.LDGR v && may_stand_second opcodes.LDGR r) ≡ true
 to_float_encodes v r h low =
     let p = and_parts (is_vector v) (is_general r) h in
-    and_from (may_stand_first 0xb3c1 v) (may_stand_second 0xb3c1 r) (float_encodes v p.0 low) (general_encodes r p.1)
+    and_from (may_stand_first opcodes.LDGR v) (may_stand_second opcodes.LDGR r) (float_encodes v p.0 low) (general_encodes r p.1)
 
-pub from_float_encodes : (r v : Reg) → (is_general r && is_vector v) ≡ true → nat_lt (number_of v) 16 ≡ true → (may_stand_first 0xb3cd r && may_stand_second 0xb3cd v) ≡ true
+pub from_float_encodes : (r v : Reg) → (is_general r && is_vector v) ≡ true → nat_lt (number_of v) 16 ≡ true → (may_stand_first opcodes.LGDR r && may_stand_second opcodes.LGDR v) ≡ true
 from_float_encodes r v h low =
     let p = and_parts (is_general r) (is_vector v) h in
-    and_from (may_stand_first 0xb3cd r) (may_stand_second 0xb3cd v) (general_encodes r p.0) (float_encodes v p.1 low)
+    and_from (may_stand_first opcodes.LGDR r) (may_stand_second opcodes.LGDR v) (general_encodes r p.0) (float_encodes v p.1 low)
 
 -- the code of a row on one element
 pub lane_coded : (valid : Bool) (row : ℕ → MachineInstruction) (o : Option ℕ) (code size lane : ℕ) → o ≡ Some code → is_lane size lane ≡ true → Some (code_where valid (row code)) ≡ single_code (single_with valid (lane_row row o size lane))

@@ -4,6 +4,7 @@
 ghost use Rattle.std.specs.Prelude.{◌≡◌, ◌<◌, ◌&&◌, true, nat_lt};
 ghost use Rattle.s390x_base.specs.Regs.{number_of};
 ghost use Rattle.s390x_enc.specs.Operands.{is_first_float, is_second_float};
+ghost use Rattle.s390x_rows.specs.declared.opcodes.TheConstants as opcodes;
 ghost use Rattle.s390x_typed_steps.specs.MachineInstruction.{rr, rre, vri_a, vri_b, vri_c, vri_k, vrr_a, vrr_b, vrr_c, vrr_d, vrr_e, vrr_f, vrs_a, vrs_b, vrs_c};
 ghost use Rattle.s390x_typed_steps.specs.SingleCode.{code_where};
 ghost use Rattle.s390x_typed_steps.specs.General.{is_general};
@@ -14,6 +15,7 @@ use s390x_enc::{
     enc_rr, enc_rre, enc_vri_a, enc_vri_b, enc_vri_c, enc_vri_k, enc_vrr_a, enc_vrr_b, enc_vrr_c,
     enc_vrr_d, enc_vrr_e, enc_vrr_f, enc_vrs_a, enc_vrs_b, enc_vrs_c,
 };
+use s390x_rows::opcodes;
 use s390x_typed_steps::VectorOpcode;
 
 /// A real vector register.
@@ -178,11 +180,11 @@ pub fn four_vectors(opcode: u16, v1: Reg, v2: Reg, v3: Reg, v4: Reg) -> Result<C
 pub fn blended_vectors(v1: Reg, v2: Reg, v3: Reg, v4: Reg) -> Result<Code, EmitError>
     ensures { result
         ≡ code_where (is_vector v1 && is_vector v2 && is_vector v3 && is_vector v4)
-        (vrr_d 0xe789 (number_of v1) (number_of v2) (number_of v3) (number_of v4) 0) }
+        (vrr_d opcodes.VBLEND (number_of v1) (number_of v2) (number_of v3) (number_of v4) 0) }
 {
     let valid = four_valid(&v1, &v2, &v3, &v4);
     if valid {
-        enc_vrr_d(0xe789, v1, v2, v3, v4, 0, 0)
+        enc_vrr_d(opcodes::VBLEND, v1, v2, v3, v4, 0, 0)
     } else {
         Err(EmitError::BadRegister)
     }
@@ -192,11 +194,11 @@ pub fn blended_vectors(v1: Reg, v2: Reg, v3: Reg, v4: Reg) -> Result<Code, EmitE
 pub fn evaluated_vectors(imm: u8, v1: Reg, v2: Reg, v3: Reg, v4: Reg) -> Result<Code, EmitError>
     ensures { result
         ≡ code_where (is_vector v1 && is_vector v2 && is_vector v3 && is_vector v4)
-        (vri_k 0xe788 imm (number_of v1) (number_of v2) (number_of v3) (number_of v4)) }
+        (vri_k opcodes.VEVAL imm (number_of v1) (number_of v2) (number_of v3) (number_of v4)) }
 {
     let valid = four_valid(&v1, &v2, &v3, &v4);
     if valid {
-        enc_vri_k(0xe788, imm, v1, v2, v3, v4)
+        enc_vri_k(opcodes::VEVAL, imm, v1, v2, v3, v4)
     } else {
         Err(EmitError::BadRegister)
     }
@@ -228,11 +230,11 @@ pub fn shifted_vector(
 pub fn joined_registers(v1: Reg, r2: Reg, r3: Reg) -> Result<Code, EmitError>
     ensures { result
         ≡ code_where (is_vector v1 && is_general r2 && is_general r3)
-        (vrr_f 0xe762 (number_of v1) (number_of r2) (number_of r3)) }
+        (vrr_f opcodes.VLVGP (number_of v1) (number_of r2) (number_of r3)) }
 {
     let valid = join_valid(&v1, &r2, &r3);
     if valid {
-        enc_vrr_f(0xe762, v1, r2, r3)
+        enc_vrr_f(opcodes::VLVGP, v1, r2, r3)
     } else {
         Err(EmitError::BadRegister)
     }
@@ -280,10 +282,11 @@ pub fn inserted_element(
     requires code { code < 16 }
     requires real { valid ≡ true → (is_vector v1 && is_general r3 && is_general base) ≡ true }
     ensures { result
-        ≡ code_where valid (vrs_b 0xe722 (number_of v1) (number_of base) (number_of r3) code lane) }
+        ≡ code_where valid
+        (vrs_b opcodes.VLVG (number_of v1) (number_of base) (number_of r3) code lane) }
 {
     if valid {
-        enc_vrs_b(0xe722, v1, base, lane as u32, r3, code)
+        enc_vrs_b(opcodes::VLVG, v1, base, lane as u32, r3, code)
     } else {
         Err(EmitError::BadRegister)
     }
@@ -302,10 +305,11 @@ pub fn extracted_element(
     requires code { code < 16 }
     requires real { valid ≡ true → (is_general r1 && is_vector v3 && is_general base) ≡ true }
     ensures { result
-        ≡ code_where valid (vrs_c 0xe721 (number_of r1) (number_of base) (number_of v3) code lane) }
+        ≡ code_where valid
+        (vrs_c opcodes.VLGV (number_of r1) (number_of base) (number_of v3) code lane) }
 {
     if valid {
-        enc_vrs_c(0xe721, r1, base, lane as u32, v3, code)
+        enc_vrs_c(opcodes::VLGV, r1, base, lane as u32, v3, code)
     } else {
         Err(EmitError::BadRegister)
     }
@@ -322,10 +326,10 @@ pub fn is_float_doubleword(size: u32, register: u32, base: u32, lane: u8) -> boo
 pub fn to_float(valid: bool, v1: Reg, r2: Reg) -> Result<Code, EmitError>
     requires real { valid ≡ true → (is_vector v1 && is_general r2) ≡ true }
     requires low { nat_lt (number_of v1) 16 ≡ true }
-    ensures { result ≡ code_where valid (rre 0xb3c1 (number_of v1) (number_of r2)) }
+    ensures { result ≡ code_where valid (rre opcodes.LDGR (number_of v1) (number_of r2)) }
 {
     if valid {
-        enc_rre(0xb3c1, v1, r2)
+        enc_rre(opcodes::LDGR, v1, r2)
     } else {
         Err(EmitError::BadRegister)
     }
@@ -335,10 +339,10 @@ pub fn to_float(valid: bool, v1: Reg, r2: Reg) -> Result<Code, EmitError>
 pub fn from_float(valid: bool, r1: Reg, v2: Reg) -> Result<Code, EmitError>
     requires real { valid ≡ true → (is_general r1 && is_vector v2) ≡ true }
     requires low { nat_lt (number_of v2) 16 ≡ true }
-    ensures { result ≡ code_where valid (rre 0xb3cd (number_of r1) (number_of v2)) }
+    ensures { result ≡ code_where valid (rre opcodes.LGDR (number_of r1) (number_of v2)) }
 {
     if valid {
-        enc_rre(0xb3cd, r1, v2)
+        enc_rre(opcodes::LGDR, r1, v2)
     } else {
         Err(EmitError::BadRegister)
     }
@@ -350,11 +354,11 @@ pub fn replicated_lane(code: u8, v1: Reg, v3: Reg, lane: u16) -> Result<Code, Em
     requires { code < 16 }
     ensures { result
         ≡ code_where (is_vector v1 && is_vector v3)
-        (vri_c 0xe74d (number_of v1) (number_of v3) lane code) }
+        (vri_c opcodes.VREP (number_of v1) (number_of v3) lane code) }
 {
     let valid = two_valid(&v1, &v3);
     if valid {
-        enc_vri_c(0xe74d, v1, lane, v3, code)
+        enc_vri_c(opcodes::VREP, v1, lane, v3, code)
     } else {
         Err(EmitError::BadRegister)
     }
@@ -364,11 +368,11 @@ pub fn replicated_lane(code: u8, v1: Reg, v3: Reg, lane: u16) -> Result<Code, Em
 /// register may not stand there.
 pub fn bit_mask(code: u8, v1: Reg, start: u8, end: u8) -> Result<Code, EmitError>
     requires { code < 16 }
-    ensures { result ≡ code_where (is_vector v1) (vri_b 0xe746 (number_of v1) start end code) }
+    ensures { result ≡ code_where (is_vector v1) (vri_b opcodes.VGM (number_of v1) start end code) }
 {
     let valid = vector(&v1);
     if valid {
-        enc_vri_b(0xe746, v1, start, end, code)
+        enc_vri_b(opcodes::VGM, v1, start, end, code)
     } else {
         Err(EmitError::BadRegister)
     }
@@ -426,12 +430,12 @@ pub fn reused_left(opcode: u16, v1: Reg, input: Reg, v2: Reg) -> Result<Code, Em
 pub fn reused_whole(v1: Reg, input: Reg, v2: Reg) -> Result<Code, EmitError>
     ensures { result
         ≡ code_where (reuses_vector v1 input && is_vector v2)
-        (vrr_a 0xe756 (number_of v1) (number_of v2) 0) }
+        (vrr_a opcodes.VLR (number_of v1) (number_of v2) 0) }
 {
     let valid = reused_valid(&v1, &input, &v2);
     if valid {
         let row = VectorOpcode {
-            opcode: 0xe756,
+            opcode: opcodes::VLR,
             code: 0,
         };
         two_vectors(row, v1, v2)
@@ -455,7 +459,7 @@ pub fn moved_left(opcode: u16, v1: Reg, v2: Reg) -> Result<Code, EmitError>
         moved_float(opcode, v1, v2)
     } else {
         let row = VectorOpcode {
-            opcode: 0xe756,
+            opcode: opcodes::VLR,
             code: 0,
         };
         two_vectors(row, v1, v2)

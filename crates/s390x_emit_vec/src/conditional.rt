@@ -11,6 +11,7 @@ ghost use Rattle.s390x_emit_vec.specs.Conditional.{IsMoveUnder};
 use crate::codes::{reused_left, reused_whole};
 use s390x_base::{Code, Cond, EmitError};
 use s390x_inst::VecInst;
+use s390x_rows::opcodes;
 
 /// A move that is done where the mask selects the condition code: its code, or why it is refused.
 #[derive(Drop)]
@@ -33,11 +34,11 @@ pub fn find_move_under(inst: &VecInst) -> Option<MoveUnder>
     match inst {
         VecInst::FpuCMov32 { rd, cond, ri, rm } => Some(MoveUnder {
             mask: bits_of(*cond),
-            code: reused_left(0x38, rd.to_reg(), *ri, *rm),
+            code: reused_left(opcodes::LER, rd.to_reg(), *ri, *rm),
         }),
         VecInst::FpuCMov64 { rd, cond, ri, rm } => Some(MoveUnder {
             mask: bits_of(*cond),
-            code: reused_left(0x28, rd.to_reg(), *ri, *rm),
+            code: reused_left(opcodes::LDR, rd.to_reg(), *ri, *rm),
         }),
         VecInst::VecCMov { rd, cond, ri, rm } => Some(MoveUnder {
             mask: bits_of(*cond),

@@ -11,6 +11,7 @@ use crate::codes::{
     is_float_doubleword, number, replicated_lane, reuse_insert_valid, reuses, to_float, vector,
 };
 use s390x_base::{Code, EmitError, Reg};
+use s390x_rows::opcodes;
 use s390x_typed_steps::{VectorOpcode, bits_of_halfword};
 
 /// The code of elements of 8 to 64 bits.
@@ -65,10 +66,10 @@ fn insert_immediate_opcode(code: u8) -> u16
     ensures { result ≡ insert_immediate_opcode code }
 {
     match code {
-        0 => 0xe740,
-        1 => 0xe741,
-        2 => 0xe743,
-        _ => 0xe742,
+        0 => opcodes::VLEIB,
+        1 => opcodes::VLEIH,
+        2 => opcodes::VLEIF,
+        _ => opcodes::VLEIG,
     }
 }
 

@@ -4,7 +4,8 @@ ghost use Rattle.std.specs.Option.{option_map};
 ghost use Rattle.s390x_base.specs.Regs.{number_of};
 ghost use Rattle.s390x_enc.specs.Operands.{is_first_float};
 ghost use Rattle.s390x_address.specs.Rows.{memory_instruction_of, storage_form_of, relative_encodes, rows_encode, may_encode};
-ghost use Rattle.s390x_typed_steps.specs.Memory.{VrxForm, FloatForm, access_vector, access_elements, access_lane, reversed_code, is_left_lane, load_left, store_left, load_lane_opcode, store_lane_opcode, load_reversed_opcode, store_reversed_opcode, lane_memory, vector_memory};
+ghost use Rattle.s390x_inst.specs.Wholes.{by_direction};
+ghost use Rattle.s390x_typed_steps.specs.Memory.{VrxForm, FloatForm, access_vector, access_elements, access_lane, reversed_code, is_left_lane, load_left, store_left, load_lane_opcode, store_lane_opcode, load_reversed_opcode, store_reversed_opcode, lane_memory, part_memory, whole_memory, vector_memory};
 ghost use Rattle.s390x_typed_steps.specs.VectorInstruction.{is_vector, reuses_vector};
 ghost use Rattle.s390x_emit_vec.specs.Memory.{lane_opcode};
 
@@ -12,7 +13,9 @@ use crate::codes::{number, reuses};
 use crate::lanes::{element_code, is_lane};
 use s390x_address::{MemoryInst, StorageRows, vector};
 use s390x_base::Reg;
-use s390x_inst::{MemArg, VecInst};
+use s390x_inst::{Direction, MemArg, VecInst, WholeAccess};
+use s390x_rows::opcodes;
+use s390x_typed_steps::{WholeRows, rows_of_layout};
 
 /// What is done with one element, and whether its bytes are reversed.
 #[derive(Clone, Copy)]
@@ -27,10 +30,10 @@ fn load_opcode(code: u8) -> u16
     ensures { result ≡ load_lane_opcode code }
 {
     match code {
-        0 => 0xe700,
-        1 => 0xe701,
-        2 => 0xe703,
-        _ => 0xe702,
+        0 => opcodes::VLEB,
+        1 => opcodes::VLEH,
+        2 => opcodes::VLEF,
+        _ => opcodes::VLEG,
     }
 }
 
@@ -38,9 +41,9 @@ fn load_reversed_opcode(code: u8) -> u16
     ensures { result ≡ load_reversed_opcode code }
 {
     match code {
-        1 => 0xe601,
-        2 => 0xe603,
-        _ => 0xe602,
+        1 => opcodes::VLEBRH,
+        2 => opcodes::VLEBRF,
+        _ => opcodes::VLEBRG,
     }
 }
 
@@ -48,10 +51,10 @@ fn store_opcode(code: u8) -> u16
     ensures { result ≡ store_lane_opcode code }
 {
     match code {
-        0 => 0xe708,
-        1 => 0xe709,
-        2 => 0xe70b,
-        _ => 0xe70a,
+        0 => opcodes::VSTEB,
+        1 => opcodes::VSTEH,
+        2 => opcodes::VSTEF,
+        _ => opcodes::VSTEG,
     }
 }
 
@@ -59,9 +62,9 @@ fn store_reversed_opcode(code: u8) -> u16
     ensures { result ≡ store_reversed_opcode code }
 {
     match code {
-        1 => 0xe609,
-        2 => 0xe60b,
-        _ => 0xe60a,
+        1 => opcodes::VSTEBRH,
+        2 => opcodes::VSTEBRF,
+        _ => opcodes::VSTEBRG,
     }
 }
 
@@ -231,9 +234,9 @@ fn load_left(size: u32, register: Reg, operand: &MemArg) -> Option<MemoryInst>
     ensures encodes { IfSome result (λ x. may_encode x ≡ true) }
 {
     if size == 32 {
-        float(register, 0x78, 0xed64, operand)
+        float(register, opcodes::LE as u8, opcodes::LEY, operand)
     } else {
-        float(register, 0x68, 0xed65, operand)
+        float(register, opcodes::LD as u8, opcodes::LDY, operand)
     }
 }
 
@@ -244,9 +247,9 @@ fn store_left(size: u32, register: Reg, operand: &MemArg) -> Option<MemoryInst>
     ensures encodes { IfSome result (λ x. may_encode x ≡ true) }
 {
     if size == 32 {
-        float(register, 0x70, 0xed66, operand)
+        float(register, opcodes::STE as u8, opcodes::STEY, operand)
     } else {
-        float(register, 0x60, 0xed67, operand)
+        float(register, opcodes::STD as u8, opcodes::STDY, operand)
     }
 }
 
@@ -357,34 +360,52 @@ fn lane_memory(inst: &VecInst) -> Option<MemoryInst>
     }
 }
 
+// The opcode of a load or a store.
+#[inline(always)]
+fn opcode_of(rows: WholeRows, direction: Direction) -> u16
+    ensures { result ≡ by_direction direction rows.load_opcode rows.store_opcode }
+{
+    match direction {
+        Direction::Load => rows.load_opcode,
+        Direction::Store => rows.store_opcode,
+    }
+}
+
+// A load or a store of a whole register.
+#[inline(always)]
+#[tactic(auto, using(crate::proofs::Accessing::few_masks))]
+fn whole_memory(whole: &WholeAccess) -> Option<MemoryInst>
+    ensures row { option_map memory_instruction_of result ≡ whole_memory whole.now }
+    ensures encodes { IfSome result (λ x. may_encode x ≡ true) }
+{
+    let rows = rows_of_layout(whole.layout);
+    let opcode = opcode_of(rows, whole.direction);
+    elements(opcode, whole.rd, Some(rows.mask), &whole.mem)
+}
+
+// A load or a store of elements, of one of a register or of one that goes to all.
+fn part_memory(inst: &VecInst) -> Option<MemoryInst>
+    ensures row { option_map memory_instruction_of result ≡ part_memory inst.now }
+    ensures encodes { IfSome result (λ x. may_encode x ≡ true) }
+{
+    match inst {
+        VecInst::VecLoadReplicate { size, rd, mem } => {
+            elements(opcodes::VLREP, rd.to_reg(), element_code(*size), mem)
+        }
+        VecInst::VecLoadReplicateRev { size, rd, mem } => {
+            elements(opcodes::VLBRREP, rd.to_reg(), reversed_code(*size), mem)
+        }
+        _ => lane_memory(inst),
+    }
+}
+
 /// The machine rows and the operand of a load or a store of a vector register; None for another instruction, and where there is no such element.
 pub fn find_vector_memory(inst: &VecInst) -> Option<MemoryInst>
     ensures row { option_map memory_instruction_of result ≡ vector_memory inst.now }
     ensures encodes { IfSome result (λ x. may_encode x ≡ true) }
 {
-    match inst {
-        VecInst::VecLoad { rd, mem } => elements(0xe706, rd.to_reg(), Some(0), mem),
-        VecInst::VecLoadRev { rd, mem } => elements(0xe606, rd.to_reg(), Some(4), mem),
-        VecInst::VecLoadByte16Rev { rd, mem } => elements(0xe606, rd.to_reg(), Some(1), mem),
-        VecInst::VecLoadByte32Rev { rd, mem } => elements(0xe606, rd.to_reg(), Some(2), mem),
-        VecInst::VecLoadByte64Rev { rd, mem } => elements(0xe606, rd.to_reg(), Some(3), mem),
-        VecInst::VecLoadElt16Rev { rd, mem } => elements(0xe607, rd.to_reg(), Some(1), mem),
-        VecInst::VecLoadElt32Rev { rd, mem } => elements(0xe607, rd.to_reg(), Some(2), mem),
-        VecInst::VecLoadElt64Rev { rd, mem } => elements(0xe607, rd.to_reg(), Some(3), mem),
-        VecInst::VecStore { rd, mem } => elements(0xe70e, *rd, Some(0), mem),
-        VecInst::VecStoreRev { rd, mem } => elements(0xe60e, *rd, Some(4), mem),
-        VecInst::VecStoreByte16Rev { rd, mem } => elements(0xe60e, *rd, Some(1), mem),
-        VecInst::VecStoreByte32Rev { rd, mem } => elements(0xe60e, *rd, Some(2), mem),
-        VecInst::VecStoreByte64Rev { rd, mem } => elements(0xe60e, *rd, Some(3), mem),
-        VecInst::VecStoreElt16Rev { rd, mem } => elements(0xe60f, *rd, Some(1), mem),
-        VecInst::VecStoreElt32Rev { rd, mem } => elements(0xe60f, *rd, Some(2), mem),
-        VecInst::VecStoreElt64Rev { rd, mem } => elements(0xe60f, *rd, Some(3), mem),
-        VecInst::VecLoadReplicate { size, rd, mem } => {
-            elements(0xe705, rd.to_reg(), element_code(*size), mem)
-        }
-        VecInst::VecLoadReplicateRev { size, rd, mem } => {
-            elements(0xe605, rd.to_reg(), reversed_code(*size), mem)
-        }
-        _ => lane_memory(inst),
+    match inst.as_whole() {
+        Some(whole) => whole_memory(&whole),
+        None => part_memory(inst),
     }
 }

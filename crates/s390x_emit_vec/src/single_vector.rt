@@ -19,6 +19,7 @@ use crate::opcodes::{
 };
 use s390x_base::{Code, EmitError, Reg, TrapCode};
 use s390x_inst::VecInst;
+use s390x_rows::opcodes;
 use s390x_typed_steps::{VectorOpcode, bits_of_halfword, bits_of_unsigned_halfword, low_byte};
 
 fn displacement_of(imm: u8) -> u32
@@ -37,7 +38,7 @@ fn doublewords(v1: Reg, v2: Reg, v3: Reg, first: u8, second: u8) -> Option<Resul
 {
     if first < 2 && second < 2 {
         let row = VectorOpcode {
-            opcode: 0xe784,
+            opcode: opcodes::VPDI,
             code: 4 * first + second,
         };
         Some(three_vectors(row, v1, v2, v3))
@@ -56,7 +57,7 @@ fn replicated(size: u32, v1: Reg, imm: i16) -> Option<Result<Code, EmitError>>
     match element_code(size) {
         Some(code) => {
             let row = VectorOpcode {
-                opcode: 0xe745,
+                opcode: opcodes::VREPI,
                 code,
             };
             Some(immediate_vector(row, v1, bits_of_halfword(imm)))
@@ -96,10 +97,10 @@ pub fn find_vector(inst: &VecInst) -> Option<Result<Code, EmitError>>
         }
         VecInst::VecRR { op, rd, rn } => Some(two_vectors(unary_row(*op), rd.to_reg(), *rn)),
         VecInst::VecSelect { rd, rn, rm, ra } => {
-            Some(four_vectors(0xe78d, rd.to_reg(), *rn, *rm, *ra))
+            Some(four_vectors(opcodes::VSEL, rd.to_reg(), *rn, *rm, *ra))
         }
         VecInst::VecPermute { rd, rn, rm, ra } => {
-            Some(four_vectors(0xe78c, rd.to_reg(), *rn, *rm, *ra))
+            Some(four_vectors(opcodes::VPERM, rd.to_reg(), *rn, *rm, *ra))
         }
         VecInst::VecBlend { rd, rn, rm, ra } => Some(blended_vectors(rd.to_reg(), *rn, *rm, *ra)),
         VecInst::VecIntCmp { op, rd, rn, rm } => Some(compared_vectors(
@@ -121,7 +122,7 @@ pub fn find_vector(inst: &VecInst) -> Option<Result<Code, EmitError>>
         }
         VecInst::VecMov { rd, rn } => {
             let row = VectorOpcode {
-                opcode: 0xe756,
+                opcode: opcodes::VLR,
                 code: 0,
             };
             Some(two_vectors(row, rd.to_reg(), *rn))
@@ -156,7 +157,7 @@ pub fn find_vector(inst: &VecInst) -> Option<Result<Code, EmitError>>
         VecInst::MovToVec128 { rd, rn, rm } => Some(joined_registers(rd.to_reg(), *rn, *rm)),
         VecInst::VecImmByteMask { rd, mask } => {
             let row = VectorOpcode {
-                opcode: 0xe744,
+                opcode: opcodes::VGBM,
                 code: 0,
             };
             Some(immediate_vector(row, rd.to_reg(), bits_of_unsigned_halfword(*mask)))
@@ -209,8 +210,8 @@ pub fn find_vector(inst: &VecInst) -> Option<Result<Code, EmitError>>
             imm,
             lane_imm,
         } => inserted(*size, rd.to_reg(), *imm, *lane_imm),
-        VecInst::FpuMove32 { rd, rn } => Some(moved_left(0x38, rd.to_reg(), *rn)),
-        VecInst::FpuMove64 { rd, rn } => Some(moved_left(0x28, rd.to_reg(), *rn)),
+        VecInst::FpuMove32 { rd, rn } => Some(moved_left(opcodes::LER, rd.to_reg(), *rn)),
+        VecInst::FpuMove64 { rd, rn } => Some(moved_left(opcodes::LDR, rd.to_reg(), *rn)),
         _ => None,
     }
 }

@@ -5,6 +5,7 @@ use Rattle.s390x_base.specs.declared.regs.Reg.TheVariants.{Real, Virtual}
 use Rattle.s390x_base.specs.declared.regs.RegClass.{RegClass}
 use Rattle.s390x_base.specs.declared.regs.RegClass.TheVariants.{Int, Float}
 use Rattle.s390x_base.specs.Regs.{number_of}
+use Rattle.s390x_rows.specs.declared.opcodes.TheConstants as opcodes
 
 -- the class of general registers
 abbrev pub is_int_class : RegClass → Bool
@@ -35,12 +36,12 @@ is_float (Virtual n c) = false
 -- LDY, STEY, STDY, LDGR
 abbrev pub is_first_float : ℕ → Bool
 is_first_float o =
-    (o == 0x28) || (o == 0x38) || (o == 0x60) || (o == 0x68) || (o == 0x70) || (o == 0x78)
-    || (o == 0xed64) || (o == 0xed65) || (o == 0xed66) || (o == 0xed67) || (o == 0xb3c1)
+    (o == opcodes.LDR) || (o == opcodes.LER) || (o == opcodes.STD) || (o == opcodes.LD) || (o == opcodes.STE) || (o == opcodes.LE)
+    || (o == opcodes.LEY) || (o == opcodes.LDY) || (o == opcodes.STEY) || (o == opcodes.STDY) || (o == opcodes.LDGR)
 
 -- and those whose second one is: LER, LDR, LGDR
 abbrev pub is_second_float : ℕ → Bool
-is_second_float o = (o == 0x28) || (o == 0x38) || (o == 0xb3cd)
+is_second_float o = (o == opcodes.LDR) || (o == opcodes.LER) || (o == opcodes.LGDR)
 
 -- the register may stand first in an instruction with this opcode, on general and float registers
 abbrev pub may_stand_first : ℕ → Reg → Bool

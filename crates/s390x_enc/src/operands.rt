@@ -5,6 +5,7 @@ ghost use Rattle.s390x_enc.specs.Operands.{is_general_class, is_float, is_vector
 ghost use Rattle.s390x_base.specs.declared.error.EmitError.{EmitError};
 
 use s390x_base::{EmitError, Reg, RegClass};
+use s390x_rows::opcodes;
 
 /// The number of a general register. `BadRegister` comes where a register is not one of the operand's class.
 pub fn general(r: Reg) -> Result<u8, EmitError>
@@ -69,24 +70,24 @@ pub fn float(r: Reg) -> Result<u8, EmitError>
 fn first_is_float(opcode: u16) -> bool
     ensures { result ≡ is_first_float opcode }
 {
-    opcode == 0x28
-        || opcode == 0x38
-        || opcode == 0x60
-        || opcode == 0x68
-        || opcode == 0x70
-        || opcode == 0x78
-        || opcode == 0xed64
-        || opcode == 0xed65
-        || opcode == 0xed66
-        || opcode == 0xed67
-        || opcode == 0xb3c1
+    opcode == opcodes::LDR
+        || opcode == opcodes::LER
+        || opcode == opcodes::STD
+        || opcode == opcodes::LD
+        || opcode == opcodes::STE
+        || opcode == opcodes::LE
+        || opcode == opcodes::LEY
+        || opcode == opcodes::LDY
+        || opcode == opcodes::STEY
+        || opcode == opcodes::STDY
+        || opcode == opcodes::LDGR
 }
 
 /// Whether the opcode's second register operand is a float register.
 fn second_is_float(opcode: u16) -> bool
     ensures { result ≡ is_second_float opcode }
 {
-    opcode == 0x28 || opcode == 0x38 || opcode == 0xb3cd
+    opcode == opcodes::LDR || opcode == opcodes::LER || opcode == opcodes::LGDR
 }
 
 /// The number of the first operand of an instruction on general and float registers. `BadRegister` comes where a

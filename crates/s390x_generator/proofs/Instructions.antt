@@ -13,6 +13,7 @@ use Rattle.s390x_inst.specs.declared.args.MemArg.TheVariants.{RegOffset, BXD12, 
 use Rattle.s390x_inst.specs.declared.inst.Inst.TheVariants.{Mov64SImm32}
 use Rattle.s390x_inst.specs.Memory.{trusted}
 use Rattle.s390x_inst.specs.declared.state.IsaFlags.{IsaFlags}
+use Rattle.s390x_rows.specs.declared.opcodes.TheConstants as opcodes
 use Rattle.s390x_typed_steps.specs.Causes.{Declared, first_emit_cause, instruction_cause, instruction_fresh_labels, target_label_cause, unless}
 use Rattle.s390x_typed_steps.specs.Memory.{StorageForm, RxForm, type_of}
 use Rattle.s390x_typed_steps.specs.Operands.{Finalized, addressed, fits_12, fits_20, fits_32, no_register, scratch, with_offset, with_widened}
@@ -70,10 +71,10 @@ in_each_form P form d p q r s = each_form (λ f. P (parts_in form f)) (fits_12 (
 
 -- the rows of a load and of a store
 abbrev load_form : StorageForm
-load_form = RxForm 2 None (Some 0xe304) (Some 0xc48)
+load_form = RxForm 2 None (Some opcodes.LG) (Some opcodes.LGRL)
 
 abbrev store_form : StorageForm
-store_form = RxForm 4 None (Some 0xe324) (Some 0xc4b)
+store_form = RxForm 4 None (Some opcodes.STG) (Some opcodes.STGRL)
 
 load_is_fine : (D : Declared) (d : ℕ) → d ≤ 2147483647 → IsFine D (Load64 (register 2) (above_stack d))
 unfolding length_of

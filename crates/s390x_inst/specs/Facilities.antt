@@ -1,5 +1,5 @@
 -- The facility that an instruction needs (cranelift-codegen, `mod.rs`). What isn't named is part of the base.
-use Rattle.std.specs.Prelude.{Bool, true}
+use Rattle.std.specs.Prelude.{Bool, true, Option, Some, None}
 use Rattle.s390x_inst.specs.declared.facility.InstructionSet.{InstructionSet}
 use Rattle.s390x_inst.specs.declared.facility.InstructionSet.TheVariants.{Base, MIE3, MIE4, VXRS_EXT2, VXRS_EXT3}
 use Rattle.s390x_inst.specs.declared.state.IsaFlags.{IsaFlags}
@@ -16,8 +16,11 @@ use Rattle.s390x_inst.specs.declared.vec_ops.VecIntCmpOp.TheVariants.{CmpEq128, 
 use Rattle.s390x_inst.specs.declared.inst.Inst.{Inst}
 use Rattle.s390x_inst.specs.declared.inst.Inst.TheVariants.{AluRRR, UnaryRR, LoadIndexedAddr, LoadLogicalIndexedAddr, Vector}
 use Rattle.s390x_inst.specs.declared.vec_inst.VecInst.{VecInst}
-use Rattle.s390x_inst.specs.declared.vec_inst.VecInst.TheVariants.{VecRRR, VecRR, VecIntCmp, VecIntCmpS, VecIntEltCmp, VecBlend, VecEvaluate, VecLoadRev, VecLoadByte16Rev, VecLoadByte32Rev, VecLoadByte64Rev, VecLoadElt16Rev, VecLoadElt32Rev, VecLoadElt64Rev, VecStoreRev, VecStoreByte16Rev}
-use Rattle.s390x_inst.specs.declared.vec_inst.VecInst.TheVariants.{VecStoreByte32Rev, VecStoreByte64Rev, VecStoreElt16Rev, VecStoreElt32Rev, VecStoreElt64Rev, VecLoadReplicateRev, VecLoadLaneRev, VecLoadLaneRevUndef, VecStoreLaneRev}
+use Rattle.s390x_inst.specs.declared.vec_inst.VecInst.TheVariants.{VecRRR, VecRR, VecIntCmp, VecIntCmpS, VecIntEltCmp, VecBlend, VecEvaluate, VecLoadReplicateRev, VecLoadLaneRev, VecLoadLaneRevUndef, VecStoreLaneRev}
+use Rattle.s390x_inst.specs.declared.whole.WholeAccess.{WholeAccess}
+use Rattle.s390x_inst.specs.declared.whole.WholeLayout.{WholeLayout}
+use Rattle.s390x_inst.specs.declared.whole.WholeLayout.TheVariants.{Straight}
+use Rattle.s390x_inst.specs.Wholes.{as_whole}
 
 -- of the form of three registers
 abbrev pub alu_facility : ALUOp → InstructionSet
@@ -91,6 +94,16 @@ vec_compare_facility SCmpHi128 = VXRS_EXT3
 vec_compare_facility UCmpHi128 = VXRS_EXT3
 vec_compare_facility _ = Base
 
+-- of how a whole vector register lies in memory
+abbrev pub layout_facility : WholeLayout → InstructionSet
+layout_facility Straight = Base
+layout_facility _ = VXRS_EXT2
+
+-- of a load or a store of a whole vector register: one that reverses
+abbrev pub whole_facility : Option WholeAccess → InstructionSet
+whole_facility None = Base
+whole_facility (Some w) = layout_facility w.layout
+
 -- of a vector instruction: its operator's; comparing elements, blending and evaluating need one too, and so do reversed accesses to memory
 abbrev pub vec_facility : VecInst → InstructionSet
 vec_facility (VecRRR op rd rn rm) = vec_binary_facility op
@@ -100,25 +113,11 @@ vec_facility (VecIntCmpS op rd rn rm) = vec_compare_facility op
 vec_facility (VecIntEltCmp op rn rm) = VXRS_EXT3
 vec_facility (VecBlend rd rn rm ra) = VXRS_EXT3
 vec_facility (VecEvaluate imm rd rn rm ra) = VXRS_EXT3
-vec_facility (VecLoadRev rd mem) = VXRS_EXT2
-vec_facility (VecLoadByte16Rev rd mem) = VXRS_EXT2
-vec_facility (VecLoadByte32Rev rd mem) = VXRS_EXT2
-vec_facility (VecLoadByte64Rev rd mem) = VXRS_EXT2
-vec_facility (VecLoadElt16Rev rd mem) = VXRS_EXT2
-vec_facility (VecLoadElt32Rev rd mem) = VXRS_EXT2
-vec_facility (VecLoadElt64Rev rd mem) = VXRS_EXT2
-vec_facility (VecStoreRev rd mem) = VXRS_EXT2
-vec_facility (VecStoreByte16Rev rd mem) = VXRS_EXT2
-vec_facility (VecStoreByte32Rev rd mem) = VXRS_EXT2
-vec_facility (VecStoreByte64Rev rd mem) = VXRS_EXT2
-vec_facility (VecStoreElt16Rev rd mem) = VXRS_EXT2
-vec_facility (VecStoreElt32Rev rd mem) = VXRS_EXT2
-vec_facility (VecStoreElt64Rev rd mem) = VXRS_EXT2
 vec_facility (VecLoadReplicateRev size rd mem) = VXRS_EXT2
 vec_facility (VecLoadLaneRev size rd ri mem lane) = VXRS_EXT2
 vec_facility (VecLoadLaneRevUndef size rd mem lane) = VXRS_EXT2
 vec_facility (VecStoreLaneRev size rd mem lane) = VXRS_EXT2
-vec_facility _ = Base
+vec_facility v = whole_facility (as_whole v)
 
 -- the facility that an instruction needs
 abbrev pub facility_of : Inst → InstructionSet

@@ -6,3 +6,5 @@ pub mod Loads
 pub mod Memory
 pub mod Portions
 pub mod State
+pub mod Stores
+pub mod Wholes

@@ -1,12 +1,14 @@
 //! The facilities that instructions need.
 ghost use Rattle.std.specs.Prelude.{◌≡◌};
-ghost use Rattle.s390x_inst.specs.Facilities.{alu_facility, unary_facility, vec_binary_facility, vec_unary_facility, vec_compare_facility, vec_facility, facility_of, has_facility};
+ghost use Rattle.s390x_inst.specs.Facilities.{alu_facility, unary_facility, vec_binary_facility, vec_unary_facility, vec_compare_facility, whole_facility, vec_facility, facility_of, has_facility};
+ghost use Rattle.s390x_inst.specs.Wholes.{as_whole};
 
 use crate::inst::Inst;
 use crate::ops::{ALUOp, UnaryOp};
 use crate::state::IsaFlags;
 use crate::vec_inst::VecInst;
 use crate::vec_ops::{VecBinaryOp, VecIntCmpOp, VecUnaryOp};
+use crate::whole::WholeLayout;
 
 /// A set of instructions that a machine has as a whole, or not at all.
 #[derive(Clone, Copy, PartialEq, Eq, Debug)]
@@ -93,25 +95,24 @@ fn of_vector(inst: &VecInst) -> InstructionSet
         VecInst::VecIntEltCmp { .. } | VecInst::VecBlend { .. } | VecInst::VecEvaluate { .. } => {
             InstructionSet::VXRS_EXT3
         }
-        VecInst::VecLoadRev { .. }
-        | VecInst::VecLoadByte16Rev { .. }
-        | VecInst::VecLoadByte32Rev { .. }
-        | VecInst::VecLoadByte64Rev { .. }
-        | VecInst::VecLoadElt16Rev { .. }
-        | VecInst::VecLoadElt32Rev { .. }
-        | VecInst::VecLoadElt64Rev { .. }
-        | VecInst::VecStoreRev { .. }
-        | VecInst::VecStoreByte16Rev { .. }
-        | VecInst::VecStoreByte32Rev { .. }
-        | VecInst::VecStoreByte64Rev { .. }
-        | VecInst::VecStoreElt16Rev { .. }
-        | VecInst::VecStoreElt32Rev { .. }
-        | VecInst::VecStoreElt64Rev { .. }
-        | VecInst::VecLoadReplicateRev { .. }
+        VecInst::VecLoadReplicateRev { .. }
         | VecInst::VecLoadLaneRev { .. }
         | VecInst::VecLoadLaneRevUndef { .. }
         | VecInst::VecStoreLaneRev { .. } => InstructionSet::VXRS_EXT2,
-        _ => InstructionSet::Base,
+        _ => of_whole(inst),
+    }
+}
+
+// Of a load or a store of a whole register; of another one the base.
+fn of_whole(inst: &VecInst) -> InstructionSet
+    ensures { result ≡ whole_facility (as_whole inst.now) }
+{
+    match inst.as_whole() {
+        Some(whole) => match whole.layout {
+            WholeLayout::Straight => InstructionSet::Base,
+            _ => InstructionSet::VXRS_EXT2,
+        },
+        None => InstructionSet::Base,
     }
 }
 

@@ -13,8 +13,10 @@ mod load;
 mod make;
 mod ops;
 mod state;
+mod store;
 mod vec_inst;
 mod vec_ops;
+mod whole;
 
 pub use abi::{gen_retval_loads, gen_tail_epilogue};
 pub use args::MemArg;
@@ -30,5 +32,7 @@ pub use ops::{ALUOp, CmpOp, RxSBGOp, ShiftOp, UnaryOp};
 pub use state::{
     EmitInfo, EmitState, FrameLayout, IsaFlags, MachInstEmitState, REG_SAVE_AREA_SIZE,
 };
+pub use store::{STORE_COUNT, Store, StoreOp};
 pub use vec_inst::VecInst;
 pub use vec_ops::{VecBinaryOp, VecIntCmpOp, VecIntEltCmpOp, VecShiftOp, VecUnaryOp};
+pub use whole::{Direction, LAYOUT_COUNT, WholeAccess, WholeLayout};

@@ -11,6 +11,7 @@ use Rattle.s390x_format.specs.Encoded.{decoded_of}
 use Rattle.s390x_format.specs.Formats.{layout_of, length_of}
 use Rattle.s390x_format.specs.Layout.{number, bits}
 use Rattle.s390x_format.specs.Reading.{be_bytes}
+use Rattle.s390x_rows.specs.declared.opcodes.TheConstants as opcodes
 use Rattle.s390x_typed_steps.specs.MachineInstruction.{bytes_of, ril_c}
 use Rattle.s390x_typed_steps.specs.Folding.{folded_trees}
 use Rattle.s390x_typed_steps.specs.Ranges.{BlocksInRange}
@@ -97,15 +98,15 @@ loop = record {
 lies : IsLoaded image memory
 lies = record { has = λ a h. or_left (is_within image a) (nat_le 65536 a && nat_lt a 65540) h; get = λ a h. ap (λ b. cond b (slice_index image.bytes (a - 4096)) 0) h }
 
-break_stands : StandsAt image 0 (bytes_of (ril_c 0xc04 8 8))
+break_stands : StandsAt image 0 (bytes_of (ril_c opcodes.BRCL 8 8))
 unfolding number bits layout_of length_of be_bytes
 break_stands = record { earlier = []; later = 0xba ∷ 0x24 ∷ 0x50 ∷ 0x00 ∷ 0xc0 ∷ 0x44 ∷ 0xff ∷ 0xff ∷ 0xff ∷ 0xfb ∷ 0x07 ∷ 0xfe ∷ []; at = refl; is = refl }
 
 break_step : MachineStep (record { core = record { registers = adder 5; memory = memory }; address = 4096 }) (Executed None) (record { core = record { registers = adder 5; memory = memory }; address = 4112 })
 unfolding length_of semantics_in semantics_of
 break_step = record {
-  fetched = Found (decoded_of RilC (ril_c 0xc04 8 8).slots);
-  fetches = found_at image memory 0 RilC (ril_c 0xc04 8 8).slots refl refl (omega arith) lies break_stands (fits_ril_c 0xc04 8 8 (omega arith) (omega arith) (omega arith)) (brcl_listed 8 8);
+  fetched = Found (decoded_of RilC (ril_c opcodes.BRCL 8 8).slots);
+  fetches = found_at image memory 0 RilC (ril_c opcodes.BRCL 8 8).slots refl refl (omega arith) lies break_stands (fits_ril_c opcodes.BRCL 8 8 (omega arith) (omega arith) (omega arith)) (brcl_listed 8 8);
   acts = (refl, refl, refl);
 }
 

@@ -14,6 +14,7 @@ use Rattle.s390x_format.specs.Layout.{number, bits, SlotsFit}
 use Rattle.s390x_format.specs.Reading.{be_bytes}
 use Rattle.s390x_format.specs.Lookup.{row_for}
 use Rattle.s390x_format.proofs.Encoding.{listed}
+use Rattle.s390x_rows.specs.declared.opcodes.TheConstants as opcodes
 use Rattle.s390x_typed_steps.specs.MachineInstruction.{MachineInstruction, bytes_of, rrf_ab, rs}
 use Rattle.s390x_typed_steps.specs.Folding.{folded_trees}
 use Rattle.s390x_typed_steps.specs.Ranges.{BlocksInRange}
@@ -112,27 +113,27 @@ step_at m o s event t even is_loaded at stands fit listed acts = record {
   acts = acts;
 }
 
-add_stands : StandsAt image 0 (bytes_of (rrf_ab 0xb9f8 4 2 3 0))
+add_stands : StandsAt image 0 (bytes_of (rrf_ab opcodes.ARK 4 2 3 0))
 unfolding number bits layout_of length_of be_bytes
 add_stands = record { earlier = []; later = 0xba ∷ 0x24 ∷ 0x50 ∷ 0x00 ∷ 0xc0 ∷ 0x44 ∷ 0xff ∷ 0xff ∷ 0xff ∷ 0xfc ∷ 0x07 ∷ 0xfe ∷ []; at = refl; is = refl }
 
-swap_stands : StandsAt image 4 (bytes_of (rs 0xba 2 4 5 0))
+swap_stands : StandsAt image 4 (bytes_of (rs opcodes.CS 2 4 5 0))
 unfolding number bits layout_of length_of be_bytes
 swap_stands = record { earlier = 0xb9 ∷ 0xf8 ∷ 0x30 ∷ 0x42 ∷ []; later = 0xc0 ∷ 0x44 ∷ 0xff ∷ 0xff ∷ 0xff ∷ 0xfc ∷ 0x07 ∷ 0xfe ∷ []; at = refl; is = refl }
 
-add_listed : IsEncoded machine_rows RrfAb (rrf_ab 0xb9f8 4 2 3 0).slots
+add_listed : IsEncoded machine_rows RrfAb (rrf_ab opcodes.ARK 4 2 3 0).slots
 unfolding machine_rows row_for
-add_listed = listed machine_rows RrfAb (rrf_ab 0xb9f8 4 2 3 0).slots (omega arith) (refl, refl, refl)
+add_listed = listed machine_rows RrfAb (rrf_ab opcodes.ARK 4 2 3 0).slots (omega arith) (refl, refl, refl)
 
-swap_listed : IsEncoded machine_rows Rs (rs 0xba 2 4 5 0).slots
+swap_listed : IsEncoded machine_rows Rs (rs opcodes.CS 2 4 5 0).slots
 unfolding machine_rows row_for
-swap_listed = listed machine_rows Rs (rs 0xba 2 4 5 0).slots (omega arith) (refl, refl, refl)
+swap_listed = listed machine_rows Rs (rs opcodes.CS 2 4 5 0).slots (omega arith) (refl, refl, refl)
 
-add_step : (s t : State) → IsLoaded image s.core.memory → s.address ≡ 4096 → FetchedStep (Found (decoded_of RrfAb (rrf_ab 0xb9f8 4 2 3 0).slots)) s (Executed None) t → MachineStep s (Executed None) t
-add_step s t is_loaded at acts = step_at (rrf_ab 0xb9f8 4 2 3 0) 0 s (Executed None) t refl is_loaded at add_stands (fits_rrf_ab 0xb9f8 4 2 3 (omega arith) (omega arith) (omega arith) (omega arith)) add_listed acts
+add_step : (s t : State) → IsLoaded image s.core.memory → s.address ≡ 4096 → FetchedStep (Found (decoded_of RrfAb (rrf_ab opcodes.ARK 4 2 3 0).slots)) s (Executed None) t → MachineStep s (Executed None) t
+add_step s t is_loaded at acts = step_at (rrf_ab opcodes.ARK 4 2 3 0) 0 s (Executed None) t refl is_loaded at add_stands (fits_rrf_ab opcodes.ARK 4 2 3 (omega arith) (omega arith) (omega arith) (omega arith)) add_listed acts
 
-swap_step : (s : State) (event : Event) (t : State) → IsLoaded image s.core.memory → s.address ≡ 4100 → FetchedStep (Found (decoded_of Rs (rs 0xba 2 4 5 0).slots)) s event t → MachineStep s event t
-swap_step s event t is_loaded at acts = step_at (rs 0xba 2 4 5 0) 4 s event t refl is_loaded at swap_stands (fits_rs 0xba 2 4 5 0 (omega arith) (omega arith) (omega arith) (omega arith) (omega arith)) swap_listed acts
+swap_step : (s : State) (event : Event) (t : State) → IsLoaded image s.core.memory → s.address ≡ 4100 → FetchedStep (Found (decoded_of Rs (rs opcodes.CS 2 4 5 0).slots)) s event t → MachineStep s event t
+swap_step s event t is_loaded at acts = step_at (rs opcodes.CS 2 4 5 0) 4 s event t refl is_loaded at swap_stands (fits_rs opcodes.CS 2 4 5 0 (omega arith) (omega arith) (omega arith) (omega arith) (omega arith)) swap_listed acts
 
 scheduled : Scheduled world (0 ∷ 1 ∷ 0 ∷ 1 ∷ []) ticks
 unfolding length_of semantics_in semantics_of

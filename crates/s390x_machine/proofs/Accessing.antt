@@ -6,6 +6,7 @@ use Rattle.s390x_base.specs.declared.regs.Reg.{Reg}
 use Rattle.s390x_base.specs.declared.trap.TrapKind.{TrapKind}
 use Rattle.s390x_inst.specs.declared.args.MemArg.{MemArg}
 use Rattle.s390x_format.specs.Formats.{length_of}
+use Rattle.s390x_rows.specs.declared.opcodes.TheConstants as opcodes
 use Rattle.s390x_typed_steps.specs.General.{low_word}
 use Rattle.s390x_typed_steps.specs.MachineInstruction.{size_of, ril_a}
 use Rattle.s390x_typed_steps.specs.Memory.{StorageForm, address_form}
@@ -63,26 +64,26 @@ module _ {L : Layout} {k : ℕ} {s : Step} (x : StepAt L k s) (form : StorageFor
 
   -- the offset is loaded first, and stands as the index
   pub after_offset : (reg : Reg) (off : ℤ) (operand : MemArg) → (number_of reg == 1) ≡ false → negsuc 2147483647 ≤ℤ off → off ≤ℤ pos 2147483647 → Stands L form operand operation (λ r. indexed r (number_of reg) 1 (pos 0)) →
-      ((a : ℕ) (r : Registers) (v : ℕ) → Refines (operation a (set_general r 1 v)) (operation a r)) → kind_at L k ≡ Some (Performs true (λ r. operation (based r (number_of reg) off) r) (access_code code)) → step_parts s ≡ Row (ril_a 0xc01 1 (low_word off)) ∷ operand_parts form code operand → StepRuns L k
+      ((a : ℕ) (r : Registers) (v : ℕ) → Refines (operation a (set_general r 1 v)) (operation a r)) → kind_at L k ≡ Some (Performs true (λ r. operation (based r (number_of reg) off) r) (access_code code)) → step_parts s ≡ Row (ril_a opcodes.LGFI 1 (low_word off)) ∷ operand_parts form code operand → StepRuns L k
   unfolding length_of
   after_offset reg off operand other least most st ignores is parts c is_loaded =
-      let h = ril_a 0xc01 1 (low_word off) in
+      let h = ril_a opcodes.LGFI 1 (low_word off) in
       let b = step_rows_before L x.image k s x.at x.code (Row h ∷ []) ((λ p. refl), tt) st.part code st.some (parts ∙ ap (λ ps. Row h ∷ ps) (st.is code)) in
       let next = b.1.next in
       let w = moved L x.image k signed_word (low_word off) in
       let same : indexed (set_general c.registers 1 w) (number_of reg) 1 (pos 0) ≡ based c.registers (number_of reg) off = far_offset c.registers (number_of reg) off other least most in
       helper_then L x.image k c [] c.registers (L.offsets.step k) (size_of h) signed_word (λ r. low_word off) refl (at_start L k c (record { offset = L.offsets.step k; above = omega arith; below = omega (arith, next); is = refl }) is_loaded) (omega arith) (omega arith) (omega (arith, next, st.some))
-      (word_at L x.image (L.offsets.step k) (step_even x) 0xc01 (on_immediate (on_doublewords Move) signed_word) Kept lgfi_row 1 (low_word off) (omega arith) (word_bits off) b.0.0) (λ g n i.
+      (word_at L x.image (L.offsets.step k) (step_even x) opcodes.LGFI (on_immediate (on_doublewords Move) signed_word) Kept lgfi_row 1 (low_word off) (omega arith) (word_bits off) b.0.0) (λ g n i.
       last_runs true w (λ r. based r (number_of reg) off) (λ r. indexed r (number_of reg) 1 (pos 0)) operand st c g (L.offsets.step k + size_of h) is b.1 i
       (subst (λ a. Refines (operation a (set_general c.registers 1 w)) (operation (based c.registers (number_of reg) off) c.registers)) (sym same) (ignores (based c.registers (number_of reg) off) c.registers w)))
 
   -- the offset is loaded, and then the address
   pub after_both : (reg : Reg) (off : ℤ) (first operand : MemArg) → (number_of reg == 1) ≡ false → negsuc 2147483647 ≤ℤ off → off ≤ℤ pos 2147483647 → Stands L (address_form scratch) first (loads_address 1) (λ r. indexed r (number_of reg) 1 (pos 0)) →
       Stands L form operand operation (λ r. indexed r 1 0 (pos 0)) → ((a : ℕ) (r : Registers) (v : ℕ) → Refines (operation a (set_general r 1 v)) (operation a r)) → kind_at L k ≡ Some (Performs true (λ r. operation (based r (number_of reg) off) r) (access_code code)) →
-      step_parts s ≡ (Row (ril_a 0xc01 1 (low_word off)) ∷ (operand_parts (address_form scratch) None first ++ [])) ++ operand_parts form code operand → StepRuns L k
+      step_parts s ≡ (Row (ril_a opcodes.LGFI 1 (low_word off)) ∷ (operand_parts (address_form scratch) None first ++ [])) ++ operand_parts form code operand → StepRuns L k
   unfolding length_of
   after_both reg off first operand other least most hst st ignores is parts c is_loaded =
-      let h = ril_a 0xc01 1 (low_word off) in
+      let h = ril_a opcodes.LGFI 1 (low_word off) in
       let is_rows = parts ∙ ap (λ ps. (Row h ∷ (ps ++ [])) ++ operand_parts form code operand) (hst.is None) ∙ ap (λ ps. Row h ∷ hst.part ∷ ps) (st.is code) in
       let b = step_rows_before L x.image k s x.at x.code (Row h ∷ hst.part ∷ []) ((λ p. refl), (hst.untrapped, tt)) st.part code st.some is_rows in
       let next = b.1.1.next in
@@ -94,7 +95,7 @@ module _ {L : Layout} {k : ℕ} {s : Step} (x : StepAt L k s) (form : StorageFor
       let small : a < 2 ^ 64 = low_below (pos (address_part c.registers (number_of reg)) +ℤ off) in
       let there : indexed (set_general c.registers 1 w) 1 0 (pos 0) ≡ a = ap (λ x. indexed (set_general c.registers 1 (x % 2 ^ 64)) 1 0 (pos 0)) same ∙ loaded_address c.registers a small in
       helper_then L x.image k c [] c.registers (L.offsets.step k) (size_of h) signed_word (λ r. low_word off) refl (at_start L k c (record { offset = L.offsets.step k; above = omega arith; below = omega (arith, next); is = refl }) is_loaded) (omega arith) (omega arith) (omega (arith, next, st.some))
-      (word_at L x.image (L.offsets.step k) (step_even x) 0xc01 (on_immediate (on_doublewords Move) signed_word) Kept lgfi_row 1 (low_word off) (omega arith) (word_bits off) b.0.0) (λ g n i.
+      (word_at L x.image (L.offsets.step k) (step_even x) opcodes.LGFI (on_immediate (on_doublewords Move) signed_word) Kept lgfi_row 1 (low_word off) (omega arith) (word_bits off) b.0.0) (λ g n i.
       helper_then L x.image k c g r1 (L.offsets.step k + size_of h) (part_size hst.part) doubleword (λ r. indexed r (number_of reg) 1 (pos 0)) refl i (omega (arith, n)) (omega arith) (omega (arith, next, st.some)) (hst.row (L.offsets.step k + size_of h) (omega (arith, step_even x)) b.1.0.0 b.1.0.1) (λ g2 n2.
       subst (λ r. Inside L k c g2 r (wrapping_add64 L.image.base (L.offsets.step k + size_of h + part_size hst.part)) → Simulates L k c g2 r (wrapping_add64 L.image.base (L.offsets.step k + size_of h + part_size hst.part))) (sym (put_twice c.registers v w)) (λ i2.
       last_runs true w (λ r. based r (number_of reg) off) (λ r. indexed r 1 0 (pos 0)) operand st c g2 (L.offsets.step k + size_of h + part_size hst.part) is b.1.1 i2

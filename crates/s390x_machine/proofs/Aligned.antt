@@ -4,23 +4,25 @@ use Rattle.std.specs.Prelude.{nat_eq, nat_le, ◌&&◌, not}
 use Rattle.std.proofs.lemmas.Bool.{eq-eqb, eqb-true, leb-true}
 use Rattle.s390x_base.specs.Regs.{number_of}
 use Rattle.s390x_base.specs.declared.regs.Reg.{Reg}
+use Rattle.s390x_rows.specs.declared.opcodes.TheConstants as opcodes
 use Rattle.s390x_typed_steps.specs.General.{is_general}
 use Rattle.s390x_base.specs.declared.error.EmitError.TheVariants.{BadAlignment}
 use Rattle.s390x_buffer.specs.State.{is_alignment}
 use Rattle.s390x_inst.specs.declared.args.MemArg.{MemArg}
 use Rattle.s390x_inst.specs.declared.args.MemArg.TheVariants.{Label, Constant}
-use Rattle.s390x_inst.specs.declared.load.Load.{Load}
 use Rattle.s390x_inst.specs.declared.load.LoadOp.{LoadOp}
 use Rattle.s390x_inst.specs.declared.load.LoadOp.TheVariants as LoadOps
-use Rattle.s390x_inst.specs.Loads.{as_load, by_load}
+use Rattle.s390x_inst.specs.declared.store.StoreOp.{StoreOp}
+use Rattle.s390x_inst.specs.declared.store.StoreOp.TheVariants as StoreOps
+use Rattle.s390x_inst.proofs.Transfers.{Transfer, LoadOf, StoreOf, as_transfer, by_transfer}
 use Rattle.s390x_inst.specs.declared.inst.Inst.{Inst}
-use Rattle.s390x_inst.specs.declared.inst.Inst.TheVariants.{AluRX, CmpRX, Store16, Store32, Store64, AtomicRmw, Vector}
+use Rattle.s390x_inst.specs.declared.inst.Inst.TheVariants.{AluRX, CmpRX, AtomicRmw, Vector}
 use Rattle.s390x_inst.specs.declared.vec_inst.VecInst.{VecInst}
 use Rattle.s390x_inst.specs.declared.vec_inst.VecInst.TheVariants.{VecLoadReplicate, VecLoadReplicateRev, VecLoadLane, VecLoadLaneRev, VecLoadLaneUndef, VecLoadLaneRevUndef, VecStoreLane, VecStoreLaneRev}
 use Rattle.s390x_inst.specs.declared.ops.CmpOp.{CmpOp}
 use Rattle.s390x_inst.specs.declared.ops.CmpOp.TheVariants as C
 use Rattle.s390x_typed_steps.specs.Causes.{bound_cause, relative_access, boundary, alignment_cause}
-use Rattle.s390x_typed_steps.specs.Memory.{StorageForm, RxForm, VrxForm, FloatForm, MemoryInstruction, load, load_memory, load_rows, memory, other_memory, type_of, operate, load_and_operate, access_vector, access_elements, access_lane, reversed_code, is_left_lane, load_lane_opcode, store_lane_opcode, load_reversed_opcode, store_reversed_opcode, vector_memory}
+use Rattle.s390x_typed_steps.specs.Memory.{StorageForm, RxForm, VrxForm, FloatForm, MemoryInstruction, load_memory, load_rows, store_memory, store_rows, memory, rest_memory, type_of, operate, load_and_operate, access_vector, access_elements, access_lane, reversed_code, is_left_lane, load_lane_opcode, store_lane_opcode, load_reversed_opcode, store_reversed_opcode, vector_memory}
 use Rattle.s390x_typed_steps.specs.VectorInstruction.{element_code, is_lane, is_vector, reuses_vector}
 use Rattle.s390x_typed_steps.specs.Operands.{is_numbered, is_relative, needs_address}
 use Rattle.s390x_typed_steps.specs.Storage.{alu_rx, alu_rxy, cmp_rx, cmp_rxy, cmp_ril, atomic_rsy, relative_bytes}
@@ -31,11 +33,11 @@ use Rattle.s390x_operations.specs.Effects.{access}
 use Rattle.s390x_operations.specs.declared.effect.Operation.{Operation}
 use Rattle.s390x_operations.specs.declared.stop.StopKind.TheVariants.{Access, Specification}
 use Rattle.s390x_machine.specs.Aligned.{IsOwn, OwnOperand, IsOnBoundary, relative_row_of, StepAccesses, NeverMisaligned}
-use Rattle.s390x_machine.specs.Computations.{unsigned_word, unsigned_halfword, doubleword, comparison}
+use Rattle.s390x_machine.specs.Computations.{comparison}
 use Rattle.s390x_machine.specs.StepKinds.{performed_at, performed_by, performed_in_memory}
 use Rattle.s390x_machine.specs.Layout.{Layout, declared, constant_address}
 use Rattle.s390x_machine.specs.CodeAt.{AllCodeAt, IsValidMemory, ValidMemoryOr}
-use Rattle.s390x_machine.specs.Storage.{LoadedValue, OperandStep, load_step, loaded_value, operand_address, operand_step, other_operand_step, indexed_forms, cmp_forms, loads_at, stores_at, compares_at, aligned_effect, aligned_where}
+use Rattle.s390x_machine.specs.Storage.{OperandStep, load_step, loaded_value, store_step, stored_value, operand_address, operand_step, rest_operand_step, cmp_forms, loads_at, stores_at, compares_at, aligned_effect, aligned_where}
 use Rattle.s390x_machine.proofs.Relative.{first_none, unless_none, label_known, constant_known}
 use Rattle.s390x_machine.proofs.Standing.{image_at}
 
@@ -162,16 +164,16 @@ no_left true false valid register a b c d mem others opcode h e = absurd (cc)
 no_left false u valid register a b c d mem others opcode h e = h e
 
 no_vector : (v : VecInst) (opcode : ℕ) → relative_row_of (vector_memory v) ≡ Some opcode → ⊥
-no_vector (VecLoadReplicate size rd mem) opcode e = no_elements 0xe705 rd (element_code size) mem opcode e
-no_vector (VecLoadReplicateRev size rd mem) opcode e = no_elements 0xe605 rd (reversed_code size) mem opcode e
+no_vector (VecLoadReplicate size rd mem) opcode e = no_elements opcodes.VLREP rd (element_code size) mem opcode e
+no_vector (VecLoadReplicateRev size rd mem) opcode e = no_elements opcodes.VLBRREP rd (reversed_code size) mem opcode e
 no_vector (VecLoadLane size rd ri mem lane) opcode e = no_lane (reuses_vector rd ri) load_lane_opcode (number_of rd) (element_code size) size lane mem opcode e
 no_vector (VecLoadLaneRev size rd ri mem lane) opcode e = no_lane (reuses_vector rd ri) load_reversed_opcode (number_of rd) (reversed_code size) size lane mem opcode e
 no_vector (VecLoadLaneUndef size rd mem lane) opcode e =
-    no_left (is_left_lane size lane (number_of rd)) (nat_eq size 32) (is_vector rd) (number_of rd) 0x78 0xed64 0x68 0xed65 mem (access_lane (is_vector rd) load_lane_opcode (number_of rd) (element_code size) size lane mem) opcode
+    no_left (is_left_lane size lane (number_of rd)) (nat_eq size 32) (is_vector rd) (number_of rd) opcodes.LE opcodes.LEY opcodes.LD opcodes.LDY mem (access_lane (is_vector rd) load_lane_opcode (number_of rd) (element_code size) size lane mem) opcode
     (no_lane (is_vector rd) load_lane_opcode (number_of rd) (element_code size) size lane mem opcode) e
 no_vector (VecLoadLaneRevUndef size rd mem lane) opcode e = no_lane (is_vector rd) load_reversed_opcode (number_of rd) (reversed_code size) size lane mem opcode e
 no_vector (VecStoreLane size rd mem lane) opcode e =
-    no_left (is_left_lane size lane (number_of rd)) (nat_eq size 32) (is_vector rd) (number_of rd) 0x70 0xed66 0x60 0xed67 mem (access_lane (is_vector rd) store_lane_opcode (number_of rd) (element_code size) size lane mem) opcode
+    no_left (is_left_lane size lane (number_of rd)) (nat_eq size 32) (is_vector rd) (number_of rd) opcodes.STE opcodes.STEY opcodes.STD opcodes.STDY mem (access_lane (is_vector rd) store_lane_opcode (number_of rd) (element_code size) size lane mem) opcode
     (no_lane (is_vector rd) store_lane_opcode (number_of rd) (element_code size) size lane mem opcode) e
 no_vector (VecStoreLaneRev size rd mem lane) opcode e = no_lane (is_vector rd) store_reversed_opcode (number_of rd) (reversed_code size) size lane mem opcode e
 no_vector v opcode e = absurd (cc)
@@ -185,29 +187,31 @@ load_accesses : (op : LoadOp) (rd : Reg) (mem : MemArg) → RowAccesses (load_st
 load_accesses LoadOps.Load64 rd mem = λ address r. (refl, refl)
 load_accesses op rd mem = λ address r. (refl, refl)
 
--- of what is no load, that there is no such row
-load_bytes_or : (other : Option OperandStep) (o : Option Load) (opcode : ℕ) → relative_row_of (by_load load_memory None o) ≡ Some opcode → StepAccesses (by_load load_step other o) (relative_bytes opcode)
-load_bytes_or other None opcode e = absurd (cc)
-load_bytes_or other (Some l) opcode e = subst (λ o. RowAccesses (load_step l) o) e (load_accesses l.op l.rd l.mem)
+store_accesses : (op : StoreOp) (rd : Reg) (mem : MemArg) → RowAccesses (store_step (record { op = op; rd = rd; mem = mem })) (store_rows op).ril
+store_accesses StoreOps.Store64 rd mem = λ address r. (refl, refl)
+store_accesses op rd mem = λ address r. (refl, refl)
+
+-- of what is neither a load nor a store, that there is no such row
+transfer_bytes_or : (other : Option OperandStep) (o : Option Transfer) (opcode : ℕ) → relative_row_of (by_transfer load_memory store_memory None o) ≡ Some opcode → StepAccesses (by_transfer load_step store_step other o) (relative_bytes opcode)
+transfer_bytes_or other None opcode e = absurd (cc)
+transfer_bytes_or other (Some (LoadOf l)) opcode e = subst (λ o. RowAccesses (load_step l) o) e (load_accesses l.op l.rd l.mem)
+transfer_bytes_or other (Some (StoreOf s)) opcode e = subst (λ o. RowAccesses (store_step s) o) e (store_accesses s.op s.rd s.mem)
 
 pub bytes_accessed : (i : Inst) (opcode : ℕ) → relative_row_of (memory i) ≡ Some opcode → StepAccesses (operand_step i) (relative_bytes opcode)
-bytes_accessed (Store16 rd mem) opcode e = let same : 0xc47 ≡ opcode = cc in subst (λ o. StepAccesses (operand_step (Store16 rd mem)) (relative_bytes o)) same (λ address r. (refl, refl))
-bytes_accessed (Store32 rd mem) opcode e = let same : 0xc4f ≡ opcode = cc in subst (λ o. StepAccesses (operand_step (Store32 rd mem)) (relative_bytes o)) same (λ address r. (refl, refl))
-bytes_accessed (Store64 rd mem) opcode e = let same : 0xc4b ≡ opcode = cc in subst (λ o. StepAccesses (operand_step (Store64 rd mem)) (relative_bytes o)) same (λ address r. (refl, refl))
-bytes_accessed (CmpRX C.CmpS32 rn mem) opcode e = let same : 0xc6d ≡ opcode = cc in subst (λ o. StepAccesses (operand_step (CmpRX C.CmpS32 rn mem)) (relative_bytes o)) same (λ address r. (refl, refl))
-bytes_accessed (CmpRX C.CmpS32Ext16 rn mem) opcode e = let same : 0xc65 ≡ opcode = cc in subst (λ o. StepAccesses (operand_step (CmpRX C.CmpS32Ext16 rn mem)) (relative_bytes o)) same (λ address r. (refl, refl))
-bytes_accessed (CmpRX C.CmpS64 rn mem) opcode e = let same : 0xc68 ≡ opcode = cc in subst (λ o. StepAccesses (operand_step (CmpRX C.CmpS64 rn mem)) (relative_bytes o)) same (λ address r. (refl, refl))
-bytes_accessed (CmpRX C.CmpS64Ext16 rn mem) opcode e = let same : 0xc64 ≡ opcode = cc in subst (λ o. StepAccesses (operand_step (CmpRX C.CmpS64Ext16 rn mem)) (relative_bytes o)) same (λ address r. (refl, refl))
-bytes_accessed (CmpRX C.CmpS64Ext32 rn mem) opcode e = let same : 0xc6c ≡ opcode = cc in subst (λ o. StepAccesses (operand_step (CmpRX C.CmpS64Ext32 rn mem)) (relative_bytes o)) same (λ address r. (refl, refl))
-bytes_accessed (CmpRX C.CmpL32 rn mem) opcode e = let same : 0xc6f ≡ opcode = cc in subst (λ o. StepAccesses (operand_step (CmpRX C.CmpL32 rn mem)) (relative_bytes o)) same (λ address r. (refl, refl))
-bytes_accessed (CmpRX C.CmpL32Ext16 rn mem) opcode e = let same : 0xc67 ≡ opcode = cc in subst (λ o. StepAccesses (operand_step (CmpRX C.CmpL32Ext16 rn mem)) (relative_bytes o)) same (λ address r. (refl, refl))
-bytes_accessed (CmpRX C.CmpL64 rn mem) opcode e = let same : 0xc6a ≡ opcode = cc in subst (λ o. StepAccesses (operand_step (CmpRX C.CmpL64 rn mem)) (relative_bytes o)) same (λ address r. (refl, refl))
-bytes_accessed (CmpRX C.CmpL64Ext16 rn mem) opcode e = let same : 0xc66 ≡ opcode = cc in subst (λ o. StepAccesses (operand_step (CmpRX C.CmpL64Ext16 rn mem)) (relative_bytes o)) same (λ address r. (refl, refl))
-bytes_accessed (CmpRX C.CmpL64Ext32 rn mem) opcode e = let same : 0xc6e ≡ opcode = cc in subst (λ o. StepAccesses (operand_step (CmpRX C.CmpL64Ext32 rn mem)) (relative_bytes o)) same (λ address r. (refl, refl))
+bytes_accessed (CmpRX C.CmpS32 rn mem) opcode e = let same : opcodes.CRL ≡ opcode = cc in subst (λ o. StepAccesses (operand_step (CmpRX C.CmpS32 rn mem)) (relative_bytes o)) same (λ address r. (refl, refl))
+bytes_accessed (CmpRX C.CmpS32Ext16 rn mem) opcode e = let same : opcodes.CHRL ≡ opcode = cc in subst (λ o. StepAccesses (operand_step (CmpRX C.CmpS32Ext16 rn mem)) (relative_bytes o)) same (λ address r. (refl, refl))
+bytes_accessed (CmpRX C.CmpS64 rn mem) opcode e = let same : opcodes.CGRL ≡ opcode = cc in subst (λ o. StepAccesses (operand_step (CmpRX C.CmpS64 rn mem)) (relative_bytes o)) same (λ address r. (refl, refl))
+bytes_accessed (CmpRX C.CmpS64Ext16 rn mem) opcode e = let same : opcodes.CGHRL ≡ opcode = cc in subst (λ o. StepAccesses (operand_step (CmpRX C.CmpS64Ext16 rn mem)) (relative_bytes o)) same (λ address r. (refl, refl))
+bytes_accessed (CmpRX C.CmpS64Ext32 rn mem) opcode e = let same : opcodes.CGFRL ≡ opcode = cc in subst (λ o. StepAccesses (operand_step (CmpRX C.CmpS64Ext32 rn mem)) (relative_bytes o)) same (λ address r. (refl, refl))
+bytes_accessed (CmpRX C.CmpL32 rn mem) opcode e = let same : opcodes.CLRL ≡ opcode = cc in subst (λ o. StepAccesses (operand_step (CmpRX C.CmpL32 rn mem)) (relative_bytes o)) same (λ address r. (refl, refl))
+bytes_accessed (CmpRX C.CmpL32Ext16 rn mem) opcode e = let same : opcodes.CLHRL ≡ opcode = cc in subst (λ o. StepAccesses (operand_step (CmpRX C.CmpL32Ext16 rn mem)) (relative_bytes o)) same (λ address r. (refl, refl))
+bytes_accessed (CmpRX C.CmpL64 rn mem) opcode e = let same : opcodes.CLGRL ≡ opcode = cc in subst (λ o. StepAccesses (operand_step (CmpRX C.CmpL64 rn mem)) (relative_bytes o)) same (λ address r. (refl, refl))
+bytes_accessed (CmpRX C.CmpL64Ext16 rn mem) opcode e = let same : opcodes.CLGHRL ≡ opcode = cc in subst (λ o. StepAccesses (operand_step (CmpRX C.CmpL64Ext16 rn mem)) (relative_bytes o)) same (λ address r. (refl, refl))
+bytes_accessed (CmpRX C.CmpL64Ext32 rn mem) opcode e = let same : opcodes.CLGFRL ≡ opcode = cc in subst (λ o. StepAccesses (operand_step (CmpRX C.CmpL64Ext32 rn mem)) (relative_bytes o)) same (λ address r. (refl, refl))
 bytes_accessed (AluRX op rd ri mem) opcode e = absurd (no_operate (is_some (alu_rx op) || is_some (alu_rxy op)) (alu_rx op) (alu_rxy op) rd ri mem opcode e)
 bytes_accessed (AtomicRmw op rd rn mem) opcode e = absurd (no_load_and_operate (atomic_rsy op) rd rn mem opcode e)
 bytes_accessed (Vector v) opcode e = absurd (no_vector v opcode e)
-bytes_accessed i opcode e = load_bytes_or (other_operand_step i) (as_load i) opcode e
+bytes_accessed i opcode e = transfer_bytes_or (rest_operand_step i) (as_transfer i) opcode e
 
 -- ---- no stop by alignment
 
@@ -232,14 +236,18 @@ cmp_bytes : (op : CmpOp) (n : ℕ) → AlignedBytes (compares_at (comparison op)
 cmp_bytes C.CmpS32 n a r has = refl
 cmp_bytes _ n a r has = refl
 
--- a row relative to the instruction has the form, and these bytes: this computes for each load, also where there is none
-abbrev RowIsAligned : LoadedValue → (d : ℕ) → Option ℕ → Type 0
-RowIsAligned v d None = (true ≡ true) × ((a : ℕ) (r : Registers) (has : ℕ → Bool) → true ≡ true)
-RowIsAligned v d (Some opcode) = (v.forms.have_pcrel ≡ true) × AlignedBytes (loads_at v.size v.second d) (relative_bytes opcode)
+-- a row relative to the instruction has the form, and these bytes: this computes for each load and store, also where there is none
+abbrev RowIsAligned : MemInstType → (ℕ → Registers → Operation) → Option ℕ → Type 0
+RowIsAligned forms operation None = (true ≡ true) × ((a : ℕ) (r : Registers) (has : ℕ → Bool) → true ≡ true)
+RowIsAligned forms operation (Some opcode) = (forms.have_pcrel ≡ true) × AlignedBytes operation (relative_bytes opcode)
 
-load_is_aligned : (op : LoadOp) (d : ℕ) → RowIsAligned (loaded_value op) d (load_rows op).ril
+load_is_aligned : (op : LoadOp) (d : ℕ) → RowIsAligned (loaded_value op).forms (loads_at (loaded_value op).size (loaded_value op).second d) (load_rows op).ril
 load_is_aligned LoadOps.Load64 d = (refl, λ a r has. refl)
 load_is_aligned op d = (refl, λ a r has. refl)
+
+store_is_aligned : (op : StoreOp) (d : ℕ) → RowIsAligned (stored_value op).forms (stores_at (stored_value op).second d) (store_rows op).ril
+store_is_aligned StoreOps.Store64 d = (refl, λ a r has. refl)
+store_is_aligned op d = (refl, λ a r has. refl)
 
 module _ (L : Layout) (all : AllCodeAt L) where
   -- an operand at an address, where the rows have its form
@@ -255,20 +263,23 @@ module _ (L : Layout) (all : AllCodeAt L) where
       λ r has e. stands_aligned (relative_bytes opcode) (constant_address L c.0) operation forms.have_pcrel have bytes (on_boundary L all (record { form = RxForm register short long (Some opcode); operand = Constant c; accesses = true; operands_valid = fits; reads_scratch = reads }) operands_valid own r) r has e
   own_never register short long opcode m fits reads operands_valid own forms operation have bytes = absurd own
 
-  load_never : (l : Load) (relative : Option ℕ) → RowIsAligned (loaded_value l.op) (number_of l.rd) relative → (opcode : ℕ) → relative ≡ Some opcode → ValidMemoryOr L (load l.rd (load_rows l.op).rx (load_rows l.op).rxy relative l.mem) ⊥ → IsOwn l.mem → NeverMisaligned (performed_by L (load_step l))
-  load_never l None is opcode e operands_valid own = absurd (cc)
-  load_never l (Some o) is opcode e operands_valid own = own_never (number_of l.rd) (load_rows l.op).rx (load_rows l.op).rxy o l.mem (is_general l.rd) false operands_valid own (loaded_value l.op).forms (loads_at (loaded_value l.op).size (loaded_value l.op).second (number_of l.rd)) is.0 is.1
+  row_never : (rd : Reg) (short long relative : Option ℕ) (reads : Bool) (mem : MemArg) (forms : MemInstType) (operation : ℕ → Registers → Operation) → RowIsAligned forms operation relative → (opcode : ℕ) → relative ≡ Some opcode →
+      ValidMemoryOr L (Some (record { form = RxForm (number_of rd) short long relative; operand = mem; accesses = true; operands_valid = is_general rd; reads_scratch = reads })) ⊥ → IsOwn mem → NeverMisaligned (performed_by L (Some (record { operand = mem; forms = forms; accesses = true; operation = operation })))
+  row_never rd short long None reads mem forms operation is opcode e operands_valid own = absurd (cc)
+  row_never rd short long (Some o) reads mem forms operation is opcode e operands_valid own = own_never (number_of rd) short long o mem (is_general rd) reads operands_valid own forms operation is.0 is.1
 
-  load_never_or : (m : Option MemoryInstruction) (other : Option OperandStep) (o : Option Load) (opcode : ℕ) → relative_row_of (by_load load_memory None o) ≡ Some opcode → ValidMemoryOr L (by_load load_memory m o) ⊥ → OwnOperand (by_load load_memory m o) → NeverMisaligned (performed_by L (by_load load_step other o))
-  load_never_or m other None opcode e operands_valid own = absurd (cc)
-  load_never_or m other (Some l) opcode e operands_valid own = load_never l (load_rows l.op).ril (load_is_aligned l.op (number_of l.rd)) opcode e operands_valid own
+  transfer_never_or : (m : Option MemoryInstruction) (other : Option OperandStep) (o : Option Transfer) (opcode : ℕ) → relative_row_of (by_transfer load_memory store_memory None o) ≡ Some opcode → ValidMemoryOr L (by_transfer load_memory store_memory m o) ⊥ → OwnOperand (by_transfer load_memory store_memory m o) → NeverMisaligned (performed_by L (by_transfer load_step store_step other o))
+  transfer_never_or m other None opcode e operands_valid own = absurd (cc)
+  transfer_never_or m other (Some (LoadOf l)) opcode e operands_valid own =
+      let v = loaded_value l.op in
+      row_never l.rd (load_rows l.op).rx (load_rows l.op).rxy (load_rows l.op).ril false l.mem v.forms (loads_at v.size v.second (number_of l.rd)) (load_is_aligned l.op (number_of l.rd)) opcode e operands_valid own
+  transfer_never_or m other (Some (StoreOf s)) opcode e operands_valid own =
+      let v = stored_value s.op in
+      row_never s.rd (store_rows s.op).rx (store_rows s.op).rxy (store_rows s.op).ril (is_numbered 1 s.rd) s.mem v.forms (stores_at v.second (number_of s.rd)) (store_is_aligned s.op (number_of s.rd)) opcode e operands_valid own
 
   pub never_misaligned : (i : Inst) (opcode : ℕ) → relative_row_of (memory i) ≡ Some opcode → ValidMemoryOr L (memory i) ⊥ → OwnOperand (memory i) → NeverMisaligned (performed_in_memory L i)
-  never_misaligned (Store16 rd mem) opcode e operands_valid own = own_never (number_of rd) (Some 0x40) (Some 0xe370) 0xc47 mem (is_general rd) (is_numbered 1 rd) operands_valid own (indexed_forms true true true) (stores_at unsigned_halfword (number_of rd)) refl (λ a r has. refl)
-  never_misaligned (Store32 rd mem) opcode e operands_valid own = own_never (number_of rd) (Some 0x50) (Some 0xe350) 0xc4f mem (is_general rd) (is_numbered 1 rd) operands_valid own (indexed_forms true true true) (stores_at unsigned_word (number_of rd)) refl (λ a r has. refl)
-  never_misaligned (Store64 rd mem) opcode e operands_valid own = own_never (number_of rd) None (Some 0xe324) 0xc4b mem (is_general rd) (is_numbered 1 rd) operands_valid own (indexed_forms false true true) (stores_at doubleword (number_of rd)) refl (λ a r has. refl)
   never_misaligned (CmpRX op rn mem) opcode e operands_valid own = own_never (number_of rn) (cmp_rx op) (cmp_rxy op) (cmp_ril op) mem (is_general rn) (is_numbered 1 rn) operands_valid own (cmp_forms op) (compares_at (comparison op) (number_of rn)) (cmp_relative op) (cmp_bytes op (number_of rn))
   never_misaligned (AluRX op rd ri mem) opcode e operands_valid own = absurd (no_operate (is_some (alu_rx op) || is_some (alu_rxy op)) (alu_rx op) (alu_rxy op) rd ri mem opcode e)
   never_misaligned (AtomicRmw op rd rn mem) opcode e operands_valid own = absurd (no_load_and_operate (atomic_rsy op) rd rn mem opcode e)
   never_misaligned (Vector v) opcode e operands_valid own = absurd (no_vector v opcode e)
-  never_misaligned i opcode e operands_valid own = load_never_or (other_memory i) (other_operand_step i) (as_load i) opcode e operands_valid own
+  never_misaligned i opcode e operands_valid own = transfer_never_or (rest_memory i) (rest_operand_step i) (as_transfer i) opcode e operands_valid own

@@ -17,6 +17,7 @@ use Rattle.s390x_inst.specs.declared.ops.RxSBGOp.{RxSBGOp}
 use Rattle.s390x_inst.specs.declared.ops.RxSBGOp.TheVariants as R
 use Rattle.s390x_lanes.specs.declared.operators.Signedness.TheVariants.{Signed, Unsigned}
 use Rattle.s390x_format.specs.declared.kind.FormatKind.{FormatKind}
+use Rattle.s390x_rows.specs.declared.opcodes.TheConstants as opcodes
 use Rattle.s390x_typed_steps.specs.Opcodes.{cmp_trap, cmp_trap_signed, cmp_trap_unsigned, of_one, of_two, of_four, alu_part, alu_half, load_part, load_half, insert_part, extend_to_word, extend_to_doubleword, extend_two, shift_opcode, rotate_then, indexed_opcode, logical_indexed_opcode}
 use Rattle.s390x_typed_steps.specs.MachineInstruction.{rrf_cde, rie_f}
 use Rattle.s390x_operations.specs.declared.effect.CodeRule.{CodeRule}
@@ -72,35 +73,35 @@ by_four kind digits a b c d semantics zeroth first second third n = go (nat_eq n
 
 pub part_rows : (op : ALUOp) (shift : ℕ) → OpcodeRows RiA 4096 (alu_part op shift) (immediate_at (on_selected (part_operator op) (part_mask shift)) (16 * shift) Set)
 unfolding machine_rows row_for semantics_in semantics_of
-part_rows A.And32 shift = by_two RiA 4096 0xa57 0xa56 (λ n. immediate_at (on_selected Select.And (part_mask n)) (16 * n) Set) (record { is = refl }, refl) (record { is = refl }, refl) shift
-part_rows A.And64 shift = by_four RiA 4096 0xa57 0xa56 0xa55 0xa54 (λ n. immediate_at (on_selected Select.And (part_mask n)) (16 * n) Set) (record { is = refl }, refl) (record { is = refl }, refl) (record { is = refl }, refl) (record { is = refl }, refl) shift
-part_rows A.Orr32 shift = by_two RiA 4096 0xa5b 0xa5a (λ n. immediate_at (on_selected Select.Or (part_mask n)) (16 * n) Set) (record { is = refl }, refl) (record { is = refl }, refl) shift
-part_rows A.Orr64 shift = by_four RiA 4096 0xa5b 0xa5a 0xa59 0xa58 (λ n. immediate_at (on_selected Select.Or (part_mask n)) (16 * n) Set) (record { is = refl }, refl) (record { is = refl }, refl) (record { is = refl }, refl) (record { is = refl }, refl) shift
+part_rows A.And32 shift = by_two RiA 4096 opcodes.NILL opcodes.NILH (λ n. immediate_at (on_selected Select.And (part_mask n)) (16 * n) Set) (record { is = refl }, refl) (record { is = refl }, refl) shift
+part_rows A.And64 shift = by_four RiA 4096 opcodes.NILL opcodes.NILH opcodes.NIHL opcodes.NIHH (λ n. immediate_at (on_selected Select.And (part_mask n)) (16 * n) Set) (record { is = refl }, refl) (record { is = refl }, refl) (record { is = refl }, refl) (record { is = refl }, refl) shift
+part_rows A.Orr32 shift = by_two RiA 4096 opcodes.OILL opcodes.OILH (λ n. immediate_at (on_selected Select.Or (part_mask n)) (16 * n) Set) (record { is = refl }, refl) (record { is = refl }, refl) shift
+part_rows A.Orr64 shift = by_four RiA 4096 opcodes.OILL opcodes.OILH opcodes.OIHL opcodes.OIHH (λ n. immediate_at (on_selected Select.Or (part_mask n)) (16 * n) Set) (record { is = refl }, refl) (record { is = refl }, refl) (record { is = refl }, refl) (record { is = refl }, refl) shift
 part_rows _ shift = tt
 
 pub half_rows : (op : ALUOp) (shift : ℕ) → OpcodeRows RilA 4096 (alu_half op shift) (immediate_at (on_selected (part_operator op) (half_mask shift)) (32 * shift) Set)
 unfolding machine_rows row_for semantics_in semantics_of
-half_rows A.And32 shift = by_one RilA 4096 0xc0b (λ n. immediate_at (on_selected Select.And (half_mask n)) (32 * n) Set) (record { is = refl }, refl) shift
-half_rows A.And64 shift = by_two RilA 4096 0xc0b 0xc0a (λ n. immediate_at (on_selected Select.And (half_mask n)) (32 * n) Set) (record { is = refl }, refl) (record { is = refl }, refl) shift
-half_rows A.Orr32 shift = by_one RilA 4096 0xc0d (λ n. immediate_at (on_selected Select.Or (half_mask n)) (32 * n) Set) (record { is = refl }, refl) shift
-half_rows A.Orr64 shift = by_two RilA 4096 0xc0d 0xc0c (λ n. immediate_at (on_selected Select.Or (half_mask n)) (32 * n) Set) (record { is = refl }, refl) (record { is = refl }, refl) shift
-half_rows A.Xor32 shift = by_one RilA 4096 0xc07 (λ n. immediate_at (on_selected Select.Xor (half_mask n)) (32 * n) Set) (record { is = refl }, refl) shift
-half_rows A.Xor64 shift = by_two RilA 4096 0xc07 0xc06 (λ n. immediate_at (on_selected Select.Xor (half_mask n)) (32 * n) Set) (record { is = refl }, refl) (record { is = refl }, refl) shift
+half_rows A.And32 shift = by_one RilA 4096 opcodes.NILF (λ n. immediate_at (on_selected Select.And (half_mask n)) (32 * n) Set) (record { is = refl }, refl) shift
+half_rows A.And64 shift = by_two RilA 4096 opcodes.NILF opcodes.NIHF (λ n. immediate_at (on_selected Select.And (half_mask n)) (32 * n) Set) (record { is = refl }, refl) (record { is = refl }, refl) shift
+half_rows A.Orr32 shift = by_one RilA 4096 opcodes.OILF (λ n. immediate_at (on_selected Select.Or (half_mask n)) (32 * n) Set) (record { is = refl }, refl) shift
+half_rows A.Orr64 shift = by_two RilA 4096 opcodes.OILF opcodes.OIHF (λ n. immediate_at (on_selected Select.Or (half_mask n)) (32 * n) Set) (record { is = refl }, refl) (record { is = refl }, refl) shift
+half_rows A.Xor32 shift = by_one RilA 4096 opcodes.XILF (λ n. immediate_at (on_selected Select.Xor (half_mask n)) (32 * n) Set) (record { is = refl }, refl) shift
+half_rows A.Xor64 shift = by_two RilA 4096 opcodes.XILF opcodes.XIHF (λ n. immediate_at (on_selected Select.Xor (half_mask n)) (32 * n) Set) (record { is = refl }, refl) (record { is = refl }, refl) shift
 half_rows _ shift = tt
 
 pub load_part_rows : (shift : ℕ) → OpcodeRows RiA 4096 (load_part shift) (immediate_at (on_doublewords Move) (16 * shift) Kept)
 unfolding machine_rows row_for semantics_in semantics_of
-load_part_rows shift = by_four RiA 4096 0xa5f 0xa5e 0xa5d 0xa5c (λ n. immediate_at (on_doublewords Move) (16 * n) Kept) (record { is = refl }, refl) (record { is = refl }, refl) (record { is = refl }, refl) (record { is = refl }, refl) shift
+load_part_rows shift = by_four RiA 4096 opcodes.LLILL opcodes.LLILH opcodes.LLIHL opcodes.LLIHH (λ n. immediate_at (on_doublewords Move) (16 * n) Kept) (record { is = refl }, refl) (record { is = refl }, refl) (record { is = refl }, refl) (record { is = refl }, refl) shift
 
 pub load_half_rows : (shift : ℕ) → OpcodeRows RilA 4096 (load_half shift) (immediate_at (on_doublewords Move) (32 * shift) Kept)
 unfolding machine_rows row_for semantics_in semantics_of
-load_half_rows shift = by_two RilA 4096 0xc0f 0xc0e (λ n. immediate_at (on_doublewords Move) (32 * n) Kept) (record { is = refl }, refl) (record { is = refl }, refl) shift
+load_half_rows shift = by_two RilA 4096 opcodes.LLILF opcodes.LLIHF (λ n. immediate_at (on_doublewords Move) (32 * n) Kept) (record { is = refl }, refl) (record { is = refl }, refl) shift
 
 pub insert_part_rows : (shift : ℕ) → OpcodeRows RiA 4096 (insert_part shift) (immediate_at (on_selected Select.Insert (part_mask shift)) (16 * shift) Kept)
 unfolding machine_rows row_for semantics_in semantics_of
-insert_part_rows shift = by_four RiA 4096 0xa53 0xa52 0xa51 0xa50 (λ n. immediate_at (on_selected Select.Insert (part_mask n)) (16 * n) Kept) (record { is = refl }, refl) (record { is = refl }, refl) (record { is = refl }, refl) (record { is = refl }, refl) shift
+insert_part_rows shift = by_four RiA 4096 opcodes.IILL opcodes.IILH opcodes.IIHL opcodes.IIHH (λ n. immediate_at (on_selected Select.Insert (part_mask n)) (16 * n) Kept) (record { is = refl }, refl) (record { is = refl }, refl) (record { is = refl }, refl) (record { is = refl }, refl) shift
 
-pub iihf_row : OpcodeRow RilA 4096 0xc08 (immediate_at (on_selected Select.Insert (half_mask 1)) 32 Kept)
+pub iihf_row : OpcodeRow RilA 4096 opcodes.IIHF (immediate_at (on_selected Select.Insert (half_mask 1)) 32 Kept)
 unfolding machine_rows row_for semantics_in semantics_of
 iihf_row = (record { is = refl }, refl)
 
@@ -119,11 +120,11 @@ narrower signed one eight sixteen = record {
 }
 
 abbrev word_opcode : (signed one eight sixteen : Bool) → Option ℕ
-word_opcode signed one eight sixteen = cond one (Some 0xb926) (cond eight (Some (cond signed 0xb926 0xb994)) (cond sixteen (Some (cond signed 0xb927 0xb995)) None))
+word_opcode signed one eight sixteen = cond one (Some opcodes.LBR) (cond eight (Some (cond signed opcodes.LBR opcodes.LLCR)) (cond sixteen (Some (cond signed opcodes.LHR opcodes.LLHR)) None))
 
 abbrev doubleword_opcode : (signed one eight sixteen thirty_two : Bool) → Option ℕ
 doubleword_opcode signed one eight sixteen thirty_two =
-    cond one (Some 0xb906) (cond eight (Some (cond signed 0xb906 0xb984)) (cond sixteen (Some (cond signed 0xb907 0xb985)) (cond thirty_two (Some (cond signed 0xb914 0xb916)) None)))
+    cond one (Some opcodes.LGBR) (cond eight (Some (cond signed opcodes.LGBR opcodes.LLGCR)) (cond sixteen (Some (cond signed opcodes.LGHR opcodes.LLGHR)) (cond thirty_two (Some (cond signed opcodes.LGFR opcodes.LLGFR)) None)))
 
 word_rows : (signed one eight sixteen : Bool) → TwoRows (word_opcode signed one eight sixteen) (computed (with_second Move Word (narrower signed one eight sixteen)) Register Kept)
 unfolding machine_rows row_for semantics_in semantics_of
@@ -155,7 +156,7 @@ sized_rows signed from false false = tt
 pub extend_rows : (signed : Bool) (from to : ℕ) → TwoRows (extend_two signed from to) (extends signed from to)
 extend_rows signed from to = sized_rows signed from (nat_eq to 32) (nat_eq to 64)
 
-pub ear_row : TwoRow 0xb24f (computed (on_words Move) AccessRegister Kept)
+pub ear_row : TwoRow opcodes.EAR (computed (on_words Move) AccessRegister Kept)
 unfolding machine_rows row_for semantics_in semantics_of
 ear_row = (record { is = refl }, refl)
 
@@ -189,33 +190,33 @@ rotate_rows op = rows (λ n. RieF) (rotate_allows op) 65536 (Some (rotate_then o
 
 -- ---- pairs
 
-pub mgrk_row : PairRow RrfAb none_but_zero 0xb9ec MultiplySigned
+pub mgrk_row : PairRow RrfAb none_but_zero opcodes.MGRK MultiplySigned
 unfolding machine_rows row_for semantics_in semantics_of
 mgrk_row = record { is = refl }
 
-pub mlgr_row : PairRow Rre Any 0xb986 MultiplyLogical
+pub mlgr_row : PairRow Rre Any opcodes.MLGR MultiplyLogical
 unfolding machine_rows row_for semantics_in semantics_of
 mlgr_row = record { is = refl }
 
-pub flogr_row : PairRow Rre Any 0xb983 FindLeftmostOne
+pub flogr_row : PairRow Rre Any opcodes.FLOGR FindLeftmostOne
 unfolding machine_rows row_for semantics_in semantics_of
 flogr_row = record { is = refl }
 
 -- ---- divisions, and comparisons that trap
 
-pub dsgfr_row : PairRow Rre Any 0xb91d (DivideSigned Bits32)
+pub dsgfr_row : PairRow Rre Any opcodes.DSGFR (DivideSigned Bits32)
 unfolding machine_rows row_for semantics_in semantics_of
 dsgfr_row = record { is = refl }
 
-pub dsgr_row : PairRow Rre Any 0xb90d (DivideSigned Bits64)
+pub dsgr_row : PairRow Rre Any opcodes.DSGR (DivideSigned Bits64)
 unfolding machine_rows row_for semantics_in semantics_of
 dsgr_row = record { is = refl }
 
-pub dlr_row : PairRow Rre Any 0xb997 (DivideLogical Word)
+pub dlr_row : PairRow Rre Any opcodes.DLR (DivideLogical Word)
 unfolding machine_rows row_for semantics_in semantics_of
 dlr_row = record { is = refl }
 
-pub dlgr_row : PairRow Rre Any 0xb987 (DivideLogical Doubleword)
+pub dlgr_row : PairRow Rre Any opcodes.DLGR (DivideLogical Doubleword)
 unfolding machine_rows row_for semantics_in semantics_of
 dlgr_row = record { is = refl }
 
@@ -255,27 +256,27 @@ trap_unsigned_rows op = rows (λ n. RieA) Any 65536 (cmp_trap_unsigned op) (imme
 abbrev pub any_mask : Allowed
 any_mask = FirstMask 0 15
 
-pub locr_row : Meant RrfCde any_mask 0xb9f2 (MoveWhere Word (second_register Register unsigned_word))
+pub locr_row : Meant RrfCde any_mask opcodes.LOCR (MoveWhere Word (second_register Register unsigned_word))
 unfolding machine_rows row_for semantics_in semantics_of
 locr_row = (record { is = refl }, refl)
 
-pub locgr_row : Meant RrfCde any_mask 0xb9e2 (MoveWhere Doubleword (second_register Register doubleword))
+pub locgr_row : Meant RrfCde any_mask opcodes.LOCGR (MoveWhere Doubleword (second_register Register doubleword))
 unfolding machine_rows row_for semantics_in semantics_of
 locgr_row = (record { is = refl }, refl)
 
-pub lochi_row : Meant RieG Any 0xec42 (MoveWhere Word (second_register Immediate signed_halfword))
+pub lochi_row : Meant RieG Any opcodes.LOCHI (MoveWhere Word (second_register Immediate signed_halfword))
 unfolding machine_rows row_for semantics_in semantics_of
 lochi_row = (record { is = refl }, refl)
 
-pub locghi_row : Meant RieG Any 0xec46 (MoveWhere Doubleword (second_register Immediate signed_halfword))
+pub locghi_row : Meant RieG Any opcodes.LOCGHI (MoveWhere Doubleword (second_register Immediate signed_halfword))
 unfolding machine_rows row_for semantics_in semantics_of
 locghi_row = (record { is = refl }, refl)
 
-pub popcnt_row : Meant RrfCde CountMode 0xb9e1 CountOnes
+pub popcnt_row : Meant RrfCde CountMode opcodes.POPCNT CountOnes
 unfolding machine_rows row_for semantics_in semantics_of
 popcnt_row = (record { is = refl }, refl)
 
-pub bcr_row : Meant Rr Any 0x07 BranchToRegister
+pub bcr_row : Meant Rr Any opcodes.BCR BranchToRegister
 unfolding machine_rows row_for semantics_in semantics_of
 bcr_row = (record { is = refl }, refl)
 
@@ -285,7 +286,7 @@ bcr_row = (record { is = refl }, refl)
 abbrev pub AnyRows : Option ℕ → Type 0
 AnyRows o = MeantRows Rxy Any o Havoc
 
-any_rows : (one two three four : Bool) → AnyRows (cond one (Some 0xe362) (cond two (Some 0xe364) (cond three (Some 0xe366) (cond four (Some 0xe368) None))))
+any_rows : (one two three four : Bool) → AnyRows (cond one (Some opcodes.LXAH) (cond two (Some opcodes.LXAF) (cond three (Some opcodes.LXAG) (cond four (Some opcodes.LXAQ) None))))
 unfolding machine_rows row_for semantics_in semantics_of
 any_rows true two three four = (record { is = refl }, refl)
 any_rows false true three four = (record { is = refl }, refl)
@@ -293,7 +294,7 @@ any_rows false false true four = (record { is = refl }, refl)
 any_rows false false false true = (record { is = refl }, refl)
 any_rows false false false false = tt
 
-logical_any_rows : (one two three four : Bool) → AnyRows (cond one (Some 0xe363) (cond two (Some 0xe365) (cond three (Some 0xe367) (cond four (Some 0xe369) None))))
+logical_any_rows : (one two three four : Bool) → AnyRows (cond one (Some opcodes.LLXAH) (cond two (Some opcodes.LLXAF) (cond three (Some opcodes.LLXAG) (cond four (Some opcodes.LLXAQ) None))))
 unfolding machine_rows row_for semantics_in semantics_of
 logical_any_rows true two three four = (record { is = refl }, refl)
 logical_any_rows false true three four = (record { is = refl }, refl)

@@ -2,6 +2,7 @@
 use Rattle.std.proofs.Common.{◌≡◌, ◌≢◌, ℕ, suc, ◌+◌, ◌%◌, ◌^◌, ◌<◌, List, [], ◌∷◌, Some, Bool, true, false, cond, ◌==◌, IsTrue, refl, sym, ap, ◌∙◌, subst, arith, eqb-true, slice_get}
 use Rattle.std.specs.Prelude.{pos, ◌+ℤ◌, ◌*ℤ◌}
 use Rattle.std.specs.Int.{cast_signed}
+use Rattle.s390x_rows.specs.declared.opcodes.TheConstants as opcodes
 use mir.Syntax.{w32}
 use Rattle.std.proofs.lemmas.Bool.{and_parts}
 use Rattle.s390x_base.specs.Regs.{number_of}
@@ -40,13 +41,13 @@ use Rattle.s390x_machine.proofs.Rows.{fits_rr, fits_ril_b, fits_ril_c, brcl_list
 use Rattle.s390x_machine.proofs.Simulation.{RowAt}
 use Rattle.s390x_machine.proofs.Standing.{inside_first, next_place}
 
-basr_listed : (a b : ℕ) → IsEncoded machine_rows Rr (rr 0x0d a b).slots
+basr_listed : (a b : ℕ) → IsEncoded machine_rows Rr (rr opcodes.BASR a b).slots
 unfolding machine_rows row_for
-basr_listed a b = listed machine_rows Rr (rr 0x0d a b).slots (omega arith) (refl, refl, refl)
+basr_listed a b = listed machine_rows Rr (rr opcodes.BASR a b).slots (omega arith) (refl, refl, refl)
 
-brasl_listed : (a half : ℕ) → IsEncoded machine_rows RilB (ril_b 0xc05 a half).slots
+brasl_listed : (a half : ℕ) → IsEncoded machine_rows RilB (ril_b opcodes.BRASL a half).slots
 unfolding machine_rows row_for
-brasl_listed a half = listed machine_rows RilB (ril_b 0xc05 a half).slots (omega arith) (refl, refl, refl)
+brasl_listed a half = listed machine_rows RilB (ril_b opcodes.BRASL a half).slots (omega arith) (refl, refl, refl)
 
 -- half of a distance leads from an offset to an address
 abbrev pub LeadsTo : Layout → (offset half address : ℕ) → Type 0
@@ -54,9 +55,9 @@ LeadsTo L offset half address = (half < 2 ^ 32) × (low Doubleword (pos (wrappin
 
 module _ (L : Layout) (image : ImageAt L) (offset : ℕ) (even : offset % 2 ≡ 0) where
   -- BRANCH AND SAVE to the address in a register
-  pub basr_at : (link b : ℕ) → link < 16 → b < 16 → b ≢ 0 → StandsAt L.image offset (bytes_of (rr 0x0d link b)) → RowAt L (wrapping_add64 L.image.base offset) (λ r. BranchAndSave link (r.general b)) (length_of Rr)
+  pub basr_at : (link b : ℕ) → link < 16 → b < 16 → b ≢ 0 → StandsAt L.image offset (bytes_of (rr opcodes.BASR link b)) → RowAt L (wrapping_add64 L.image.base offset) (λ r. BranchAndSave link (r.general b)) (length_of Rr)
   unfolding semantics_in semantics_of
-  basr_at link b ll lb some s = row_at L offset (rr 0x0d link b) (λ r. BranchAndSave link (r.general b)) image.even even image.fits s (fits_rr 0x0d link b (omega arith) ll lb) (basr_listed link b) (λ state event t at h. saved (b == 0) refl state event t h)
+  basr_at link b ll lb some s = row_at L offset (rr opcodes.BASR link b) (λ r. BranchAndSave link (r.general b)) image.even even image.fits s (fits_rr opcodes.BASR link b (omega arith) ll lb) (basr_listed link b) (λ state event t at h. saved (b == 0) refl state event t h)
     where
       saved : (n : Bool) → (b == 0) ≡ n → (state : State) (event : Event) (t : State) →
           ActionStep (BranchAndSave link (cond n (wrapping_add64 state.address 2) (state.core.registers.general b))) (length_of Rr) state event t → ActionStep (BranchAndSave link (state.core.registers.general b)) (length_of Rr) state event t
@@ -64,17 +65,17 @@ module _ (L : Layout) (image : ImageAt L) (offset : ℕ) (even : offset % 2 ≡ 
       saved false e state event t h = h
 
   -- BRANCH RELATIVE AND SAVE LONG to an address
-  pub brasl_at : (link half target : ℕ) → link < 16 → LeadsTo L offset half target → StandsAt L.image offset (bytes_of (ril_b 0xc05 link half)) → RowAt L (wrapping_add64 L.image.base offset) (λ r. BranchAndSave link target) (length_of RilB)
+  pub brasl_at : (link half target : ℕ) → link < 16 → LeadsTo L offset half target → StandsAt L.image offset (bytes_of (ril_b opcodes.BRASL link half)) → RowAt L (wrapping_add64 L.image.base offset) (λ r. BranchAndSave link target) (length_of RilB)
   unfolding semantics_in semantics_of
   brasl_at link half target ll leads s =
-      row_at L offset (ril_b 0xc05 link half) (λ r. BranchAndSave link target) image.even even image.fits s (fits_ril_b 0xc05 link half (omega arith) ll leads.0) (brasl_listed link half) (λ state event t at h.
+      row_at L offset (ril_b opcodes.BRASL link half) (λ r. BranchAndSave link target) image.even even image.fits s (fits_ril_b opcodes.BRASL link half (omega arith) ll leads.0) (brasl_listed link half) (λ state event t at h.
       subst (λ a. ActionStep (BranchAndSave link a) (length_of RilB) state event t) (ap (λ p. low Doubleword (pos p +ℤ pos 2 *ℤ cast_signed w32 half)) at ∙ leads.1) h)
 
   -- BRANCH RELATIVE ON CONDITION LONG, which is always taken, to an address
-  pub goes_at : (half target : ℕ) → LeadsTo L offset half target → StandsAt L.image offset (bytes_of (ril_c 0xc04 15 half)) → RowAt L (wrapping_add64 L.image.base offset) (λ r. Branch 15 target) (length_of RilC)
+  pub goes_at : (half target : ℕ) → LeadsTo L offset half target → StandsAt L.image offset (bytes_of (ril_c opcodes.BRCL 15 half)) → RowAt L (wrapping_add64 L.image.base offset) (λ r. Branch 15 target) (length_of RilC)
   unfolding semantics_in semantics_of
   goes_at half target leads s =
-      row_at L offset (ril_c 0xc04 15 half) (λ r. Branch 15 target) image.even even image.fits s (fits_ril_c 0xc04 15 half (omega arith) (omega arith) leads.0) (brcl_listed 15 half) (λ state event t at h.
+      row_at L offset (ril_c opcodes.BRCL 15 half) (λ r. Branch 15 target) image.even even image.fits s (fits_ril_c opcodes.BRCL 15 half (omega arith) (omega arith) leads.0) (brcl_listed 15 half) (λ state event t at h.
       subst (λ a. ActionStep (Branch 15 a) (length_of RilC) state event t) (ap (λ p. low Doubleword (pos p +ℤ pos 2 *ℤ cast_signed w32 half)) at ∙ leads.1) h)
 
 -- sites have no bytes

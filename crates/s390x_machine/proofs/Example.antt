@@ -10,6 +10,7 @@ use Rattle.s390x_format.specs.Formats.{layout_of, length_of}
 use Rattle.s390x_format.specs.Reading.{be_bytes}
 use Rattle.s390x_format.specs.Fetch.{machine_rows}
 use Rattle.s390x_format.specs.Encoded.{IsEncoded, decoded_of}
+use Rattle.s390x_rows.specs.declared.opcodes.TheConstants as opcodes
 use Rattle.s390x_typed_steps.specs.Causes.{blocks_cause}
 use Rattle.s390x_typed_steps.specs.Image.{unlinked, step_offset, function_code}
 use Rattle.s390x_typed_steps.specs.MachineInstruction.{MachineInstruction, bytes_of, rr, rre, ril_c}
@@ -77,26 +78,26 @@ step_at m o s event t even memory at stands fit listed acts = record {
   acts = acts;
 }
 
-add_stands : StandsAt image 0 (bytes_of (rre 0xb908 2 4))
+add_stands : StandsAt image 0 (bytes_of (rre opcodes.AGR 2 4))
 unfolding number bits layout_of length_of be_bytes
 add_stands = record { earlier = []; later = 0xc0 ∷ 0x44 ∷ 0xff ∷ 0xff ∷ 0xff ∷ 0xfe ∷ 0x07 ∷ 0xfe ∷ []; at = refl; is = refl }
 
-first_stands : StandsAt image 4 (bytes_of (ril_c 0xc04 4 4294967294))
+first_stands : StandsAt image 4 (bytes_of (ril_c opcodes.BRCL 4 4294967294))
 unfolding number bits layout_of length_of be_bytes
 first_stands = record { earlier = 0xb9 ∷ 0x08 ∷ 0x00 ∷ 0x24 ∷ []; later = 0x07 ∷ 0xfe ∷ []; at = refl; is = refl }
 
-return_stands : StandsAt image 10 (bytes_of (rr 0x07 15 14))
+return_stands : StandsAt image 10 (bytes_of (rr opcodes.BCR 15 14))
 unfolding number bits layout_of length_of be_bytes
 return_stands = record { earlier = 0xb9 ∷ 0x08 ∷ 0x00 ∷ 0x24 ∷ 0xc0 ∷ 0x44 ∷ 0xff ∷ 0xff ∷ 0xff ∷ 0xfe ∷ []; later = []; at = refl; is = refl }
 
-add_step : (s t : State) → s.core.memory ≡ core.memory → s.address ≡ 4096 → FetchedStep (Found (decoded_of Rre (rre 0xb908 2 4).slots)) s (Executed None) t → MachineStep s (Executed None) t
-add_step s t memory at acts = step_at (rre 0xb908 2 4) 0 s (Executed None) t refl memory at add_stands (fits_rre 0xb908 2 4 (omega arith) (omega arith) (omega arith)) (agr_listed 2 4) acts
+add_step : (s t : State) → s.core.memory ≡ core.memory → s.address ≡ 4096 → FetchedStep (Found (decoded_of Rre (rre opcodes.AGR 2 4).slots)) s (Executed None) t → MachineStep s (Executed None) t
+add_step s t memory at acts = step_at (rre opcodes.AGR 2 4) 0 s (Executed None) t refl memory at add_stands (fits_rre opcodes.AGR 2 4 (omega arith) (omega arith) (omega arith)) (agr_listed 2 4) acts
 
-first_step_taken : (s t : State) → s.core.memory ≡ core.memory → s.address ≡ 4100 → FetchedStep (Found (decoded_of RilC (ril_c 0xc04 4 4294967294).slots)) s (Executed None) t → MachineStep s (Executed None) t
-first_step_taken s t memory at acts = step_at (ril_c 0xc04 4 4294967294) 4 s (Executed None) t refl memory at first_stands (fits_ril_c 0xc04 4 4294967294 (omega arith) (omega arith) (omega arith)) (brcl_listed 4 4294967294) acts
+first_step_taken : (s t : State) → s.core.memory ≡ core.memory → s.address ≡ 4100 → FetchedStep (Found (decoded_of RilC (ril_c opcodes.BRCL 4 4294967294).slots)) s (Executed None) t → MachineStep s (Executed None) t
+first_step_taken s t memory at acts = step_at (ril_c opcodes.BRCL 4 4294967294) 4 s (Executed None) t refl memory at first_stands (fits_ril_c opcodes.BRCL 4 4294967294 (omega arith) (omega arith) (omega arith)) (brcl_listed 4 4294967294) acts
 
-return_step : (s t : State) → s.core.memory ≡ core.memory → s.address ≡ 4106 → FetchedStep (Found (decoded_of Rr (rr 0x07 15 14).slots)) s (Executed None) t → MachineStep s (Executed None) t
-return_step s t memory at acts = step_at (rr 0x07 15 14) 10 s (Executed None) t refl memory at return_stands (fits_rr 0x07 15 14 (omega arith) (omega arith) (omega arith)) (bcr_listed 15 14) acts
+return_step : (s t : State) → s.core.memory ≡ core.memory → s.address ≡ 4106 → FetchedStep (Found (decoded_of Rr (rr opcodes.BCR 15 14).slots)) s (Executed None) t → MachineStep s (Executed None) t
+return_step s t memory at acts = step_at (rr opcodes.BCR 15 14) 10 s (Executed None) t refl memory at return_stands (fits_rr opcodes.BCR 15 14 (omega arith) (omega arith) (omega arith)) (bcr_listed 15 14) acts
 
 pub loop_runs : LoopRuns
 unfolding length_of semantics_in semantics_of

@@ -3,6 +3,7 @@
 use Rattle.std.proofs.Common.{◌⊎◌, inl, ◌≡◌, ℕ, ◌+◌, ◌^◌, ◌<◌, ◌≤◌, [], ◌∷◌, ◌++◌, Option, Some, None, Bool, true, false, cond, not, ◌&&◌, ◌||◌, ◌==◌, IsTrue, refl, sym, ap, ◌∙◌, subst, arith}
 use Rattle.std.specs.Prelude.{ℤ, pos, negsuc, ◌+ℤ◌, ◌*ℤ◌, ◌≤ℤ◌, unsigned_abs}
 use Rattle.std.specs.Int.{cast_signed}
+use Rattle.s390x_rows.specs.declared.opcodes.TheConstants as opcodes
 use mir.Syntax.{w32}
 use Rattle.std.proofs.lemmas.Bool.{and_parts, eqb-true}
 use Rattle.std.proofs.lemmas.Int.{ints}
@@ -108,10 +109,10 @@ aligned_coded true op code h = λ kind by. h kind (aligned_values op.effect kind
 
 -- the helper's rows
 abbrev pub LoadsAddress : Type 0
-LoadsAddress = IndexedForm 1 (Some 0x41) (Some 0xe371) (loads_address 1)
+LoadsAddress = IndexedForm 1 (Some opcodes.LA) (Some opcodes.LAY) (loads_address 1)
 
 abbrev pub LoadsRelative : Type 0
-LoadsRelative = RelativeForm 1 (Some 0xc00) (loads_address 1)
+LoadsRelative = RelativeForm 1 (Some opcodes.LARL) (loads_address 1)
 
 -- the address that an operand with a base and an index has
 abbrev there : (base index : Reg) (z : ℤ) → Registers → ℕ

@@ -6,20 +6,23 @@ use Rattle.s390x_base.specs.declared.regs.Reg.TheVariants.{Real}
 use Rattle.s390x_inst.specs.declared.ops.UnaryOp.TheVariants as U
 use Rattle.s390x_base.specs.declared.regs.Reg.{Reg}
 use Rattle.s390x_inst.specs.declared.args.MemArg.{MemArg}
-use Rattle.s390x_inst.specs.declared.load.Load.{Load}
 use Rattle.s390x_inst.specs.declared.load.LoadOp.{LoadOp}
 use Rattle.s390x_inst.specs.declared.load.LoadOp.TheVariants as LoadOps
-use Rattle.s390x_inst.specs.Loads.{as_load, load_instruction}
-use Rattle.s390x_inst.proofs.Loads.{the_load}
+use Rattle.s390x_inst.specs.Loads.{load_instruction}
+use Rattle.s390x_inst.specs.declared.store.StoreOp.{StoreOp}
+use Rattle.s390x_inst.specs.declared.store.StoreOp.TheVariants as StoreOps
+use Rattle.s390x_inst.specs.Stores.{store_instruction}
+use Rattle.s390x_inst.proofs.Transfers.{Transfer, LoadOf, StoreOf, as_transfer, transfer_instruction, the_transfer}
 use Rattle.s390x_inst.specs.declared.inst.Inst.{Inst}
 use Rattle.s390x_inst.specs.declared.inst.Inst.TheVariants.{Loop', CondBreak, Call, ReturnCall}
 use Rattle.s390x_inst.specs.declared.inst.Inst.TheVariants.{AluRRR, AluRR, AluRRSImm16, AluRSImm16, AluRSImm32, AluRUImm32, UnaryRR, CmpRR, CmpRSImm16, CmpRSImm32, CmpRUImm32, Mov64, MovPReg, Mov32, Mov32Imm, Mov32SImm16, Mov64SImm16, Mov64SImm32, AluRUImm16Shifted, AluRUImm32Shifted, SMulWide, UMulWide, Flogr, ShiftRR, RxSBG, RxSBGTest, Mov64UImm16Shifted, Mov64UImm32Shifted}
 use Rattle.s390x_inst.specs.declared.inst.Inst.TheVariants.{Insert64UImm16Shifted, Insert64UImm32Shifted, CMov32, CMov64, CMov32SImm16, CMov64SImm16, Extend, LoadAR, InsertAR, LoadIndexedAddr, LoadLogicalIndexedAddr, Fence, Nop0, Nop2, Jump, CondBr, IndirectBr, Ret, LabelAddress, LoadSymbolReloc, Trap, TrapIf, Debugtrap, SDivMod32, SDivMod64, UDivMod32, UDivMod64, CmpTrapRR}
-use Rattle.s390x_inst.specs.declared.inst.Inst.TheVariants.{CmpTrapRSImm16, CmpTrapRUImm16, AluRX, CmpRX, Store8, Store16, Store32, Store64, StoreRev16, StoreRev32, StoreRev64, StoreImm8}
+use Rattle.s390x_inst.specs.declared.inst.Inst.TheVariants.{CmpTrapRSImm16, CmpTrapRUImm16, AluRX, CmpRX, StoreImm8}
 use Rattle.s390x_inst.specs.declared.inst.Inst.TheVariants.{StoreImm16, StoreImm32SExt16, StoreImm64SExt16, LoadMultiple64, StoreMultiple64, LoadAddr, AtomicRmw, AtomicCas32, AtomicCas64, JTSequence, AllocateArgs, Args, Rets, DummyUse, SequencePoint}
 use Rattle.s390x_inst.specs.declared.inst.Inst.TheVariants.{Vector}
 use Rattle.s390x_format.specs.Formats.{length_of}
 use Rattle.s390x_format.specs.declared.kind.FormatKind.TheVariants.{Rr}
+use Rattle.s390x_rows.specs.declared.opcodes.TheConstants as opcodes
 use Rattle.s390x_typed_steps.specs.General.{is_general, reuses, reuses_pair, low_halfword, low_word, four_bits, low_displacement, is_access}
 use Rattle.s390x_typed_steps.specs.Opcodes.{alu_two, cmp_two, unary_two, alu_halfword, alu_three_halfword, alu_signed_word, alu_unsigned_word, cmp_halfword, cmp_trap, cmp_trap_signed, cmp_trap_unsigned, cmp_signed_word, cmp_unsigned_word, alu_part, alu_half, load_part, load_half, insert_part, extend_two, indexed_opcode, logical_indexed_opcode}
 use Rattle.s390x_typed_steps.specs.StepBody.{AtCall}
@@ -30,7 +33,7 @@ use Rattle.s390x_operations.specs.declared.size.Width.TheVariants.{Bits16, Bits3
 use Rattle.s390x_operations.specs.declared.operator.SelectedBitsOperator.TheVariants as Select
 use Rattle.s390x_operations.specs.declared.operator.Operator.TheVariants.{Move, SelectedBits}
 use Rattle.s390x_machine.specs.declared.semantics.RowSemantics.TheVariants.{DivideSigned, DivideLogical}
-use Rattle.s390x_machine.specs.Computations.{alu_computation, alu_two_rule, unary_computation, unary_rule, comparison, on_words, on_doublewords, unsigned_word, signed_word, unsigned_halfword, signed_halfword, on_immediate, compares_on_immediate, doubleword, part_mask, half_mask, part_operator, extension, divides_signed, divides_logical}
+use Rattle.s390x_machine.specs.Computations.{alu_computation, alu_two_rule, unary_computation, unary_rule, comparison, on_words, on_doublewords, unsigned_word, signed_word, signed_halfword, on_immediate, compares_on_immediate, doubleword, part_mask, half_mask, part_operator, extension, divides_signed, divides_logical}
 use Rattle.s390x_machine.specs.Typed.{kind_of_step}
 use Rattle.s390x_machine.specs.Match.{EveryRunFrom, EveryRun, EveryReturnRun, EveryBlockRun}
 use Rattle.s390x_machine.specs.OneStep.{StepRuns, StepHolds}
@@ -41,12 +44,11 @@ use Rattle.s390x_machine.proofs.Operands.{halfword_bits, word_bits, displacement
 use Rattle.s390x_machine.proofs.Rows.{general_number, nonzero_number, unscratched_number}
 use Rattle.s390x_machine.proofs.Bits.{part_rows, half_rows, load_part_rows, load_half_rows, insert_part_rows, extend_rows, locr_row, locgr_row, lochi_row, locghi_row, indexed_rows, logical_indexed_rows, dsgfr_row, dsgr_row, dlr_row, dlgr_row, trap_rows, trap_signed_rows, trap_unsigned_rows}
 use Rattle.s390x_machine.proofs.SingleInstruction.{alu_two_rows, cmp_rows, unary_rows, lgr_row, lr_row, halfword_rows, three_halfword_rows, signed_word_rows, unsigned_word_rows, cmp_halfword_rows, cmp_signed_word_rows, cmp_unsigned_word_rows, iilf_row, lhi_row, lghi_row, lgfi_row}
-use Rattle.s390x_typed_steps.specs.Memory.{load_rows}
+use Rattle.s390x_typed_steps.specs.Memory.{load_rows, store_rows}
 use Rattle.s390x_typed_steps.specs.Storage.{alu_rx, alu_rxy, cmp_rx, cmp_rxy, cmp_ril, atomic_rsy}
-use Rattle.s390x_machine.specs.Storage.{loaded_value, byte, reversed_bytes, indexed_forms, based_forms, alu_forms, cmp_forms}
-use Rattle.s390x_machine.proofs.RelativeRows.{relative_load_rows, relative_store_16, relative_store_32, relative_store_64, cmp_relative_rows}
-use Rattle.s390x_machine.proofs.StorageRows.{load_indexed_rows, store_8, store_16, store_32, store_64, store_reversed_16, store_reversed_32}
-use Rattle.s390x_machine.proofs.StorageRows.{store_reversed_64, store_immediate_16, store_immediate_32, store_immediate_64, swap_32, swap_64, alu_same, cmp_same, alu_short_rows, alu_long_rows, cmp_short_rows, cmp_long_rows, atomic_rows}
+use Rattle.s390x_machine.specs.Storage.{loaded_value, stored_value, based_forms, alu_forms, cmp_forms}
+use Rattle.s390x_machine.proofs.RelativeRows.{relative_load_rows, relative_store_rows, cmp_relative_rows}
+use Rattle.s390x_machine.proofs.StorageRows.{load_indexed_rows, store_indexed_rows, store_immediate_16, store_immediate_32, store_immediate_64, swap_32, swap_64, alu_same, cmp_same, alu_short_rows, alu_long_rows, cmp_short_rows, cmp_long_rows, atomic_rows}
 use Rattle.s390x_machine.proofs.StorageSteps.{loads, loads_an_address, stores, stores_a_byte, stores_an_immediate, loads_registers, stores_registers, computes_in_memory, compares_in_memory, operates, swaps}
 use Rattle.s390x_machine.proofs.LoadedSteps.{loaded_runs}
 use Rattle.s390x_machine.proofs.Branches.{returns_runs, address_runs}
@@ -62,12 +64,22 @@ use Rattle.s390x_machine.proofs.VectorComposites.{any_vector_runs}
 use Rattle.s390x_machine.proofs.Leading.{register_row, fence_runs, idle_runs, goto_runs, condbr_runs, label_runs, jump_by_table_runs, load_symbol_runs, loop_runs, opening_runs}
 use Rattle.s390x_machine.proofs.RegisterNumbers.{two_small, three_small, reused_small, output_small, mask_bits, access_small, pair_small, pair_small2, pair_tested_small, small_mask}
 
--- ---- loads
+-- ---- loads and stores
 
 -- the last clause is a copy for each
 load_runs : (L : Layout) (k : ℕ) (op : LoadOp) (rd : Reg) (mem : MemArg) → StepAt L k (Plain (load_instruction op rd mem)) → IsValidInstruction L (load_instruction op rd mem) → StepRuns L k
 load_runs L k LoadOps.Load64 rd mem b operands_valid = loads b (loaded_value LoadOps.Load64).size (loaded_value LoadOps.Load64).second (load_rows LoadOps.Load64).rx (load_rows LoadOps.Load64).rxy (load_rows LoadOps.Load64).ril (load_indexed_rows LoadOps.Load64) (relative_load_rows LoadOps.Load64) rd mem (loaded_value LoadOps.Load64).forms (refl, refl, refl, operands_valid)
 load_runs L k op rd mem b operands_valid = loads b (loaded_value op).size (loaded_value op).second (load_rows op).rx (load_rows op).rxy (load_rows op).ril (load_indexed_rows op) (relative_load_rows op) rd mem (loaded_value op).forms (refl, refl, refl, operands_valid)
+
+-- a store, likewise
+store_runs : (L : Layout) (k : ℕ) (op : StoreOp) (rd : Reg) (mem : MemArg) → StepAt L k (Plain (store_instruction op rd mem)) → IsValidInstruction L (store_instruction op rd mem) → StepRuns L k
+store_runs L k StoreOps.Store64 rd mem b operands_valid =
+    stores b (stored_value StoreOps.Store64).second (store_rows StoreOps.Store64).rx (store_rows StoreOps.Store64).rxy (store_rows StoreOps.Store64).ril (store_indexed_rows StoreOps.Store64) (relative_store_rows StoreOps.Store64) rd mem (stored_value StoreOps.Store64).forms (refl, refl, refl, operands_valid)
+store_runs L k op rd mem b operands_valid = stores b (stored_value op).second (store_rows op).rx (store_rows op).rxy (store_rows op).ril (store_indexed_rows op) (relative_store_rows op) rd mem (stored_value op).forms (refl, refl, refl, operands_valid)
+
+transfer_runs : (L : Layout) (k : ℕ) (t : Transfer) → StepAt L k (Plain (transfer_instruction t)) → IsValidInstruction L (transfer_instruction t) → StepRuns L k
+transfer_runs L k (LoadOf l) b operands_valid = load_runs L k l.op l.rd l.mem b operands_valid
+transfer_runs L k (StoreOf s) b operands_valid = store_runs L k s.op s.rd s.mem b operands_valid
 
 -- ---- all of them
 
@@ -86,11 +98,11 @@ instruction_runs L k (UnaryRR op rd rn) b operands_valid =
 instruction_runs L k (CmpRR op rn rm) b operands_valid =
     compares_two b (is_general rn && is_general rm) (cmp_two op) (comparison op) (cmp_rows op) (number_of rn) (number_of rm) (refl, refl, operands_valid) (two_small rn rm)
 instruction_runs L k (Mov64 rd rm) b operands_valid =
-    computes_two b (is_general rd && is_general rm) (Some 0xb904) (on_doublewords Move) Kept lgr_row (number_of rd) (number_of rm) (refl, refl, operands_valid) (two_small rd rm)
+    computes_two b (is_general rd && is_general rm) (Some opcodes.LGR) (on_doublewords Move) Kept lgr_row (number_of rd) (number_of rm) (refl, refl, operands_valid) (two_small rd rm)
 instruction_runs L k (MovPReg rd rm) b operands_valid =
-    computes_two b (is_general rd && is_general (Real rm)) (Some 0xb904) (on_doublewords Move) Kept lgr_row (number_of rd) (number_of (Real rm)) (refl, refl, operands_valid) (two_small rd (Real rm))
+    computes_two b (is_general rd && is_general (Real rm)) (Some opcodes.LGR) (on_doublewords Move) Kept lgr_row (number_of rd) (number_of (Real rm)) (refl, refl, operands_valid) (two_small rd (Real rm))
 instruction_runs L k (Mov32 rd rm) b operands_valid =
-    computes_two b (is_general rd && is_general rm) (Some 0x18) (on_words Move) Kept lr_row (number_of rd) (number_of rm) (refl, refl, operands_valid) (two_small rd rm)
+    computes_two b (is_general rd && is_general rm) (Some opcodes.LR) (on_words Move) Kept lr_row (number_of rd) (number_of rm) (refl, refl, operands_valid) (two_small rd rm)
 instruction_runs L k (AluRRSImm16 op rd rn imm) b operands_valid =
     three_halfword_runs b (on_immediate (alu_computation op) signed_halfword) (alu_two_rule op) (number_of rd) (number_of rn) (low_halfword imm) (is_general rd && is_general rn) (alu_three_halfword op) (alu_halfword op) (three_halfword_rows op) (halfword_rows op) (refl, refl, operands_valid) (two_small rd rn) (halfword_bits imm)
 instruction_runs L k (AluRSImm16 op rd ri imm) b operands_valid =
@@ -106,13 +118,13 @@ instruction_runs L k (AluRUImm32 op rd ri imm) b operands_valid =
 instruction_runs L k (CmpRUImm32 op rn imm) b operands_valid =
     compare_of_word b (is_general rn) (cmp_unsigned_word op) (compares_on_immediate (comparison op) unsigned_word) (cmp_unsigned_word_rows op) (number_of rn) (low_word (pos imm)) (refl, refl, operands_valid) (general_number rn) (word_bits (pos imm))
 instruction_runs L k (Mov32Imm rd imm) b operands_valid =
-    one_of_word b (is_general rd) (Some 0xc09) (on_words Move) Kept iilf_row (number_of rd) (low_word (pos imm)) (refl, refl, operands_valid) (general_number rd) (word_bits (pos imm))
+    one_of_word b (is_general rd) (Some opcodes.IILF) (on_words Move) Kept iilf_row (number_of rd) (low_word (pos imm)) (refl, refl, operands_valid) (general_number rd) (word_bits (pos imm))
 instruction_runs L k (Mov32SImm16 rd imm) b operands_valid =
-    one_of_halfword b (is_general rd) (Some 0xa78) (on_immediate (on_words Move) signed_halfword) Kept lhi_row (number_of rd) (low_halfword imm) (refl, refl, operands_valid) (general_number rd) (halfword_bits imm)
+    one_of_halfword b (is_general rd) (Some opcodes.LHI) (on_immediate (on_words Move) signed_halfword) Kept lhi_row (number_of rd) (low_halfword imm) (refl, refl, operands_valid) (general_number rd) (halfword_bits imm)
 instruction_runs L k (Mov64SImm16 rd imm) b operands_valid =
-    one_of_halfword b (is_general rd) (Some 0xa79) (on_immediate (on_doublewords Move) signed_halfword) Kept lghi_row (number_of rd) (low_halfword imm) (refl, refl, operands_valid) (general_number rd) (halfword_bits imm)
+    one_of_halfword b (is_general rd) (Some opcodes.LGHI) (on_immediate (on_doublewords Move) signed_halfword) Kept lghi_row (number_of rd) (low_halfword imm) (refl, refl, operands_valid) (general_number rd) (halfword_bits imm)
 instruction_runs L k (Mov64SImm32 rd imm) b operands_valid =
-    one_of_word b (is_general rd) (Some 0xc01) (on_immediate (on_doublewords Move) signed_word) Kept lgfi_row (number_of rd) (low_word imm) (refl, refl, operands_valid) (general_number rd) (word_bits imm)
+    one_of_word b (is_general rd) (Some opcodes.LGFI) (on_immediate (on_doublewords Move) signed_word) Kept lgfi_row (number_of rd) (low_word imm) (refl, refl, operands_valid) (general_number rd) (word_bits imm)
 instruction_runs L k (AluRUImm16Shifted op rd ri imm) b operands_valid =
     placed_halfword b (reuses rd ri) (alu_part op imm.shift) (SelectedBits (part_operator op) (part_mask imm.shift)) Set (16 * imm.shift) (part_rows op imm.shift) (number_of rd) (low_halfword (pos imm.bits)) (refl, refl, operands_valid) (output_small rd ri) (halfword_bits (pos imm.bits))
 instruction_runs L k (AluRUImm32Shifted op rd ri imm) b operands_valid =
@@ -144,13 +156,13 @@ instruction_runs L k (UMulWide rd ri rn) b operands_valid =
 instruction_runs L k (Flogr rd rn) b operands_valid =
     leftmost_runs b (number_of rd.hi) (number_of rn) (refl, refl) (pair_small rd.hi rd.lo rn operands_valid)
 instruction_runs L k (SDivMod32 rd ri rn) b operands_valid =
-    divide_runs b 0xb91d (DivideSigned Bits32) dsgfr_row (divides_signed Bits32 (number_of rd.hi) (number_of rn)) (signed_coded Bits32 (number_of rd.hi) (number_of rn)) (number_of rd.hi) (number_of rn) (pair_tested_small rd.hi rd.lo rn (reuses rd.lo ri) operands_valid) (λ r q. refl) (refl, refl)
+    divide_runs b opcodes.DSGFR (DivideSigned Bits32) dsgfr_row (divides_signed Bits32 (number_of rd.hi) (number_of rn)) (signed_coded Bits32 (number_of rd.hi) (number_of rn)) (number_of rd.hi) (number_of rn) (pair_tested_small rd.hi rd.lo rn (reuses rd.lo ri) operands_valid) (λ r q. refl) (refl, refl)
 instruction_runs L k (SDivMod64 rd ri rn) b operands_valid =
-    divide_runs b 0xb90d (DivideSigned Bits64) dsgr_row (divides_signed Bits64 (number_of rd.hi) (number_of rn)) (signed_coded Bits64 (number_of rd.hi) (number_of rn)) (number_of rd.hi) (number_of rn) (pair_tested_small rd.hi rd.lo rn (reuses rd.lo ri) operands_valid) (λ r q. refl) (refl, refl)
+    divide_runs b opcodes.DSGR (DivideSigned Bits64) dsgr_row (divides_signed Bits64 (number_of rd.hi) (number_of rn)) (signed_coded Bits64 (number_of rd.hi) (number_of rn)) (number_of rd.hi) (number_of rn) (pair_tested_small rd.hi rd.lo rn (reuses rd.lo ri) operands_valid) (λ r q. refl) (refl, refl)
 instruction_runs L k (UDivMod32 rd ri rn) b operands_valid =
-    divide_runs b 0xb997 (DivideLogical Word) dlr_row (divides_logical Word (number_of rd.hi) (number_of rn)) (logical_coded Word (number_of rd.hi) (number_of rn)) (number_of rd.hi) (number_of rn) (pair_tested_small rd.hi rd.lo rn (reuses_pair rd ri) operands_valid) (λ r q. refl) (refl, refl)
+    divide_runs b opcodes.DLR (DivideLogical Word) dlr_row (divides_logical Word (number_of rd.hi) (number_of rn)) (logical_coded Word (number_of rd.hi) (number_of rn)) (number_of rd.hi) (number_of rn) (pair_tested_small rd.hi rd.lo rn (reuses_pair rd ri) operands_valid) (λ r q. refl) (refl, refl)
 instruction_runs L k (UDivMod64 rd ri rn) b operands_valid =
-    divide_runs b 0xb987 (DivideLogical Doubleword) dlgr_row (divides_logical Doubleword (number_of rd.hi) (number_of rn)) (logical_coded Doubleword (number_of rd.hi) (number_of rn)) (number_of rd.hi) (number_of rn) (pair_tested_small rd.hi rd.lo rn (reuses_pair rd ri) operands_valid) (λ r q. refl) (refl, refl)
+    divide_runs b opcodes.DLGR (DivideLogical Doubleword) dlgr_row (divides_logical Doubleword (number_of rd.hi) (number_of rn)) (logical_coded Doubleword (number_of rd.hi) (number_of rn)) (number_of rd.hi) (number_of rn) (pair_tested_small rd.hi rd.lo rn (reuses_pair rd ri) operands_valid) (λ r q. refl) (refl, refl)
 instruction_runs L k (CmpTrapRR op rn rm mask code) b operands_valid =
     compare_trap_runs b (is_general rn && is_general rm) (cmp_trap op) (comparison op) (trap_rows op) (number_of rn) (number_of rm) (four_bits mask) code (mask_bits mask) (refl, refl, operands_valid) (two_small rn rm)
 instruction_runs L k (CmpTrapRSImm16 op rn imm mask code) b operands_valid =
@@ -158,13 +170,13 @@ instruction_runs L k (CmpTrapRSImm16 op rn imm mask code) b operands_valid =
 instruction_runs L k (CmpTrapRUImm16 op rn imm mask code) b operands_valid =
     compare_immediate_trap_runs b (is_general rn) (cmp_trap_unsigned op) (comparison op) (trap_unsigned_rows op) (number_of rn) (low_halfword (pos imm)) (four_bits mask) code (halfword_bits (pos imm)) (mask_bits mask) (refl, refl, operands_valid) (general_number rn)
 instruction_runs L k (CMov32 rd mask ri rm) b operands_valid =
-    move_where_runs b 0xb9f2 Word unsigned_word locr_row mask (number_of rd) (number_of rm) (refl, refl) (reused_small rd ri rm operands_valid)
+    move_where_runs b opcodes.LOCR Word unsigned_word locr_row mask (number_of rd) (number_of rm) (refl, refl) (reused_small rd ri rm operands_valid)
 instruction_runs L k (CMov64 rd mask ri rm) b operands_valid =
-    move_where_runs b 0xb9e2 Doubleword doubleword locgr_row mask (number_of rd) (number_of rm) (refl, refl) (reused_small rd ri rm operands_valid)
+    move_where_runs b opcodes.LOCGR Doubleword doubleword locgr_row mask (number_of rd) (number_of rm) (refl, refl) (reused_small rd ri rm operands_valid)
 instruction_runs L k (CMov32SImm16 rd mask ri imm) b operands_valid =
-    move_immediate_where_runs b 0xec42 Word lochi_row mask (number_of rd) (low_halfword imm) (refl, refl) (output_small rd ri operands_valid) (halfword_bits imm)
+    move_immediate_where_runs b opcodes.LOCHI Word lochi_row mask (number_of rd) (low_halfword imm) (refl, refl) (output_small rd ri operands_valid) (halfword_bits imm)
 instruction_runs L k (CMov64SImm16 rd mask ri imm) b operands_valid =
-    move_immediate_where_runs b 0xec46 Doubleword locghi_row mask (number_of rd) (low_halfword imm) (refl, refl) (output_small rd ri operands_valid) (halfword_bits imm)
+    move_immediate_where_runs b opcodes.LOCGHI Doubleword locghi_row mask (number_of rd) (low_halfword imm) (refl, refl) (output_small rd ri operands_valid) (halfword_bits imm)
 instruction_runs L k (LoadIndexedAddr rd base index offset size) b operands_valid =
     any_runs b (is_general rd && is_general base && is_general index) (indexed_opcode size) (indexed_rows size) (number_of rd) (number_of base) (number_of index) (low_displacement offset) (refl, refl, operands_valid) (three_small rd base index) (displacement_bits offset)
 instruction_runs L k (LoadLogicalIndexedAddr rd base index offset size) b operands_valid =
@@ -193,31 +205,24 @@ instruction_runs L k (Trap code) b operands_valid = always_traps b code refl ref
 instruction_runs L k (TrapIf mask code) b operands_valid = traps_where b mask code refl refl (small_mask mask operands_valid)
 instruction_runs L k Debugtrap b operands_valid = debug_stops b refl refl
 instruction_runs L k (LoadAddr rd mem) b operands_valid = loads_an_address b rd mem (record { have_d12 = true; have_d20 = true; have_pcrel = true; have_unaligned_pcrel = true; have_index = true }) (refl, refl, refl, operands_valid)
-instruction_runs L k (Store8 rd mem) b operands_valid = stores b byte (Some 0x42) (Some 0xe372) None store_8 tt rd mem (indexed_forms true true false) (refl, refl, refl, operands_valid)
-instruction_runs L k (Store16 rd mem) b operands_valid = stores b unsigned_halfword (Some 0x40) (Some 0xe370) (Some 0xc47) store_16 relative_store_16 rd mem (indexed_forms true true true) (refl, refl, refl, operands_valid)
-instruction_runs L k (Store32 rd mem) b operands_valid = stores b unsigned_word (Some 0x50) (Some 0xe350) (Some 0xc4f) store_32 relative_store_32 rd mem (indexed_forms true true true) (refl, refl, refl, operands_valid)
-instruction_runs L k (Store64 rd mem) b operands_valid = stores b doubleword None (Some 0xe324) (Some 0xc4b) store_64 relative_store_64 rd mem (indexed_forms false true true) (refl, refl, refl, operands_valid)
-instruction_runs L k (StoreRev16 rd mem) b operands_valid = stores b (reversed_bytes Bits16) None (Some 0xe33f) None store_reversed_16 tt rd mem (indexed_forms false true false) (refl, refl, refl, operands_valid)
-instruction_runs L k (StoreRev32 rd mem) b operands_valid = stores b (reversed_bytes Bits32) None (Some 0xe33e) None store_reversed_32 tt rd mem (indexed_forms false true false) (refl, refl, refl, operands_valid)
-instruction_runs L k (StoreRev64 rd mem) b operands_valid = stores b (reversed_bytes Bits64) None (Some 0xe32f) None store_reversed_64 tt rd mem (indexed_forms false true false) (refl, refl, refl, operands_valid)
 instruction_runs L k (StoreImm8 imm mem) b operands_valid = stores_a_byte b imm mem (based_forms true true) (refl, refl, refl, operands_valid)
-instruction_runs L k (StoreImm16 imm mem) b operands_valid = stores_an_immediate b Bits16 0xe544 (low_halfword imm) (halfword_bits imm) store_immediate_16 mem (based_forms true false) (refl, refl, refl, operands_valid)
-instruction_runs L k (StoreImm32SExt16 imm mem) b operands_valid = stores_an_immediate b Bits32 0xe54c (low_halfword imm) (halfword_bits imm) store_immediate_32 mem (based_forms true false) (refl, refl, refl, operands_valid)
-instruction_runs L k (StoreImm64SExt16 imm mem) b operands_valid = stores_an_immediate b Bits64 0xe548 (low_halfword imm) (halfword_bits imm) store_immediate_64 mem (based_forms true false) (refl, refl, refl, operands_valid)
+instruction_runs L k (StoreImm16 imm mem) b operands_valid = stores_an_immediate b Bits16 opcodes.MVHHI (low_halfword imm) (halfword_bits imm) store_immediate_16 mem (based_forms true false) (refl, refl, refl, operands_valid)
+instruction_runs L k (StoreImm32SExt16 imm mem) b operands_valid = stores_an_immediate b Bits32 opcodes.MVHI (low_halfword imm) (halfword_bits imm) store_immediate_32 mem (based_forms true false) (refl, refl, refl, operands_valid)
+instruction_runs L k (StoreImm64SExt16 imm mem) b operands_valid = stores_an_immediate b Bits64 opcodes.MVGHI (low_halfword imm) (halfword_bits imm) store_immediate_64 mem (based_forms true false) (refl, refl, refl, operands_valid)
 instruction_runs L k (LoadMultiple64 rt rt2 mem) b operands_valid = loads_registers b rt rt2 mem (based_forms false true) (refl, refl, refl, operands_valid)
 instruction_runs L k (StoreMultiple64 rt rt2 mem) b operands_valid = stores_registers b rt rt2 mem (based_forms false true) (refl, refl, refl, operands_valid)
 instruction_runs L k (AluRX op rd ri mem) b operands_valid =
     computes_in_memory b (is_some (alu_rx op) || is_some (alu_rxy op)) (alu_computation op) (alu_two_rule op) (alu_rx op) (alu_rxy op) (alu_short_rows op) (alu_long_rows op) rd ri mem (alu_forms op) (alu_same op (number_of rd)) (refl, refl, operands_valid)
 instruction_runs L k (CmpRX op rn mem) b operands_valid = compares_in_memory b (comparison op) (cmp_rx op) (cmp_rxy op) (Some (cmp_ril op)) (cmp_short_rows op) (cmp_long_rows op) (cmp_relative_rows op) rn mem (cmp_forms op) (cmp_same op (number_of rn), refl, refl, operands_valid)
 instruction_runs L k (AtomicRmw op rd rn mem) b operands_valid = operates b (alu_computation op) (atomic_rsy op) (atomic_rows op) rd rn mem (based_forms false true) (λ opcode. refl) (refl, refl, operands_valid)
-instruction_runs L k (AtomicCas32 rd ri rn mem) b operands_valid = swaps b Word (Some 0xba) (Some 0xeb14) swap_32 rd ri rn mem (based_forms true true) (refl, refl, refl, operands_valid)
-instruction_runs L k (AtomicCas64 rd ri rn mem) b operands_valid = swaps b Doubleword None (Some 0xeb30) swap_64 rd ri rn mem (based_forms false true) (refl, refl, refl, operands_valid)
+instruction_runs L k (AtomicCas32 rd ri rn mem) b operands_valid = swaps b Word (Some opcodes.CS) (Some opcodes.CSY) swap_32 rd ri rn mem (based_forms true true) (refl, refl, refl, operands_valid)
+instruction_runs L k (AtomicCas64 rd ri rn mem) b operands_valid = swaps b Doubleword None (Some opcodes.CSG) swap_64 rd ri rn mem (based_forms false true) (refl, refl, refl, operands_valid)
 instruction_runs L k (Vector v) b operands_valid = any_vector_runs b v (refl, refl, operands_valid)
 instruction_runs L k (Loop' mask body all) b operands_valid = absurd operands_valid
 instruction_runs L k (CondBreak mask) b operands_valid = absurd operands_valid
 instruction_runs L k (Call link info) b operands_valid = absurd operands_valid
 instruction_runs L k (ReturnCall info) b operands_valid = absurd operands_valid
-instruction_runs L k i b operands_valid = let l : Load = the_load (as_load i) refl in load_runs L k l.op l.rd l.mem b operands_valid
+instruction_runs L k i b operands_valid = transfer_runs L k (the_transfer (as_transfer i) refl) b operands_valid
 
 pub step_runs : (L : Layout) (k : ℕ) (s : Step) → StepAt L k s → IsValidStep L s → StepRuns L k
 step_runs L k (Plain i) b operands_valid = instruction_runs L k i b operands_valid

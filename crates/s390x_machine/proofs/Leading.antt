@@ -4,6 +4,7 @@ use Rattle.s390x_base.specs.declared.ir.MachLabel.{MachLabel}
 use Rattle.s390x_inst.specs.declared.calls.SymbolReloc.{SymbolReloc}
 use Rattle.s390x_format.specs.declared.kind.FormatKind.TheVariants.{Rr}
 use Rattle.s390x_format.specs.Formats.{length_of}
+use Rattle.s390x_rows.specs.declared.opcodes.TheConstants as opcodes
 use Rattle.s390x_typed_steps.specs.MachineInstruction.{bytes_of, rr, ril_b}
 use Rattle.s390x_typed_steps.specs.Parts.{ToBlock, ToStep, Row, Branch, Relative, table_words, table_parts, symbol_parts, parts_size, step_parts}
 use Rattle.s390x_typed_steps.specs.Rows.{half_distance, table_distance, word_bytes}
@@ -62,20 +63,20 @@ idle_branch L p size target row s at is_loaded event t step = idle_acts (target 
 
 module _ {L : Layout} {k : ℕ} {s : Step} (x : StepAt L k s) where
   -- the row of a branch to a register
-  pub register_row : (n : ℕ) → step_parts s ≡ Row (rr 0x07 15 n) ∷ [] → n < 16 → (n ≡ 0 → ⊥) → RowAt L (step_address L k) (λ r. BranchAction 15 (r.general n)) (length_of Rr) × InStep L k (step_address L k)
+  pub register_row : (n : ℕ) → step_parts s ≡ Row (rr opcodes.BCR 15 n) ∷ [] → n < 16 → (n ≡ 0 → ⊥) → RowAt L (step_address L k) (λ r. BranchAction 15 (r.general n)) (length_of Rr) × InStep L k (step_address L k)
   unfolding length_of
   register_row n parts ln some =
-      let one = one_row x (rr 0x07 15 n) parts in
+      let one = one_row x (rr opcodes.BCR 15 n) parts in
       (bcr_at L x.image (L.offsets.step k) (step_even x) 15 n (omega arith) ln some one.stands, inside_first L k 2 one.size (omega arith))
 
   -- a branch to no address does nothing
-  pub fence_runs : IsRow L s (rr 0x07 14 0) idles → StepRuns L k
-  fence_runs is = meant_runs x (rr 0x07 14 0) BranchToRegister idles (λ r. never_by_values (idles r) no_code refl (λ kind h. h)) is bcr_row (fits_rr 0x07 14 0 (omega arith) (omega arith) (omega arith)) refl (λ r p. refl)
+  pub fence_runs : IsRow L s (rr opcodes.BCR 14 0) idles → StepRuns L k
+  fence_runs is = meant_runs x (rr opcodes.BCR 14 0) BranchToRegister idles (λ r. never_by_values (idles r) no_code refl (λ kind h. h)) is bcr_row (fits_rr opcodes.BCR 14 0 (omega arith) (omega arith) (omega arith)) refl (λ r p. refl)
 
   -- nor does one under a mask that selects nothing
-  pub idle_runs : IsRow L s (rr 0x07 0 7) idles → StepRuns L k
+  pub idle_runs : IsRow L s (rr opcodes.BCR 0 7) idles → StepRuns L k
   idle_runs is =
-      row_runs x (rr 0x07 0 7) idles (λ r. never_by_values (idles r) no_code refl (λ kind h. h)) is (λ st. idle_branch L (step_address L k) (length_of Rr) (λ r. r.general 7) (bcr_at L x.image (L.offsets.step k) (step_even x) 0 7 (omega arith) (omega arith) (λ e. absurd (cc)) st))
+      row_runs x (rr opcodes.BCR 0 7) idles (λ r. never_by_values (idles r) no_code refl (λ kind h. h)) is (λ st. idle_branch L (step_address L k) (length_of Rr) (λ r. r.general 7) (bcr_at L x.image (L.offsets.step k) (step_even x) 0 7 (omega arith) (omega arith) (λ e. absurd (cc)) st))
 
   pub goto_runs : (b : ℕ) → kind_of_step L (Some s) ≡ Some (GoesTo b) → step_parts s ≡ Branch 15 (ToBlock b) ∷ [] → IsBlock L b → StepRuns L k
   unfolding length_of
@@ -105,7 +106,7 @@ module _ {L : Layout} {k : ℕ} {s : Step} (x : StepAt L k s) where
       choose_runs L k mask a b (step_form x _ is) two
 
   -- the address of a block
-  pub label_runs : (d b : ℕ) → kind_of_step L (Some s) ≡ Some (Performs false (computes_immediate Kept (on_doublewords Move) d d (block_address L b)) no_code) → step_parts s ≡ Relative 0xc00 d (ToBlock b) ∷ [] → d < 16 → IsBlock L b → StepRuns L k
+  pub label_runs : (d b : ℕ) → kind_of_step L (Some s) ≡ Some (Performs false (computes_immediate Kept (on_doublewords Move) d d (block_address L b)) no_code) → step_parts s ≡ Relative opcodes.LARL d (ToBlock b) ∷ [] → d < 16 → IsBlock L b → StepRuns L k
   unfolding length_of
   label_runs d b is parts ld known =
       let rows = stand_as x _ parts in
@@ -130,7 +131,7 @@ module _ {L : Layout} {k : ℕ} {s : Step} (x : StepAt L k s) where
       let rows : TableRows L k index mask other (o + 20) targets = record {
         first = brcl_at L x.image o (step_even x) mask (L.offsets.block other) lm (step_small x) (x.image.block_places other known).0 (x.image.block_places other known).1 stands.0;
         second = subst (λ p. RowAt L p (λ r. Perform (computes_immediate Kept (on_doublewords Move) 1 1 (wrapping_add64 base (o + 20)) r)) 6) e2
-            (larl_at L x.image (o + 6) (omega (arith, step_even x)) 1 (o + 20) (omega arith) (omega (arith, size, bound, x.image.short)) (omega (arith, step_even x)) (omega (arith, size, bound, x.image.short)) (subst (λ h. StandsAt L.image (o + 6) (bytes_of (ril_b 0xc00 1 h))) seven stands.1.0));
+            (larl_at L x.image (o + 6) (omega (arith, step_even x)) 1 (o + 20) (omega arith) (omega (arith, size, bound, x.image.short)) (omega (arith, step_even x)) (omega (arith, size, bound, x.image.short)) (subst (λ h. StandsAt L.image (o + 6) (bytes_of (ril_b opcodes.LARL 1 h))) seven stands.1.0));
         third = subst (λ p. RowAt L p (λ r. Perform (adds_word index r)) 6) e3 (agf_at L x.image (o + 6 + 6) (omega (arith, step_even x)) index li stands.1.1.0);
         fourth = subst (λ p. RowAt L p (λ r. BranchAction 15 (r.general 1)) 2) e4 (bcr_at L x.image (o + 6 + 6 + 6) (omega (arith, step_even x)) 15 1 (omega arith) (omega arith) (λ e. absurd (omega arith)) stands.1.1.1.0);
         here = subst (InStep L k) (ap (λ n. wrapping_add64 base n) (omega arith)) (inside 0 (omega arith));

@@ -5,29 +5,32 @@ use Rattle.s390x_inst.specs.declared.ops.CmpOp.{CmpOp}
 use Rattle.s390x_inst.specs.declared.ops.CmpOp.TheVariants as C
 use Rattle.s390x_base.specs.declared.regs.Reg.{Reg}
 use Rattle.s390x_inst.specs.declared.args.MemArg.{MemArg}
-use Rattle.s390x_inst.specs.declared.load.Load.{Load}
 use Rattle.s390x_inst.specs.declared.load.LoadOp.{LoadOp}
 use Rattle.s390x_inst.specs.declared.load.LoadOp.TheVariants as LoadOps
-use Rattle.s390x_inst.specs.Loads.{as_load, by_load, load_instruction}
+use Rattle.s390x_inst.specs.Loads.{load_instruction}
+use Rattle.s390x_inst.specs.declared.store.StoreOp.{StoreOp}
+use Rattle.s390x_inst.specs.declared.store.StoreOp.TheVariants as StoreOps
+use Rattle.s390x_inst.specs.Stores.{store_instruction}
+use Rattle.s390x_inst.proofs.Transfers.{Transfer, LoadOf, StoreOf, as_transfer, by_transfer}
 use Rattle.s390x_inst.specs.declared.inst.Inst.{Inst}
-use Rattle.s390x_inst.specs.declared.inst.Inst.TheVariants.{AluRX, CmpRX, Store16, Store32, Store64, AtomicRmw, Vector}
+use Rattle.s390x_inst.specs.declared.inst.Inst.TheVariants.{AluRX, CmpRX, AtomicRmw, Vector}
 use Rattle.s390x_typed_steps.proofs.RelativeRows.{alu_none, locked_none, vector_none}
-use Rattle.s390x_typed_steps.specs.Memory.{RxForm, MemoryInstruction, type_of, load, load_rows, loaded_memory, without_relative}
+use Rattle.s390x_typed_steps.specs.Memory.{RxForm, MemoryInstruction, type_of, load, load_rows, store, store_rows, loaded_memory, without_relative}
 use Rattle.s390x_typed_steps.specs.Parts.{memory_or, step_parts}
 use Rattle.s390x_typed_steps.specs.declared.mem_inst_type.MemInstType.{MemInstType}
 use Rattle.s390x_typed_steps.specs.Steps.{Step, LoadedStep}
 use Rattle.s390x_typed_steps.specs.Storage.{alu_rx, alu_rxy, cmp_rx, cmp_rxy, atomic_rsy}
-use Rattle.s390x_machine.specs.Computations.{comparison, unsigned_word, unsigned_halfword, doubleword}
+use Rattle.s390x_machine.specs.Computations.{comparison}
 use Rattle.s390x_machine.specs.CodeAt.{ValidMemoryOr}
 use Rattle.s390x_machine.specs.Layout.{Layout}
 use Rattle.s390x_machine.specs.OneStep.{StepRuns}
 use Rattle.s390x_machine.specs.StepKinds.{Unsupported, kind_or, performed_at}
 use Rattle.s390x_machine.specs.Typed.{kind_of_step}
-use Rattle.s390x_machine.specs.Storage.{indexed_forms, cmp_forms, loaded_value, loads_at, operand_address}
+use Rattle.s390x_machine.specs.Storage.{cmp_forms, loaded_value, loads_at, stored_value, stores_at, operand_address}
 use Rattle.s390x_operations.specs.State.{Registers}
 use Rattle.s390x_operations.specs.declared.effect.Operation.{Operation}
 use Rattle.s390x_machine.proofs.Built.{StepAt}
-use Rattle.s390x_machine.proofs.StorageRows.{load_indexed_rows, store_16, store_32, store_64, cmp_short_rows, cmp_long_rows}
+use Rattle.s390x_machine.proofs.StorageRows.{load_indexed_rows, store_indexed_rows, cmp_short_rows, cmp_long_rows}
 use Rattle.s390x_machine.proofs.StorageSteps.{loads, stores, compares_in_memory}
 
 -- what has none isn't a step that emission lets pass
@@ -59,18 +62,28 @@ load_loaded : (L : Layout) (k : ℕ) (op : LoadOp) (rd : Reg) (mem : MemArg) →
 load_loaded L k LoadOps.Load64 rd mem b valid = load_by_address L k LoadOps.Load64 rd mem (load_rows LoadOps.Load64).ril b (refl, refl, refl, valid)
 load_loaded L k op rd mem b valid = load_by_address L k op rd mem (load_rows op).ril b (refl, refl, refl, valid)
 
--- a load, or what has no row relative to the instruction
-load_or_none : (L : Layout) (k : ℕ) (i : Inst) (o : Option Load) → StepAt L k (LoadedStep (by_load (λ l. load_instruction l.op l.rd l.mem) i o)) → ValidMemoryOr L (by_load (λ l. loaded_memory (load_instruction l.op l.rd l.mem)) None o) ⊥ → StepRuns L k
-load_or_none L k i None b valid = absurd valid
-load_or_none L k i (Some l) b valid = load_loaded L k l.op l.rd l.mem b valid
+-- a store, likewise
+store_by_address : (L : Layout) (k : ℕ) (op : StoreOp) (rd : Reg) (mem : MemArg) (relative : Option ℕ) (b : StepAt L k (LoadedStep (store_instruction op rd mem))) →
+    MayBeLoaded b (without_relative (store rd (store_rows op).rx (store_rows op).rxy relative mem)) (record (stored_value op).forms { have_pcrel = false }) rd (store_rows op).rx (store_rows op).rxy mem (stores_at (stored_value op).second (number_of rd)) → StepRuns L k
+store_by_address L k op rd mem None b is = absurd is.3
+store_by_address L k op rd mem (Some opcode) b is = stores b (stored_value op).second (store_rows op).rx (store_rows op).rxy None (store_indexed_rows op) tt rd mem (record (stored_value op).forms { have_pcrel = false }) is
+
+store_loaded : (L : Layout) (k : ℕ) (op : StoreOp) (rd : Reg) (mem : MemArg) → StepAt L k (LoadedStep (store_instruction op rd mem)) → ValidMemoryOr L (loaded_memory (store_instruction op rd mem)) ⊥ → StepRuns L k
+store_loaded L k StoreOps.Store64 rd mem b valid = store_by_address L k StoreOps.Store64 rd mem (store_rows StoreOps.Store64).ril b (refl, refl, refl, valid)
+store_loaded L k op rd mem b valid = store_by_address L k op rd mem (store_rows op).ril b (refl, refl, refl, valid)
+
+-- a load or a store, or what has no row relative to the instruction
+transfer_or_none : (L : Layout) (k : ℕ) (i : Inst) (o : Option Transfer) →
+    StepAt L k (LoadedStep (by_transfer (λ l. load_instruction l.op l.rd l.mem) (λ s. store_instruction s.op s.rd s.mem) i o)) →
+    ValidMemoryOr L (by_transfer (λ l. loaded_memory (load_instruction l.op l.rd l.mem)) (λ s. loaded_memory (store_instruction s.op s.rd s.mem)) None o) ⊥ → StepRuns L k
+transfer_or_none L k i None b valid = absurd valid
+transfer_or_none L k i (Some (LoadOf l)) b valid = load_loaded L k l.op l.rd l.mem b valid
+transfer_or_none L k i (Some (StoreOf s)) b valid = store_loaded L k s.op s.rd s.mem b valid
 
 pub loaded_runs : (L : Layout) (k : ℕ) (i : Inst) → StepAt L k (LoadedStep i) → ValidMemoryOr L (loaded_memory i) ⊥ → StepRuns L k
-loaded_runs L k (Store16 rd mem) b valid = stores b unsigned_halfword (Some 0x40) (Some 0xe370) None store_16 tt rd mem (indexed_forms true true false) (refl, refl, refl, valid)
-loaded_runs L k (Store32 rd mem) b valid = stores b unsigned_word (Some 0x50) (Some 0xe350) None store_32 tt rd mem (indexed_forms true true false) (refl, refl, refl, valid)
-loaded_runs L k (Store64 rd mem) b valid = stores b doubleword None (Some 0xe324) None store_64 tt rd mem (indexed_forms false true false) (refl, refl, refl, valid)
 loaded_runs L k (CmpRX op rn mem) b valid =
     compares_in_memory b (comparison op) (cmp_rx op) (cmp_rxy op) None (cmp_short_rows op) (cmp_long_rows op) tt rn mem (record (cmp_forms op) { have_pcrel = false }) (cmp_loaded op (number_of rn), refl, refl, valid)
 loaded_runs L k (AluRX op rd ri mem) b valid = absurd (refused L (loaded_memory (AluRX op rd ri mem)) (alu_none (is_some (alu_rx op) || is_some (alu_rxy op)) (alu_rx op) (alu_rxy op) rd ri mem) valid)
 loaded_runs L k (AtomicRmw op rd rn mem) b valid = absurd (refused L (loaded_memory (AtomicRmw op rd rn mem)) (locked_none (atomic_rsy op) rd rn mem) valid)
 loaded_runs L k (Vector v) b valid = absurd (refused L (loaded_memory (Vector v)) (vector_none v) valid)
-loaded_runs L k i b valid = load_or_none L k i (as_load i) b valid
+loaded_runs L k i b valid = transfer_or_none L k i (as_transfer i) b valid

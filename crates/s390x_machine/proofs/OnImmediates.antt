@@ -3,6 +3,7 @@ use Rattle.std.proofs.Common.{◌≡◌, ℕ, ◌*◌, ◌^◌, ◌<◌, Option,
 use Rattle.std.specs.Prelude.{neg_ℤ}
 use Rattle.s390x_inst.specs.declared.ops.ALUOp.TheVariants as A
 use Rattle.s390x_format.specs.declared.kind.FormatKind.TheVariants.{RiA, RieD, RilA}
+use Rattle.s390x_rows.specs.declared.opcodes.TheConstants as opcodes
 use Rattle.s390x_typed_steps.specs.SingleInstruction.{allocate_row, halfword_row, word_row, three_halfword_row}
 use Rattle.s390x_typed_steps.specs.General.{low_halfword, low_word}
 use Rattle.s390x_typed_steps.specs.MachineInstruction.{ri_a, rie_d, ril_a}
@@ -88,12 +89,12 @@ module _ {L : Layout} {k : ℕ} {s : Step} (b : StepAt L k s) where
   pub inserted_half : (operands_valid : Bool) (shift d bits : ℕ) → IsSingle L s operands_valid (word_row (insert_half shift) d bits) (computes_immediate Kept (inserts_half shift) d d (at_half shift bits)) → (IsTrue operands_valid → d < 16) → bits < 2 ^ 32 → StepRuns L k
   inserted_half operands_valid shift d bits is small lb = go (nat_eq shift 0) refl (nat_eq shift 1) refl is
     where
-      go : (t : Bool) → nat_eq shift 0 ≡ t → (u : Bool) → nat_eq shift 1 ≡ u → IsSingle L s operands_valid (word_row (cond t (Some 0xc09) (cond u (Some 0xc08) None)) d bits) (computes_immediate Kept (cond t (on_words Move) (on_selected Select.Insert (half_mask shift))) d d (bits * 2 ^ (32 * shift))) → StepRuns L k
+      go : (t : Bool) → nat_eq shift 0 ≡ t → (u : Bool) → nat_eq shift 1 ≡ u → IsSingle L s operands_valid (word_row (cond t (Some opcodes.IILF) (cond u (Some opcodes.IIHF) None)) d bits) (computes_immediate Kept (cond t (on_words Move) (on_selected Select.Insert (half_mask shift))) d d (bits * 2 ^ (32 * shift))) → StepRuns L k
       go true e u f is2 =
           let same : bits * 2 ^ (32 * shift) ≡ bits = ap (λ i. bits * 2 ^ (32 * i)) (eqb-true shift 0 e) ∙ omega arith in
-          one_of_word operands_valid (Some 0xc09) (on_words Move) Kept iilf_row d bits (subst (λ x. IsSingle L s operands_valid (word_row (Some 0xc09) d bits) (computes_immediate Kept (on_words Move) d d x)) same is2) small lb
+          one_of_word operands_valid (Some opcodes.IILF) (on_words Move) Kept iilf_row d bits (subst (λ x. IsSingle L s operands_valid (word_row (Some opcodes.IILF) d bits) (computes_immediate Kept (on_words Move) d d x)) same is2) small lb
       go false e true f is2 =
-          placed_word operands_valid (Some 0xc08) (SelectedBits Select.Insert (half_mask 1)) Kept 32 iihf_row d bits (subst (λ i. IsSingle L s operands_valid (word_row (Some 0xc08) d bits) (computes_immediate Kept (on_selected Select.Insert (half_mask i)) d d (bits * 2 ^ (32 * i)))) (eqb-true shift 1 f) is2) small lb
+          placed_word operands_valid (Some opcodes.IIHF) (SelectedBits Select.Insert (half_mask 1)) Kept 32 iihf_row d bits (subst (λ i. IsSingle L s operands_valid (word_row (Some opcodes.IIHF) d bits) (computes_immediate Kept (on_selected Select.Insert (half_mask i)) d d (bits * 2 ^ (32 * i)))) (eqb-true shift 1 f) is2) small lb
       go false e false f is2 = absurd is2.2
 
   -- ---- the stack pointer
@@ -105,12 +106,12 @@ module _ {L : Layout} {k : ℕ} {s : Step} (b : StepAt L k s) where
       never : NeverStops (takes_from_stack size)
       never = computes_immediate_always Unspecified (on_immediate (alu_computation A.SubLogical64) unsigned_word) 15 15 (low_word (pos size))
 
-      go : (fits : Bool) → nat_lt size 32768 ≡ fits → IsRow L s (cond fits (ri_a 0xa7b 15 (low_halfword (neg_ℤ (pos size)))) (ril_a 0xc24 15 (low_word (pos size)))) (takes_from_stack size) → StepRuns L k
+      go : (fits : Bool) → nat_lt size 32768 ≡ fits → IsRow L s (cond fits (ri_a opcodes.AGHI 15 (low_halfword (neg_ℤ (pos size)))) (ril_a opcodes.SLGFI 15 (low_word (pos size)))) (takes_from_stack size) → StepRuns L k
       go true e is_row =
           let bits = low_halfword (neg_ℤ (pos size)) in
           let adds = on_immediate (alu_computation A.Add64) signed_halfword in
-          looser_runs b (ri_a 0xa7b 15 bits) (computes_immediate Set adds 15 15 bits) (takes_from_stack size) (adds_negated size (ltb-true size 32768 e)) never is_row (λ st. halfword_at L b.image (L.offsets.step k) (step_even b) 0xa7b adds Set (halfword_rows A.Add64) 15 bits (omega arith) (halfword_bits (neg_ℤ (pos size))) st)
+          looser_runs b (ri_a opcodes.AGHI 15 bits) (computes_immediate Set adds 15 15 bits) (takes_from_stack size) (adds_negated size (ltb-true size 32768 e)) never is_row (λ st. halfword_at L b.image (L.offsets.step k) (step_even b) opcodes.AGHI adds Set (halfword_rows A.Add64) 15 bits (omega arith) (halfword_bits (neg_ℤ (pos size))) st)
       go false e is_row =
           let bits = low_word (pos size) in
           let subtracts = on_immediate (alu_computation A.SubLogical64) unsigned_word in
-          looser_runs b (ril_a 0xc24 15 bits) (computes_immediate Set subtracts 15 15 bits) (takes_from_stack size) (λ r. loosens _ Set Unspecified tt) never is_row (λ st. word_at L b.image (L.offsets.step k) (step_even b) 0xc24 subtracts Set (unsigned_word_rows A.SubLogical64) 15 bits (omega arith) (word_bits (pos size)) st)
+          looser_runs b (ril_a opcodes.SLGFI 15 bits) (computes_immediate Set subtracts 15 15 bits) (takes_from_stack size) (λ r. loosens _ Set Unspecified tt) never is_row (λ st. word_at L b.image (L.offsets.step k) (step_even b) opcodes.SLGFI subtracts Set (unsigned_word_rows A.SubLogical64) 15 bits (omega arith) (word_bits (pos size)) st)

@@ -4,6 +4,7 @@ use Rattle.s390x_inst.specs.declared.ops.ALUOp.{ALUOp}
 use Rattle.s390x_format.specs.Rows.{is_allowed}
 use Rattle.s390x_format.specs.declared.row.Allowed.TheVariants.{Any, CountMode}
 use Rattle.s390x_format.specs.declared.kind.FormatKind.TheVariants.{RieG, RrfCde}
+use Rattle.s390x_rows.specs.declared.opcodes.TheConstants as opcodes
 use Rattle.s390x_typed_steps.specs.SingleInstruction.{two_operands, two_row, three_row, indexed_row}
 use Rattle.s390x_typed_steps.specs.General.{four_bits}
 use Rattle.s390x_typed_steps.specs.MachineInstruction.{rre, rrf_ab, rrf_cde, rie_g, rxy}
@@ -50,8 +51,8 @@ module _ {L : Layout} {k : ℕ} {s : Step} (b : StepAt L k s) where
   compares_two operands_valid o c row n m is small = one_of_two operands_valid o (compared_with Register c) row (compares c n m) n m is small (λ r p. refl) (compares_always c n m)
 
   -- a copy of an access register
-  pub copies_runs : (operands_valid : Bool) (d a : ℕ) → IsSingle L s operands_valid (two_row (Some 0xb24f) d a) (copies_access d a) → (IsTrue operands_valid → (d < 16) × (a < 16)) → StepRuns L k
-  copies_runs operands_valid d a is small = one_of_two operands_valid (Some 0xb24f) (computed (on_words Move) AccessRegister Kept) ear_row (copies_access d a) d a is small (λ r p. refl) (λ r. never_by_values (copies_access d a r) no_code refl (λ kind h. h))
+  pub copies_runs : (operands_valid : Bool) (d a : ℕ) → IsSingle L s operands_valid (two_row (Some opcodes.EAR) d a) (copies_access d a) → (IsTrue operands_valid → (d < 16) × (a < 16)) → StepRuns L k
+  copies_runs operands_valid d a is small = one_of_two operands_valid (Some opcodes.EAR) (computed (on_words Move) AccessRegister Kept) ear_row (copies_access d a) d a is small (λ r p. refl) (λ r. never_by_values (copies_access d a r) no_code refl (λ kind h. h))
 
   -- an operator on three registers: its row of three, or that of two where the first input is the output
   module _ (op : ALUOp) (d n m : ℕ) where
@@ -98,25 +99,25 @@ module _ {L : Layout} {k : ℕ} {s : Step} (b : StepAt L k s) where
 
   -- ---- pairs
 
-  pub signed_runs : (pair n m : ℕ) → IsRow L s (rrf_ab 0xb9ec pair n m 0) (multiplies_signed pair n m) → (pair < 16) × (pair % 2 ≡ 0) × (n < 16) × (m < 16) → StepRuns L k
+  pub signed_runs : (pair n m : ℕ) → IsRow L s (rrf_ab opcodes.MGRK pair n m 0) (multiplies_signed pair n m) → (pair < 16) × (pair % 2 ≡ 0) × (n < 16) × (m < 16) → StepRuns L k
   signed_runs pair n m is l =
-      pair_runs b (rrf_ab 0xb9ec pair n m 0) MultiplySigned (multiplies_signed pair n m) (λ r. never_by_values (multiplies_signed pair n m r) no_code refl (λ kind h. h)) is mgrk_row l.1 (fits_rrf_ab 0xb9ec pair n m (omega arith) l.0 l.2 l.3) refl (λ r p. refl)
+      pair_runs b (rrf_ab opcodes.MGRK pair n m 0) MultiplySigned (multiplies_signed pair n m) (λ r. never_by_values (multiplies_signed pair n m r) no_code refl (λ kind h. h)) is mgrk_row l.1 (fits_rrf_ab opcodes.MGRK pair n m (omega arith) l.0 l.2 l.3) refl (λ r p. refl)
 
-  pub logical_runs : (pair m : ℕ) → IsRow L s (rre 0xb986 pair m) (multiplies_logical pair m) → (pair < 16) × (pair % 2 ≡ 0) × (m < 16) → StepRuns L k
+  pub logical_runs : (pair m : ℕ) → IsRow L s (rre opcodes.MLGR pair m) (multiplies_logical pair m) → (pair < 16) × (pair % 2 ≡ 0) × (m < 16) → StepRuns L k
   logical_runs pair m is l =
-      pair_runs b (rre 0xb986 pair m) MultiplyLogical (multiplies_logical pair m) (λ r. never_by_values (multiplies_logical pair m r) no_code refl (λ kind h. h)) is mlgr_row l.1 (fits_rre 0xb986 pair m (omega arith) l.0 l.2) refl (λ r p. refl)
+      pair_runs b (rre opcodes.MLGR pair m) MultiplyLogical (multiplies_logical pair m) (λ r. never_by_values (multiplies_logical pair m r) no_code refl (λ kind h. h)) is mlgr_row l.1 (fits_rre opcodes.MLGR pair m (omega arith) l.0 l.2) refl (λ r p. refl)
 
-  pub leftmost_runs : (pair n : ℕ) → IsRow L s (rre 0xb983 pair n) (finds_leftmost pair n) → (pair < 16) × (pair % 2 ≡ 0) × (n < 16) → StepRuns L k
+  pub leftmost_runs : (pair n : ℕ) → IsRow L s (rre opcodes.FLOGR pair n) (finds_leftmost pair n) → (pair < 16) × (pair % 2 ≡ 0) × (n < 16) → StepRuns L k
   leftmost_runs pair n is l =
-      pair_runs b (rre 0xb983 pair n) FindLeftmostOne (finds_leftmost pair n) (λ r. never_by_values (finds_leftmost pair n r) no_code refl (λ kind h. h)) is flogr_row l.1 (fits_rre 0xb983 pair n (omega arith) l.0 l.2) refl (λ r p. refl)
+      pair_runs b (rre opcodes.FLOGR pair n) FindLeftmostOne (finds_leftmost pair n) (λ r. never_by_values (finds_leftmost pair n r) no_code refl (λ kind h. h)) is flogr_row l.1 (fits_rre opcodes.FLOGR pair n (omega arith) l.0 l.2) refl (λ r p. refl)
 
   -- ---- others
 
   -- a count of the ones of each byte, or of the register in mode 8
-  pub count_runs : (mode : ℕ) → mode < 16 → is_allowed CountMode (rrf_cde 0xb9e1 0 0 mode 0).slots ≡ true → (d n : ℕ) → IsRow L s (rrf_cde 0xb9e1 d n mode 0) (computes Set (on_doublewords (count_operator mode)) d d n) → (d < 16) × (n < 16) → StepRuns L k
+  pub count_runs : (mode : ℕ) → mode < 16 → is_allowed CountMode (rrf_cde opcodes.POPCNT 0 0 mode 0).slots ≡ true → (d n : ℕ) → IsRow L s (rrf_cde opcodes.POPCNT d n mode 0) (computes Set (on_doublewords (count_operator mode)) d d n) → (d < 16) × (n < 16) → StepRuns L k
   count_runs mode few allowed d n is l =
       let op = computes Set (on_doublewords (count_operator mode)) d d n in
-      meant_runs b (rrf_cde 0xb9e1 d n mode 0) CountOnes op (computes_always Set (on_doublewords (count_operator mode)) d d n) is popcnt_row (fits_rrf_cde 0xb9e1 d n mode (omega arith) l.0 l.1 few) allowed (λ r p. refl)
+      meant_runs b (rrf_cde opcodes.POPCNT d n mode 0) CountOnes op (computes_always Set (on_doublewords (count_operator mode)) d d n) is popcnt_row (fits_rrf_cde opcodes.POPCNT d n mode (omega arith) l.0 l.1 few) allowed (λ r p. refl)
 
   -- an indexed address, whose result is free
   pub any_runs : (operands_valid : Bool) (o : Option ℕ) → AnyRows o → (d base index displacement : ℕ) → IsSingle L s operands_valid (indexed_row o d base index displacement) (havocs d) → (IsTrue operands_valid → (d < 16) × (base < 16) × (index < 16)) → displacement < 2 ^ 20 → StepRuns L k

@@ -9,6 +9,7 @@ use Rattle.s390x_format.specs.Reading.{be_bytes}
 use Rattle.s390x_format.specs.Fetch.{machine_rows}
 use Rattle.s390x_format.specs.Encoded.{IsEncoded, decoded_of}
 use Rattle.s390x_format.proofs.Encoding.{listed}
+use Rattle.s390x_rows.specs.declared.opcodes.TheConstants as opcodes
 use Rattle.s390x_typed_steps.specs.Causes.{blocks_cause}
 use Rattle.s390x_typed_steps.specs.Image.{step_offset, function_code}
 use Rattle.s390x_typed_steps.specs.MachineInstruction.{MachineInstruction, bytes_of, ril_b}
@@ -86,23 +87,23 @@ step_at m o s event t even memory at stands fit listed acts = record {
   acts = acts;
 }
 
-load_stands : StandsAt image 0 (bytes_of (ril_b 0xc4d 2 8))
+load_stands : StandsAt image 0 (bytes_of (ril_b opcodes.LRL 2 8))
 unfolding number bits layout_of length_of be_bytes
 load_stands = record { earlier = []; later = 0xc0 ∷ 0x30 ∷ 0x00 ∷ 0x00 ∷ 0x07 ∷ 0xfd ∷ 0x00 ∷ 0x00 ∷ 0x00 ∷ 0x00 ∷ 0x00 ∷ 0x00 ∷ 0x00 ∷ 0x2a ∷ []; at = refl; is = refl }
 
-address_stands : StandsAt image 6 (bytes_of (ril_b 0xc00 3 2045))
+address_stands : StandsAt image 6 (bytes_of (ril_b opcodes.LARL 3 2045))
 unfolding number bits layout_of length_of be_bytes
 address_stands = record { earlier = 0xc4 ∷ 0x2d ∷ 0x00 ∷ 0x00 ∷ 0x00 ∷ 0x08 ∷ []; later = 0x00 ∷ 0x00 ∷ 0x00 ∷ 0x00 ∷ 0x00 ∷ 0x00 ∷ 0x00 ∷ 0x2a ∷ []; at = refl; is = refl }
 
-lrl_listed : (a half : ℕ) → IsEncoded machine_rows RilB (ril_b 0xc4d a half).slots
+lrl_listed : (a half : ℕ) → IsEncoded machine_rows RilB (ril_b opcodes.LRL a half).slots
 unfolding machine_rows row_for
-lrl_listed a half = listed machine_rows RilB (ril_b 0xc4d a half).slots (omega arith) (refl, refl, refl)
+lrl_listed a half = listed machine_rows RilB (ril_b opcodes.LRL a half).slots (omega arith) (refl, refl, refl)
 
-load_step : (s t : State) → s.core.memory ≡ core.memory → s.address ≡ 4096 → FetchedStep (Found (decoded_of RilB (ril_b 0xc4d 2 8).slots)) s (Executed None) t → MachineStep s (Executed None) t
-load_step s t memory at acts = step_at (ril_b 0xc4d 2 8) 0 s (Executed None) t refl memory at load_stands (fits_ril_b 0xc4d 2 8 (omega arith) (omega arith) (omega arith)) (lrl_listed 2 8) acts
+load_step : (s t : State) → s.core.memory ≡ core.memory → s.address ≡ 4096 → FetchedStep (Found (decoded_of RilB (ril_b opcodes.LRL 2 8).slots)) s (Executed None) t → MachineStep s (Executed None) t
+load_step s t memory at acts = step_at (ril_b opcodes.LRL 2 8) 0 s (Executed None) t refl memory at load_stands (fits_ril_b opcodes.LRL 2 8 (omega arith) (omega arith) (omega arith)) (lrl_listed 2 8) acts
 
-address_step : (s t : State) → s.core.memory ≡ core.memory → s.address ≡ 4102 → FetchedStep (Found (decoded_of RilB (ril_b 0xc00 3 2045).slots)) s (Executed None) t → MachineStep s (Executed None) t
-address_step s t memory at acts = step_at (ril_b 0xc00 3 2045) 6 s (Executed None) t refl memory at address_stands (fits_ril_b 0xc00 3 2045 (omega arith) (omega arith) (omega arith)) (larl_listed 3 2045) acts
+address_step : (s t : State) → s.core.memory ≡ core.memory → s.address ≡ 4102 → FetchedStep (Found (decoded_of RilB (ril_b opcodes.LARL 3 2045).slots)) s (Executed None) t → MachineStep s (Executed None) t
+address_step s t memory at acts = step_at (ril_b opcodes.LARL 3 2045) 6 s (Executed None) t refl memory at address_stands (fits_ril_b opcodes.LARL 3 2045 (omega arith) (omega arith) (omega arith)) (larl_listed 3 2045) acts
 
 -- no row begins with a byte of zeros
 stop_step : MachineStep stopped (Interrupted Operation) stopped

@@ -22,6 +22,7 @@ use Rattle.s390x_operations.specs.State.{Registers, Core, set_vector, with_code,
 use Rattle.s390x_operations.specs.Vectors.{with_reversed_elements}
 use Rattle.s390x_operations.specs.declared.effect.Operation.{Operation}
 use Rattle.s390x_operations.specs.declared.stop.StopKind.TheVariants.{Divide}
+use Rattle.s390x_rows.specs.declared.opcodes.TheConstants as opcodes
 use Rattle.s390x_typed_steps.specs.MachineInstruction.{MachineInstruction, bytes_of, vrs_a}
 use Rattle.s390x_typed_steps.specs.Parts.{row_parts, step_parts}
 use Rattle.s390x_typed_steps.specs.Steps.{Step}
@@ -105,7 +106,7 @@ turn_changes e half d p y z r is =
 exchange_there : (L : Layout) (image : ImageAt L) (offset : ℕ) (even : offset % 2 ≡ 0) (d n : ℕ) → d < 32 → n < 32 → DoesThere L image offset even (exchanges_doublewords d n) (elements_computed (exchanges_doublewords d n) (PermuteDoublewords 1 0))
 exchange_there L image offset even d n ld ln =
     let row = doublewords_rows d n n 1 0 (omega arith) (omega arith) in
-    vector_there L image offset even (exchanges_doublewords d n) (PermuteDoublewords 1 0) row (fits_vrr_c 0xe784 d n n 4 (few_digits (elements_listed row)) ld ln ln (elements_few row))
+    vector_there L image offset even (exchanges_doublewords d n) (PermuteDoublewords 1 0) row (fits_vrr_c opcodes.VPDI d n n 4 (few_digits (elements_listed row)) ld ln ln (elements_few row))
 
 -- such an amount, as the machine computes it
 amount_is : (r : Registers) (half : ℕ) → half < 64 → based r 0 (pos half) % 64 ≡ half

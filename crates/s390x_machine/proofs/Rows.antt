@@ -2,6 +2,7 @@
 use Rattle.std.proofs.Common.{◌≡◌, ◌≢◌, ℕ, ◌+◌, ◌%◌, ◌^◌, ◌<◌, Bool, true, false, cond, ◌==◌, IsTrue, refl, sym, ap, ◌∙◌, subst, arith, ltb-true, true≢false}
 use Rattle.std.specs.Prelude.{pos, ◌+ℤ◌, ◌*ℤ◌, nat_eq, nat_lt, not}
 use Rattle.std.specs.Int.{cast_signed}
+use Rattle.s390x_rows.specs.declared.opcodes.TheConstants as opcodes
 use mir.Syntax.{w32}
 use Rattle.std.proofs.lemmas.Bool.{and_parts}
 use Rattle.s390x_base.specs.Regs.{number_of, is_int}
@@ -117,59 +118,59 @@ fits_sil opcode base displacement bits o lb ld li = fields_from Sil (sil opcode 
 
 -- ---- the table lists them
 
-pub agr_listed : (a b : ℕ) → IsEncoded machine_rows Rre (rre 0xb908 a b).slots
+pub agr_listed : (a b : ℕ) → IsEncoded machine_rows Rre (rre opcodes.AGR a b).slots
 unfolding machine_rows row_for
-agr_listed a b = listed machine_rows Rre (rre 0xb908 a b).slots (omega arith) (refl, refl, refl)
+agr_listed a b = listed machine_rows Rre (rre opcodes.AGR a b).slots (omega arith) (refl, refl, refl)
 
-pub bcr_listed : (a b : ℕ) → IsEncoded machine_rows Rr (rr 0x07 a b).slots
+pub bcr_listed : (a b : ℕ) → IsEncoded machine_rows Rr (rr opcodes.BCR a b).slots
 unfolding machine_rows row_for
-bcr_listed a b = listed machine_rows Rr (rr 0x07 a b).slots (omega arith) (refl, refl, refl)
+bcr_listed a b = listed machine_rows Rr (rr opcodes.BCR a b).slots (omega arith) (refl, refl, refl)
 
-pub brcl_listed : (mask half : ℕ) → IsEncoded machine_rows RilC (ril_c 0xc04 mask half).slots
+pub brcl_listed : (mask half : ℕ) → IsEncoded machine_rows RilC (ril_c opcodes.BRCL mask half).slots
 unfolding machine_rows row_for
-brcl_listed mask half = listed machine_rows RilC (ril_c 0xc04 mask half).slots (omega arith) (refl, refl, refl)
+brcl_listed mask half = listed machine_rows RilC (ril_c opcodes.BRCL mask half).slots (omega arith) (refl, refl, refl)
 
-pub brc_listed : (mask half : ℕ) → IsEncoded machine_rows RiC (ri_c 0xa74 mask half).slots
+pub brc_listed : (mask half : ℕ) → IsEncoded machine_rows RiC (ri_c opcodes.BRC mask half).slots
 unfolding machine_rows row_for
-brc_listed mask half = listed machine_rows RiC (ri_c 0xa74 mask half).slots (omega arith) (refl, refl, refl)
+brc_listed mask half = listed machine_rows RiC (ri_c opcodes.BRC mask half).slots (omega arith) (refl, refl, refl)
 
-pub larl_listed : (a half : ℕ) → IsEncoded machine_rows RilB (ril_b 0xc00 a half).slots
+pub larl_listed : (a half : ℕ) → IsEncoded machine_rows RilB (ril_b opcodes.LARL a half).slots
 unfolding machine_rows row_for
-larl_listed a half = listed machine_rows RilB (ril_b 0xc00 a half).slots (omega arith) (refl, refl, refl)
+larl_listed a half = listed machine_rows RilB (ril_b opcodes.LARL a half).slots (omega arith) (refl, refl, refl)
 
-pub agf_listed : (index : ℕ) → IsEncoded machine_rows Rxy (rxy 0xe318 1 1 index 0).slots
+pub agf_listed : (index : ℕ) → IsEncoded machine_rows Rxy (rxy opcodes.AGF 1 1 index 0).slots
 unfolding machine_rows row_for
-agf_listed index = listed machine_rows Rxy (rxy 0xe318 1 1 index 0).slots (omega arith) (refl, refl, refl)
+agf_listed index = listed machine_rows Rxy (rxy opcodes.AGF 1 1 index 0).slots (omega arith) (refl, refl, refl)
 
-pub bras_listed : IsEncoded machine_rows RiB (ri_b 0xa75 1 6).slots
+pub bras_listed : IsEncoded machine_rows RiB (ri_b opcodes.BRAS 1 6).slots
 unfolding machine_rows row_for
-bras_listed = listed machine_rows RiB (ri_b 0xa75 1 6).slots (omega arith) (refl, refl, refl)
+bras_listed = listed machine_rows RiB (ri_b opcodes.BRAS 1 6).slots (omega arith) (refl, refl, refl)
 
-pub lg_listed : (a : ℕ) → IsEncoded machine_rows Rxy (rxy 0xe304 a 1 0 0).slots
+pub lg_listed : (a : ℕ) → IsEncoded machine_rows Rxy (rxy opcodes.LG a 1 0 0).slots
 unfolding machine_rows row_for
-lg_listed a = listed machine_rows Rxy (rxy 0xe304 a 1 0 0).slots (omega arith) (refl, refl, refl)
+lg_listed a = listed machine_rows Rxy (rxy opcodes.LG a 1 0 0).slots (omega arith) (refl, refl, refl)
 
 -- ---- what the machine does there
 
 module _ (L : Layout) (image : ImageAt L) (offset : ℕ) (even : offset % 2 ≡ 0) where
-  pub bcr_at : (mask b : ℕ) → mask < 16 → b < 16 → b ≢ 0 → StandsAt L.image offset (bytes_of (rr 0x07 mask b)) → RowAt L (wrapping_add64 L.image.base offset) (λ r. Branch mask (r.general b)) (length_of Rr)
+  pub bcr_at : (mask b : ℕ) → mask < 16 → b < 16 → b ≢ 0 → StandsAt L.image offset (bytes_of (rr opcodes.BCR mask b)) → RowAt L (wrapping_add64 L.image.base offset) (λ r. Branch mask (r.general b)) (length_of Rr)
   unfolding semantics_in semantics_of
-  bcr_at mask b lm lb some s = row_at L offset (rr 0x07 mask b) (λ r. Branch mask (r.general b)) image.even even image.fits s (fits_rr 0x07 mask b (omega arith) lm lb) (bcr_listed mask b) (λ state event t at h. taken (b == 0) refl state event t h)
+  bcr_at mask b lm lb some s = row_at L offset (rr opcodes.BCR mask b) (λ r. Branch mask (r.general b)) image.even even image.fits s (fits_rr opcodes.BCR mask b (omega arith) lm lb) (bcr_listed mask b) (λ state event t at h. taken (b == 0) refl state event t h)
     where
       taken : (n : Bool) → (b == 0) ≡ n → (state : State) (event : Event) (t : State) →
           ActionStep (cond n (performs Rattle.s390x_operations.specs.declared.effect.CodeRule.TheVariants.Kept Rattle.s390x_operations.specs.declared.effect.Effect.TheVariants.Nothing) (Branch mask (state.core.registers.general b))) (length_of Rr) state event t → ActionStep (Branch mask (state.core.registers.general b)) (length_of Rr) state event t
       taken true e state event t h = absurd (some (Rattle.std.proofs.Common.eqb-true b 0 e))
       taken false e state event t h = h
 
-  pub brcl_at : (mask target : ℕ) → mask < 16 → offset < 2 ^ 31 → target % 2 ≡ 0 → target < 2 ^ 31 → StandsAt L.image offset (bytes_of (ril_c 0xc04 mask (half_distance offset target))) → RowAt L (wrapping_add64 L.image.base offset) (λ r. Branch mask (wrapping_add64 L.image.base target)) (length_of RilC)
+  pub brcl_at : (mask target : ℕ) → mask < 16 → offset < 2 ^ 31 → target % 2 ≡ 0 → target < 2 ^ 31 → StandsAt L.image offset (bytes_of (ril_c opcodes.BRCL mask (half_distance offset target))) → RowAt L (wrapping_add64 L.image.base offset) (λ r. Branch mask (wrapping_add64 L.image.base target)) (length_of RilC)
   unfolding semantics_in semantics_of
   brcl_at mask target lm small even_target small_target s =
-      row_at L offset (ril_c 0xc04 mask (half_distance offset target)) (λ r. Branch mask (wrapping_add64 L.image.base target)) image.even even image.fits s (fits_ril_c 0xc04 mask (half_distance offset target) (omega arith) lm (omega arith)) (brcl_listed mask (half_distance offset target)) (λ state event t at h.
+      row_at L offset (ril_c opcodes.BRCL mask (half_distance offset target)) (λ r. Branch mask (wrapping_add64 L.image.base target)) image.even even image.fits s (fits_ril_c opcodes.BRCL mask (half_distance offset target) (omega arith) lm (omega arith)) (brcl_listed mask (half_distance offset target)) (λ state event t at h.
       subst (λ a. ActionStep (Branch mask a) (length_of RilC) state event t) (ap (λ p. low Doubleword (pos p +ℤ pos 2 *ℤ cast_signed w32 (half_distance offset target))) at ∙ lands L.image.base offset target even even_target small small_target) h)
 
   -- the register gets the target's address
-  pub larl_at : (a target : ℕ) → a < 16 → offset < 2 ^ 31 → target % 2 ≡ 0 → target < 2 ^ 31 → StandsAt L.image offset (bytes_of (ril_b 0xc00 a (half_distance offset target))) → RowAt L (wrapping_add64 L.image.base offset) (λ r. Perform (computes_immediate Kept (on_doublewords Move) a a (wrapping_add64 L.image.base target) r)) (length_of RilB)
+  pub larl_at : (a target : ℕ) → a < 16 → offset < 2 ^ 31 → target % 2 ≡ 0 → target < 2 ^ 31 → StandsAt L.image offset (bytes_of (ril_b opcodes.LARL a (half_distance offset target))) → RowAt L (wrapping_add64 L.image.base offset) (λ r. Perform (computes_immediate Kept (on_doublewords Move) a a (wrapping_add64 L.image.base target) r)) (length_of RilB)
   unfolding semantics_in semantics_of
   larl_at a target la small even_target small_target s =
-      row_at L offset (ril_b 0xc00 a (half_distance offset target)) (λ r. Perform (computes_immediate Kept (on_doublewords Move) a a (wrapping_add64 L.image.base target) r)) image.even even image.fits s (fits_ril_b 0xc00 a (half_distance offset target) (omega arith) la (omega arith)) (larl_listed a (half_distance offset target)) (λ state event t at h.
+      row_at L offset (ril_b opcodes.LARL a (half_distance offset target)) (λ r. Perform (computes_immediate Kept (on_doublewords Move) a a (wrapping_add64 L.image.base target) r)) image.even even image.fits s (fits_ril_b opcodes.LARL a (half_distance offset target) (omega arith) la (omega arith)) (larl_listed a (half_distance offset target)) (λ state event t at h.
       subst (λ x. ActionStep (Perform (computes_immediate Kept (on_doublewords Move) a a x state.core.registers)) (length_of RilB) state event t) (ap (λ p. low Doubleword (pos p +ℤ pos 2 *ℤ cast_signed w32 (half_distance offset target))) at ∙ lands L.image.base offset target even even_target small small_target) h)

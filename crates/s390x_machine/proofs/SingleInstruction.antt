@@ -19,6 +19,7 @@ use Rattle.s390x_inst.specs.declared.ops.CmpOp.{CmpOp}
 use Rattle.s390x_inst.specs.declared.ops.CmpOp.TheVariants as C
 use Rattle.s390x_inst.specs.declared.ops.UnaryOp.{UnaryOp}
 use Rattle.s390x_inst.specs.declared.ops.UnaryOp.TheVariants as U
+use Rattle.s390x_rows.specs.declared.opcodes.TheConstants as opcodes
 use Rattle.s390x_typed_steps.specs.Opcodes.{alu_three, alu_two, cmp_two, unary_two, alu_halfword, alu_three_halfword, alu_signed_word, alu_unsigned_word, cmp_halfword, cmp_signed_word, cmp_unsigned_word}
 use Rattle.s390x_typed_steps.specs.SingleInstruction.{two_operands}
 use Rattle.s390x_typed_steps.specs.MachineInstruction.{MachineInstruction, bytes_of, size_of, rr, rre, rrf_ab, ri_a, rie_d, ril_a, ril_b}
@@ -94,11 +95,11 @@ unary_rows op = rows two_format Any 65536 (unary_two op) (computed (unary_comput
     agrees U.Abs32 = refl
     agrees _ = refl
 
-pub lgr_row : TwoRow 0xb904 (computed (on_doublewords Move) Register Kept)
+pub lgr_row : TwoRow opcodes.LGR (computed (on_doublewords Move) Register Kept)
 unfolding machine_rows row_for semantics_in semantics_of
 lgr_row = (record { is = refl }, refl)
 
-pub lr_row : TwoRow 0x18 (computed (on_words Move) Register Kept)
+pub lr_row : TwoRow opcodes.LR (computed (on_words Move) Register Kept)
 unfolding machine_rows row_for semantics_in semantics_of
 lr_row = (record { is = refl }, refl)
 
@@ -167,19 +168,19 @@ cmp_unsigned_word_rows op = rows (λ n. RilA) Any 4096 (cmp_unsigned_word op) (c
     agrees C.CmpL32 = refl
     agrees _ = refl
 
-pub iilf_row : OpcodeRow RilA 4096 0xc09 (computed (on_words Move) Immediate Kept)
+pub iilf_row : OpcodeRow RilA 4096 opcodes.IILF (computed (on_words Move) Immediate Kept)
 unfolding machine_rows row_for semantics_in semantics_of
 iilf_row = (record { is = refl }, refl)
 
-pub lhi_row : OpcodeRow RiA 4096 0xa78 (computed_immediate (on_words Move) signed_halfword Immediate Kept)
+pub lhi_row : OpcodeRow RiA 4096 opcodes.LHI (computed_immediate (on_words Move) signed_halfword Immediate Kept)
 unfolding machine_rows row_for semantics_in semantics_of
 lhi_row = (record { is = refl }, refl)
 
-pub lghi_row : OpcodeRow RiA 4096 0xa79 (computed_immediate (on_doublewords Move) signed_halfword Immediate Kept)
+pub lghi_row : OpcodeRow RiA 4096 opcodes.LGHI (computed_immediate (on_doublewords Move) signed_halfword Immediate Kept)
 unfolding machine_rows row_for semantics_in semantics_of
 lghi_row = (record { is = refl }, refl)
 
-pub lgfi_row : OpcodeRow RilA 4096 0xc01 (computed_immediate (on_doublewords Move) signed_word Immediate Kept)
+pub lgfi_row : OpcodeRow RilA 4096 opcodes.LGFI (computed_immediate (on_doublewords Move) signed_word Immediate Kept)
 unfolding machine_rows row_for semantics_in semantics_of
 lgfi_row = (record { is = refl }, refl)
 

@@ -3,6 +3,7 @@ use Rattle.std.proofs.Common.{◌≡◌, ℕ, zero, suc, ◌+◌, ◌%◌, ◌<�
 use Rattle.std.specs.Prelude.{pos}
 use Rattle.s390x_format.specs.Formats.{length_of}
 use Rattle.s390x_format.proofs.Encoding.{encode-length}
+use Rattle.s390x_rows.specs.declared.opcodes.TheConstants as opcodes
 use Rattle.s390x_typed_steps.specs.MachineInstruction.{ril_b, ril_c}
 use Rattle.s390x_typed_steps.specs.Steps.{Step}
 use Rattle.s390x_typed_steps.specs.Parts.{CodePart, Row, Trapping, Branch, Relative, RelativeConstant, RelativeSymbol, SymbolValue, TrapHere, TableWord, CallSymbol, SiteHere, part_size, parts_size, step_parts, step_size}
@@ -18,15 +19,15 @@ pub part_length : (P : Offsets) (p : ℕ) (part : CodePart) → length (part_byt
 unfolding length_of
 part_length P p (Row m) = encode-length m.format m.slots
 part_length P p (Trapping m byte code) = encode-length m.format m.slots
-part_length P p (Branch mask target) = let m = ril_c 0xc04 mask (half_distance p (target_offset P target)) in encode-length m.format m.slots
+part_length P p (Branch mask target) = let m = ril_c opcodes.BRCL mask (half_distance p (target_offset P target)) in encode-length m.format m.slots
 part_length P p (Relative opcode register target) = let m = ril_b opcode register (half_distance p (target_offset P target)) in encode-length m.format m.slots
 part_length P p (RelativeConstant opcode register c) = let m = ril_b opcode register (half_distance p (P.environment.constant c)) in encode-length m.format m.slots
 part_length P p (RelativeSymbol opcode register name offset) = let m = ril_b opcode register (P.environment.symbol_distance p name offset) in encode-length m.format m.slots
 part_length P p (SymbolValue name offset) = refl
 part_length P p (TrapHere code) = refl
 part_length P p (TableWord before target) = refl
-part_length P p (CallSymbol (Some link) name) = let m = ril_b 0xc05 link (P.environment.symbol_distance p name (pos 0)) in encode-length m.format m.slots
-part_length P p (CallSymbol None name) = let m = ril_c 0xc04 15 (P.environment.symbol_distance p name (pos 0)) in encode-length m.format m.slots
+part_length P p (CallSymbol (Some link) name) = let m = ril_b opcodes.BRASL link (P.environment.symbol_distance p name (pos 0)) in encode-length m.format m.slots
+part_length P p (CallSymbol None name) = let m = ril_c opcodes.BRCL 15 (P.environment.symbol_distance p name (pos 0)) in encode-length m.format m.slots
 part_length P p (SiteHere site) = refl
 
 parts_length : (P : Offsets) (p : ℕ) (parts : List CodePart) → length (parts_bytes P p parts) ≡ parts_size parts

@@ -6,6 +6,7 @@ use Rattle.s390x_format.specs.declared.kind.FormatKind.TheVariants.{Rre, RrfCde,
 use Rattle.s390x_format.specs.declared.row.Allowed.TheVariants.{Any}
 use Rattle.s390x_format.specs.Formats.{length_of}
 use Rattle.s390x_format.specs.View.{fields_of}
+use Rattle.s390x_rows.specs.declared.opcodes.TheConstants as opcodes
 use Rattle.s390x_typed_steps.specs.SingleInstruction.{single_with, masked_row, masked_halfword_row}
 use Rattle.s390x_typed_steps.specs.MachineInstruction.{MachineInstruction, bytes_of, format_e, rre, rrf_cde, rie_a, ril_c}
 use Rattle.s390x_typed_steps.specs.Parts.{Row, Trapping, parts_or, step_parts, stopping}
@@ -101,15 +102,15 @@ module _ {L : Layout} {k : ℕ} {s : Step} (b : StepAt L k s) where
       let stands : StandsAt L.image (L.offsets.step k) (0 ∷ 0 ∷ []) = subst (StandsAt L.image (L.offsets.step k)) zeros one.row.stands in
       trap_runs L k code (step_form b _ is) (stops_at L b.image (L.offsets.step k) 0 (Some code) (step_even b) stands one.found) (inside_first L k 2 one.row.size (omega arith))
 
-  pub traps_where : (mask : ℕ) (code : TrapKind) → kind_of_step L (Some s) ≡ Some (TrapsWhere mask code) → step_parts s ≡ Trapping (ril_c 0xc04 mask 1) 3 code ∷ [] → mask < 16 → StepRuns L k
+  pub traps_where : (mask : ℕ) (code : TrapKind) → kind_of_step L (Some s) ≡ Some (TrapsWhere mask code) → step_parts s ≡ Trapping (ril_c opcodes.BRCL mask 1) 3 code ∷ [] → mask < 16 → StepRuns L k
   unfolding length_of
   traps_where mask code is parts lm =
       let o = L.offsets.step k in
       let even = step_even b in
-      let one = one_recorded b (ril_c 0xc04 mask 1) 3 code parts (omega arith) in
+      let one = one_recorded b (ril_c opcodes.BRCL mask 1) 3 code parts (omega arith) in
       let near : o + 6 < 2 ^ 31 = omega (arith, one.row.size, (b.image.step_places (suc k) (step_within b)).1) in
       let half : half_distance o (o + 2) ≡ 1 = omega arith in
-      let stands : StandsAt L.image o (bytes_of (ril_c 0xc04 mask (half_distance o (o + 2)))) = subst (λ h. StandsAt L.image o (bytes_of (ril_c 0xc04 mask h))) (sym half) one.row.stands in
+      let stands : StandsAt L.image o (bytes_of (ril_c opcodes.BRCL mask (half_distance o (o + 2)))) = subst (λ h. StandsAt L.image o (bytes_of (ril_c opcodes.BRCL mask h))) (sym half) one.row.stands in
       let third : o + 3 ≡ o + 2 + 1 = omega arith in
       trap_where_runs L k mask code (step_form b _ is) (record {
         size = 6;

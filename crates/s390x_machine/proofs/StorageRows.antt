@@ -6,12 +6,15 @@ use Rattle.s390x_inst.specs.declared.ops.CmpOp.{CmpOp}
 use Rattle.s390x_inst.specs.declared.ops.CmpOp.TheVariants as C
 use Rattle.s390x_inst.specs.declared.load.LoadOp.{LoadOp}
 use Rattle.s390x_inst.specs.declared.load.LoadOp.TheVariants as LoadOps
+use Rattle.s390x_inst.specs.declared.store.StoreOp.{StoreOp}
+use Rattle.s390x_inst.specs.declared.store.StoreOp.TheVariants as StoreOps
 use Rattle.s390x_format.specs.declared.kind.FormatKind.TheVariants.{Rx, Rxy, Rs, Rsy, Si, Siy, Sil}
 use Rattle.s390x_format.specs.declared.row.Allowed.TheVariants.{Any}
 use Rattle.s390x_format.specs.Lookup.{row_for}
 use Rattle.s390x_format.specs.Fetch.{machine_rows}
+use Rattle.s390x_rows.specs.declared.opcodes.TheConstants as opcodes
 use Rattle.s390x_typed_steps.specs.Storage.{alu_rx, alu_rxy, cmp_rx, cmp_rxy, cmp_ril, atomic_rsy}
-use Rattle.s390x_typed_steps.specs.Memory.{load_rows, RxForm, type_of}
+use Rattle.s390x_typed_steps.specs.Memory.{load_rows, store_rows, RxForm, type_of}
 use Rattle.s390x_operations.specs.declared.size.Size.{Size}
 use Rattle.s390x_operations.specs.declared.size.Size.TheVariants.{Word, Doubleword}
 use Rattle.s390x_operations.specs.declared.size.Width.TheVariants.{Bits16, Bits32, Bits64}
@@ -20,8 +23,8 @@ use Rattle.s390x_operations.specs.declared.effect.CodeRule.TheVariants.{Kept}
 use Rattle.s390x_machine.specs.declared.semantics.RowSemantics.{RowSemantics}
 use Rattle.s390x_machine.specs.declared.semantics.RowSemantics.TheVariants.{Compute, Store, StoreByte, StoreImmediate, LoadMultiple, StoreMultiple, LoadAndOperate, CompareAndSwap}
 use Rattle.s390x_machine.specs.declared.semantics.OperandSource.TheVariants.{Indexed, IndexedAddress}
-use Rattle.s390x_machine.specs.Computations.{Second, unsigned_word, unsigned_halfword, doubleword, alu_computation, alu_two_rule, comparison}
-use Rattle.s390x_machine.specs.Storage.{loaded_value, byte, reversed_bytes, alu_forms, cmp_forms}
+use Rattle.s390x_machine.specs.Computations.{Second, doubleword, alu_computation, alu_two_rule, comparison}
+use Rattle.s390x_machine.specs.Storage.{loaded_value, stored_value, alu_forms, cmp_forms}
 use Rattle.s390x_machine.specs.Semantics.{semantics_in, semantics_of}
 use Rattle.s390x_machine.proofs.Listing.{Agrees, rows, OpcodeRow, OpcodeRows}
 use Rattle.s390x_machine.proofs.SingleInstruction.{computed, compared_with, second_register}
@@ -57,71 +60,57 @@ load_indexed_rows op =
     long LoadOps.Load64 = refl
     long _ = refl
 
-pub load_address : IndexedRows (Some 0x41) (Some 0xe371) (Compute Move Doubleword (second_register IndexedAddress doubleword) Kept)
+pub load_address : IndexedRows (Some opcodes.LA) (Some opcodes.LAY) (Compute Move Doubleword (second_register IndexedAddress doubleword) Kept)
 unfolding machine_rows row_for semantics_in semantics_of
 load_address = ((record { is = refl }, refl), (record { is = refl }, refl))
 
 -- ---- stores
 
-pub store_8 : IndexedRows (Some 0x42) (Some 0xe372) (storing byte)
+pub store_indexed_rows : (op : StoreOp) → IndexedRows (store_rows op).rx (store_rows op).rxy (storing (stored_value op).second)
 unfolding machine_rows row_for semantics_in semantics_of
-store_8 = ((record { is = refl }, refl), (record { is = refl }, refl))
+store_indexed_rows op =
+    let semantics : RowSemantics = storing (stored_value op).second in
+    (rows (λ n. Rx) Any 256 (store_rows op).rx semantics refl (short op), rows (λ n. Rxy) Any 65536 (store_rows op).rxy semantics refl (long op))
+  where
+    short : (op : StoreOp) → Agrees (λ n. Rx) Any 256 (store_rows op).rx (storing (stored_value op).second)
+    short StoreOps.Store64 = refl
+    short _ = refl
 
-pub store_16 : IndexedRows (Some 0x40) (Some 0xe370) (storing unsigned_halfword)
-unfolding machine_rows row_for semantics_in semantics_of
-store_16 = ((record { is = refl }, refl), (record { is = refl }, refl))
+    long : (op : StoreOp) → Agrees (λ n. Rxy) Any 65536 (store_rows op).rxy (storing (stored_value op).second)
+    long StoreOps.Store64 = refl
+    long _ = refl
 
-pub store_32 : IndexedRows (Some 0x50) (Some 0xe350) (storing unsigned_word)
-unfolding machine_rows row_for semantics_in semantics_of
-store_32 = ((record { is = refl }, refl), (record { is = refl }, refl))
-
-pub store_64 : IndexedRows None (Some 0xe324) (storing doubleword)
-unfolding machine_rows row_for semantics_in semantics_of
-store_64 = (tt, (record { is = refl }, refl))
-
-pub store_reversed_16 : IndexedRows None (Some 0xe33f) (storing (reversed_bytes Bits16))
-unfolding machine_rows row_for semantics_in semantics_of
-store_reversed_16 = (tt, (record { is = refl }, refl))
-
-pub store_reversed_32 : IndexedRows None (Some 0xe33e) (storing (reversed_bytes Bits32))
-unfolding machine_rows row_for semantics_in semantics_of
-store_reversed_32 = (tt, (record { is = refl }, refl))
-
-pub store_reversed_64 : IndexedRows None (Some 0xe32f) (storing (reversed_bytes Bits64))
-unfolding machine_rows row_for semantics_in semantics_of
-store_reversed_64 = (tt, (record { is = refl }, refl))
-
-pub store_byte : OpcodeRow Si 256 0x92 StoreByte × OpcodeRow Siy 65536 0xeb52 StoreByte
+pub store_byte : OpcodeRow Si 256 opcodes.MVI StoreByte × OpcodeRow Siy 65536 opcodes.MVIY StoreByte
 unfolding machine_rows row_for semantics_in semantics_of
 store_byte = ((record { is = refl }, refl), (record { is = refl }, refl))
 
-pub store_immediate_16 : OpcodeRow Sil 65536 0xe544 (StoreImmediate Bits16)
+pub store_immediate_16 : OpcodeRow Sil 65536 opcodes.MVHHI (StoreImmediate Bits16)
 unfolding machine_rows row_for semantics_in semantics_of
 store_immediate_16 = (record { is = refl }, refl)
 
-pub store_immediate_32 : OpcodeRow Sil 65536 0xe54c (StoreImmediate Bits32)
+pub store_immediate_32 : OpcodeRow Sil 65536 opcodes.MVHI (StoreImmediate Bits32)
 unfolding machine_rows row_for semantics_in semantics_of
 store_immediate_32 = (record { is = refl }, refl)
 
-pub store_immediate_64 : OpcodeRow Sil 65536 0xe548 (StoreImmediate Bits64)
+pub store_immediate_64 : OpcodeRow Sil 65536 opcodes.MVGHI (StoreImmediate Bits64)
 unfolding machine_rows row_for semantics_in semantics_of
 store_immediate_64 = (record { is = refl }, refl)
 
 -- ---- two registers
 
-pub load_multiple : BasedRows None (Some 0xeb04) LoadMultiple
+pub load_multiple : BasedRows None (Some opcodes.LMG) LoadMultiple
 unfolding machine_rows row_for semantics_in semantics_of
 load_multiple = (tt, (record { is = refl }, refl))
 
-pub store_multiple : BasedRows None (Some 0xeb24) StoreMultiple
+pub store_multiple : BasedRows None (Some opcodes.STMG) StoreMultiple
 unfolding machine_rows row_for semantics_in semantics_of
 store_multiple = (tt, (record { is = refl }, refl))
 
-pub swap_32 : BasedRows (Some 0xba) (Some 0xeb14) (CompareAndSwap Word)
+pub swap_32 : BasedRows (Some opcodes.CS) (Some opcodes.CSY) (CompareAndSwap Word)
 unfolding machine_rows row_for semantics_in semantics_of
 swap_32 = ((record { is = refl }, refl), (record { is = refl }, refl))
 
-pub swap_64 : BasedRows None (Some 0xeb30) (CompareAndSwap Doubleword)
+pub swap_64 : BasedRows None (Some opcodes.CSG) (CompareAndSwap Doubleword)
 unfolding machine_rows row_for semantics_in semantics_of
 swap_64 = (tt, (record { is = refl }, refl))
 

@@ -7,6 +7,7 @@ use Rattle.s390x_base.specs.declared.regs.Reg.{Reg}
 use Rattle.s390x_inst.specs.declared.args.MemArg.{MemArg}
 use Rattle.s390x_format.specs.declared.kind.FormatKind.TheVariants.{Rx, Rxy, Rsy, Sil}
 use Rattle.s390x_format.specs.View.{disp_of}
+use Rattle.s390x_rows.specs.declared.opcodes.TheConstants as opcodes
 use Rattle.s390x_typed_steps.specs.General.{is_general, reuses, low_byte}
 use Rattle.s390x_typed_steps.specs.Memory.{MemoryInstruction, RxForm, RsForm, SiForm, SilForm, type_of, fault_code, operate, load_and_operate, is_range, holds_scratch}
 use Rattle.s390x_typed_steps.specs.Operands.{is_numbered, operand_general}
@@ -108,7 +109,7 @@ joined_kept r v first last (suc n) none lt le =
 
 -- ---- the helper's rows
 
-pub address_rows : (d : ℕ) → d < 16 → IndexedForm d (Some 0x41) (Some 0xe371) (loads_address d)
+pub address_rows : (d : ℕ) → d < 16 → IndexedForm d (Some opcodes.LA) (Some opcodes.LAY) (loads_address d)
 address_rows d lt = record {
   few = lt;
   semantics = Compute Move Doubleword (second_register IndexedAddress doubleword) Kept;
@@ -118,7 +119,7 @@ address_rows d lt = record {
 }
 
 -- and the row for an operand relative to the instruction
-pub relative_address_rows : (d : ℕ) → d < 16 → RelativeForm d (Some 0xc00) (loads_address d)
+pub relative_address_rows : (d : ℕ) → d < 16 → RelativeForm d (Some opcodes.LARL) (loads_address d)
 relative_address_rows d lt = record {
   few = lt;
   semantics = Compute Move Doubleword (second_register RelativeAddress doubleword) Kept;
@@ -150,10 +151,10 @@ module _ {L : Layout} {k : ℕ} {s : Step} (b : StepAt L k s) where
       (record { few = lt; semantics = relative_loading size second; rows = relative_row; acts = λ opcode half r p. refl }) (λ a r. never_by_values (loads_at size second d a r) (access_code (fault_code x)) refl (λ kind h. h))
       (λ e a r v. record { access = refl; refused = refl; may_refuse = λ kind h. h; results = λ c q h. h; code = λ c code h. h }) is
 
-  pub loads_an_address : (rd : Reg) (mem : MemArg) (forms : MemInstType) → Is (record { form = RxForm (number_of rd) (Some 0x41) (Some 0xe371) (Some 0xc00); operand = mem; accesses = false; operands_valid = is_general rd; reads_scratch = false }) forms (loads_address (number_of rd)) → StepRuns L k
+  pub loads_an_address : (rd : Reg) (mem : MemArg) (forms : MemInstType) → Is (record { form = RxForm (number_of rd) (Some opcodes.LA) (Some opcodes.LAY) (Some opcodes.LARL); operand = mem; accesses = false; operands_valid = is_general rd; reads_scratch = false }) forms (loads_address (number_of rd)) → StepRuns L k
   loads_an_address rd mem forms is =
       let d = number_of rd in
-      let x : MemoryInstruction = record { form = RxForm d (Some 0x41) (Some 0xe371) (Some 0xc00); operand = mem; accesses = false; operands_valid = is_general rd; reads_scratch = false } in
+      let x : MemoryInstruction = record { form = RxForm d (Some opcodes.LA) (Some opcodes.LAY) (Some opcodes.LARL); operand = mem; accesses = false; operands_valid = is_general rd; reads_scratch = false } in
       let lt = general_number rd (and_parts (is_general rd) (operand_general mem) is.3.registers).0 in
       memory_steps x forms (loads_address d) (address_rows d lt) (relative_address_rows d lt) (λ a r. never_by_values (loads_address d a r) (access_code (fault_code x)) refl (λ kind h. h))
       (λ e a r v. record { access = refl; refused = refl; may_refuse = λ kind h. h; results = λ c q h. h; code = λ c code h. h }) is
@@ -189,9 +190,9 @@ module _ {L : Layout} {k : ℕ} {s : Step} (b : StepAt L k s) where
       (record { few = reused_number rd ri reused; semantics = computed c Relative rule; rows = tt; acts = λ opcode half r p. refl }) (λ a r. never_by_values (computes_at rule c d a r) (access_code (fault_code x)) refl (λ kind h. h)) (λ e a r v.
       same_operation (computes_at rule c d a (set_general r 1 v)) (computes_at rule c d a r) (ap (λ n. with_rule rule (Effect.Compute c.operator c.size d n (operand_at c.second a))) (value_kept c.size r v d (reused_other rd ri reused e)))) (same refl, is.0, is.1, is.2)
 
-  pub stores_a_byte : (imm : ℕ) (mem : MemArg) (forms : MemInstType) → Is (record { form = SiForm (low_byte imm) 0x92 0xeb52; operand = mem; accesses = true; operands_valid = true; reads_scratch = false }) forms (stores_value Bits8 (low_byte imm)) → StepRuns L k
+  pub stores_a_byte : (imm : ℕ) (mem : MemArg) (forms : MemInstType) → Is (record { form = SiForm (low_byte imm) opcodes.MVI opcodes.MVIY; operand = mem; accesses = true; operands_valid = true; reads_scratch = false }) forms (stores_value Bits8 (low_byte imm)) → StepRuns L k
   stores_a_byte imm mem forms is =
-      let x : MemoryInstruction = record { form = SiForm (low_byte imm) 0x92 0xeb52; operand = mem; accesses = true; operands_valid = true; reads_scratch = false } in
+      let x : MemoryInstruction = record { form = SiForm (low_byte imm) opcodes.MVI opcodes.MVIY; operand = mem; accesses = true; operands_valid = true; reads_scratch = false } in
       memory_steps x forms (stores_value Bits8 (low_byte imm)) (record { few = omega arith; semantics = StoreByte; short_row = store_byte.0; long_row = store_byte.1; acts = λ kind opcode base n r p. refl }) tt
       (λ a r. never_by_values (stores_value Bits8 (low_byte imm) a r) (access_code (fault_code x)) refl (λ kind h. h)) (λ e a r v. itself (stores_value Bits8 (low_byte imm) a r)) is
 
@@ -201,11 +202,11 @@ module _ {L : Layout} {k : ℕ} {s : Step} (b : StepAt L k s) where
       memory_steps x forms (stores_value width (signed_immediate bits)) (record { few = lt; semantics = StoreImmediate width; row = row; acts = λ base n r p. ap (λ y. Perform (stores_value width y (based r base (disp_of n)) r)) (signed_read bits lt) }) tt
       (λ a r. never_by_values (stores_value width (signed_immediate bits) a r) (access_code (fault_code x)) refl (λ kind h. h)) (λ e a r v. itself (stores_value width (signed_immediate bits) a r)) is
 
-  pub loads_registers : (rt rt2 : Reg) (mem : MemArg) (forms : MemInstType) → Is (record { form = RsForm (number_of rt) (number_of rt2) None (Some 0xeb04); operand = mem; accesses = true; operands_valid = is_range rt rt2; reads_scratch = false }) forms (loads_multiple (number_of rt) (number_of rt2)) → StepRuns L k
+  pub loads_registers : (rt rt2 : Reg) (mem : MemArg) (forms : MemInstType) → Is (record { form = RsForm (number_of rt) (number_of rt2) None (Some opcodes.LMG); operand = mem; accesses = true; operands_valid = is_range rt rt2; reads_scratch = false }) forms (loads_multiple (number_of rt) (number_of rt2)) → StepRuns L k
   loads_registers rt rt2 mem forms is =
       let first = number_of rt in
       let last = number_of rt2 in
-      let x : MemoryInstruction = record { form = RsForm first last None (Some 0xeb04); operand = mem; accesses = true; operands_valid = is_range rt rt2; reads_scratch = false } in
+      let x : MemoryInstruction = record { form = RsForm first last None (Some opcodes.LMG); operand = mem; accesses = true; operands_valid = is_range rt rt2; reads_scratch = false } in
       let p = and_parts (is_general rt && is_general rt2) (nat_le first last) (and_parts (is_range rt rt2) (operand_general mem) is.3.registers).0 in
       let g = and_parts (is_general rt) (is_general rt2) p.0 in
       let count = counted first last (leb-true first last p.1) (general_number rt2 g.1) in
@@ -213,11 +214,11 @@ module _ {L : Layout} {k : ℕ} {s : Step} (b : StepAt L k s) where
       (record { few = general_number rt g.0; few_second = general_number rt2 g.1; semantics = LoadMultiple; short_rows = load_multiple.0; long_rows = load_multiple.1; acts = λ kind opcode base n r q. ap (λ m. Perform (with_rule Kept (Effect.LoadMultiple first m (based r base (disp_of n))))) count }) tt
       (λ a r. never_by_values (loads_multiple first last a r) (access_code (fault_code x)) refl (λ kind h. h)) (λ e a r v. itself (loads_multiple first last a r)) is
 
-  pub stores_registers : (rt rt2 : Reg) (mem : MemArg) (forms : MemInstType) → Is (record { form = RsForm (number_of rt) (number_of rt2) None (Some 0xeb24); operand = mem; accesses = true; operands_valid = is_range rt rt2; reads_scratch = holds_scratch rt rt2 }) forms (stores_multiple (number_of rt) (number_of rt2)) → StepRuns L k
+  pub stores_registers : (rt rt2 : Reg) (mem : MemArg) (forms : MemInstType) → Is (record { form = RsForm (number_of rt) (number_of rt2) None (Some opcodes.STMG); operand = mem; accesses = true; operands_valid = is_range rt rt2; reads_scratch = holds_scratch rt rt2 }) forms (stores_multiple (number_of rt) (number_of rt2)) → StepRuns L k
   stores_registers rt rt2 mem forms is =
       let first = number_of rt in
       let last = number_of rt2 in
-      let x : MemoryInstruction = record { form = RsForm first last None (Some 0xeb24); operand = mem; accesses = true; operands_valid = is_range rt rt2; reads_scratch = holds_scratch rt rt2 } in
+      let x : MemoryInstruction = record { form = RsForm first last None (Some opcodes.STMG); operand = mem; accesses = true; operands_valid = is_range rt rt2; reads_scratch = holds_scratch rt rt2 } in
       let p = and_parts (is_general rt && is_general rt2) (nat_le first last) (and_parts (is_range rt rt2) (operand_general mem) is.3.registers).0 in
       let g = and_parts (is_general rt) (is_general rt2) p.0 in
       let le : first ≤ last = leb-true first last p.1 in

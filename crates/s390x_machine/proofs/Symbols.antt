@@ -16,6 +16,7 @@ use Rattle.s390x_operations.specs.declared.effect.CodeRule.TheVariants.{Kept}
 use Rattle.s390x_operations.specs.declared.effect.Operation.{Operation}
 use Rattle.s390x_format.specs.declared.kind.FormatKind.TheVariants.{RiB, Rxy}
 use Rattle.s390x_format.specs.Formats.{length_of}
+use Rattle.s390x_rows.specs.declared.opcodes.TheConstants as opcodes
 use Rattle.s390x_typed_steps.specs.MachineInstruction.{bytes_of, ri_b, rxy}
 use Rattle.s390x_machine.specs.declared.semantics.Action.TheVariants.{Perform, BranchAndSave}
 use Rattle.s390x_machine.specs.Operands.{address_part}
@@ -111,16 +112,16 @@ doubleword_changes image r d offset n size p fits s at m (Interrupted kind) t is
 -- ---- the rows at their places
 
 -- a branch over the doubleword behind it, whose address goes into %r1
-pub bras_at : (L : Layout) → ImageAt L → (offset : ℕ) → offset % 2 ≡ 0 → StandsAt L.image offset (bytes_of (ri_b 0xa75 1 6)) → RowAt L (wrapping_add64 L.image.base offset) (λ r. BranchAndSave 1 (wrapping_add64 (wrapping_add64 L.image.base offset) 12)) (length_of RiB)
+pub bras_at : (L : Layout) → ImageAt L → (offset : ℕ) → offset % 2 ≡ 0 → StandsAt L.image offset (bytes_of (ri_b opcodes.BRAS 1 6)) → RowAt L (wrapping_add64 L.image.base offset) (λ r. BranchAndSave 1 (wrapping_add64 (wrapping_add64 L.image.base offset) 12)) (length_of RiB)
 unfolding semantics_in semantics_of
 bras_at L image offset even s =
-    row_at L offset (ri_b 0xa75 1 6) (λ r. BranchAndSave 1 (wrapping_add64 (wrapping_add64 L.image.base offset) 12)) image.even even image.fits s (fits_ri_b 0xa75 1 6 (omega arith) (omega arith) (omega arith)) bras_listed (λ state event t at h.
+    row_at L offset (ri_b opcodes.BRAS 1 6) (λ r. BranchAndSave 1 (wrapping_add64 (wrapping_add64 L.image.base offset) 12)) image.even even image.fits s (fits_ri_b opcodes.BRAS 1 6 (omega arith) (omega arith) (omega arith)) bras_listed (λ state event t at h.
     subst (λ a. ActionStep (BranchAndSave 1 a) (length_of RiB) state event t) (ap (λ p. low Doubleword (pos p +ℤ pos 12)) at ∙ moved (wrapping_add64 L.image.base offset) 12) h)
 
-pub lg_at : (L : Layout) → ImageAt L → (offset : ℕ) → offset % 2 ≡ 0 → (d : ℕ) → d < 16 → StandsAt L.image offset (bytes_of (rxy 0xe304 d 1 0 0)) → RowAt L (wrapping_add64 L.image.base offset) (λ r. Perform (loads_doubleword d r)) (length_of Rxy)
+pub lg_at : (L : Layout) → ImageAt L → (offset : ℕ) → offset % 2 ≡ 0 → (d : ℕ) → d < 16 → StandsAt L.image offset (bytes_of (rxy opcodes.LG d 1 0 0)) → RowAt L (wrapping_add64 L.image.base offset) (λ r. Perform (loads_doubleword d r)) (length_of Rxy)
 unfolding semantics_in semantics_of
 lg_at L image offset even d ld s =
-    row_at L offset (rxy 0xe304 d 1 0 0) (λ r. Perform (loads_doubleword d r)) image.even even image.fits s (fits_rxy 0xe304 d 1 0 0 (omega arith) ld (omega arith) (omega arith) (omega arith)) (lg_listed d) (λ state event t at h. h)
+    row_at L offset (rxy opcodes.LG d 1 0 0) (λ r. Perform (loads_doubleword d r)) image.even even image.fits s (fits_rxy opcodes.LG d 1 0 0 (omega arith) ld (omega arith) (omega arith) (omega arith)) (lg_listed d) (λ state event t at h. h)
 
 -- ---- the step
 

@@ -24,6 +24,7 @@ use Rattle.s390x_operations.specs.declared.effect.Operation.{Operation}
 use Rattle.s390x_operations.specs.declared.stop.ConditionCode.{ConditionCode}
 use Rattle.s390x_format.specs.declared.kind.FormatKind.TheVariants.{Rxy}
 use Rattle.s390x_format.specs.Formats.{length_of}
+use Rattle.s390x_rows.specs.declared.opcodes.TheConstants as opcodes
 use Rattle.s390x_typed_steps.specs.MachineInstruction.{bytes_of, rxy}
 use Rattle.s390x_typed_steps.specs.Parts.{table_words}
 use Rattle.s390x_typed_steps.specs.Rows.{table_distance, word_bytes}
@@ -173,10 +174,10 @@ word_changes image r index table j w size p lt fits s at_table at_index some m (
 word_changes image r index table j w size p lt fits s at_table at_index some m (Interrupted kind) t is_loaded (inr (e, inr f), same) = absurd f
 
 -- that row at its place
-pub agf_at : (L : Layout) → ImageAt L → (offset : ℕ) → offset % 2 ≡ 0 → (index : ℕ) → index < 16 → StandsAt L.image offset (bytes_of (rxy 0xe318 1 1 index 0)) → RowAt L (wrapping_add64 L.image.base offset) (λ r. Perform (adds_word index r)) (length_of Rxy)
+pub agf_at : (L : Layout) → ImageAt L → (offset : ℕ) → offset % 2 ≡ 0 → (index : ℕ) → index < 16 → StandsAt L.image offset (bytes_of (rxy opcodes.AGF 1 1 index 0)) → RowAt L (wrapping_add64 L.image.base offset) (λ r. Perform (adds_word index r)) (length_of Rxy)
 unfolding semantics_in semantics_of
 agf_at L image offset even index li s =
-    row_at L offset (rxy 0xe318 1 1 index 0) (λ r. Perform (adds_word index r)) image.even even image.fits s (fits_rxy 0xe318 1 1 index 0 (omega arith) (omega arith) (omega arith) li (omega arith)) (agf_listed index) (λ state event t at h. h)
+    row_at L offset (rxy opcodes.AGF 1 1 index 0) (λ r. Perform (adds_word index r)) image.even even image.fits s (fits_rxy opcodes.AGF 1 1 index 0 (omega arith) (omega arith) (omega arith) li (omega arith)) (agf_listed index) (λ state event t at h. h)
 
 -- ---- registers
 

@@ -7,6 +7,7 @@ use Rattle.s390x_format.specs.Formats.{layout_of, length_of}
 use Rattle.s390x_format.specs.Layout.{number, bits}
 use Rattle.s390x_format.specs.Reading.{be_bytes}
 use Rattle.s390x_format.specs.Rows.{fetch_length_of}
+use Rattle.s390x_rows.specs.declared.opcodes.TheConstants as opcodes
 use Rattle.s390x_typed_steps.specs.MachineInstruction.{bytes_of, format_e, ril_c}
 use Rattle.s390x_typed_steps.specs.Traps.{first_code}
 use Rattle.s390x_operations.specs.State.{wrapping_add64, is_within}
@@ -100,14 +101,14 @@ six a b c d e f c' d' e' f' h3 h4 h5 h6 = cc
 pub record IntoItself (mask : ℕ) : Type 0 where
   pub first : ℕ
   pub second : ℕ
-  pub is : bytes_of (ril_c 0xc04 mask 1) ≡ first ∷ second ∷ 0 ∷ 0 ∷ 0 ∷ 1 ∷ []
+  pub is : bytes_of (ril_c opcodes.BRCL mask 1) ≡ first ∷ second ∷ 0 ∷ 0 ∷ 0 ∷ 1 ∷ []
 
 pub into_itself : (mask : ℕ) → IntoItself mask
 unfolding length_of layout_of number bits be_bytes
 into_itself mask = record { first = _; second = _; is = six _ _ _ _ _ _ _ _ _ _ (omega arith) (omega arith) (omega arith) (omega arith) }
 
 -- the zeros stand two bytes behind the branch's place
-pub zeros_behind : (L : Layout) (offset mask : ℕ) → StandsAt L.image offset (bytes_of (ril_c 0xc04 mask 1)) → StandsAt L.image (offset + 2) (0 ∷ 0 ∷ [])
+pub zeros_behind : (L : Layout) (offset mask : ℕ) → StandsAt L.image offset (bytes_of (ril_c opcodes.BRCL mask 1)) → StandsAt L.image (offset + 2) (0 ∷ 0 ∷ [])
 zeros_behind L offset mask s =
     let i = into_itself mask in
     record {

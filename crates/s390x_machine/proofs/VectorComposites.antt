@@ -8,7 +8,8 @@ use Rattle.s390x_base.specs.declared.error.EmitError.TheVariants.{BadOperator, B
 use Rattle.s390x_base.specs.declared.regs.Reg.{Reg}
 use Rattle.s390x_inst.specs.declared.vec_inst.VecInst.{VecInst}
 use Rattle.s390x_inst.specs.declared.vec_inst.VecInst.TheVariants.{FpuCMov32, FpuCMov64, VecCMov, VecEltRev, VecInt128SCmpHi, VecInt128UCmpHi}
-use Rattle.s390x_inst.specs.declared.vec_inst.VecInst.TheVariants.{VecLoad, VecLoadRev, VecLoadByte16Rev, VecLoadByte32Rev, VecLoadByte64Rev, VecLoadElt16Rev, VecLoadElt32Rev, VecLoadElt64Rev, VecStore, VecStoreRev, VecStoreByte16Rev, VecStoreByte32Rev, VecStoreByte64Rev, VecStoreElt16Rev, VecStoreElt32Rev, VecStoreElt64Rev}
+use Rattle.s390x_inst.specs.declared.whole.WholeAccess.{WholeAccess}
+use Rattle.s390x_inst.specs.Wholes.{as_whole, by_whole, by_direction}
 use Rattle.s390x_inst.specs.declared.vec_inst.VecInst.TheVariants.{VecLoadReplicate, VecLoadReplicateRev, VecLoadLane, VecLoadLaneRev, VecLoadLaneUndef, VecLoadLaneRevUndef, VecStoreLane, VecStoreLaneRev}
 use Rattle.s390x_format.specs.declared.kind.FormatKind.TheVariants.{Rr}
 use Rattle.s390x_format.specs.declared.row.Allowed.TheVariants.{Any}
@@ -16,18 +17,18 @@ use Rattle.s390x_format.specs.Formats.{length_of}
 use Rattle.s390x_lanes.specs.declared.operators.Signedness.TheVariants.{Signed, Unsigned}
 use Rattle.s390x_lanes.specs.declared.operators.VectorOperation.TheVariants as O
 use Rattle.s390x_lanes.specs.declared.size.ElementSize.{ElementSize}
-use Rattle.s390x_lanes.specs.declared.size.ElementSize.TheVariants.{Halfword, Word, Doubleword, Quadword}
+use Rattle.s390x_lanes.specs.declared.size.ElementSize.TheVariants.{Word, Doubleword}
 use Rattle.s390x_operations.specs.Access.{Untouched}
 use Rattle.s390x_operations.specs.Effects.{Refines, MayRefuse, access, is_selected, refused}
 use Rattle.s390x_operations.specs.State.{Registers, wrapping_add64}
 use Rattle.s390x_operations.specs.declared.effect.Operation.{Operation}
-use Rattle.s390x_operations.specs.declared.effect.VectorLayout.{VectorLayout}
 use Rattle.s390x_operations.specs.declared.stop.ConditionCode.{ConditionCode}
 use Rattle.s390x_operations.specs.declared.stop.ConditionCode.TheVariants.{Code0, Code1, Code2, Code3}
 use Rattle.s390x_operations.specs.declared.stop.StopKind.{StopKind}
+use Rattle.s390x_rows.specs.declared.opcodes.TheConstants as opcodes
 use Rattle.s390x_typed_steps.specs.General.{four_bits}
 use Rattle.s390x_typed_steps.specs.MachineInstruction.{MachineInstruction, size_of, ri_c, rr, vrr_a}
-use Rattle.s390x_typed_steps.specs.Memory.{access_elements, vector_memory}
+use Rattle.s390x_typed_steps.specs.Memory.{access_elements, vector_memory, whole_memory}
 use Rattle.s390x_typed_steps.specs.Parts.{Row, memory_or, parts_or, row_parts, step_parts}
 use Rattle.s390x_typed_steps.specs.SingleInstruction.{SingleInstruction, single_with}
 use Rattle.s390x_typed_steps.specs.Steps.{Step}
@@ -35,13 +36,12 @@ use Rattle.s390x_typed_steps.specs.VectorComposite.{composite_cause, composite_r
 use Rattle.s390x_typed_steps.specs.VectorInstruction.{divides, is_vector, move_left_row, reuses_vector, vector_operands_valid, vector_row, vector_stop}
 use Rattle.s390x_machine.specs.declared.semantics.Action.TheVariants.{Perform, Branch}
 use Rattle.s390x_machine.specs.declared.semantics.RowSemantics.TheVariants.{MoveLeft}
-use Rattle.s390x_machine.specs.declared.semantics.VectorStorage.TheVariants as Storage
 use Rattle.s390x_machine.specs.CodeAt.{OperandsValidOr, ValidMemoryOr}
 use Rattle.s390x_machine.specs.Layout.{Layout, step_address}
 use Rattle.s390x_machine.specs.OneStep.{StepRuns}
-use Rattle.s390x_machine.specs.Semantics.{left_bits}
-use Rattle.s390x_machine.specs.StepKinds.{PerformsWhere, composite_kind, kind_or, on_vectors, performed_by}
-use Rattle.s390x_machine.specs.Storage.{vector_operand_step}
+use Rattle.s390x_machine.specs.Semantics.{all_bits, left_bits}
+use Rattle.s390x_machine.specs.StepKinds.{PerformsWhere, Unsupported, composite_kind, kind_or, on_vectors, performed_by}
+use Rattle.s390x_machine.specs.Storage.{layout_of, loads_vector, stores_vector, vector_forms, vector_operand_step}
 use Rattle.s390x_machine.specs.Typed.{kind_of_step}
 use Rattle.s390x_machine.specs.VectorSteps.{computes_one_vector, moves_left, vector_operation}
 use Rattle.s390x_machine.proofs.Addresses.{sum_more}
@@ -57,7 +57,7 @@ use Rattle.s390x_machine.proofs.Standing.{inside_at, inside_first, next_place}
 use Rattle.s390x_machine.proofs.VectorRows.{compare_signed_row, compare_unsigned_row, elements_listed, fits_vrr_a, ldr_row, ler_row, move_row}
 use Rattle.s390x_machine.proofs.VectorSteps.{elements_computed, moves_alone, no_third, three_vectors, two_vectors, reused_vector, vector_instruction_runs, vector_number, vector_there}
 use Rattle.s390x_machine.proofs.WideComparing.{wide_runs}
-use Rattle.s390x_machine.proofs.VectorStorage.{load_alone_runs, load_lane_runs, load_reversed_alone_runs, load_reversed_bytes, load_reversed_elements, load_reversed_runs, load_whole, loads_runs, replicated_runs, reversed_replicated_runs, store_lane_runs, store_reversed_bytes, store_reversed_elements, store_reversed_runs, store_whole, stores_runs}
+use Rattle.s390x_machine.proofs.VectorStorage.{Accesses, load_alone_runs, load_lane_runs, load_reversed_alone_runs, load_reversed_runs, replicated_runs, reversed_replicated_runs, store_lane_runs, store_reversed_runs, whole_runs}
 
 -- ---- the codes of a branch over a row
 
@@ -84,7 +84,7 @@ half_even o e = omega (arith, e)
 
 module _ {L : Layout} {k : ℕ} {s : Step} (b : StepAt L k s) where
   -- a row that is skipped under the codes that the mask doesn't select. The branch over it leads so many bytes on
-  skip_runs : (mask half distance : ℕ) (row : MachineInstruction) (does operation : Registers → Operation) → kind_of_step L (Some s) ≡ Some (PerformsWhere mask operation) → step_parts s ≡ Row (ri_c 0xa74 (15 - mask) half) ∷ Row row ∷ [] → mask < 16 → half < 2 ^ 16 → pos 2 *ℤ cast_signed w16 (half % 2 ^ 16) ≡ pos distance →
+  skip_runs : (mask half distance : ℕ) (row : MachineInstruction) (does operation : Registers → Operation) → kind_of_step L (Some s) ≡ Some (PerformsWhere mask operation) → step_parts s ≡ Row (ri_c opcodes.BRC (15 - mask) half) ∷ Row row ∷ [] → mask < 16 → half < 2 ^ 16 → pos 2 *ℤ cast_signed w16 (half % 2 ^ 16) ≡ pos distance →
       4 + size_of row ≡ distance → 0 < size_of row → DoesThere L b.image (L.offsets.step k + 4) (half_even (L.offsets.step k) (step_even b)) row does → ((r : Registers) → Refines (does r) (operation r)) → ((r : Registers) → access (operation r).effect ≡ Untouched) → ((r : Registers) → refused (operation r).effect ≡ None) → ((r : Registers) (kind : StopKind) → MayRefuse (operation r).effect kind → ⊥) → StepRuns L k
   unfolding length_of
   skip_runs mask half distance row does operation is parts lm lh words long some there refines untouched never_refused never_stops =
@@ -110,13 +110,13 @@ module _ {L : Layout} {k : ℕ} {s : Step} (b : StepAt L k s) where
       })
 
   -- a move of a whole register
-  skipped_vector : (mask d n : ℕ) (operation : Registers → Operation) → kind_of_step L (Some s) ≡ Some (PerformsWhere mask operation) → step_parts s ≡ row_parts (skipping mask (vrr_a 0xe756 d n 0)) → mask < 16 → d < 32 → n < 32 → ((r : Registers) → Refines (elements_computed (vrr_a 0xe756 d n 0) O.Move r) (operation r)) →
+  skipped_vector : (mask d n : ℕ) (operation : Registers → Operation) → kind_of_step L (Some s) ≡ Some (PerformsWhere mask operation) → step_parts s ≡ row_parts (skipping mask (vrr_a opcodes.VLR d n 0)) → mask < 16 → d < 32 → n < 32 → ((r : Registers) → Refines (elements_computed (vrr_a opcodes.VLR d n 0) O.Move r) (operation r)) →
       ((r : Registers) → access (operation r).effect ≡ Untouched) → ((r : Registers) → refused (operation r).effect ≡ None) → ((r : Registers) (kind : StopKind) → MayRefuse (operation r).effect kind → ⊥) → StepRuns L k
   unfolding length_of
   skipped_vector mask d n operation is parts lm ld ln refines untouched never_refused never_stops =
-      let x = vrr_a 0xe756 d n 0 in
+      let x = vrr_a opcodes.VLR d n 0 in
       let row = move_row d n in
-      let fit = fits_vrr_a 0xe756 d n 0 (few_digits (elements_listed row)) ld ln (omega arith) in
+      let fit = fits_vrr_a opcodes.VLR d n 0 (few_digits (elements_listed row)) ld ln (omega arith) in
       skip_runs mask 5 10 x (elements_computed x O.Move) operation is parts lm (omega arith) refl refl (omega arith) (vector_there L b.image (L.offsets.step k + 4) (half_even (L.offsets.step k) (step_even b)) x O.Move row fit) refines untouched never_refused never_stops
 
   -- a move of the leftmost element
@@ -124,7 +124,7 @@ module _ {L : Layout} {k : ℕ} {s : Step} (b : StepAt L k s) where
   unfolding length_of
   skipped_left opcode e short listed mask d n is lm few = go (nat_lt d 16 && nat_lt n 16) refl
     where
-      go : (t : Bool) → (nat_lt d 16 && nat_lt n 16) ≡ t → step_parts s ≡ row_parts (skipping mask (cond t (rr opcode d n) (vrr_a 0xe756 d n 0))) → StepRuns L k
+      go : (t : Bool) → (nat_lt d 16 && nat_lt n 16) ≡ t → step_parts s ≡ row_parts (skipping mask (cond t (rr opcode d n) (vrr_a opcodes.VLR d n 0))) → StepRuns L k
       go true test parts =
           let tests = and_parts (nat_lt d 16) (nat_lt n 16) test in
           let even = half_even (L.offsets.step k) (step_even b) in
@@ -165,39 +165,37 @@ IsAnyVectorStep L s v =
     × (step_parts s ≡ parts_or single (vector_stop v) (memory_or (vector_memory v) (row_parts (composite_rows v))))
     × OperandsValidOr single (ValidMemoryOr L (vector_memory v) (composite_cause v ≡ None))
 
+-- one that is one machine instruction on registers
+abbrev IsSingleStep : Layout → Step → VecInst → Type 0
+IsSingleStep L s v =
+    let single = single_with (vector_operands_valid v) (vector_row v) in
+    (kind_of_step L (Some s) ≡ Some (kind_or (on_vectors (divides v) (vector_operation v)) Unsupported))
+    × (step_parts s ≡ parts_or single (vector_stop v) [])
+    × OperandsValidOr single (Some BadOperator ≡ None)
+
+-- a load or a store of a whole register, or one machine instruction on registers
+whole_or_single : {L : Layout} {k : ℕ} {s : Step} (b : StepAt L k s) (v : VecInst) (o : Option WholeAccess) →
+    by_whole (λ w. Accesses b (whole_memory w) w.mem vector_forms (by_direction w.direction (loads_vector (layout_of w.layout) all_bits (number_of w.rd)) (stores_vector (layout_of w.layout) (number_of w.rd)))) (IsSingleStep L s v) o → StepRuns L k
+whole_or_single b v None is = vector_instruction_runs b v (is.0, is.1, no_several (single_with (vector_operands_valid v) (vector_row v)) is.2)
+whole_or_single b v (Some w) is = whole_runs b w.direction w.layout w.rd w.mem is
+
 pub any_vector_runs : {L : Layout} {k : ℕ} {s : Step} (b : StepAt L k s) (v : VecInst) → IsAnyVectorStep L s v → StepRuns L k
-any_vector_runs b (FpuCMov32 rd mask ri rm) is = skipped_left b 0x38 Word (omega arith) ler_row (four_bits mask) (number_of rd) (number_of rm) is.0 (omega arith) (moved_registers rd ri rm is.2) is.1
-any_vector_runs b (FpuCMov64 rd mask ri rm) is = skipped_left b 0x28 Doubleword (omega arith) ldr_row (four_bits mask) (number_of rd) (number_of rm) is.0 (omega arith) (moved_registers rd ri rm is.2) is.1
+any_vector_runs b (FpuCMov32 rd mask ri rm) is = skipped_left b opcodes.LER Word (omega arith) ler_row (four_bits mask) (number_of rd) (number_of rm) is.0 (omega arith) (moved_registers rd ri rm is.2) is.1
+any_vector_runs b (FpuCMov64 rd mask ri rm) is = skipped_left b opcodes.LDR Doubleword (omega arith) ldr_row (four_bits mask) (number_of rd) (number_of rm) is.0 (omega arith) (moved_registers rd ri rm is.2) is.1
 any_vector_runs b (VecCMov rd mask ri rm) is =
     let d = number_of rd in
     let n = number_of rm in
     let few = moved_registers rd ri rm is.2 in
     skipped_vector b (four_bits mask) d n (computes_one_vector O.Move d n) is.0 is.1 (omega arith) few.0 few.1 (λ r. no_third O.Move refl d (r.vector d) (r.vector n) (r.vector 0) (r.vector 0)) (λ r. refl) (λ r. refl) (λ r kind h. true≢false (sym h.1))
 any_vector_runs b (VecEltRev count rd rn) is = reversal_runs b count (number_of rd) (number_of rn) (is_vector rd && is_vector rn) (two_vectors rd rn) is
-any_vector_runs b (VecInt128SCmpHi tmp rn rm) is = wide_runs b 0xe7db Signed (number_of tmp) (number_of rn) (number_of rm) (compare_signed_row (number_of rm) (number_of rn)) (compared_registers tmp rn rm is.2) is.0 is.1
-any_vector_runs b (VecInt128UCmpHi tmp rn rm) is = wide_runs b 0xe7d9 Unsigned (number_of tmp) (number_of rn) (number_of rm) (compare_unsigned_row (number_of rm) (number_of rn)) (compared_registers tmp rn rm is.2) is.0 is.1
-any_vector_runs b (VecLoad rd mem) is = loads_runs b Storage.Whole VectorLayout.Whole 0xe706 0 0 0 load_whole (omega arith) (is_vector rd) (number_of rd) refl (λ base index n. refl) (vector_number rd) mem is
-any_vector_runs b (VecLoadRev rd mem) is = loads_runs b Storage.ReversedBytes (VectorLayout.ReversedBytes Quadword) 0xe606 4 1 4 load_reversed_bytes (omega arith) (is_vector rd) (number_of rd) refl (λ base index n. refl) (vector_number rd) mem is
-any_vector_runs b (VecLoadByte16Rev rd mem) is = loads_runs b Storage.ReversedBytes (VectorLayout.ReversedBytes Halfword) 0xe606 1 1 4 load_reversed_bytes (omega arith) (is_vector rd) (number_of rd) refl (λ base index n. refl) (vector_number rd) mem is
-any_vector_runs b (VecLoadByte32Rev rd mem) is = loads_runs b Storage.ReversedBytes (VectorLayout.ReversedBytes Word) 0xe606 2 1 4 load_reversed_bytes (omega arith) (is_vector rd) (number_of rd) refl (λ base index n. refl) (vector_number rd) mem is
-any_vector_runs b (VecLoadByte64Rev rd mem) is = loads_runs b Storage.ReversedBytes (VectorLayout.ReversedBytes Doubleword) 0xe606 3 1 4 load_reversed_bytes (omega arith) (is_vector rd) (number_of rd) refl (λ base index n. refl) (vector_number rd) mem is
-any_vector_runs b (VecLoadElt16Rev rd mem) is = loads_runs b Storage.ReversedElements (VectorLayout.ReversedElements Halfword) 0xe607 1 1 3 load_reversed_elements (omega arith) (is_vector rd) (number_of rd) refl (λ base index n. refl) (vector_number rd) mem is
-any_vector_runs b (VecLoadElt32Rev rd mem) is = loads_runs b Storage.ReversedElements (VectorLayout.ReversedElements Word) 0xe607 2 1 3 load_reversed_elements (omega arith) (is_vector rd) (number_of rd) refl (λ base index n. refl) (vector_number rd) mem is
-any_vector_runs b (VecLoadElt64Rev rd mem) is = loads_runs b Storage.ReversedElements (VectorLayout.ReversedElements Doubleword) 0xe607 3 1 3 load_reversed_elements (omega arith) (is_vector rd) (number_of rd) refl (λ base index n. refl) (vector_number rd) mem is
-any_vector_runs b (VecStore rd mem) is = stores_runs b Storage.Whole VectorLayout.Whole 0xe70e 0 0 0 store_whole (omega arith) (is_vector rd) (number_of rd) refl (λ base index n. refl) (vector_number rd) mem is
-any_vector_runs b (VecStoreRev rd mem) is = stores_runs b Storage.ReversedBytes (VectorLayout.ReversedBytes Quadword) 0xe60e 4 1 4 store_reversed_bytes (omega arith) (is_vector rd) (number_of rd) refl (λ base index n. refl) (vector_number rd) mem is
-any_vector_runs b (VecStoreByte16Rev rd mem) is = stores_runs b Storage.ReversedBytes (VectorLayout.ReversedBytes Halfword) 0xe60e 1 1 4 store_reversed_bytes (omega arith) (is_vector rd) (number_of rd) refl (λ base index n. refl) (vector_number rd) mem is
-any_vector_runs b (VecStoreByte32Rev rd mem) is = stores_runs b Storage.ReversedBytes (VectorLayout.ReversedBytes Word) 0xe60e 2 1 4 store_reversed_bytes (omega arith) (is_vector rd) (number_of rd) refl (λ base index n. refl) (vector_number rd) mem is
-any_vector_runs b (VecStoreByte64Rev rd mem) is = stores_runs b Storage.ReversedBytes (VectorLayout.ReversedBytes Doubleword) 0xe60e 3 1 4 store_reversed_bytes (omega arith) (is_vector rd) (number_of rd) refl (λ base index n. refl) (vector_number rd) mem is
-any_vector_runs b (VecStoreElt16Rev rd mem) is = stores_runs b Storage.ReversedElements (VectorLayout.ReversedElements Halfword) 0xe60f 1 1 3 store_reversed_elements (omega arith) (is_vector rd) (number_of rd) refl (λ base index n. refl) (vector_number rd) mem is
-any_vector_runs b (VecStoreElt32Rev rd mem) is = stores_runs b Storage.ReversedElements (VectorLayout.ReversedElements Word) 0xe60f 2 1 3 store_reversed_elements (omega arith) (is_vector rd) (number_of rd) refl (λ base index n. refl) (vector_number rd) mem is
-any_vector_runs b (VecStoreElt64Rev rd mem) is = stores_runs b Storage.ReversedElements (VectorLayout.ReversedElements Doubleword) 0xe60f 3 1 3 store_reversed_elements (omega arith) (is_vector rd) (number_of rd) refl (λ base index n. refl) (vector_number rd) mem is
-any_vector_runs b (VecLoadReplicate size rd mem) is = replicated_runs b (is_vector rd) size (number_of rd) mem (λ o. access_elements 0xe705 rd o mem) refl (λ c. refl) (vector_number rd) is
-any_vector_runs b (VecLoadReplicateRev size rd mem) is = reversed_replicated_runs b (is_vector rd) size (number_of rd) mem (λ o. access_elements 0xe605 rd o mem) refl (λ c. refl) (vector_number rd) is
+any_vector_runs b (VecInt128SCmpHi tmp rn rm) is = wide_runs b opcodes.VEC Signed (number_of tmp) (number_of rn) (number_of rm) (compare_signed_row (number_of rm) (number_of rn)) (compared_registers tmp rn rm is.2) is.0 is.1
+any_vector_runs b (VecInt128UCmpHi tmp rn rm) is = wide_runs b opcodes.VECL Unsigned (number_of tmp) (number_of rn) (number_of rm) (compare_unsigned_row (number_of rm) (number_of rn)) (compared_registers tmp rn rm is.2) is.0 is.1
+any_vector_runs b (VecLoadReplicate size rd mem) is = replicated_runs b (is_vector rd) size (number_of rd) mem (λ o. access_elements opcodes.VLREP rd o mem) refl (λ c. refl) (vector_number rd) is
+any_vector_runs b (VecLoadReplicateRev size rd mem) is = reversed_replicated_runs b (is_vector rd) size (number_of rd) mem (λ o. access_elements opcodes.VLBRREP rd o mem) refl (λ c. refl) (vector_number rd) is
 any_vector_runs b (VecLoadLane size rd ri mem lane) is = load_lane_runs b (reuses_vector rd ri) size lane (number_of rd) mem (reused_vector rd ri) is
 any_vector_runs b (VecLoadLaneRev size rd ri mem lane) is = load_reversed_runs b (reuses_vector rd ri) size lane (number_of rd) mem (reused_vector rd ri) is
 any_vector_runs b (VecLoadLaneUndef size rd mem lane) is = load_alone_runs b (is_vector rd) size lane (number_of rd) mem (vector_number rd) is
 any_vector_runs b (VecLoadLaneRevUndef size rd mem lane) is = load_reversed_alone_runs b (is_vector rd) size lane (number_of rd) mem (vector_number rd) is
 any_vector_runs b (VecStoreLane size rd mem lane) is = store_lane_runs b (is_vector rd) size lane (number_of rd) mem (vector_number rd) is
 any_vector_runs b (VecStoreLaneRev size rd mem lane) is = store_reversed_runs b (is_vector rd) size lane (number_of rd) mem (vector_number rd) is
-any_vector_runs b v is = vector_instruction_runs b v (is.0, is.1, no_several (single_with (vector_operands_valid v) (vector_row v)) is.2)
+any_vector_runs b v is = whole_or_single b v (as_whole v) is

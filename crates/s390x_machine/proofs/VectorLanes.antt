@@ -22,6 +22,7 @@ use Rattle.s390x_operations.specs.declared.effect.Effect.{Effect}
 use Rattle.s390x_operations.specs.declared.effect.Operation.{Operation}
 use Rattle.s390x_operations.specs.declared.effect.VectorLayout.{VectorLayout}
 use Rattle.s390x_operations.specs.declared.operator.Operator.TheVariants.{Move}
+use Rattle.s390x_rows.specs.declared.opcodes.TheConstants as opcodes
 use Rattle.s390x_typed_steps.specs.MachineInstruction.{MachineInstruction, rre, vrs_b, vrs_c}
 use Rattle.s390x_typed_steps.specs.Parts.{step_parts, parts_or}
 use Rattle.s390x_typed_steps.specs.SingleInstruction.{single_with}
@@ -150,29 +151,29 @@ lane_low Word lane lt = omega (arith, lt)
 lane_low Doubleword lane lt = omega (arith, lt)
 lane_low Quadword lane lt = omega (arith, lt)
 
-insert_allowed : (e : ElementSize) → IsNarrow e → (d n base lane : ℕ) → is_allowed (FirstMask 0 3) (vrs_b 0xe722 d base n (code_of_size e) lane).slots ≡ true
+insert_allowed : (e : ElementSize) → IsNarrow e → (d n base lane : ℕ) → is_allowed (FirstMask 0 3) (vrs_b opcodes.VLVG d base n (code_of_size e) lane).slots ≡ true
 insert_allowed Byte narrow d n base lane = refl
 insert_allowed Halfword narrow d n base lane = refl
 insert_allowed Word narrow d n base lane = refl
 insert_allowed Doubleword narrow d n base lane = refl
 insert_allowed Quadword narrow d n base lane = absurd narrow
 
-extract_allowed : (e : ElementSize) → IsNarrow e → (d n base lane : ℕ) → is_allowed (FirstMask 0 3) (vrs_c 0xe721 d base n (code_of_size e) lane).slots ≡ true
+extract_allowed : (e : ElementSize) → IsNarrow e → (d n base lane : ℕ) → is_allowed (FirstMask 0 3) (vrs_c opcodes.VLGV d base n (code_of_size e) lane).slots ≡ true
 extract_allowed Byte narrow d n base lane = refl
 extract_allowed Halfword narrow d n base lane = refl
 extract_allowed Word narrow d n base lane = refl
 extract_allowed Doubleword narrow d n base lane = refl
 extract_allowed Quadword narrow d n base lane = absurd narrow
 
-inserts_there : (e : ElementSize) (d n base displacement : ℕ) → displacement < 4096 → Doing (fields_of VrsB (vrs_b 0xe722 d base n (code_of_size e) displacement).slots) InsertElement (inserts_lane e d n base displacement)
+inserts_there : (e : ElementSize) (d n base displacement : ℕ) → displacement < 4096 → Doing (fields_of VrsB (vrs_b opcodes.VLVG d base n (code_of_size e) displacement).slots) InsertElement (inserts_lane e d n base displacement)
 inserts_there e d n base displacement low r p =
     ap (λ (q : ElementSize). inserts_element q d (r.vector d) (based r base (disp_of displacement)) (r.general n)) (size_again e)
     ∙ ap (λ (z : ℤ). inserts_element e d (r.vector d) (based r base z) (r.general n)) (small_displacement displacement low)
     ∙ chosen (nat_lt (element_index r base displacement) (lane_count e)) _ _
 
-extracts_there : (e : ElementSize) (d n base displacement : ℕ) → displacement < 4096 → Doing (fields_of VrsC (vrs_c 0xe721 d base n (code_of_size e) displacement).slots) ExtractElement (extracts_lane e d n base displacement)
+extracts_there : (e : ElementSize) (d n base displacement : ℕ) → displacement < 4096 → Doing (fields_of VrsC (vrs_c opcodes.VLGV d base n (code_of_size e) displacement).slots) ExtractElement (extracts_lane e d n base displacement)
 extracts_there e d n base displacement low r p =
-    let f = fields_of VrsC (vrs_c 0xe721 d base n (code_of_size e) displacement).slots in
+    let f = fields_of VrsC (vrs_c opcodes.VLGV d base n (code_of_size e) displacement).slots in
     ap (λ (q : ElementSize). extracts_element f r q (based r base (disp_of displacement))) (size_again e)
     ∙ ap (λ (z : ℤ). extracts_element f r e (based r base z)) (small_displacement displacement low)
     ∙ chosen (nat_lt (element_index r base displacement) (lane_count e)) _ _
@@ -239,11 +240,11 @@ module _ {L : Layout} {k : ℕ} {s : Step} (b : StepAt L k s) where
   pub lane_inserted_runs : (valid : Bool) (size d n base displacement : ℕ) (does : ElementSize → Registers → Operation) → ((e : ElementSize) (r : Registers) → Refines (inserts_lane e d n base displacement r) (does e r)) → ((e : ElementSize) → NeverStops (does e)) →
       (IsTrue valid → (d < 32) × (n < 16) × (base < 16)) → IsOptionalRow valid (insert_lane_row (element_code size) size d n base displacement) (does (elements_of size)) → StepRuns L k
   lane_inserted_runs valid size d n base displacement does refines never small is =
-      lane_runs valid size displacement (λ c. vrs_b 0xe722 d base n c displacement) does (λ e narrow within able row.
+      lane_runs valid size displacement (λ c. vrs_b opcodes.VLVG d base n c displacement) does (λ e narrow within able row.
       let few = small able in
       let low = lane_low e displacement within in
-      let x = vrs_b 0xe722 d base n (code_of_size e) displacement in
-      let fit = fits_vrs_b 0xe722 d base n (code_of_size e) displacement (few_digits insert_listed.0) few.0 few.2 few.1 (code_few e) low in
+      let x = vrs_b opcodes.VLVG d base n (code_of_size e) displacement in
+      let fit = fits_vrs_b opcodes.VLVG d base n (code_of_size e) displacement (few_digits insert_listed.0) few.0 few.2 few.1 (code_few e) low in
       looser_runs b x (inserts_lane e d n base displacement) (does e) (refines e) (never e) row (λ st.
       meant_at L b.image (L.offsets.step k) (step_even b) x InsertElement (inserts_lane e d n base displacement) insert_listed fit (insert_allowed e narrow d n base displacement) (inserts_there e d n base displacement low) st)) is
 
@@ -251,8 +252,8 @@ module _ {L : Layout} {k : ℕ} {s : Step} (b : StepAt L k s) where
   pub alone_inserted_runs : (valid : Bool) (size d n base displacement : ℕ) → (IsTrue valid → (d < 32) × (n < 16) × (base < 16)) → IsOptionalRow valid (insert_alone_row size d n base displacement) (inserts_lane_alone (elements_of size) d n base displacement) → StepRuns L k
   alone_inserted_runs valid size d n base displacement small is = go (is_float_doubleword size d base displacement) refl is.1 is.2
     where
-      go : (t : Bool) → is_float_doubleword size d base displacement ≡ t → step_parts s ≡ parts_or (single_with valid (cond t (Some (rre 0xb3c1 d n)) (insert_lane_row (element_code size) size d n base displacement))) None [] →
-          OperandsValidOr (single_with valid (cond t (Some (rre 0xb3c1 d n)) (insert_lane_row (element_code size) size d n base displacement))) ⊥ → StepRuns L k
+      go : (t : Bool) → is_float_doubleword size d base displacement ≡ t → step_parts s ≡ parts_or (single_with valid (cond t (Some (rre opcodes.LDGR d n)) (insert_lane_row (element_code size) size d n base displacement))) None [] →
+          OperandsValidOr (single_with valid (cond t (Some (rre opcodes.LDGR d n)) (insert_lane_row (element_code size) size d n base displacement))) ⊥ → StepRuns L k
       go false test parts able =
           lane_inserted_runs valid size d n base displacement (λ e. inserts_lane_alone e d n base displacement) (λ e r. alone_refines e d n base displacement r) (λ e. alone_never e d n base displacement) small (is.0, parts, able)
       go true test parts able =
@@ -260,8 +261,8 @@ module _ {L : Layout} {k : ℕ} {s : Step} (b : StepAt L k s) where
           let few = small able in
           let kind = is.0 ∙ first_doubleword (λ e z y. inserts_lane_alone e d n z y) at.0 at.1 at.2 in
           let does : Registers → Operation = λ r. puts d high_half (r.general n * 2 ^ 64) in
-          looser_runs b (rre 0xb3c1 d n) does (inserts_lane_alone Doubleword d n 0 0) (λ r. left_known d (r.general n) (r.vector d)) (alone_never Doubleword d n 0 0) (kind, parts) (λ st.
-          meant_at L b.image (L.offsets.step k) (step_even b) (rre 0xb3c1 d n) RegisterToLeft does ldgr_row (fits_rre 0xb3c1 d n (few_digits ldgr_row.0) at.3 few.1) refl (λ r p. refl) st)
+          looser_runs b (rre opcodes.LDGR d n) does (inserts_lane_alone Doubleword d n 0 0) (λ r. left_known d (r.general n) (r.vector d)) (alone_never Doubleword d n 0 0) (kind, parts) (λ st.
+          meant_at L b.image (L.offsets.step k) (step_even b) (rre opcodes.LDGR d n) RegisterToLeft does ldgr_row (fits_rre opcodes.LDGR d n (few_digits ldgr_row.0) at.3 few.1) refl (λ r p. refl) st)
 
   -- one element, as a general register
   pub lane_extracted_runs : (valid : Bool) (size d n base displacement : ℕ) → (IsTrue valid → (d < 16) × (n < 32) × (base < 16)) → IsOptionalRow valid (extract_row size d n base displacement) (extracts_lane (elements_of size) d n base displacement) → StepRuns L k
@@ -269,17 +270,17 @@ module _ {L : Layout} {k : ℕ} {s : Step} (b : StepAt L k s) where
     where
       by_lane : IsOptionalRow valid (extract_lane_row (element_code size) size d n base displacement) (extracts_lane (elements_of size) d n base displacement) → StepRuns L k
       by_lane is =
-          lane_runs valid size displacement (λ c. vrs_c 0xe721 d base n c displacement) (λ e. extracts_lane e d n base displacement) (λ e narrow within able row.
+          lane_runs valid size displacement (λ c. vrs_c opcodes.VLGV d base n c displacement) (λ e. extracts_lane e d n base displacement) (λ e narrow within able row.
           let few = small able in
           let low = lane_low e displacement within in
-          let fit = fits_vrs_c 0xe721 d base n (code_of_size e) displacement (few_digits extract_listed.0) few.0 few.2 few.1 (code_few e) low in
-          meant_runs b (vrs_c 0xe721 d base n (code_of_size e) displacement) ExtractElement (extracts_lane e d n base displacement) (extracts_never e d n base displacement) row extract_listed fit (extract_allowed e narrow d n base displacement) (extracts_there e d n base displacement low)) is
+          let fit = fits_vrs_c opcodes.VLGV d base n (code_of_size e) displacement (few_digits extract_listed.0) few.0 few.2 few.1 (code_few e) low in
+          meant_runs b (vrs_c opcodes.VLGV d base n (code_of_size e) displacement) ExtractElement (extracts_lane e d n base displacement) (extracts_never e d n base displacement) row extract_listed fit (extract_allowed e narrow d n base displacement) (extracts_there e d n base displacement low)) is
 
-      go : (t : Bool) → is_float_doubleword size n base displacement ≡ t → step_parts s ≡ parts_or (single_with valid (cond t (Some (rre 0xb3cd d n)) (extract_lane_row (element_code size) size d n base displacement))) None [] →
-          OperandsValidOr (single_with valid (cond t (Some (rre 0xb3cd d n)) (extract_lane_row (element_code size) size d n base displacement))) ⊥ → StepRuns L k
+      go : (t : Bool) → is_float_doubleword size n base displacement ≡ t → step_parts s ≡ parts_or (single_with valid (cond t (Some (rre opcodes.LGDR d n)) (extract_lane_row (element_code size) size d n base displacement))) None [] →
+          OperandsValidOr (single_with valid (cond t (Some (rre opcodes.LGDR d n)) (extract_lane_row (element_code size) size d n base displacement))) ⊥ → StepRuns L k
       go false test parts able = by_lane (is.0, parts, able)
       go true test parts able =
           let at = float_doubleword size n base displacement test in
           let few = small able in
           let kind = is.0 ∙ first_doubleword (λ e z y. extracts_lane e d n z y) at.0 at.1 at.2 in
-          meant_runs b (rre 0xb3cd d n) LeftToRegister (extracts_lane Doubleword d n 0 0) (extracts_never Doubleword d n 0 0) (kind, parts) lgdr_row (fits_rre 0xb3cd d n (few_digits lgdr_row.0) few.0 at.3) refl (λ r p. refl)
+          meant_runs b (rre opcodes.LGDR d n) LeftToRegister (extracts_lane Doubleword d n 0 0) (extracts_never Doubleword d n 0 0) (kind, parts) lgdr_row (fits_rre opcodes.LGDR d n (few_digits lgdr_row.0) few.0 at.3) refl (λ r p. refl)

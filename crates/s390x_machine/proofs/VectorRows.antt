@@ -28,6 +28,7 @@ use Rattle.s390x_lanes.specs.declared.operators.Signedness.TheVariants.{Signed, 
 use Rattle.s390x_lanes.specs.declared.opcodes.TheConstants.{OPCODES}
 use Rattle.s390x_lanes.specs.declared.size.ElementSize.{ElementSize}
 use Rattle.s390x_lanes.specs.declared.size.ElementSize.TheVariants.{Byte, Halfword, Word, Doubleword, Quadword}
+use Rattle.s390x_rows.specs.declared.opcodes.TheConstants as opcodes
 use Rattle.s390x_typed_steps.specs.MachineInstruction.{MachineInstruction, vri_a, vri_b, vri_c, vri_k, vrr_a, vrr_b, vrr_c, vrr_d, vrr_e, vrr_f, vrs_a, vrs_b, vrs_c}
 use Rattle.s390x_lanes.specs.Size.{element_bits, lane_count}
 use Rattle.s390x_typed_steps.specs.VectorInstruction.{element_code, is_lane, insert_immediate_opcode}
@@ -202,39 +203,39 @@ element_rows op n m = record { is = agrees op }
 -- ---- rows of one opcode
 
 -- a comparison of the leftmost doublewords, with a sign or without
-pub compare_signed_row : (n m : ℕ) → ElementsRow 3 (vrr_a 0xe7db n m 3) (CompareElement Signed Doubleword)
+pub compare_signed_row : (n m : ℕ) → ElementsRow 3 (vrr_a opcodes.VEC n m 3) (CompareElement Signed Doubleword)
 unfolding machine_rows row_for semantics_in semantics_of operation_of row_in
 compare_signed_row n m = record { is = refl }
 
-pub compare_unsigned_row : (n m : ℕ) → ElementsRow 3 (vrr_a 0xe7d9 n m 3) (CompareElement Unsigned Doubleword)
+pub compare_unsigned_row : (n m : ℕ) → ElementsRow 3 (vrr_a opcodes.VECL n m 3) (CompareElement Unsigned Doubleword)
 unfolding machine_rows row_for semantics_in semantics_of operation_of row_in
 compare_unsigned_row n m = record { is = refl }
 
-pub select_row : (d n m a : ℕ) → ElementsRow 0 (vrr_e 0xe78d d n m a) Select
+pub select_row : (d n m a : ℕ) → ElementsRow 0 (vrr_e opcodes.VSEL d n m a) Select
 unfolding machine_rows row_for semantics_in semantics_of operation_of row_in
 select_row d n m a = record { is = refl }
 
-pub permute_row : (d n m a : ℕ) → ElementsRow 0 (vrr_e 0xe78c d n m a) Permute
+pub permute_row : (d n m a : ℕ) → ElementsRow 0 (vrr_e opcodes.VPERM d n m a) Permute
 unfolding machine_rows row_for semantics_in semantics_of operation_of row_in
 permute_row d n m a = record { is = refl }
 
-pub blend_row : (d n m a : ℕ) → ElementsRow 0 (vrr_d 0xe789 d n m a 0) Blend
+pub blend_row : (d n m a : ℕ) → ElementsRow 0 (vrr_d opcodes.VBLEND d n m a 0) Blend
 unfolding machine_rows row_for semantics_in semantics_of operation_of row_in
 blend_row d n m a = record { is = refl }
 
-pub move_row : (d n : ℕ) → ElementsRow 0 (vrr_a 0xe756 d n 0) Move
+pub move_row : (d n : ℕ) → ElementsRow 0 (vrr_a opcodes.VLR d n 0) Move
 unfolding machine_rows row_for semantics_in semantics_of operation_of row_in
 move_row d n = record { is = refl }
 
-pub evaluate_row : (imm d n m a : ℕ) → imm < 256 → ElementsRow 0 (vri_k 0xe788 imm d n m a) (Evaluate imm)
+pub evaluate_row : (imm d n m a : ℕ) → imm < 256 → ElementsRow 0 (vri_k opcodes.VEVAL imm d n m a) (Evaluate imm)
 unfolding machine_rows row_for semantics_in semantics_of operation_of row_in
 evaluate_row imm d n m a lt =
-    entry_of 0 (vri_k 0xe788 imm d n m a) (Evaluate imm) refl refl
+    entry_of 0 (vri_k opcodes.VEVAL imm d n m a) (Evaluate imm) refl refl
     (ap (λ t. cond ((t && nat_le imm 255) && (0 == 0) && (0 == 0) && (0 == 0)) (Some (Evaluate imm)) None) (at_most 0 imm (omega arith))
     ∙ ap (λ t. cond ((true && t) && (0 == 0) && (0 == 0) && (0 == 0)) (Some (Evaluate imm)) None) (at_most imm 255 (omega (arith, lt)))) refl
 
 -- two doublewords, each by its number 0 or 1
-pub doublewords_rows : (d n m first second : ℕ) → first < 2 → second < 2 → ElementsRow (4 * first + second) (vrr_c 0xe784 d n m (4 * first + second)) (PermuteDoublewords first second)
+pub doublewords_rows : (d n m first second : ℕ) → first < 2 → second < 2 → ElementsRow (4 * first + second) (vrr_c opcodes.VPDI d n m (4 * first + second)) (PermuteDoublewords first second)
 unfolding machine_rows row_for semantics_in semantics_of operation_of row_in
 doublewords_rows d n m zero zero lf ls = record { is = refl }
 doublewords_rows d n m zero (suc zero) lf ls = record { is = refl }
@@ -243,50 +244,50 @@ doublewords_rows d n m (suc zero) (suc zero) lf ls = record { is = refl }
 doublewords_rows d n m (suc (suc i)) second lf ls = absurd (omega (arith, lf))
 doublewords_rows d n m first (suc (suc i)) lf ls = absurd (omega (arith, ls))
 
-pub byte_mask_row : (d mask : ℕ) → mask < 65536 → ElementsRow 0 (vri_a 0xe744 d mask 0) (ByteMask mask)
+pub byte_mask_row : (d mask : ℕ) → mask < 65536 → ElementsRow 0 (vri_a opcodes.VGBM d mask 0) (ByteMask mask)
 unfolding machine_rows row_for semantics_in semantics_of operation_of row_in
-byte_mask_row d mask lt = entry_of 0 (vri_a 0xe744 d mask 0) (ByteMask mask) refl refl (ap (λ k. with_immediate (row_in OPCODES 0xe744) (0 ∷ 0 ∷ 0 ∷ []) k) (sixteen_bits mask lt)) refl
+byte_mask_row d mask lt = entry_of 0 (vri_a opcodes.VGBM d mask 0) (ByteMask mask) refl refl (ap (λ k. with_immediate (row_in OPCODES opcodes.VGBM) (0 ∷ 0 ∷ 0 ∷ []) k) (sixteen_bits mask lt)) refl
 
 -- an immediate in each element
-pub replicate_rows : (e : ElementSize) → IsNarrow e → (d bits : ℕ) → bits < 65536 → ElementsRow (code_of_size e) (vri_a 0xe745 d bits (code_of_size e)) (ReplicateImmediate e bits)
+pub replicate_rows : (e : ElementSize) → IsNarrow e → (d bits : ℕ) → bits < 65536 → ElementsRow (code_of_size e) (vri_a opcodes.VREPI d bits (code_of_size e)) (ReplicateImmediate e bits)
 unfolding machine_rows row_for semantics_in semantics_of operation_of row_in
-replicate_rows Byte narrow d bits lt = entry_of 0 (vri_a 0xe745 d bits 0) (ReplicateImmediate Byte bits) refl refl (ap (λ k. with_immediate (row_in OPCODES 0xe745) (0 ∷ 0 ∷ 0 ∷ []) k) (sixteen_bits bits lt)) refl
-replicate_rows Halfword narrow d bits lt = entry_of 1 (vri_a 0xe745 d bits 1) (ReplicateImmediate Halfword bits) refl refl (ap (λ k. with_immediate (row_in OPCODES 0xe745) (1 ∷ 0 ∷ 0 ∷ []) k) (sixteen_bits bits lt)) refl
-replicate_rows Word narrow d bits lt = entry_of 2 (vri_a 0xe745 d bits 2) (ReplicateImmediate Word bits) refl refl (ap (λ k. with_immediate (row_in OPCODES 0xe745) (2 ∷ 0 ∷ 0 ∷ []) k) (sixteen_bits bits lt)) refl
-replicate_rows Doubleword narrow d bits lt = entry_of 3 (vri_a 0xe745 d bits 3) (ReplicateImmediate Doubleword bits) refl refl (ap (λ k. with_immediate (row_in OPCODES 0xe745) (3 ∷ 0 ∷ 0 ∷ []) k) (sixteen_bits bits lt)) refl
+replicate_rows Byte narrow d bits lt = entry_of 0 (vri_a opcodes.VREPI d bits 0) (ReplicateImmediate Byte bits) refl refl (ap (λ k. with_immediate (row_in OPCODES opcodes.VREPI) (0 ∷ 0 ∷ 0 ∷ []) k) (sixteen_bits bits lt)) refl
+replicate_rows Halfword narrow d bits lt = entry_of 1 (vri_a opcodes.VREPI d bits 1) (ReplicateImmediate Halfword bits) refl refl (ap (λ k. with_immediate (row_in OPCODES opcodes.VREPI) (1 ∷ 0 ∷ 0 ∷ []) k) (sixteen_bits bits lt)) refl
+replicate_rows Word narrow d bits lt = entry_of 2 (vri_a opcodes.VREPI d bits 2) (ReplicateImmediate Word bits) refl refl (ap (λ k. with_immediate (row_in OPCODES opcodes.VREPI) (2 ∷ 0 ∷ 0 ∷ []) k) (sixteen_bits bits lt)) refl
+replicate_rows Doubleword narrow d bits lt = entry_of 3 (vri_a opcodes.VREPI d bits 3) (ReplicateImmediate Doubleword bits) refl refl (ap (λ k. with_immediate (row_in OPCODES opcodes.VREPI) (3 ∷ 0 ∷ 0 ∷ []) k) (sixteen_bits bits lt)) refl
 replicate_rows Quadword narrow d bits lt = absurd narrow
 
 -- one element for all
-pub lane_rows : (e : ElementSize) → IsNarrow e → (d n lane : ℕ) → lane < lane_count e → ElementsRow (code_of_size e) (vri_c 0xe74d d n lane (code_of_size e)) (Replicate e lane)
+pub lane_rows : (e : ElementSize) → IsNarrow e → (d n lane : ℕ) → lane < lane_count e → ElementsRow (code_of_size e) (vri_c opcodes.VREP d n lane (code_of_size e)) (Replicate e lane)
 unfolding machine_rows row_for semantics_in semantics_of operation_of row_in
 lane_rows Byte narrow d n lane lt =
-    entry_of 0 (vri_c 0xe74d d n lane 0) (Replicate Byte lane) refl (below lane 16 lt)
-    (ap (λ k. with_immediate (row_in OPCODES 0xe74d) (0 ∷ 0 ∷ 0 ∷ []) k) (sixteen_bits lane (omega (arith, lt))) ∙ ap (λ t. cond t (Some (Replicate Byte lane)) None) (below lane 16 lt)) refl
+    entry_of 0 (vri_c opcodes.VREP d n lane 0) (Replicate Byte lane) refl (below lane 16 lt)
+    (ap (λ k. with_immediate (row_in OPCODES opcodes.VREP) (0 ∷ 0 ∷ 0 ∷ []) k) (sixteen_bits lane (omega (arith, lt))) ∙ ap (λ t. cond t (Some (Replicate Byte lane)) None) (below lane 16 lt)) refl
 lane_rows Halfword narrow d n lane lt =
-    entry_of 1 (vri_c 0xe74d d n lane 1) (Replicate Halfword lane) refl (below lane 8 lt)
-    (ap (λ k. with_immediate (row_in OPCODES 0xe74d) (1 ∷ 0 ∷ 0 ∷ []) k) (sixteen_bits lane (omega (arith, lt))) ∙ ap (λ t. cond t (Some (Replicate Halfword lane)) None) (below lane 8 lt)) refl
+    entry_of 1 (vri_c opcodes.VREP d n lane 1) (Replicate Halfword lane) refl (below lane 8 lt)
+    (ap (λ k. with_immediate (row_in OPCODES opcodes.VREP) (1 ∷ 0 ∷ 0 ∷ []) k) (sixteen_bits lane (omega (arith, lt))) ∙ ap (λ t. cond t (Some (Replicate Halfword lane)) None) (below lane 8 lt)) refl
 lane_rows Word narrow d n lane lt =
-    entry_of 2 (vri_c 0xe74d d n lane 2) (Replicate Word lane) refl (below lane 4 lt)
-    (ap (λ k. with_immediate (row_in OPCODES 0xe74d) (2 ∷ 0 ∷ 0 ∷ []) k) (sixteen_bits lane (omega (arith, lt))) ∙ ap (λ t. cond t (Some (Replicate Word lane)) None) (below lane 4 lt)) refl
+    entry_of 2 (vri_c opcodes.VREP d n lane 2) (Replicate Word lane) refl (below lane 4 lt)
+    (ap (λ k. with_immediate (row_in OPCODES opcodes.VREP) (2 ∷ 0 ∷ 0 ∷ []) k) (sixteen_bits lane (omega (arith, lt))) ∙ ap (λ t. cond t (Some (Replicate Word lane)) None) (below lane 4 lt)) refl
 lane_rows Doubleword narrow d n lane lt =
-    entry_of 3 (vri_c 0xe74d d n lane 3) (Replicate Doubleword lane) refl (below lane 2 lt)
-    (ap (λ k. with_immediate (row_in OPCODES 0xe74d) (3 ∷ 0 ∷ 0 ∷ []) k) (sixteen_bits lane (omega (arith, lt))) ∙ ap (λ t. cond t (Some (Replicate Doubleword lane)) None) (below lane 2 lt)) refl
+    entry_of 3 (vri_c opcodes.VREP d n lane 3) (Replicate Doubleword lane) refl (below lane 2 lt)
+    (ap (λ k. with_immediate (row_in OPCODES opcodes.VREP) (3 ∷ 0 ∷ 0 ∷ []) k) (sixteen_bits lane (omega (arith, lt))) ∙ ap (λ t. cond t (Some (Replicate Doubleword lane)) None) (below lane 2 lt)) refl
 lane_rows Quadword narrow d n lane lt = absurd narrow
 
 -- ones from a bit to another one
-pub bit_mask_rows : (e : ElementSize) → IsNarrow e → (d start end : ℕ) → start < element_bits e → end < element_bits e → ElementsRow (code_of_size e) (vri_b 0xe746 d start end (code_of_size e)) (BitMask e start end)
+pub bit_mask_rows : (e : ElementSize) → IsNarrow e → (d start end : ℕ) → start < element_bits e → end < element_bits e → ElementsRow (code_of_size e) (vri_b opcodes.VGM d start end (code_of_size e)) (BitMask e start end)
 unfolding machine_rows row_for semantics_in semantics_of operation_of row_in
 bit_mask_rows Byte narrow d start end ls le =
-    entry_of 0 (vri_b 0xe746 d start end 0) (BitMask Byte start end) refl (ap (λ t. t && nat_lt end 8) (below start 8 ls) ∙ below end 8 le)
+    entry_of 0 (vri_b opcodes.VGM d start end 0) (BitMask Byte start end) refl (ap (λ t. t && nat_lt end 8) (below start 8 ls) ∙ below end 8 le)
     (ap (λ t. cond (t && nat_lt end 8) (Some (BitMask Byte start end)) None) (below start 8 ls) ∙ ap (λ t. cond t (Some (BitMask Byte start end)) None) (below end 8 le)) refl
 bit_mask_rows Halfword narrow d start end ls le =
-    entry_of 1 (vri_b 0xe746 d start end 1) (BitMask Halfword start end) refl (ap (λ t. t && nat_lt end 16) (below start 16 ls) ∙ below end 16 le)
+    entry_of 1 (vri_b opcodes.VGM d start end 1) (BitMask Halfword start end) refl (ap (λ t. t && nat_lt end 16) (below start 16 ls) ∙ below end 16 le)
     (ap (λ t. cond (t && nat_lt end 16) (Some (BitMask Halfword start end)) None) (below start 16 ls) ∙ ap (λ t. cond t (Some (BitMask Halfword start end)) None) (below end 16 le)) refl
 bit_mask_rows Word narrow d start end ls le =
-    entry_of 2 (vri_b 0xe746 d start end 2) (BitMask Word start end) refl (ap (λ t. t && nat_lt end 32) (below start 32 ls) ∙ below end 32 le)
+    entry_of 2 (vri_b opcodes.VGM d start end 2) (BitMask Word start end) refl (ap (λ t. t && nat_lt end 32) (below start 32 ls) ∙ below end 32 le)
     (ap (λ t. cond (t && nat_lt end 32) (Some (BitMask Word start end)) None) (below start 32 ls) ∙ ap (λ t. cond t (Some (BitMask Word start end)) None) (below end 32 le)) refl
 bit_mask_rows Doubleword narrow d start end ls le =
-    entry_of 3 (vri_b 0xe746 d start end 3) (BitMask Doubleword start end) refl (ap (λ t. t && nat_lt end 64) (below start 64 ls) ∙ below end 64 le)
+    entry_of 3 (vri_b opcodes.VGM d start end 3) (BitMask Doubleword start end) refl (ap (λ t. t && nat_lt end 64) (below start 64 ls) ∙ below end 64 le)
     (ap (λ t. cond (t && nat_lt end 64) (Some (BitMask Doubleword start end)) None) (below start 64 ls) ∙ ap (λ t. cond t (Some (BitMask Doubleword start end)) None) (below end 64 le)) refl
 bit_mask_rows Quadword narrow d start end ls le = absurd narrow
 
@@ -294,30 +295,30 @@ bit_mask_rows Quadword narrow d start end ls le = absurd narrow
 pub insert_rows : (e : ElementSize) → IsNarrow e → (d bits lane : ℕ) → bits < 65536 → lane < lane_count e → ElementsRow lane (vri_a (insert_immediate_opcode (code_of_size e)) d bits lane) (InsertImmediate e bits lane)
 unfolding machine_rows row_for semantics_in semantics_of operation_of row_in
 insert_rows Byte narrow d bits lane lb lt =
-    entry_of lane (vri_a 0xe740 d bits lane) (InsertImmediate Byte bits lane) refl
+    entry_of lane (vri_a opcodes.VLEIB d bits lane) (InsertImmediate Byte bits lane) refl
     (ap (λ t. (t && nat_le lane 15) && true && true) (at_most 0 lane (omega arith)) ∙ ap (λ t. (true && t) && true && true) (at_most lane 15 (omega (arith, lt))))
-    (ap (λ k. with_immediate (row_in OPCODES 0xe740) (lane ∷ 0 ∷ 0 ∷ []) k) (sixteen_bits bits lb)
+    (ap (λ k. with_immediate (row_in OPCODES opcodes.VLEIB) (lane ∷ 0 ∷ 0 ∷ []) k) (sixteen_bits bits lb)
     ∙ ap (λ t. cond ((t && nat_le lane 15) && true && true) (cond (nat_lt lane 16) (Some (InsertImmediate Byte bits lane)) None) None) (at_most 0 lane (omega arith))
     ∙ ap (λ t. cond ((true && t) && true && true) (cond (nat_lt lane 16) (Some (InsertImmediate Byte bits lane)) None) None) (at_most lane 15 (omega (arith, lt)))
     ∙ ap (λ t. cond t (Some (InsertImmediate Byte bits lane)) None) (below lane 16 lt)) (below lane 16 (omega (arith, lt)))
 insert_rows Halfword narrow d bits lane lb lt =
-    entry_of lane (vri_a 0xe741 d bits lane) (InsertImmediate Halfword bits lane) refl
+    entry_of lane (vri_a opcodes.VLEIH d bits lane) (InsertImmediate Halfword bits lane) refl
     (ap (λ t. (t && nat_le lane 7) && true && true) (at_most 0 lane (omega arith)) ∙ ap (λ t. (true && t) && true && true) (at_most lane 7 (omega (arith, lt))))
-    (ap (λ k. with_immediate (row_in OPCODES 0xe741) (lane ∷ 0 ∷ 0 ∷ []) k) (sixteen_bits bits lb)
+    (ap (λ k. with_immediate (row_in OPCODES opcodes.VLEIH) (lane ∷ 0 ∷ 0 ∷ []) k) (sixteen_bits bits lb)
     ∙ ap (λ t. cond ((t && nat_le lane 7) && true && true) (cond (nat_lt lane 8) (Some (InsertImmediate Halfword bits lane)) None) None) (at_most 0 lane (omega arith))
     ∙ ap (λ t. cond ((true && t) && true && true) (cond (nat_lt lane 8) (Some (InsertImmediate Halfword bits lane)) None) None) (at_most lane 7 (omega (arith, lt)))
     ∙ ap (λ t. cond t (Some (InsertImmediate Halfword bits lane)) None) (below lane 8 lt)) (below lane 16 (omega (arith, lt)))
 insert_rows Word narrow d bits lane lb lt =
-    entry_of lane (vri_a 0xe743 d bits lane) (InsertImmediate Word bits lane) refl
+    entry_of lane (vri_a opcodes.VLEIF d bits lane) (InsertImmediate Word bits lane) refl
     (ap (λ t. (t && nat_le lane 3) && true && true) (at_most 0 lane (omega arith)) ∙ ap (λ t. (true && t) && true && true) (at_most lane 3 (omega (arith, lt))))
-    (ap (λ k. with_immediate (row_in OPCODES 0xe743) (lane ∷ 0 ∷ 0 ∷ []) k) (sixteen_bits bits lb)
+    (ap (λ k. with_immediate (row_in OPCODES opcodes.VLEIF) (lane ∷ 0 ∷ 0 ∷ []) k) (sixteen_bits bits lb)
     ∙ ap (λ t. cond ((t && nat_le lane 3) && true && true) (cond (nat_lt lane 4) (Some (InsertImmediate Word bits lane)) None) None) (at_most 0 lane (omega arith))
     ∙ ap (λ t. cond ((true && t) && true && true) (cond (nat_lt lane 4) (Some (InsertImmediate Word bits lane)) None) None) (at_most lane 3 (omega (arith, lt)))
     ∙ ap (λ t. cond t (Some (InsertImmediate Word bits lane)) None) (below lane 4 lt)) (below lane 16 (omega (arith, lt)))
 insert_rows Doubleword narrow d bits lane lb lt =
-    entry_of lane (vri_a 0xe742 d bits lane) (InsertImmediate Doubleword bits lane) refl
+    entry_of lane (vri_a opcodes.VLEIG d bits lane) (InsertImmediate Doubleword bits lane) refl
     (ap (λ t. (t && nat_le lane 1) && true && true) (at_most 0 lane (omega arith)) ∙ ap (λ t. (true && t) && true && true) (at_most lane 1 (omega (arith, lt))))
-    (ap (λ k. with_immediate (row_in OPCODES 0xe742) (lane ∷ 0 ∷ 0 ∷ []) k) (sixteen_bits bits lb)
+    (ap (λ k. with_immediate (row_in OPCODES opcodes.VLEIG) (lane ∷ 0 ∷ 0 ∷ []) k) (sixteen_bits bits lb)
     ∙ ap (λ t. cond ((t && nat_le lane 1) && true && true) (cond (nat_lt lane 2) (Some (InsertImmediate Doubleword bits lane)) None) None) (at_most 0 lane (omega arith))
     ∙ ap (λ t. cond ((true && t) && true && true) (cond (nat_lt lane 2) (Some (InsertImmediate Doubleword bits lane)) None) None) (at_most lane 1 (omega (arith, lt)))
     ∙ ap (λ t. cond t (Some (InsertImmediate Doubleword bits lane)) None) (below lane 2 lt)) (below lane 16 (omega (arith, lt)))
@@ -325,31 +326,31 @@ insert_rows Quadword narrow d bits lane lb lt = absurd narrow
 
 -- ---- rows of another kind
 
-pub join_row : Meant VrrF Any 0xe762 JoinRegisters
+pub join_row : Meant VrrF Any opcodes.VLVGP JoinRegisters
 unfolding machine_rows row_for semantics_in semantics_of
 join_row = (record { is = refl }, refl)
 
-pub ler_row : Meant Rr Any 0x38 (MoveLeft Word)
+pub ler_row : Meant Rr Any opcodes.LER (MoveLeft Word)
 unfolding machine_rows row_for semantics_in semantics_of
 ler_row = (record { is = refl }, refl)
 
-pub ldr_row : Meant Rr Any 0x28 (MoveLeft Doubleword)
+pub ldr_row : Meant Rr Any opcodes.LDR (MoveLeft Doubleword)
 unfolding machine_rows row_for semantics_in semantics_of
 ldr_row = (record { is = refl }, refl)
 
-pub ldgr_row : Meant Rre Any 0xb3c1 RegisterToLeft
+pub ldgr_row : Meant Rre Any opcodes.LDGR RegisterToLeft
 unfolding machine_rows row_for semantics_in semantics_of
 ldgr_row = (record { is = refl }, refl)
 
-pub lgdr_row : Meant Rre Any 0xb3cd LeftToRegister
+pub lgdr_row : Meant Rre Any opcodes.LGDR LeftToRegister
 unfolding machine_rows row_for semantics_in semantics_of
 lgdr_row = (record { is = refl }, refl)
 
-pub insert_listed : Meant VrsB (FirstMask 0 3) 0xe722 InsertElement
+pub insert_listed : Meant VrsB (FirstMask 0 3) opcodes.VLVG InsertElement
 unfolding machine_rows row_for semantics_in semantics_of
 insert_listed = (record { is = refl }, refl)
 
-pub extract_listed : Meant VrsC (FirstMask 0 3) 0xe721 ExtractElement
+pub extract_listed : Meant VrsC (FirstMask 0 3) opcodes.VLGV ExtractElement
 unfolding machine_rows row_for semantics_in semantics_of
 extract_listed = (record { is = refl }, refl)
 

@@ -39,6 +39,7 @@ use Rattle.s390x_operations.specs.declared.effect.Effect.{Effect}
 use Rattle.s390x_operations.specs.declared.effect.Operation.{Operation}
 use Rattle.s390x_operations.specs.declared.stop.StopKind.{StopKind}
 use Rattle.s390x_operations.specs.declared.stop.StopKind.TheVariants.{Divide}
+use Rattle.s390x_rows.specs.declared.opcodes.TheConstants as opcodes
 use Rattle.s390x_typed_steps.specs.General.{is_general, low_halfword, low_byte}
 use Rattle.s390x_typed_steps.specs.MachineInstruction.{MachineInstruction, bytes_of, size_of, rr, vri_b, vri_c, vri_a, vri_k, vrr_a, vrr_c, vrr_d, vrr_e, vrr_f, vrs_a}
 use Rattle.s390x_typed_steps.specs.Parts.{step_parts, row_part, parts_or}
@@ -331,14 +332,14 @@ module _ {L : Layout} {k : ℕ} {s : Step} (b : StepAt L k s) where
       (kind_of_step L (Some s) ≡ Some (Performs false (computes_two_vectors (O.PermuteDoublewords first second) d n m) no_code)) × (step_parts s ≡ parts_or (single_with valid (doublewords_row d n m first second)) None []) × OperandsValidOr (single_with valid (doublewords_row d n m first second)) ⊥ → StepRuns L k
   doublewords_run valid d n m first second small is = go (nat_lt first 2 && nat_lt second 2) refl is.1 is.2
     where
-      go : (t : Bool) → (nat_lt first 2 && nat_lt second 2) ≡ t → step_parts s ≡ parts_or (single_with valid (cond t (Some (vrr_c 0xe784 d n m (4 * first + second))) None)) None [] → OperandsValidOr (single_with valid (cond t (Some (vrr_c 0xe784 d n m (4 * first + second))) None)) ⊥ → StepRuns L k
+      go : (t : Bool) → (nat_lt first 2 && nat_lt second 2) ≡ t → step_parts s ≡ parts_or (single_with valid (cond t (Some (vrr_c opcodes.VPDI d n m (4 * first + second))) None)) None [] → OperandsValidOr (single_with valid (cond t (Some (vrr_c opcodes.VPDI d n m (4 * first + second))) None)) ⊥ → StepRuns L k
       go false e parts able = absurd able
       go true e parts able =
           let tests = and_parts (nat_lt first 2) (nat_lt second 2) e in
           let few = small able in
           let row = doublewords_rows d n m first second (ltb-true first 2 tests.0) (ltb-true second 2 tests.1) in
-          let fit = fits_vrr_c 0xe784 d n m (4 * first + second) (few_digits (elements_listed row)) few.0 few.1 few.2 (elements_few row) in
-          two_vectors_run (vrr_c 0xe784 d n m (4 * first + second)) (O.PermuteDoublewords first second) d n m row fit refl refl (λ r. refl) (is.0, parts)
+          let fit = fits_vrr_c opcodes.VPDI d n m (4 * first + second) (few_digits (elements_listed row)) few.0 few.1 few.2 (elements_few row) in
+          two_vectors_run (vrr_c opcodes.VPDI d n m (4 * first + second)) (O.PermuteDoublewords first second) d n m row fit refl refl (λ r. refl) (is.0, parts)
 
   -- elements shifted by an amount
   shifted_vector_runs : (op : VecShiftOp) (d n base displacement : ℕ) → (d < 32) × (n < 32) × (base < 16) → displacement < 4096 →
@@ -352,9 +353,9 @@ module _ {L : Layout} {k : ℕ} {s : Step} (b : StepAt L k s) where
       ∙ ap (λ q. on_elements q d (r.vector d) (r.vector n) 0 0) (shift_operation op (based r base (pos displacement) % 64) (omega arith)))
 
   -- two general registers, one behind the other
-  joined_runs : (d n m : ℕ) → (d < 32) × (n < 16) × (m < 16) → IsVectorRow (vrr_f 0xe762 d n m) (joins_registers d n m) → StepRuns L k
+  joined_runs : (d n m : ℕ) → (d < 32) × (n < 16) × (m < 16) → IsVectorRow (vrr_f opcodes.VLVGP d n m) (joins_registers d n m) → StepRuns L k
   joined_runs d n m few is =
-      meant_runs b (vrr_f 0xe762 d n m) JoinRegisters (joins_registers d n m) (λ r. never_by_values (joins_registers d n m r) no_code refl (λ kind h. h)) is join_row (fits_vrr_f 0xe762 d n m (few_digits join_row.0) few.0 few.1 few.2) refl (λ r p. refl)
+      meant_runs b (vrr_f opcodes.VLVGP d n m) JoinRegisters (joins_registers d n m) (λ r. never_by_values (joins_registers d n m r) no_code refl (λ kind h. h)) is join_row (fits_vrr_f opcodes.VLVGP d n m (few_digits join_row.0) few.0 few.1 few.2) refl (λ r p. refl)
 
   -- an immediate in each element
   replicated_runs : (valid : Bool) (size d bits : ℕ) → (IsTrue valid → d < 32) → bits < 65536 →
@@ -364,37 +365,37 @@ module _ {L : Layout} {k : ℕ} {s : Step} (b : StepAt L k s) where
       go : HasSize size → StepRuns L k
       go (inl none) = absurd (subst (λ o. OperandsValidOr (single_with valid (replicate_row o d bits)) ⊥) none is.2)
       go (inr (e, z)) =
-          let x = vri_a 0xe745 d bits (code_of_size e) in
+          let x = vri_a opcodes.VREPI d bits (code_of_size e) in
           let o = O.ReplicateImmediate e bits in
           let row = replicate_rows e z.narrow d bits few in
           let able = subst (λ c. OperandsValidOr (single_with valid (replicate_row c d bits)) ⊥) z.code is.2 in
-          let fit = fits_vri_a 0xe745 d bits (code_of_size e) (few_digits (elements_listed row)) (small able) few (elements_few row) in
+          let fit = fits_vri_a opcodes.VREPI d bits (code_of_size e) (few_digits (elements_listed row)) (small able) few (elements_few row) in
           let parts = is.1 ∙ ap (λ c. parts_or (single_with valid (replicate_row c d bits)) None []) z.code in
           generated_runs x o d row fit refl refl (λ r. refl) (is.0 ∙ ap (λ z. Some (Performs false (generates_vector (O.ReplicateImmediate z bits) d) no_code)) z.elements, parts)
 
   -- one element for all
   lane_replicated_runs : (valid : Bool) (size d n lane : ℕ) → (IsTrue valid → (d < 32) × (n < 32)) → IsOptionalRow b valid (replicate_lane_row (element_code size) size d n lane) (computes_one_vector (O.Replicate (elements_of size) lane) d n) → StepRuns L k
   lane_replicated_runs valid size d n lane small is =
-      lane_runs b valid size lane (λ c. vri_c 0xe74d d n lane c) (λ e. computes_one_vector (O.Replicate e lane) d n) (λ e narrow within able parts.
+      lane_runs b valid size lane (λ c. vri_c opcodes.VREP d n lane c) (λ e. computes_one_vector (O.Replicate e lane) d n) (λ e narrow within able parts.
       let row = lane_rows e narrow d n lane within in
       let few = small able in
-      let fit = fits_vri_c 0xe74d d n lane (code_of_size e) (few_digits (elements_listed row)) few.0 few.1 (lane_small e lane within) (elements_few row) in
-      one_vector_runs (vri_c 0xe74d d n lane (code_of_size e)) (O.Replicate e lane) d n row fit refl refl (λ r. refl) parts) is
+      let fit = fits_vri_c opcodes.VREP d n lane (code_of_size e) (few_digits (elements_listed row)) few.0 few.1 (lane_small e lane within) (elements_few row) in
+      one_vector_runs (vri_c opcodes.VREP d n lane (code_of_size e)) (O.Replicate e lane) d n row fit refl refl (λ r. refl) parts) is
 
   -- ones from a bit to another one
   bit_mask_runs : (valid : Bool) (size d start end : ℕ) → (IsTrue valid → d < 32) →
       (kind_of_step L (Some s) ≡ Some (Performs false (generates_vector (O.BitMask (elements_of size) start end) d) no_code)) × (step_parts s ≡ parts_or (single_with valid (bit_mask_row (element_code size) size d start end)) None []) × OperandsValidOr (single_with valid (bit_mask_row (element_code size) size d start end)) ⊥ → StepRuns L k
   bit_mask_runs valid size d start end small is = go (size_of_elements size)
     where
-      sized : (e : ElementSize) → Sized size e → (t : Bool) → (nat_lt start size && nat_lt end size) ≡ t → step_parts s ≡ parts_or (single_with valid (cond t (Some (vri_b 0xe746 d start end (code_of_size e))) None)) None [] → OperandsValidOr (single_with valid (cond t (Some (vri_b 0xe746 d start end (code_of_size e))) None)) ⊥ → StepRuns L k
+      sized : (e : ElementSize) → Sized size e → (t : Bool) → (nat_lt start size && nat_lt end size) ≡ t → step_parts s ≡ parts_or (single_with valid (cond t (Some (vri_b opcodes.VGM d start end (code_of_size e))) None)) None [] → OperandsValidOr (single_with valid (cond t (Some (vri_b opcodes.VGM d start end (code_of_size e))) None)) ⊥ → StepRuns L k
       sized e z false test parts able = absurd able
       sized e z true test parts able =
           let tests = and_parts (nat_lt start size) (nat_lt end size) test in
           let ls = subst (λ w. start < w) z.bits (ltb-true start size tests.0) in
           let le = subst (λ w. end < w) z.bits (ltb-true end size tests.1) in
           let row = bit_mask_rows e z.narrow d start end ls le in
-          let fit = fits_vri_b 0xe746 d start end (code_of_size e) (few_digits (elements_listed row)) (small able) (bit_small e start ls) (bit_small e end le) (elements_few row) in
-          generated_runs (vri_b 0xe746 d start end (code_of_size e)) (O.BitMask e start end) d row fit refl refl (λ r. refl) (is.0 ∙ ap (λ z. Some (Performs false (generates_vector (O.BitMask z start end) d) no_code)) z.elements, parts)
+          let fit = fits_vri_b opcodes.VGM d start end (code_of_size e) (few_digits (elements_listed row)) (small able) (bit_small e start ls) (bit_small e end le) (elements_few row) in
+          generated_runs (vri_b opcodes.VGM d start end (code_of_size e)) (O.BitMask e start end) d row fit refl refl (λ r. refl) (is.0 ∙ ap (λ z. Some (Performs false (generates_vector (O.BitMask z start end) d) no_code)) z.elements, parts)
 
       go : HasSize size → StepRuns L k
       go (inl none) = absurd (subst (λ o. OperandsValidOr (single_with valid (bit_mask_row o size d start end)) ⊥) none is.2)
@@ -415,13 +416,13 @@ module _ {L : Layout} {k : ℕ} {s : Step} (b : StepAt L k s) where
   left_moved_runs : (opcode : ℕ) (e : ElementSize) → opcode < 256 → Meant Rr Any opcode (MoveLeft e) → (d n : ℕ) → (d < 32) × (n < 32) → IsVectorRow (move_left_row opcode d n) (moves_left e d n) → StepRuns L k
   left_moved_runs opcode e short row d n few is = go (nat_lt d 16 && nat_lt n 16) refl is.1
     where
-      go : (t : Bool) → (nat_lt d 16 && nat_lt n 16) ≡ t → step_parts s ≡ row_part (cond t (rr opcode d n) (vrr_a 0xe756 d n 0)) None ∷ [] → StepRuns L k
+      go : (t : Bool) → (nat_lt d 16 && nat_lt n 16) ≡ t → step_parts s ≡ row_part (cond t (rr opcode d n) (vrr_a opcodes.VLR d n 0)) None ∷ [] → StepRuns L k
       go true test parts =
           let tests = and_parts (nat_lt d 16) (nat_lt n 16) test in
           meant_runs b (rr opcode d n) (MoveLeft e) (moves_left e d n) (λ r. never_by_values (moves_left e d n r) no_code refl (λ kind h. h)) (is.0, parts) row (fits_rr opcode d n short (ltb-true d 16 tests.0) (ltb-true n 16 tests.1)) refl (λ r p. refl)
       go false test parts =
           let whole = move_row d n in
-          vector_runs (vrr_a 0xe756 d n 0) O.Move (moves_left e d n) false whole (fits_vrr_a 0xe756 d n 0 (few_digits (elements_listed whole)) few.0 few.1 (omega arith)) (λ r. moves_alone d (left_bits e) (r.vector d) (r.vector n) (r.vector 0) (r.vector 0)) (λ r. never_by_values (moves_left e d n r) no_code refl (λ kind h. h)) is.0 parts
+          vector_runs (vrr_a opcodes.VLR d n 0) O.Move (moves_left e d n) false whole (fits_vrr_a opcodes.VLR d n 0 (few_digits (elements_listed whole)) few.0 few.1 (omega arith)) (λ r. moves_alone d (left_bits e) (r.vector d) (r.vector n) (r.vector 0) (r.vector 0)) (λ r. never_by_values (moves_left e d n r) no_code refl (λ kind h. h)) is.0 parts
 
 -- ---- all of them
 
@@ -450,18 +451,18 @@ vector_instruction_runs b (VecRR op rd rn) is =
 vector_instruction_runs b (VecSelect rd rn rm ra) is =
     let few = four_vectors rd rn rm ra is.2 in
     let row = select_row (number_of rd) (number_of rn) (number_of rm) (number_of ra) in
-    let fit = fits_vrr_e 0xe78d (number_of rd) (number_of rn) (number_of rm) (number_of ra) (few_digits (elements_listed row)) few.0 few.1 few.2 few.3 in
-    three_vectors_run b (vrr_e 0xe78d (number_of rd) (number_of rn) (number_of rm) (number_of ra)) O.Select (number_of rd) (number_of rn) (number_of rm) (number_of ra) row fit refl (λ r. refl) (is.0, is.1)
+    let fit = fits_vrr_e opcodes.VSEL (number_of rd) (number_of rn) (number_of rm) (number_of ra) (few_digits (elements_listed row)) few.0 few.1 few.2 few.3 in
+    three_vectors_run b (vrr_e opcodes.VSEL (number_of rd) (number_of rn) (number_of rm) (number_of ra)) O.Select (number_of rd) (number_of rn) (number_of rm) (number_of ra) row fit refl (λ r. refl) (is.0, is.1)
 vector_instruction_runs b (VecPermute rd rn rm ra) is =
     let few = four_vectors rd rn rm ra is.2 in
     let row = permute_row (number_of rd) (number_of rn) (number_of rm) (number_of ra) in
-    let fit = fits_vrr_e 0xe78c (number_of rd) (number_of rn) (number_of rm) (number_of ra) (few_digits (elements_listed row)) few.0 few.1 few.2 few.3 in
-    three_vectors_run b (vrr_e 0xe78c (number_of rd) (number_of rn) (number_of rm) (number_of ra)) O.Permute (number_of rd) (number_of rn) (number_of rm) (number_of ra) row fit refl (λ r. refl) (is.0, is.1)
+    let fit = fits_vrr_e opcodes.VPERM (number_of rd) (number_of rn) (number_of rm) (number_of ra) (few_digits (elements_listed row)) few.0 few.1 few.2 few.3 in
+    three_vectors_run b (vrr_e opcodes.VPERM (number_of rd) (number_of rn) (number_of rm) (number_of ra)) O.Permute (number_of rd) (number_of rn) (number_of rm) (number_of ra) row fit refl (λ r. refl) (is.0, is.1)
 vector_instruction_runs b (VecBlend rd rn rm ra) is =
     let few = four_vectors rd rn rm ra is.2 in
     let row = blend_row (number_of rd) (number_of rn) (number_of rm) (number_of ra) in
-    let fit = fits_vrr_d 0xe789 (number_of rd) (number_of rn) (number_of rm) (number_of ra) 0 (few_digits (elements_listed row)) few.0 few.1 few.2 few.3 (omega arith) in
-    three_vectors_run b (vrr_d 0xe789 (number_of rd) (number_of rn) (number_of rm) (number_of ra) 0) O.Blend (number_of rd) (number_of rn) (number_of rm) (number_of ra) row fit refl (λ r. refl) (is.0, is.1)
+    let fit = fits_vrr_d opcodes.VBLEND (number_of rd) (number_of rn) (number_of rm) (number_of ra) 0 (few_digits (elements_listed row)) few.0 few.1 few.2 few.3 (omega arith) in
+    three_vectors_run b (vrr_d opcodes.VBLEND (number_of rd) (number_of rn) (number_of rm) (number_of ra) 0) O.Blend (number_of rd) (number_of rn) (number_of rm) (number_of ra) row fit refl (λ r. refl) (is.0, is.1)
 vector_instruction_runs b (VecIntCmp op rd rn rm) is =
     let few = three_vectors rd rn rm is.2 in
     let row = comparison_rows op (number_of rd) (number_of rn) (number_of rm) in
@@ -480,8 +481,8 @@ vector_instruction_runs b (VecIntEltCmp op rn rm) is =
 vector_instruction_runs b (VecMov rd rn) is =
     let few = two_vectors rd rn is.2 in
     let row = move_row (number_of rd) (number_of rn) in
-    let fit = fits_vrr_a 0xe756 (number_of rd) (number_of rn) 0 (few_digits (elements_listed row)) few.0 few.1 (omega arith) in
-    one_vector_runs b (vrr_a 0xe756 (number_of rd) (number_of rn) 0) O.Move (number_of rd) (number_of rn) row fit refl refl (λ r. refl) (is.0, is.1)
+    let fit = fits_vrr_a opcodes.VLR (number_of rd) (number_of rn) 0 (few_digits (elements_listed row)) few.0 few.1 (omega arith) in
+    one_vector_runs b (vrr_a opcodes.VLR (number_of rd) (number_of rn) 0) O.Move (number_of rd) (number_of rn) row fit refl refl (λ r. refl) (is.0, is.1)
 vector_instruction_runs b (VecShiftRR op rd rn amount register) is =
     let few = and_parts (is_vector rd && is_vector rn) (is_general register) is.2 in
     let two = two_vectors rd rn few.0 in
@@ -490,8 +491,8 @@ vector_instruction_runs b (VecEvaluate imm rd rn rm ra) is =
     let few = four_vectors rd rn rm ra is.2 in
     let byte : low_byte imm < 256 = omega arith in
     let row = evaluate_row (low_byte imm) (number_of rd) (number_of rn) (number_of rm) (number_of ra) byte in
-    let fit = fits_vri_k 0xe788 (low_byte imm) (number_of rd) (number_of rn) (number_of rm) (number_of ra) (few_digits (elements_listed row)) byte few.0 few.1 few.2 few.3 in
-    three_vectors_run b (vri_k 0xe788 (low_byte imm) (number_of rd) (number_of rn) (number_of rm) (number_of ra)) (O.Evaluate (low_byte imm)) (number_of rd) (number_of rn) (number_of rm) (number_of ra) row fit refl (λ r. refl) (is.0, is.1)
+    let fit = fits_vri_k opcodes.VEVAL (low_byte imm) (number_of rd) (number_of rn) (number_of rm) (number_of ra) (few_digits (elements_listed row)) byte few.0 few.1 few.2 few.3 in
+    three_vectors_run b (vri_k opcodes.VEVAL (low_byte imm) (number_of rd) (number_of rn) (number_of rm) (number_of ra)) (O.Evaluate (low_byte imm)) (number_of rd) (number_of rn) (number_of rm) (number_of ra) row fit refl (λ r. refl) (is.0, is.1)
 vector_instruction_runs b (VecPermuteDWImm rd rn rm first second) is =
     doublewords_run b (is_vector rd && is_vector rn && is_vector rm) (number_of rd) (number_of rn) (number_of rm) first second (three_vectors rd rn rm) (is.0, is.1, is.2)
 vector_instruction_runs b (MovToVec128 rd rn rm) is =
@@ -501,8 +502,8 @@ vector_instruction_runs b (MovToVec128 rd rn rm) is =
 vector_instruction_runs b (VecImmByteMask rd mask) is =
     let bits : low_halfword (pos mask) < 65536 = halfword_bits (pos mask) in
     let row = byte_mask_row (number_of rd) (low_halfword (pos mask)) bits in
-    let fit = fits_vri_a 0xe744 (number_of rd) (low_halfword (pos mask)) 0 (few_digits (elements_listed row)) (vector_number rd is.2) bits (omega arith) in
-    generated_runs b (vri_a 0xe744 (number_of rd) (low_halfword (pos mask)) 0) (O.ByteMask (low_halfword (pos mask))) (number_of rd) row fit refl refl (λ r. refl) (is.0, is.1)
+    let fit = fits_vri_a opcodes.VGBM (number_of rd) (low_halfword (pos mask)) 0 (few_digits (elements_listed row)) (vector_number rd is.2) bits (omega arith) in
+    generated_runs b (vri_a opcodes.VGBM (number_of rd) (low_halfword (pos mask)) 0) (O.ByteMask (low_halfword (pos mask))) (number_of rd) row fit refl refl (λ r. refl) (is.0, is.1)
 vector_instruction_runs b (VecImmReplicate size rd imm) is =
     replicated_runs b (is_vector rd) size (number_of rd) (low_halfword imm) (vector_number rd) (halfword_bits imm) (is.0, is.1, is.2)
 vector_instruction_runs b (VecImmBitMask size rd start end) is = bit_mask_runs b (is_vector rd) size (number_of rd) start end (vector_number rd) (is.0, is.1, is.2)
@@ -535,6 +536,6 @@ vector_instruction_runs b (VecExtractLane size rd rn lane base) is =
     let p = and_parts (is_general rd && is_vector rn) (is_general base) h in
     let q = and_parts (is_general rd) (is_vector rn) p.0 in
     (general_number rd q.0, vector_number rn q.1, general_number base p.1)) (is.0, is.1, is.2)
-vector_instruction_runs b (FpuMove32 rd rn) is = left_moved_runs b 0x38 Word (omega arith) ler_row (number_of rd) (number_of rn) (two_vectors rd rn is.2) (is.0, is.1)
-vector_instruction_runs b (FpuMove64 rd rn) is = left_moved_runs b 0x28 Doubleword (omega arith) ldr_row (number_of rd) (number_of rn) (two_vectors rd rn is.2) (is.0, is.1)
+vector_instruction_runs b (FpuMove32 rd rn) is = left_moved_runs b opcodes.LER Word (omega arith) ler_row (number_of rd) (number_of rn) (two_vectors rd rn is.2) (is.0, is.1)
+vector_instruction_runs b (FpuMove64 rd rn) is = left_moved_runs b opcodes.LDR Doubleword (omega arith) ldr_row (number_of rd) (number_of rn) (two_vectors rd rn is.2) (is.0, is.1)
 vector_instruction_runs b _ is = absurd is.2

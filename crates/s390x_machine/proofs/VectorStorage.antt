@@ -4,7 +4,14 @@ use Rattle.std.proofs.lemmas.Bool.{and_parts}
 use Rattle.std.proofs.lemmas.Nat.{and_assoc, and_mask}
 use Rattle.std.proofs.Math.Nat.{mod-eq_of_lt}
 use Rattle.s390x_base.specs.declared.error.EmitError.TheVariants.{BadOperator}
+use Rattle.s390x_base.specs.Regs.{number_of}
+use Rattle.s390x_base.specs.declared.regs.Reg.{Reg}
 use Rattle.s390x_inst.specs.declared.args.MemArg.{MemArg}
+use Rattle.s390x_inst.specs.declared.whole.Direction.{Direction}
+use Rattle.s390x_inst.specs.declared.whole.Direction.TheVariants.{Load, Store}
+use Rattle.s390x_inst.specs.declared.whole.WholeLayout.{WholeLayout}
+use Rattle.s390x_inst.specs.declared.whole.WholeLayout.TheVariants.{Straight}
+use Rattle.s390x_inst.specs.Wholes.{by_direction}
 use Rattle.s390x_format.specs.declared.kind.FormatKind.TheVariants.{Vrx}
 use Rattle.s390x_format.specs.declared.row.Allowed.TheVariants.{FirstMask}
 use Rattle.s390x_format.specs.Fetch.{machine_rows}
@@ -21,12 +28,14 @@ use Rattle.s390x_operations.specs.declared.effect.CodeRule.TheVariants.{Kept}
 use Rattle.s390x_operations.specs.declared.effect.Effect.{Effect}
 use Rattle.s390x_operations.specs.declared.effect.Operation.{Operation}
 use Rattle.s390x_operations.specs.declared.effect.VectorLayout.{VectorLayout}
+use Rattle.s390x_operations.specs.declared.effect.VectorLayout.TheVariants as Layouts
+use Rattle.s390x_rows.specs.declared.opcodes.TheConstants as opcodes
 use Rattle.s390x_typed_steps.specs.MachineInstruction.{vrx}
-use Rattle.s390x_typed_steps.specs.Memory.{MemoryInstruction, StorageForm, VrxForm, FloatForm, type_of, access_vector, access_lane, reversed_code, is_left_lane, load_left, store_left, load_lane_opcode, store_lane_opcode, load_reversed_opcode, store_reversed_opcode, fault_code}
+use Rattle.s390x_typed_steps.specs.Memory.{MemoryInstruction, StorageForm, VrxForm, FloatForm, type_of, access_vector, access_lane, layout_rows, whole_memory, reversed_code, is_left_lane, load_left, store_left, load_lane_opcode, store_lane_opcode, load_reversed_opcode, store_reversed_opcode, fault_code}
 use Rattle.s390x_typed_steps.specs.Operands.{operand_general}
 use Rattle.s390x_typed_steps.specs.Parts.{memory_or, step_parts}
 use Rattle.s390x_typed_steps.specs.Steps.{Step}
-use Rattle.s390x_typed_steps.specs.VectorInstruction.{element_code, is_lane}
+use Rattle.s390x_typed_steps.specs.VectorInstruction.{element_code, is_lane, is_vector}
 use Rattle.s390x_typed_steps.specs.declared.mem_inst_type.MemInstType.{MemInstType}
 use Rattle.s390x_machine.specs.declared.semantics.RowSemantics.TheVariants as Row
 use Rattle.s390x_machine.specs.declared.semantics.VectorStorage.{VectorStorage}
@@ -36,7 +45,7 @@ use Rattle.s390x_machine.specs.OneStep.{StepRuns}
 use Rattle.s390x_machine.specs.Operands.{indexed}
 use Rattle.s390x_machine.specs.Semantics.{all_bits, performs, semantics_in, semantics_of, vector_layout_of}
 use Rattle.s390x_machine.specs.StepKinds.{Unsupported, kind_or, performed_at, access_code}
-use Rattle.s390x_machine.specs.Storage.{indexed_forms, lane_forms, loads_vector, operand_address, stores_vector, vector_forms}
+use Rattle.s390x_machine.specs.Storage.{indexed_forms, lane_forms, layout_of, loads_vector, operand_address, stores_vector, vector_forms}
 use Rattle.s390x_machine.specs.Typed.{kind_of_step}
 use Rattle.s390x_machine.specs.VectorSteps.{elements_of, lane_bits}
 use Rattle.s390x_machine.proofs.Bits.{at_most}
@@ -49,6 +58,7 @@ use Rattle.s390x_machine.proofs.Stops.{never_by_values}
 use Rattle.s390x_machine.proofs.Storage.{FormDoes, VectorForm}
 use Rattle.s390x_machine.proofs.StorageRows.{IndexedRows}
 use Rattle.s390x_machine.proofs.StorageSteps.{address_rows, relative_address_rows}
+use Rattle.s390x_machine.proofs.VectorSteps.{vector_number}
 use Rattle.s390x_machine.proofs.VectorRows.{IsNarrow, Sized, HasSize, code_of_size, lane_within, size_of_elements}
 
 -- ---- what is told of a register
@@ -116,37 +126,40 @@ stored_form storage layout opcode mask low high d row lm allows tells lt = recor
   refines = λ a r. Rattle.s390x_machine.proofs.Built.exactly (stores_vector layout d a r);
 }
 
-pub load_whole : Meant Vrx (FirstMask 0 0) 0xe706 (Row.LoadVector VectorStorage.Whole)
-unfolding machine_rows row_for semantics_in semantics_of
-load_whole = (record { is = refl }, refl)
+-- what stands in the machine's row of a layout, and which masks the row takes
+abbrev pub storage_of : VectorLayout → VectorStorage
+storage_of (Layouts.ReversedBytes e) = VectorStorage.ReversedBytes
+storage_of (Layouts.ReversedElements e) = VectorStorage.ReversedElements
+storage_of _ = VectorStorage.Whole
 
-pub load_reversed_bytes : Meant Vrx (FirstMask 1 4) 0xe606 (Row.LoadVector VectorStorage.ReversedBytes)
-unfolding machine_rows row_for semantics_in semantics_of
-load_reversed_bytes = (record { is = refl }, refl)
+abbrev pub first_mask : VectorLayout → ℕ
+first_mask (Layouts.ReversedBytes e) = 1
+first_mask (Layouts.ReversedElements e) = 1
+first_mask _ = 0
 
-pub load_reversed_elements : Meant Vrx (FirstMask 1 3) 0xe607 (Row.LoadVector VectorStorage.ReversedElements)
-unfolding machine_rows row_for semantics_in semantics_of
-load_reversed_elements = (record { is = refl }, refl)
+abbrev pub last_mask : VectorLayout → ℕ
+last_mask (Layouts.ReversedBytes e) = 4
+last_mask (Layouts.ReversedElements e) = 3
+last_mask _ = 0
 
-load_replicated : Meant Vrx (FirstMask 0 3) 0xe705 (Row.LoadVector (VectorStorage.Replicated false))
+-- the rows of each layout: the last clause is a copy for each other
+load_row : (layout : WholeLayout) → Meant Vrx (FirstMask (first_mask (layout_of layout)) (last_mask (layout_of layout))) (layout_rows layout).load_opcode (Row.LoadVector (storage_of (layout_of layout)))
+unfolding machine_rows row_for semantics_in semantics_of
+load_row Straight = (record { is = refl }, refl)
+load_row layout = (record { is = refl }, refl)
+
+store_row : (layout : WholeLayout) → Meant Vrx (FirstMask (first_mask (layout_of layout)) (last_mask (layout_of layout))) (layout_rows layout).store_opcode (Row.StoreVector (storage_of (layout_of layout)))
+unfolding machine_rows row_for semantics_in semantics_of
+store_row Straight = (record { is = refl }, refl)
+store_row layout = (record { is = refl }, refl)
+
+load_replicated : Meant Vrx (FirstMask 0 3) opcodes.VLREP (Row.LoadVector (VectorStorage.Replicated false))
 unfolding machine_rows row_for semantics_in semantics_of
 load_replicated = (record { is = refl }, refl)
 
-load_replicated_reversed : Meant Vrx (FirstMask 1 3) 0xe605 (Row.LoadVector (VectorStorage.Replicated true))
+load_replicated_reversed : Meant Vrx (FirstMask 1 3) opcodes.VLBRREP (Row.LoadVector (VectorStorage.Replicated true))
 unfolding machine_rows row_for semantics_in semantics_of
 load_replicated_reversed = (record { is = refl }, refl)
-
-pub store_whole : Meant Vrx (FirstMask 0 0) 0xe70e (Row.StoreVector VectorStorage.Whole)
-unfolding machine_rows row_for semantics_in semantics_of
-store_whole = (record { is = refl }, refl)
-
-pub store_reversed_bytes : Meant Vrx (FirstMask 1 4) 0xe60e (Row.StoreVector VectorStorage.ReversedBytes)
-unfolding machine_rows row_for semantics_in semantics_of
-store_reversed_bytes = (record { is = refl }, refl)
-
-pub store_reversed_elements : Meant Vrx (FirstMask 1 3) 0xe60f (Row.StoreVector VectorStorage.ReversedElements)
-unfolding machine_rows row_for semantics_in semantics_of
-store_reversed_elements = (record { is = refl }, refl)
 
 -- elements of several bytes
 abbrev IsWide : ElementSize → Type 0
@@ -188,19 +201,19 @@ store_reversed_row Doubleword wide = (record { is = refl }, refl)
 store_reversed_row Quadword wide = absurd wide
 
 -- the leftmost element of a float register
-load_word_left : IndexedRows (Some 0x78) (Some 0xed64) (Row.LoadLeft Word)
+load_word_left : IndexedRows (Some opcodes.LE) (Some opcodes.LEY) (Row.LoadLeft Word)
 unfolding machine_rows row_for semantics_in semantics_of
 load_word_left = ((record { is = refl }, refl), (record { is = refl }, refl))
 
-load_doubleword_left : IndexedRows (Some 0x68) (Some 0xed65) (Row.LoadLeft Doubleword)
+load_doubleword_left : IndexedRows (Some opcodes.LD) (Some opcodes.LDY) (Row.LoadLeft Doubleword)
 unfolding machine_rows row_for semantics_in semantics_of
 load_doubleword_left = ((record { is = refl }, refl), (record { is = refl }, refl))
 
-store_word_left : IndexedRows (Some 0x70) (Some 0xed66) (Row.StoreLeft Word)
+store_word_left : IndexedRows (Some opcodes.STE) (Some opcodes.STEY) (Row.StoreLeft Word)
 unfolding machine_rows row_for semantics_in semantics_of
 store_word_left = ((record { is = refl }, refl), (record { is = refl }, refl))
 
-store_doubleword_left : IndexedRows (Some 0x60) (Some 0xed67) (Row.StoreLeft Doubleword)
+store_doubleword_left : IndexedRows (Some opcodes.STD) (Some opcodes.STDY) (Row.StoreLeft Doubleword)
 unfolding machine_rows row_for semantics_in semantics_of
 store_doubleword_left = ((record { is = refl }, refl), (record { is = refl }, refl))
 
@@ -287,15 +300,26 @@ module _ {L : Layout} {k : ℕ} {s : Step} (b : StepAt L k s) where
       memory_runs b (address_rows 1 (omega arith)) (relative_address_rows 1 (omega arith)) x forms operation (does (and_parts valid (operand_general mem) is.2.registers).0) relative (λ a r. steady.never a r (fault_code x)) (λ e a r v. steady.ignores a r v) same is.0 is.1 is.2
 
   -- a load of a register, by the mask of its row
-  pub loads_runs : (storage : VectorStorage) (layout : VectorLayout) (opcode mask low high : ℕ) → Meant Vrx (FirstMask low high) opcode (Row.LoadVector storage) → mask < 16 → (valid : Bool) (d : ℕ) → is_allowed (FirstMask low high) (vrx opcode d 0 0 mask 0).slots ≡ true → Tells storage layout opcode mask d → (IsTrue valid → d < 32) →
+  loads_runs : (storage : VectorStorage) (layout : VectorLayout) (opcode mask low high : ℕ) → Meant Vrx (FirstMask low high) opcode (Row.LoadVector storage) → mask < 16 → (valid : Bool) (d : ℕ) → is_allowed (FirstMask low high) (vrx opcode d 0 0 mask 0).slots ≡ true → Tells storage layout opcode mask d → (IsTrue valid → d < 32) →
       (mem : MemArg) → Accesses (access_vector valid (VrxForm d opcode mask) mem) mem vector_forms (loads_vector layout all_bits d) → StepRuns L k
   loads_runs storage layout opcode mask low high row lm valid d allows tells few mem is =
       access_runs valid (VrxForm d opcode mask) mem vector_forms (loads_vector layout all_bits d) refl (λ h. loaded_form storage layout opcode mask low high all_bits d row lm allows tells refl (few h)) tt (loads_steady layout all_bits d) is
 
-  pub stores_runs : (storage : VectorStorage) (layout : VectorLayout) (opcode mask low high : ℕ) → Meant Vrx (FirstMask low high) opcode (Row.StoreVector storage) → mask < 16 → (valid : Bool) (d : ℕ) → is_allowed (FirstMask low high) (vrx opcode d 0 0 mask 0).slots ≡ true → Tells storage layout opcode mask d → (IsTrue valid → d < 32) →
+  stores_runs : (storage : VectorStorage) (layout : VectorLayout) (opcode mask low high : ℕ) → Meant Vrx (FirstMask low high) opcode (Row.StoreVector storage) → mask < 16 → (valid : Bool) (d : ℕ) → is_allowed (FirstMask low high) (vrx opcode d 0 0 mask 0).slots ≡ true → Tells storage layout opcode mask d → (IsTrue valid → d < 32) →
       (mem : MemArg) → Accesses (access_vector valid (VrxForm d opcode mask) mem) mem vector_forms (stores_vector layout d) → StepRuns L k
   stores_runs storage layout opcode mask low high row lm valid d allows tells few mem is =
       access_runs valid (VrxForm d opcode mask) mem vector_forms (stores_vector layout d) refl (λ h. stored_form storage layout opcode mask low high d row lm allows tells (few h)) tt (stores_steady layout d) is
+
+  -- a whole register, in any layout: the clauses without `Straight` are a copy for each other one
+  pub whole_runs : (direction : Direction) (layout : WholeLayout) (rd : Reg) (mem : MemArg) → Accesses (whole_memory (record { direction = direction; layout = layout; rd = rd; mem = mem })) mem vector_forms (by_direction direction (loads_vector (layout_of layout) all_bits (number_of rd)) (stores_vector (layout_of layout) (number_of rd))) → StepRuns L k
+  whole_runs Load Straight rd mem is =
+      loads_runs (storage_of (layout_of Straight)) (layout_of Straight) (layout_rows Straight).load_opcode (layout_rows Straight).mask (first_mask (layout_of Straight)) (last_mask (layout_of Straight)) (load_row Straight) (ltb-true (layout_rows Straight).mask 16 refl) (is_vector rd) (number_of rd) refl (λ base index n. refl) (vector_number rd) mem is
+  whole_runs Load layout rd mem is =
+      loads_runs (storage_of (layout_of layout)) (layout_of layout) (layout_rows layout).load_opcode (layout_rows layout).mask (first_mask (layout_of layout)) (last_mask (layout_of layout)) (load_row layout) (ltb-true (layout_rows layout).mask 16 refl) (is_vector rd) (number_of rd) refl (λ base index n. refl) (vector_number rd) mem is
+  whole_runs Store Straight rd mem is =
+      stores_runs (storage_of (layout_of Straight)) (layout_of Straight) (layout_rows Straight).store_opcode (layout_rows Straight).mask (first_mask (layout_of Straight)) (last_mask (layout_of Straight)) (store_row Straight) (ltb-true (layout_rows Straight).mask 16 refl) (is_vector rd) (number_of rd) refl (λ base index n. refl) (vector_number rd) mem is
+  whole_runs Store layout rd mem is =
+      stores_runs (storage_of (layout_of layout)) (layout_of layout) (layout_rows layout).store_opcode (layout_rows layout).mask (first_mask (layout_of layout)) (last_mask (layout_of layout)) (store_row layout) (ltb-true (layout_rows layout).mask 16 refl) (is_vector rd) (number_of rd) refl (λ base index n. refl) (vector_number rd) mem is
 
   -- a replicated element, of any size with a code
   replicates : (e : ElementSize) (backwards : Bool) (opcode low high : ℕ) → Meant Vrx (FirstMask low high) opcode (Row.LoadVector (VectorStorage.Replicated backwards)) → (valid : Bool) (d : ℕ) → is_allowed (FirstMask low high) (vrx opcode d 0 0 (code_of_size e) 0).slots ≡ true → (IsTrue valid → d < 32) →
@@ -312,22 +336,22 @@ module _ {L : Layout} {k : ℕ} {s : Step} (b : StepAt L k s) where
   sized_runs P o size (inr (e, c, p)) x nothing mem forms does run is =
       run e p c.sized (subst (λ z. Accesses (x (Some (code_of_size e))) mem forms (does z)) c.sized.elements (subst (λ q. Accesses (x q) mem forms (does (elements_of size))) c.code is))
 
-  pub replicated_runs : (valid : Bool) (size d : ℕ) (mem : MemArg) (x : Option ℕ → Option MemoryInstruction) → x None ≡ None → ((c : ℕ) → x (Some c) ≡ access_vector valid (VrxForm d 0xe705 c) mem) → (IsTrue valid → d < 32) → Accesses (x (element_code size)) mem vector_forms (loads_vector (VectorLayout.Replicated (elements_of size) false) all_bits d) → StepRuns L k
+  pub replicated_runs : (valid : Bool) (size d : ℕ) (mem : MemArg) (x : Option ℕ → Option MemoryInstruction) → x None ≡ None → ((c : ℕ) → x (Some c) ≡ access_vector valid (VrxForm d opcodes.VLREP c) mem) → (IsTrue valid → d < 32) → Accesses (x (element_code size)) mem vector_forms (loads_vector (VectorLayout.Replicated (elements_of size) false) all_bits d) → StepRuns L k
   replicated_runs valid size d mem x nothing some few is = sized_runs IsNarrow (element_code size) size (of_elements size) x nothing mem vector_forms (λ e. loads_vector (VectorLayout.Replicated e false) all_bits d) (λ e narrow z is.
-      replicates e false 0xe705 0 3 load_replicated valid d (allowed e narrow) few mem (subst (λ q. Accesses q mem vector_forms (loads_vector (VectorLayout.Replicated e false) all_bits d)) (some (code_of_size e)) is)) is
+      replicates e false opcodes.VLREP 0 3 load_replicated valid d (allowed e narrow) few mem (subst (λ q. Accesses q mem vector_forms (loads_vector (VectorLayout.Replicated e false) all_bits d)) (some (code_of_size e)) is)) is
     where
-      allowed : (e : ElementSize) → IsNarrow e → is_allowed (FirstMask 0 3) (vrx 0xe705 d 0 0 (code_of_size e) 0).slots ≡ true
+      allowed : (e : ElementSize) → IsNarrow e → is_allowed (FirstMask 0 3) (vrx opcodes.VLREP d 0 0 (code_of_size e) 0).slots ≡ true
       allowed Byte h = refl
       allowed Halfword h = refl
       allowed Word h = refl
       allowed Doubleword h = refl
       allowed Quadword h = absurd h
 
-  pub reversed_replicated_runs : (valid : Bool) (size d : ℕ) (mem : MemArg) (x : Option ℕ → Option MemoryInstruction) → x None ≡ None → ((c : ℕ) → x (Some c) ≡ access_vector valid (VrxForm d 0xe605 c) mem) → (IsTrue valid → d < 32) → Accesses (x (reversed_code size)) mem vector_forms (loads_vector (VectorLayout.Replicated (elements_of size) true) all_bits d) → StepRuns L k
+  pub reversed_replicated_runs : (valid : Bool) (size d : ℕ) (mem : MemArg) (x : Option ℕ → Option MemoryInstruction) → x None ≡ None → ((c : ℕ) → x (Some c) ≡ access_vector valid (VrxForm d opcodes.VLBRREP c) mem) → (IsTrue valid → d < 32) → Accesses (x (reversed_code size)) mem vector_forms (loads_vector (VectorLayout.Replicated (elements_of size) true) all_bits d) → StepRuns L k
   reversed_replicated_runs valid size d mem x nothing some few is = sized_runs IsWide (reversed_code size) size (of_reversed size) x nothing mem vector_forms (λ e. loads_vector (VectorLayout.Replicated e true) all_bits d) (λ e wide z is.
-      replicates e true 0xe605 1 3 load_replicated_reversed valid d (allowed e wide) few mem (subst (λ q. Accesses q mem vector_forms (loads_vector (VectorLayout.Replicated e true) all_bits d)) (some (code_of_size e)) is)) is
+      replicates e true opcodes.VLBRREP 1 3 load_replicated_reversed valid d (allowed e wide) few mem (subst (λ q. Accesses q mem vector_forms (loads_vector (VectorLayout.Replicated e true) all_bits d)) (some (code_of_size e)) is)) is
     where
-      allowed : (e : ElementSize) → IsWide e → is_allowed (FirstMask 1 3) (vrx 0xe605 d 0 0 (code_of_size e) 0).slots ≡ true
+      allowed : (e : ElementSize) → IsWide e → is_allowed (FirstMask 1 3) (vrx opcodes.VLBRREP d 0 0 (code_of_size e) 0).slots ≡ true
       allowed Byte h = absurd h
       allowed Halfword h = refl
       allowed Word h = refl
@@ -381,12 +405,12 @@ module _ {L : Layout} {k : ℕ} {s : Step} (b : StepAt L k s) where
       Accesses (cond (is_left_lane size lane d) (access_vector valid (load_left size d) mem) (access_lane valid load_lane_opcode d (element_code size) size lane mem)) mem (lane_forms size lane d) (loads_vector (VectorLayout.Element (elements_of size) lane false) (lane_bits (elements_of size) lane) d) → StepRuns L k
   load_alone_runs valid size lane d mem few is = go (is_left_lane size lane d) refl is
     where
-      word : d < 16 → Accesses (access_vector valid (FloatForm d 0x78 0xed64) mem) mem (indexed_forms true true false) (loads_vector (VectorLayout.Element Word 0 false) (lane_bits Word 0) d) → StepRuns L k
-      word low is = access_runs valid (FloatForm d 0x78 0xed64) mem (indexed_forms true true false) (loads_vector (VectorLayout.Element Word 0 false) (lane_bits Word 0) d) refl (λ h.
+      word : d < 16 → Accesses (access_vector valid (FloatForm d opcodes.LE opcodes.LEY) mem) mem (indexed_forms true true false) (loads_vector (VectorLayout.Element Word 0 false) (lane_bits Word 0) d) → StepRuns L k
+      word low is = access_runs valid (FloatForm d opcodes.LE opcodes.LEY) mem (indexed_forms true true false) (loads_vector (VectorLayout.Element Word 0 false) (lane_bits Word 0) d) refl (λ h.
           record { few = low; semantics = Row.LoadLeft Word; short_rows = load_word_left.0; long_rows = load_word_left.1; acts = λ kind opcode base index n r p. refl }) tt (loads_steady (VectorLayout.Element Word 0 false) (lane_bits Word 0) d) is
 
-      doubleword : d < 16 → Accesses (access_vector valid (FloatForm d 0x68 0xed65) mem) mem (indexed_forms true true false) (loads_vector (VectorLayout.Element Doubleword 0 false) (lane_bits Doubleword 0) d) → StepRuns L k
-      doubleword low is = access_runs valid (FloatForm d 0x68 0xed65) mem (indexed_forms true true false) (loads_vector (VectorLayout.Element Doubleword 0 false) (lane_bits Doubleword 0) d) refl (λ h.
+      doubleword : d < 16 → Accesses (access_vector valid (FloatForm d opcodes.LD opcodes.LDY) mem) mem (indexed_forms true true false) (loads_vector (VectorLayout.Element Doubleword 0 false) (lane_bits Doubleword 0) d) → StepRuns L k
+      doubleword low is = access_runs valid (FloatForm d opcodes.LD opcodes.LDY) mem (indexed_forms true true false) (loads_vector (VectorLayout.Element Doubleword 0 false) (lane_bits Doubleword 0) d) refl (λ h.
           record { few = low; semantics = Row.LoadLeft Doubleword; short_rows = load_doubleword_left.0; long_rows = load_doubleword_left.1; acts = λ kind opcode base index n r p. refl }) tt (loads_steady (VectorLayout.Element Doubleword 0 false) (lane_bits Doubleword 0) d) is
 
       go : (t : Bool) → is_left_lane size lane d ≡ t → Accesses (cond t (access_vector valid (load_left size d) mem) (access_lane valid load_lane_opcode d (element_code size) size lane mem)) mem (indexed_forms true t false) (loads_vector (VectorLayout.Element (elements_of size) lane false) (lane_bits (elements_of size) lane) d) → StepRuns L k
@@ -399,12 +423,12 @@ module _ {L : Layout} {k : ℕ} {s : Step} (b : StepAt L k s) where
       Accesses (cond (is_left_lane size lane d) (access_vector valid (store_left size d) mem) (access_lane valid store_lane_opcode d (element_code size) size lane mem)) mem (lane_forms size lane d) (stores_vector (VectorLayout.Element (elements_of size) lane false) d) → StepRuns L k
   store_lane_runs valid size lane d mem few is = go (is_left_lane size lane d) refl is
     where
-      word : d < 16 → Accesses (access_vector valid (FloatForm d 0x70 0xed66) mem) mem (indexed_forms true true false) (stores_vector (VectorLayout.Element Word 0 false) d) → StepRuns L k
-      word low is = access_runs valid (FloatForm d 0x70 0xed66) mem (indexed_forms true true false) (stores_vector (VectorLayout.Element Word 0 false) d) refl (λ h.
+      word : d < 16 → Accesses (access_vector valid (FloatForm d opcodes.STE opcodes.STEY) mem) mem (indexed_forms true true false) (stores_vector (VectorLayout.Element Word 0 false) d) → StepRuns L k
+      word low is = access_runs valid (FloatForm d opcodes.STE opcodes.STEY) mem (indexed_forms true true false) (stores_vector (VectorLayout.Element Word 0 false) d) refl (λ h.
           record { few = low; semantics = Row.StoreLeft Word; short_rows = store_word_left.0; long_rows = store_word_left.1; acts = λ kind opcode base index n r p. refl }) tt (stores_steady (VectorLayout.Element Word 0 false) d) is
 
-      doubleword : d < 16 → Accesses (access_vector valid (FloatForm d 0x60 0xed67) mem) mem (indexed_forms true true false) (stores_vector (VectorLayout.Element Doubleword 0 false) d) → StepRuns L k
-      doubleword low is = access_runs valid (FloatForm d 0x60 0xed67) mem (indexed_forms true true false) (stores_vector (VectorLayout.Element Doubleword 0 false) d) refl (λ h.
+      doubleword : d < 16 → Accesses (access_vector valid (FloatForm d opcodes.STD opcodes.STDY) mem) mem (indexed_forms true true false) (stores_vector (VectorLayout.Element Doubleword 0 false) d) → StepRuns L k
+      doubleword low is = access_runs valid (FloatForm d opcodes.STD opcodes.STDY) mem (indexed_forms true true false) (stores_vector (VectorLayout.Element Doubleword 0 false) d) refl (λ h.
           record { few = low; semantics = Row.StoreLeft Doubleword; short_rows = store_doubleword_left.0; long_rows = store_doubleword_left.1; acts = λ kind opcode base index n r p. refl }) tt (stores_steady (VectorLayout.Element Doubleword 0 false) d) is
 
       go : (t : Bool) → is_left_lane size lane d ≡ t → Accesses (cond t (access_vector valid (store_left size d) mem) (access_lane valid store_lane_opcode d (element_code size) size lane mem)) mem (indexed_forms true t false) (stores_vector (VectorLayout.Element (elements_of size) lane false) d) → StepRuns L k

@@ -18,6 +18,7 @@ use Rattle.s390x_operations.specs.Effects.{code_numbered, is_selected}
 use Rattle.s390x_operations.specs.State.{Registers, Core, set_vector, with_code, written, wrapping_add64}
 use Rattle.s390x_operations.specs.declared.stop.ConditionCode.{ConditionCode}
 use Rattle.s390x_operations.specs.declared.stop.ConditionCode.TheVariants.{Code1, Code2, Code3}
+use Rattle.s390x_rows.specs.declared.opcodes.TheConstants as opcodes
 use Rattle.s390x_typed_steps.specs.MachineInstruction.{vrr_a, vrr_b}
 use Rattle.s390x_typed_steps.specs.Parts.{row_parts, step_parts}
 use Rattle.s390x_typed_steps.specs.Steps.{Step}
@@ -138,7 +139,7 @@ abbrev comparing : (opcode : ℕ) → Signedness → (n m : ℕ) → Registers �
 comparing opcode sign n m r = Perform (elements_computed (vrr_a opcode m n 3) (CompareElement sign Doubleword) r)
 
 abbrev comparing_right : (tmp n m : ℕ) → Registers → Action
-comparing_right tmp n m r = Perform (elements_computed (vrr_b 0xe7f9 tmp n m 3 1) (Compare (High Unsigned) Doubleword true) r)
+comparing_right tmp n m r = Perform (elements_computed (vrr_b opcodes.VCHL tmp n m 3 1) (Compare (High Unsigned) Doubleword true) r)
 
 -- the registers behind the first comparison, and behind the second one
 abbrev told_in : Signedness → (n m : ℕ) → Registers → Registers
@@ -213,8 +214,8 @@ wide_runs {L = L} {k = k} b opcode sign tmp n m row few is parts =
     let target : wrapping_add64 (wrapping_add64 L.image.base (o + 6)) 10 ≡ step_address L (suc k) = sum_more L.image.base (o + 6) 10 ∙ ap (λ z. wrapping_add64 L.image.base z) (omega (arith, size)) in
     let skip : RowAt L (wrapping_add64 L.image.base (o + 6)) (λ r. Branch 7 (step_address L (suc k))) 4 = subst (λ q. RowAt L (wrapping_add64 L.image.base (o + 6)) (λ r. Branch 7 q) 4) target (brc_at L b.image (o + 6) even6 7 5 10 (omega arith) (omega arith) refl stands.1.0) in
     let right = asking_rows UCmpHi64x2 tmp n m in
-    let right_fit = fits_vrr_b 0xe7f9 tmp n m 3 1 (few_digits (elements_listed right)) few.0 few.1 few.2 (omega arith) (omega arith) in
-    let low = placed b 16 size (o + 6 + 4) 10 (comparing_right tmp n m) 6 (omega arith) (vector_there L b.image (o + 6 + 4) even10 (vrr_b 0xe7f9 tmp n m 3 1) (Compare (High Unsigned) Doubleword true) right right_fit stands.1.1.0) in
+    let right_fit = fits_vrr_b opcodes.VCHL tmp n m 3 1 (few_digits (elements_listed right)) few.0 few.1 few.2 (omega arith) (omega arith) in
+    let low = placed b 16 size (o + 6 + 4) 10 (comparing_right tmp n m) 6 (omega arith) (vector_there L b.image (o + 6 + 4) even10 (vrr_b opcodes.VCHL tmp n m 3 1) (Compare (High Unsigned) Doubleword true) right right_fit stands.1.1.0) in
     from_start b 16 size (omega arith) (λ c i.
     row_on b 16 size c [] c.registers (told_in sign n m c.registers) 0 (comparing opcode sign n m) (omega arith) (omega arith) high (compare_changes opcode sign n m (place L k 0) c.registers) (λ g one i1.
     branched b opcode sign tmp n m is size c g one (placed b 16 size (o + 6) 6 (λ r. Branch 7 (step_address L (suc k))) 4 refl skip) low i1 (told_or_left sign (c.registers.vector n) (c.registers.vector m))) i)

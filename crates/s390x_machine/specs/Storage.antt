@@ -10,13 +10,20 @@ use Rattle.s390x_inst.specs.declared.ops.CmpOp.{CmpOp}
 use Rattle.s390x_inst.specs.declared.ops.CmpOp.TheVariants as C
 use Rattle.s390x_inst.specs.declared.inst.Inst.{Inst}
 use Rattle.s390x_inst.specs.declared.inst.Inst.TheVariants.{AluRX, CmpRX}
-use Rattle.s390x_inst.specs.declared.inst.Inst.TheVariants.{Store8, Store16, Store32, Store64, StoreRev16, StoreRev32, StoreRev64, StoreImm8, StoreImm16, StoreImm32SExt16, StoreImm64SExt16, LoadMultiple64, StoreMultiple64, LoadAddr, AtomicRmw, AtomicCas32, AtomicCas64, Vector}
+use Rattle.s390x_inst.specs.declared.inst.Inst.TheVariants.{StoreImm8, StoreImm16, StoreImm32SExt16, StoreImm64SExt16, LoadMultiple64, StoreMultiple64, LoadAddr, AtomicRmw, AtomicCas32, AtomicCas64, Vector}
 use Rattle.s390x_inst.specs.declared.load.Load.{Load}
 use Rattle.s390x_inst.specs.declared.load.LoadOp.{LoadOp}
 use Rattle.s390x_inst.specs.declared.load.LoadOp.TheVariants as LoadOps
 use Rattle.s390x_inst.specs.Loads.{as_load, by_load}
+use Rattle.s390x_inst.specs.declared.store.Store.{Store as StoreView}
+use Rattle.s390x_inst.specs.declared.store.StoreOp.{StoreOp}
+use Rattle.s390x_inst.specs.declared.store.StoreOp.TheVariants as StoreOps
+use Rattle.s390x_inst.specs.Stores.{as_store, by_store}
+use Rattle.s390x_inst.specs.declared.whole.WholeAccess.{WholeAccess}
+use Rattle.s390x_inst.specs.declared.whole.WholeLayout.{WholeLayout}
+use Rattle.s390x_inst.specs.declared.whole.WholeLayout.TheVariants as W
+use Rattle.s390x_inst.specs.Wholes.{as_whole, by_whole, by_direction}
 use Rattle.s390x_inst.specs.declared.vec_inst.VecInst.{VecInst}
-use Rattle.s390x_inst.specs.declared.vec_inst.VecInst.TheVariants.{VecLoad, VecLoadRev, VecLoadByte16Rev, VecLoadByte32Rev, VecLoadByte64Rev, VecLoadElt16Rev, VecLoadElt32Rev, VecLoadElt64Rev, VecStore, VecStoreRev, VecStoreByte16Rev, VecStoreByte32Rev, VecStoreByte64Rev, VecStoreElt16Rev, VecStoreElt32Rev, VecStoreElt64Rev}
 use Rattle.s390x_inst.specs.declared.vec_inst.VecInst.TheVariants.{VecLoadReplicate, VecLoadReplicateRev, VecLoadLane, VecLoadLaneRev, VecLoadLaneUndef, VecLoadLaneRevUndef, VecStoreLane, VecStoreLaneRev}
 use Rattle.s390x_lanes.specs.declared.size.ElementSize.{ElementSize}
 use Rattle.s390x_lanes.specs.declared.operators.Signedness.TheVariants.{Signed, Unsigned}
@@ -239,27 +246,30 @@ lane_operand_step (VecStoreLane size rd mem lane) = accesses_at (lane_forms size
 lane_operand_step (VecStoreLaneRev size rd mem lane) = accesses_at vector_forms mem (stores_vector (VectorLayout.Element (elements_of size) lane true) (number_of rd))
 lane_operand_step _ = None
 
+-- those of elements, one of which may go to all
+abbrev pub part_operand_step : VecInst → Option OperandStep
+part_operand_step (VecLoadReplicate size rd mem) = accesses_at vector_forms mem (loads_vector (VectorLayout.Replicated (elements_of size) false) all_bits (number_of rd))
+part_operand_step (VecLoadReplicateRev size rd mem) = accesses_at vector_forms mem (loads_vector (VectorLayout.Replicated (elements_of size) true) all_bits (number_of rd))
+part_operand_step v = lane_operand_step v
+
+-- how a whole register lies in memory
+abbrev pub layout_of : WholeLayout → VectorLayout
+layout_of W.Straight = VectorLayout.Whole
+layout_of W.Reversed = VectorLayout.ReversedBytes ElementSize.Quadword
+layout_of W.Bytes16 = VectorLayout.ReversedBytes ElementSize.Halfword
+layout_of W.Bytes32 = VectorLayout.ReversedBytes ElementSize.Word
+layout_of W.Bytes64 = VectorLayout.ReversedBytes ElementSize.Doubleword
+layout_of W.Elements16 = VectorLayout.ReversedElements ElementSize.Halfword
+layout_of W.Elements32 = VectorLayout.ReversedElements ElementSize.Word
+layout_of W.Elements64 = VectorLayout.ReversedElements ElementSize.Doubleword
+
+-- a load or a store of a whole register
+abbrev pub whole_step : WholeAccess → Option OperandStep
+whole_step w = accesses_at vector_forms w.mem (by_direction w.direction (loads_vector (layout_of w.layout) all_bits (number_of w.rd)) (stores_vector (layout_of w.layout) (number_of w.rd)))
+
 -- those of vector registers
 abbrev pub vector_operand_step : VecInst → Option OperandStep
-vector_operand_step (VecLoad rd mem) = accesses_at vector_forms mem (loads_vector VectorLayout.Whole all_bits (number_of rd))
-vector_operand_step (VecLoadRev rd mem) = accesses_at vector_forms mem (loads_vector (VectorLayout.ReversedBytes ElementSize.Quadword) all_bits (number_of rd))
-vector_operand_step (VecLoadByte16Rev rd mem) = accesses_at vector_forms mem (loads_vector (VectorLayout.ReversedBytes ElementSize.Halfword) all_bits (number_of rd))
-vector_operand_step (VecLoadByte32Rev rd mem) = accesses_at vector_forms mem (loads_vector (VectorLayout.ReversedBytes ElementSize.Word) all_bits (number_of rd))
-vector_operand_step (VecLoadByte64Rev rd mem) = accesses_at vector_forms mem (loads_vector (VectorLayout.ReversedBytes ElementSize.Doubleword) all_bits (number_of rd))
-vector_operand_step (VecLoadElt16Rev rd mem) = accesses_at vector_forms mem (loads_vector (VectorLayout.ReversedElements ElementSize.Halfword) all_bits (number_of rd))
-vector_operand_step (VecLoadElt32Rev rd mem) = accesses_at vector_forms mem (loads_vector (VectorLayout.ReversedElements ElementSize.Word) all_bits (number_of rd))
-vector_operand_step (VecLoadElt64Rev rd mem) = accesses_at vector_forms mem (loads_vector (VectorLayout.ReversedElements ElementSize.Doubleword) all_bits (number_of rd))
-vector_operand_step (VecStore rd mem) = accesses_at vector_forms mem (stores_vector VectorLayout.Whole (number_of rd))
-vector_operand_step (VecStoreRev rd mem) = accesses_at vector_forms mem (stores_vector (VectorLayout.ReversedBytes ElementSize.Quadword) (number_of rd))
-vector_operand_step (VecStoreByte16Rev rd mem) = accesses_at vector_forms mem (stores_vector (VectorLayout.ReversedBytes ElementSize.Halfword) (number_of rd))
-vector_operand_step (VecStoreByte32Rev rd mem) = accesses_at vector_forms mem (stores_vector (VectorLayout.ReversedBytes ElementSize.Word) (number_of rd))
-vector_operand_step (VecStoreByte64Rev rd mem) = accesses_at vector_forms mem (stores_vector (VectorLayout.ReversedBytes ElementSize.Doubleword) (number_of rd))
-vector_operand_step (VecStoreElt16Rev rd mem) = accesses_at vector_forms mem (stores_vector (VectorLayout.ReversedElements ElementSize.Halfword) (number_of rd))
-vector_operand_step (VecStoreElt32Rev rd mem) = accesses_at vector_forms mem (stores_vector (VectorLayout.ReversedElements ElementSize.Word) (number_of rd))
-vector_operand_step (VecStoreElt64Rev rd mem) = accesses_at vector_forms mem (stores_vector (VectorLayout.ReversedElements ElementSize.Doubleword) (number_of rd))
-vector_operand_step (VecLoadReplicate size rd mem) = accesses_at vector_forms mem (loads_vector (VectorLayout.Replicated (elements_of size) false) all_bits (number_of rd))
-vector_operand_step (VecLoadReplicateRev size rd mem) = accesses_at vector_forms mem (loads_vector (VectorLayout.Replicated (elements_of size) true) all_bits (number_of rd))
-vector_operand_step v = lane_operand_step v
+vector_operand_step v = by_whole whole_step (part_operand_step v) (as_whole v)
 
 -- what a load puts into its register, and which forms of an operand its rows have
 pub record LoadedValue : Type 0 where
@@ -287,29 +297,43 @@ loaded_value LoadOps.LoadRev64 = record { size = Doubleword; second = reversed_b
 abbrev pub load_step : Load → Option OperandStep
 load_step l = accesses_at (loaded_value l.op).forms l.mem (loads_at (loaded_value l.op).size (loaded_value l.op).second (number_of l.rd))
 
--- what an instruction does with its operand in storage, where it is no load of one register
+-- what a store takes of its register, and which forms of an operand its rows have
+pub record StoredValue : Type 0 where
+  pub second : Second
+  pub forms : MemInstType
+
+abbrev pub stored_value : StoreOp → StoredValue
+stored_value StoreOps.Store8 = record { second = byte; forms = indexed_forms true true false }
+stored_value StoreOps.Store16 = record { second = unsigned_halfword; forms = indexed_forms true true true }
+stored_value StoreOps.Store32 = record { second = unsigned_word; forms = indexed_forms true true true }
+stored_value StoreOps.Store64 = record { second = doubleword; forms = indexed_forms false true true }
+stored_value StoreOps.StoreRev16 = record { second = reversed_bytes Bits16; forms = indexed_forms false true false }
+stored_value StoreOps.StoreRev32 = record { second = reversed_bytes Bits32; forms = indexed_forms false true false }
+stored_value StoreOps.StoreRev64 = record { second = reversed_bytes Bits64; forms = indexed_forms false true false }
+
+abbrev pub store_step : StoreView → Option OperandStep
+store_step s = accesses_at (stored_value s.op).forms s.mem (stores_at (stored_value s.op).second (number_of s.rd))
+
+-- what an instruction does with its operand in storage, where it is neither a load nor a store of one register
+abbrev pub rest_operand_step : Inst → Option OperandStep
+rest_operand_step (AluRX op rd ri mem) = accesses_at (alu_forms op) mem (computes_at (alu_two_rule op) (alu_computation op) (number_of rd))
+rest_operand_step (CmpRX op rn mem) = accesses_at (cmp_forms op) mem (compares_at (comparison op) (number_of rn))
+rest_operand_step (LoadAddr rd mem) = takes_address mem (loads_address (number_of rd))
+rest_operand_step (StoreImm8 imm mem) = accesses_at (based_forms true true) mem (stores_value Bits8 (low_byte imm))
+rest_operand_step (StoreImm16 imm mem) = accesses_at (based_forms true false) mem (stores_value Bits16 (signed_immediate (low_halfword imm)))
+rest_operand_step (StoreImm32SExt16 imm mem) = accesses_at (based_forms true false) mem (stores_value Bits32 (signed_immediate (low_halfword imm)))
+rest_operand_step (StoreImm64SExt16 imm mem) = accesses_at (based_forms true false) mem (stores_value Bits64 (signed_immediate (low_halfword imm)))
+rest_operand_step (LoadMultiple64 rt rt2 mem) = accesses_at (based_forms false true) mem (loads_multiple (number_of rt) (number_of rt2))
+rest_operand_step (StoreMultiple64 rt rt2 mem) = accesses_at (based_forms false true) mem (stores_multiple (number_of rt) (number_of rt2))
+rest_operand_step (AtomicRmw op rd rn mem) = accesses_at (based_forms false true) mem (operates_at (alu_computation op) (number_of rd) (number_of rn))
+rest_operand_step (AtomicCas32 rd ri rn mem) = accesses_at (based_forms true true) mem (swaps_at Word (number_of rd) (number_of rn))
+rest_operand_step (AtomicCas64 rd ri rn mem) = accesses_at (based_forms false true) mem (swaps_at Doubleword (number_of rd) (number_of rn))
+rest_operand_step (Vector v) = vector_operand_step v
+rest_operand_step _ = None
+
+-- the same where it is no load
 abbrev pub other_operand_step : Inst → Option OperandStep
-other_operand_step (AluRX op rd ri mem) = accesses_at (alu_forms op) mem (computes_at (alu_two_rule op) (alu_computation op) (number_of rd))
-other_operand_step (CmpRX op rn mem) = accesses_at (cmp_forms op) mem (compares_at (comparison op) (number_of rn))
-other_operand_step (LoadAddr rd mem) = takes_address mem (loads_address (number_of rd))
-other_operand_step (Store8 rd mem) = accesses_at (indexed_forms true true false) mem (stores_at byte (number_of rd))
-other_operand_step (Store16 rd mem) = accesses_at (indexed_forms true true true) mem (stores_at unsigned_halfword (number_of rd))
-other_operand_step (Store32 rd mem) = accesses_at (indexed_forms true true true) mem (stores_at unsigned_word (number_of rd))
-other_operand_step (Store64 rd mem) = accesses_at (indexed_forms false true true) mem (stores_at doubleword (number_of rd))
-other_operand_step (StoreRev16 rd mem) = accesses_at (indexed_forms false true false) mem (stores_at (reversed_bytes Bits16) (number_of rd))
-other_operand_step (StoreRev32 rd mem) = accesses_at (indexed_forms false true false) mem (stores_at (reversed_bytes Bits32) (number_of rd))
-other_operand_step (StoreRev64 rd mem) = accesses_at (indexed_forms false true false) mem (stores_at (reversed_bytes Bits64) (number_of rd))
-other_operand_step (StoreImm8 imm mem) = accesses_at (based_forms true true) mem (stores_value Bits8 (low_byte imm))
-other_operand_step (StoreImm16 imm mem) = accesses_at (based_forms true false) mem (stores_value Bits16 (signed_immediate (low_halfword imm)))
-other_operand_step (StoreImm32SExt16 imm mem) = accesses_at (based_forms true false) mem (stores_value Bits32 (signed_immediate (low_halfword imm)))
-other_operand_step (StoreImm64SExt16 imm mem) = accesses_at (based_forms true false) mem (stores_value Bits64 (signed_immediate (low_halfword imm)))
-other_operand_step (LoadMultiple64 rt rt2 mem) = accesses_at (based_forms false true) mem (loads_multiple (number_of rt) (number_of rt2))
-other_operand_step (StoreMultiple64 rt rt2 mem) = accesses_at (based_forms false true) mem (stores_multiple (number_of rt) (number_of rt2))
-other_operand_step (AtomicRmw op rd rn mem) = accesses_at (based_forms false true) mem (operates_at (alu_computation op) (number_of rd) (number_of rn))
-other_operand_step (AtomicCas32 rd ri rn mem) = accesses_at (based_forms true true) mem (swaps_at Word (number_of rd) (number_of rn))
-other_operand_step (AtomicCas64 rd ri rn mem) = accesses_at (based_forms false true) mem (swaps_at Doubleword (number_of rd) (number_of rn))
-other_operand_step (Vector v) = vector_operand_step v
-other_operand_step _ = None
+other_operand_step i = by_store store_step (rest_operand_step i) (as_store i)
 
 -- the instructions with an operand in memory
 abbrev pub operand_step : Inst → Option OperandStep

@@ -4,14 +4,17 @@ use Rattle.s390x_inst.specs.declared.inst.Inst.{Inst, Row_of-Inst, end_of-Inst, 
 use Rattle.s390x_inst.specs.declared.inst.Inst.TheVariants.{Loop', IndirectBr, JTSequence, Call, ReturnCall, LoadSymbolReloc, LabelAddress, Args, Rets, DummyUse, Vector, AluRRR, AluRRSImm16, AluRR, AluRX, AluRSImm16, AluRSImm32, AluRUImm32, AluRUImm16Shifted, AluRUImm32Shifted, SMulWide, UMulWide}
 use Rattle.s390x_inst.specs.declared.inst.Inst.TheVariants.{SDivMod32, SDivMod64, UDivMod32, UDivMod64, Flogr, ShiftRR, RxSBG, RxSBGTest, UnaryRR, CmpRR, CmpRX, CmpRSImm16, CmpRSImm32, CmpRUImm32, CmpTrapRR, CmpTrapRSImm16, CmpTrapRUImm16, Mov64, MovPReg, Mov32, Mov32Imm, Mov32SImm16, Mov64SImm16}
 use Rattle.s390x_inst.specs.declared.inst.Inst.TheVariants.{Mov64SImm32, Mov64UImm16Shifted, Mov64UImm32Shifted, Insert64UImm16Shifted, Insert64UImm32Shifted, CMov32, CMov64, CMov32SImm16, CMov64SImm16, Extend, LoadAR, InsertAR}
-use Rattle.s390x_inst.specs.declared.inst.Inst.TheVariants.{Store8, Store16, Store32, Store64, StoreRev16, StoreRev32, StoreRev64, StoreImm8, StoreImm16, StoreImm32SExt16, StoreImm64SExt16}
+use Rattle.s390x_inst.specs.declared.inst.Inst.TheVariants.{StoreImm8, StoreImm16, StoreImm32SExt16, StoreImm64SExt16}
 use Rattle.s390x_inst.specs.declared.inst.Inst.TheVariants.{LoadMultiple64, StoreMultiple64, LoadAddr, LoadIndexedAddr, LoadLogicalIndexedAddr, AtomicRmw, AtomicCas32, AtomicCas64}
 use Rattle.s390x_inst.specs.declared.vec_inst.VecInst.{VecInst}
-use Rattle.s390x_inst.specs.declared.vec_inst.VecInst.TheVariants.{VecRRR, VecRR, VecShiftRR, VecSelect, VecPermute, VecBlend, VecEvaluate, VecPermuteDWImm, VecIntCmp, VecIntCmpS, VecIntEltCmp, VecInt128SCmpHi, VecInt128UCmpHi, VecLoad, VecLoadRev, VecLoadByte16Rev, VecLoadByte32Rev, VecLoadByte64Rev}
-use Rattle.s390x_inst.specs.declared.vec_inst.VecInst.TheVariants.{VecLoadElt16Rev, VecLoadElt32Rev, VecLoadElt64Rev, VecStore, VecStoreRev, VecStoreByte16Rev, VecStoreByte32Rev, VecStoreByte64Rev, VecStoreElt16Rev, VecStoreElt32Rev, VecStoreElt64Rev, VecLoadReplicate, VecLoadReplicateRev, VecLoadLane}
+use Rattle.s390x_inst.specs.declared.vec_inst.VecInst.TheVariants.{VecRRR, VecRR, VecShiftRR, VecSelect, VecPermute, VecBlend, VecEvaluate, VecPermuteDWImm, VecIntCmp, VecIntCmpS, VecIntEltCmp, VecInt128SCmpHi, VecInt128UCmpHi}
+use Rattle.s390x_inst.specs.declared.vec_inst.VecInst.TheVariants.{VecLoadReplicate, VecLoadReplicateRev, VecLoadLane}
 use Rattle.s390x_inst.specs.declared.vec_inst.VecInst.TheVariants.{VecLoadLaneRev, VecLoadLaneUndef, VecLoadLaneRevUndef, VecStoreLane, VecStoreLaneRev, VecMov, FpuMove32, FpuMove64, FpuCMov32, FpuCMov64, VecCMov, MovToVec128, VecImmByteMask, VecImmBitMask, VecImmReplicate, VecInsertLane}
 use Rattle.s390x_inst.specs.declared.vec_inst.VecInst.TheVariants.{VecInsertLaneUndef, VecExtractLane, VecInsertLaneImm, VecInsertLaneImmUndef, VecReplicateLane, VecEltRev}
 use Rattle.s390x_inst.specs.Loads.{as_load, by_load}
+use Rattle.s390x_inst.specs.Stores.{as_store, by_store}
+use Rattle.s390x_inst.specs.declared.whole.WholeAccess.{WholeAccess}
+use Rattle.s390x_inst.specs.Wholes.{as_whole, by_whole, by_direction}
 use Rattle.s390x_operands.specs.declared.constraint.OperandError.{OperandError}
 use Rattle.s390x_operands.specs.declared.constraint.Reported.{Reported}
 use Rattle.s390x_operands.specs.declared.constraint.Reported.TheVariants.{Fixed}
@@ -52,33 +55,25 @@ register_vector_requests (VecReplicateLane size rd rn lane_imm) = defined rd ∷
 register_vector_requests (VecEltRev lane_count rd rn) = defined rd ∷ used rn ∷ []
 register_vector_requests _ = []
 
+-- what is reported of loads and stores of elements, and of instructions on registers
+abbrev pub part_requests : VecInst → List (Option Reported)
+part_requests (VecLoadReplicate size rd mem) = defined rd ∷ memory_requests mem
+part_requests (VecLoadReplicateRev size rd mem) = defined rd ∷ memory_requests mem
+part_requests (VecLoadLane size rd ri mem lane_imm) = reused rd ∷ used ri ∷ memory_requests mem
+part_requests (VecLoadLaneRev size rd ri mem lane_imm) = reused rd ∷ used ri ∷ memory_requests mem
+part_requests (VecLoadLaneUndef size rd mem lane_imm) = defined rd ∷ memory_requests mem
+part_requests (VecLoadLaneRevUndef size rd mem lane_imm) = defined rd ∷ memory_requests mem
+part_requests (VecStoreLane size rd mem lane_imm) = used rd ∷ memory_requests mem
+part_requests (VecStoreLaneRev size rd mem lane_imm) = used rd ∷ memory_requests mem
+part_requests v = register_vector_requests v
+
+-- what is reported of a load or a store of a whole register
+abbrev pub whole_requests : WholeAccess → List (Option Reported)
+whole_requests w = by_direction w.direction (defined w.rd) (used w.rd) ∷ memory_requests w.mem
+
 -- what is reported of vector instructions
 abbrev pub vector_requests : VecInst → List (Option Reported)
-vector_requests (VecLoad rd mem) = defined rd ∷ memory_requests mem
-vector_requests (VecLoadRev rd mem) = defined rd ∷ memory_requests mem
-vector_requests (VecLoadByte16Rev rd mem) = defined rd ∷ memory_requests mem
-vector_requests (VecLoadByte32Rev rd mem) = defined rd ∷ memory_requests mem
-vector_requests (VecLoadByte64Rev rd mem) = defined rd ∷ memory_requests mem
-vector_requests (VecLoadElt16Rev rd mem) = defined rd ∷ memory_requests mem
-vector_requests (VecLoadElt32Rev rd mem) = defined rd ∷ memory_requests mem
-vector_requests (VecLoadElt64Rev rd mem) = defined rd ∷ memory_requests mem
-vector_requests (VecStore rd mem) = used rd ∷ memory_requests mem
-vector_requests (VecStoreRev rd mem) = used rd ∷ memory_requests mem
-vector_requests (VecStoreByte16Rev rd mem) = used rd ∷ memory_requests mem
-vector_requests (VecStoreByte32Rev rd mem) = used rd ∷ memory_requests mem
-vector_requests (VecStoreByte64Rev rd mem) = used rd ∷ memory_requests mem
-vector_requests (VecStoreElt16Rev rd mem) = used rd ∷ memory_requests mem
-vector_requests (VecStoreElt32Rev rd mem) = used rd ∷ memory_requests mem
-vector_requests (VecStoreElt64Rev rd mem) = used rd ∷ memory_requests mem
-vector_requests (VecLoadReplicate size rd mem) = defined rd ∷ memory_requests mem
-vector_requests (VecLoadReplicateRev size rd mem) = defined rd ∷ memory_requests mem
-vector_requests (VecLoadLane size rd ri mem lane_imm) = reused rd ∷ used ri ∷ memory_requests mem
-vector_requests (VecLoadLaneRev size rd ri mem lane_imm) = reused rd ∷ used ri ∷ memory_requests mem
-vector_requests (VecLoadLaneUndef size rd mem lane_imm) = defined rd ∷ memory_requests mem
-vector_requests (VecLoadLaneRevUndef size rd mem lane_imm) = defined rd ∷ memory_requests mem
-vector_requests (VecStoreLane size rd mem lane_imm) = used rd ∷ memory_requests mem
-vector_requests (VecStoreLaneRev size rd mem lane_imm) = used rd ∷ memory_requests mem
-vector_requests v = register_vector_requests v
+vector_requests v = by_whole whole_requests (part_requests v) (as_whole v)
 
 -- what is reported of branches, calls and the rest
 abbrev pub control_requests : Inst → List (Option Reported)
@@ -94,28 +89,25 @@ control_requests (DummyUse reg) = used reg ∷ []
 control_requests (Vector v) = vector_requests v
 control_requests _ = []
 
--- what is reported of multiple loads, stores and addresses
+-- what is reported of multiple loads and stores, immediates that are stored, and addresses
+abbrev pub rest_requests : Inst → List (Option Reported)
+rest_requests (StoreImm8 imm mem) = memory_requests mem
+rest_requests (StoreImm16 imm mem) = memory_requests mem
+rest_requests (StoreImm32SExt16 imm mem) = memory_requests mem
+rest_requests (StoreImm64SExt16 imm mem) = memory_requests mem
+rest_requests (LoadMultiple64 rt rt2 mem) = memory_requests mem ++ range_requests rt rt2
+rest_requests (StoreMultiple64 rt rt2 mem) = memory_requests mem ++ range_requests rt rt2
+rest_requests (LoadAddr rd mem) = defined rd ∷ memory_requests mem
+rest_requests (LoadIndexedAddr rd base index offset size) = defined rd ∷ used base ∷ used index ∷ []
+rest_requests (LoadLogicalIndexedAddr rd base index offset size) = defined rd ∷ used base ∷ used index ∷ []
+rest_requests (AtomicRmw alu_op rd rn mem) = defined rd ∷ used rn ∷ memory_requests mem
+rest_requests (AtomicCas32 rd ri rn mem) = reused rd ∷ used ri ∷ used rn ∷ memory_requests mem
+rest_requests (AtomicCas64 rd ri rn mem) = reused rd ∷ used ri ∷ used rn ∷ memory_requests mem
+rest_requests i = control_requests i
+
+-- what is reported of stores, and of these
 abbrev pub store_requests : Inst → List (Option Reported)
-store_requests (Store8 rd mem) = used rd ∷ memory_requests mem
-store_requests (Store16 rd mem) = used rd ∷ memory_requests mem
-store_requests (Store32 rd mem) = used rd ∷ memory_requests mem
-store_requests (Store64 rd mem) = used rd ∷ memory_requests mem
-store_requests (StoreRev16 rd mem) = used rd ∷ memory_requests mem
-store_requests (StoreRev32 rd mem) = used rd ∷ memory_requests mem
-store_requests (StoreRev64 rd mem) = used rd ∷ memory_requests mem
-store_requests (StoreImm8 imm mem) = memory_requests mem
-store_requests (StoreImm16 imm mem) = memory_requests mem
-store_requests (StoreImm32SExt16 imm mem) = memory_requests mem
-store_requests (StoreImm64SExt16 imm mem) = memory_requests mem
-store_requests (LoadMultiple64 rt rt2 mem) = memory_requests mem ++ range_requests rt rt2
-store_requests (StoreMultiple64 rt rt2 mem) = memory_requests mem ++ range_requests rt rt2
-store_requests (LoadAddr rd mem) = defined rd ∷ memory_requests mem
-store_requests (LoadIndexedAddr rd base index offset size) = defined rd ∷ used base ∷ used index ∷ []
-store_requests (LoadLogicalIndexedAddr rd base index offset size) = defined rd ∷ used base ∷ used index ∷ []
-store_requests (AtomicRmw alu_op rd rn mem) = defined rd ∷ used rn ∷ memory_requests mem
-store_requests (AtomicCas32 rd ri rn mem) = reused rd ∷ used ri ∷ used rn ∷ memory_requests mem
-store_requests (AtomicCas64 rd ri rn mem) = reused rd ∷ used ri ∷ used rn ∷ memory_requests mem
-store_requests i = control_requests i
+store_requests i = by_store (λ s. used s.rd ∷ memory_requests s.mem) (rest_requests i) (as_store i)
 
 -- what is reported of loads, stores and addresses
 abbrev pub storage_requests : Inst → List (Option Reported)

@@ -1,6 +1,6 @@
 //! Reporting the operands of loads and stores.
 ghost use Rattle.s390x_operands.specs.Requests.{Reports};
-ghost use Rattle.s390x_operands.specs.Operands.{storage_requests, store_requests};
+ghost use Rattle.s390x_operands.specs.Operands.{storage_requests, rest_requests};
 
 use crate::constraint::OperandError;
 use crate::control::report_control;
@@ -9,20 +9,13 @@ use crate::report::{report_inputs, report_output, report_output_from, report_reu
 use crate::visitor::OperandVisitor;
 use s390x_inst::Inst;
 
-// Reports the operands of an instruction that is neither an operator nor a move, nor a load of one register.
-fn report_store<V: OperandVisitor>(v: &mut V, denied: bool, inst: &Inst) -> Result<(), OperandError>
-    ensures { Reports denied (store_requests inst.now) (V.items v.old) (V.items v.new)
+// Reports the operands of an instruction that is neither an operator nor a move, nor a load or a store of one register.
+fn report_rest<V: OperandVisitor>(v: &mut V, denied: bool, inst: &Inst) -> Result<(), OperandError>
+    ensures { Reports denied (rest_requests inst.now) (V.items v.old) (V.items v.new)
         (V.denies v.old) (V.denies v.new) result }
 {
     match inst {
         Inst::LoadAddr { rd, mem } => report_output_from(v, denied, rd, &[], mem),
-        Inst::Store8 { rd, mem }
-        | Inst::Store16 { rd, mem }
-        | Inst::Store32 { rd, mem }
-        | Inst::Store64 { rd, mem }
-        | Inst::StoreRev16 { rd, mem }
-        | Inst::StoreRev32 { rd, mem }
-        | Inst::StoreRev64 { rd, mem } => { report_inputs(v, denied, &[*rd], mem) }
         Inst::StoreImm8 { mem, .. }
         | Inst::StoreImm16 { mem, .. }
         | Inst::StoreImm32SExt16 { mem, .. }
@@ -62,6 +55,9 @@ pub fn report_storage<V: OperandVisitor>(
 {
     match inst.as_load() {
         Some(load) => report_output_from(v, denied, &load.rd, &[], &load.mem),
-        None => report_store(v, denied, inst),
+        None => match inst.as_store() {
+            Some(store) => report_inputs(v, denied, &[store.rd], &store.mem),
+            None => report_rest(v, denied, inst),
+        },
     }
 }

@@ -1,6 +1,6 @@
 //! Reporting the operands of vector instructions.
 ghost use Rattle.s390x_operands.specs.Requests.{Reports};
-ghost use Rattle.s390x_operands.specs.Operands.{register_vector_requests, vector_requests};
+ghost use Rattle.s390x_operands.specs.Operands.{register_vector_requests, part_requests, whole_requests, vector_requests};
 
 use crate::constraint::OperandError;
 use crate::report::{
@@ -8,7 +8,26 @@ use crate::report::{
     report_reused_from, report_uses,
 };
 use crate::visitor::OperandVisitor;
-use s390x_inst::VecInst;
+use s390x_base::Writable;
+use s390x_inst::{Direction, VecInst, WholeAccess};
+
+// Reports the operands of a load or a store of a whole register.
+fn report_whole<V: OperandVisitor>(
+    v: &mut V,
+    denied: bool,
+    whole: &WholeAccess,
+) -> Result<(), OperandError>
+    ensures { Reports denied (whole_requests whole.now) (V.items v.old) (V.items v.new)
+        (V.denies v.old) (V.denies v.new) result }
+{
+    match whole.direction {
+        Direction::Load => {
+            let rd = Writable::from_reg(whole.rd);
+            report_output_from(v, denied, &rd, &[], &whole.mem)
+        }
+        Direction::Store => report_inputs(v, denied, &[whole.rd], &whole.mem),
+    }
+}
 
 /// Reports the operands of a vector instruction.
 pub fn report_vector<V: OperandVisitor>(
@@ -19,31 +38,31 @@ pub fn report_vector<V: OperandVisitor>(
     ensures { Reports denied (vector_requests inst.now) (V.items v.old) (V.items v.new)
         (V.denies v.old) (V.denies v.new) result }
 {
+    match inst.as_whole() {
+        Some(whole) => report_whole(v, denied, &whole),
+        None => report_part(v, denied, inst),
+    }
+}
+
+// Reports the operands of a vector instruction that is no load or store of a whole register.
+fn report_part<V: OperandVisitor>(
+    v: &mut V,
+    denied: bool,
+    inst: &VecInst,
+) -> Result<(), OperandError>
+    ensures { Reports denied (part_requests inst.now) (V.items v.old) (V.items v.new)
+        (V.denies v.old) (V.denies v.new) result }
+{
     match inst {
-        VecInst::VecLoad { rd, mem }
-        | VecInst::VecLoadRev { rd, mem }
-        | VecInst::VecLoadByte16Rev { rd, mem }
-        | VecInst::VecLoadByte32Rev { rd, mem }
-        | VecInst::VecLoadByte64Rev { rd, mem }
-        | VecInst::VecLoadElt16Rev { rd, mem }
-        | VecInst::VecLoadElt32Rev { rd, mem }
-        | VecInst::VecLoadElt64Rev { rd, mem }
-        | VecInst::VecLoadReplicate { rd, mem, .. }
+        VecInst::VecLoadReplicate { rd, mem, .. }
         | VecInst::VecLoadReplicateRev { rd, mem, .. }
         | VecInst::VecLoadLaneUndef { rd, mem, .. }
         | VecInst::VecLoadLaneRevUndef { rd, mem, .. } => {
             report_output_from(v, denied, rd, &[], mem)
         }
-        VecInst::VecStore { rd, mem }
-        | VecInst::VecStoreRev { rd, mem }
-        | VecInst::VecStoreByte16Rev { rd, mem }
-        | VecInst::VecStoreByte32Rev { rd, mem }
-        | VecInst::VecStoreByte64Rev { rd, mem }
-        | VecInst::VecStoreElt16Rev { rd, mem }
-        | VecInst::VecStoreElt32Rev { rd, mem }
-        | VecInst::VecStoreElt64Rev { rd, mem }
-        | VecInst::VecStoreLane { rd, mem, .. }
-        | VecInst::VecStoreLaneRev { rd, mem, .. } => { report_inputs(v, denied, &[*rd], mem) }
+        VecInst::VecStoreLane { rd, mem, .. } | VecInst::VecStoreLaneRev { rd, mem, .. } => {
+            report_inputs(v, denied, &[*rd], mem)
+        }
         VecInst::VecLoadLane { rd, ri, mem, .. } | VecInst::VecLoadLaneRev { rd, ri, mem, .. } => {
             report_reused_from(v, denied, rd, &[*ri], mem)
         }
@@ -115,29 +134,6 @@ pub fn report_register_vector<V: OperandVisitor>(
             ..
         } => { report_output(v, denied, rd, &[*rn, *lane_reg]) }
         VecInst::VecInsertLaneImm { rd, ri, .. } => { report_reused(v, denied, rd, &[*ri]) }
-        VecInst::VecLoad { .. }
-        | VecInst::VecLoadRev { .. }
-        | VecInst::VecLoadByte16Rev { .. }
-        | VecInst::VecLoadByte32Rev { .. }
-        | VecInst::VecLoadByte64Rev { .. }
-        | VecInst::VecLoadElt16Rev { .. }
-        | VecInst::VecLoadElt32Rev { .. }
-        | VecInst::VecLoadElt64Rev { .. }
-        | VecInst::VecStore { .. }
-        | VecInst::VecStoreRev { .. }
-        | VecInst::VecStoreByte16Rev { .. }
-        | VecInst::VecStoreByte32Rev { .. }
-        | VecInst::VecStoreByte64Rev { .. }
-        | VecInst::VecStoreElt16Rev { .. }
-        | VecInst::VecStoreElt32Rev { .. }
-        | VecInst::VecStoreElt64Rev { .. }
-        | VecInst::VecLoadReplicate { .. }
-        | VecInst::VecLoadReplicateRev { .. }
-        | VecInst::VecLoadLane { .. }
-        | VecInst::VecLoadLaneRev { .. }
-        | VecInst::VecLoadLaneUndef { .. }
-        | VecInst::VecLoadLaneRevUndef { .. }
-        | VecInst::VecStoreLane { .. }
-        | VecInst::VecStoreLaneRev { .. } => report_nothing(v, denied),
+        _ => report_nothing(v, denied),
     }
 }

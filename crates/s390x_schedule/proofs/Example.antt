@@ -12,6 +12,7 @@ use Rattle.s390x_format.specs.Layout.{number, bits, SlotsFit}
 use Rattle.s390x_format.specs.Lookup.{row_for}
 use Rattle.s390x_format.specs.Reading.{be_bytes}
 use Rattle.s390x_format.proofs.Encoding.{listed}
+use Rattle.s390x_rows.specs.declared.opcodes.TheConstants as opcodes
 use Rattle.s390x_typed_steps.specs.Causes.{blocks_cause}
 use Rattle.s390x_typed_steps.specs.Image.{step_offset, function_code}
 use Rattle.s390x_typed_steps.specs.MachineInstruction.{MachineInstruction, bytes_of, rr, rre, ril_b}
@@ -141,19 +142,19 @@ step_at m o s t even memory at stands fit listed acts = record {
   acts = acts;
 }
 
-lgr_stands : StandsAt image 0 (bytes_of (rre 0xb904 6 14))
+lgr_stands : StandsAt image 0 (bytes_of (rre opcodes.LGR 6 14))
 unfolding number bits layout_of length_of be_bytes
 lgr_stands = record { earlier = []; later = 0xc0 ∷ 0xe5 ∷ 0x00 ∷ 0x00 ∷ 0x00 ∷ 0x06 ∷ 0x07 ∷ 0xf6 ∷ 0x00 ∷ 0x00 ∷ 0x00 ∷ 0x00 ∷ 0xb9 ∷ 0x08 ∷ 0x00 ∷ 0x24 ∷ 0x07 ∷ 0xfe ∷ []; at = refl; is = refl }
 
-brasl_stands : StandsAt image 4 (bytes_of (ril_b 0xc05 14 6))
+brasl_stands : StandsAt image 4 (bytes_of (ril_b opcodes.BRASL 14 6))
 unfolding number bits layout_of length_of be_bytes
 brasl_stands = record { earlier = 0xb9 ∷ 0x04 ∷ 0x00 ∷ 0x6e ∷ []; later = 0x07 ∷ 0xf6 ∷ 0x00 ∷ 0x00 ∷ 0x00 ∷ 0x00 ∷ 0xb9 ∷ 0x08 ∷ 0x00 ∷ 0x24 ∷ 0x07 ∷ 0xfe ∷ []; at = refl; is = refl }
 
-last_stands : StandsAt image 10 (bytes_of (rr 0x07 15 6))
+last_stands : StandsAt image 10 (bytes_of (rr opcodes.BCR 15 6))
 unfolding number bits layout_of length_of be_bytes
 last_stands = record { earlier = 0xb9 ∷ 0x04 ∷ 0x00 ∷ 0x6e ∷ 0xc0 ∷ 0xe5 ∷ 0x00 ∷ 0x00 ∷ 0x00 ∷ 0x06 ∷ []; later = 0x00 ∷ 0x00 ∷ 0x00 ∷ 0x00 ∷ 0xb9 ∷ 0x08 ∷ 0x00 ∷ 0x24 ∷ 0x07 ∷ 0xfe ∷ []; at = refl; is = refl }
 
-agr_stands : StandsAt image 16 (bytes_of (rre 0xb908 2 4))
+agr_stands : StandsAt image 16 (bytes_of (rre opcodes.AGR 2 4))
 unfolding number bits layout_of length_of be_bytes
 agr_stands = record {
   earlier = 0xb9 ∷ 0x04 ∷ 0x00 ∷ 0x6e ∷ 0xc0 ∷ 0xe5 ∷ 0x00 ∷ 0x00 ∷ 0x00 ∷ 0x06 ∷ 0x07 ∷ 0xf6 ∷ 0x00 ∷ 0x00 ∷ 0x00 ∷ 0x00 ∷ [];
@@ -162,7 +163,7 @@ agr_stands = record {
   is = refl;
 }
 
-back_stands : StandsAt image 20 (bytes_of (rr 0x07 15 14))
+back_stands : StandsAt image 20 (bytes_of (rr opcodes.BCR 15 14))
 unfolding number bits layout_of length_of be_bytes
 back_stands = record {
   earlier = 0xb9 ∷ 0x04 ∷ 0x00 ∷ 0x6e ∷ 0xc0 ∷ 0xe5 ∷ 0x00 ∷ 0x00 ∷ 0x00 ∷ 0x06 ∷ 0x07 ∷ 0xf6 ∷ 0x00 ∷ 0x00 ∷ 0x00 ∷ 0x00 ∷ 0xb9 ∷ 0x08 ∷ 0x00 ∷ 0x24 ∷ [];
@@ -171,28 +172,28 @@ back_stands = record {
   is = refl;
 }
 
-lgr_listed : IsEncoded machine_rows Rre (rre 0xb904 6 14).slots
+lgr_listed : IsEncoded machine_rows Rre (rre opcodes.LGR 6 14).slots
 unfolding machine_rows row_for
-lgr_listed = listed machine_rows Rre (rre 0xb904 6 14).slots (omega arith) (refl, refl, refl)
+lgr_listed = listed machine_rows Rre (rre opcodes.LGR 6 14).slots (omega arith) (refl, refl, refl)
 
-brasl_listed : IsEncoded machine_rows RilB (ril_b 0xc05 14 6).slots
+brasl_listed : IsEncoded machine_rows RilB (ril_b opcodes.BRASL 14 6).slots
 unfolding machine_rows row_for
-brasl_listed = listed machine_rows RilB (ril_b 0xc05 14 6).slots (omega arith) (refl, refl, refl)
+brasl_listed = listed machine_rows RilB (ril_b opcodes.BRASL 14 6).slots (omega arith) (refl, refl, refl)
 
-lgr_step : (s t : State) → s.core.memory ≡ core.memory → s.address ≡ 4096 → FetchedStep (Found (decoded_of Rre (rre 0xb904 6 14).slots)) s (Executed None) t → MachineStep s (Executed None) t
-lgr_step s t memory at acts = step_at (rre 0xb904 6 14) 0 s t refl memory at lgr_stands (fits_rre 0xb904 6 14 (omega arith) (omega arith) (omega arith)) lgr_listed acts
+lgr_step : (s t : State) → s.core.memory ≡ core.memory → s.address ≡ 4096 → FetchedStep (Found (decoded_of Rre (rre opcodes.LGR 6 14).slots)) s (Executed None) t → MachineStep s (Executed None) t
+lgr_step s t memory at acts = step_at (rre opcodes.LGR 6 14) 0 s t refl memory at lgr_stands (fits_rre opcodes.LGR 6 14 (omega arith) (omega arith) (omega arith)) lgr_listed acts
 
-brasl_step : (s t : State) → s.core.memory ≡ core.memory → s.address ≡ 4100 → FetchedStep (Found (decoded_of RilB (ril_b 0xc05 14 6).slots)) s (Executed None) t → MachineStep s (Executed None) t
-brasl_step s t memory at acts = step_at (ril_b 0xc05 14 6) 4 s t refl memory at brasl_stands (fits_ril_b 0xc05 14 6 (omega arith) (omega arith) (omega arith)) brasl_listed acts
+brasl_step : (s t : State) → s.core.memory ≡ core.memory → s.address ≡ 4100 → FetchedStep (Found (decoded_of RilB (ril_b opcodes.BRASL 14 6).slots)) s (Executed None) t → MachineStep s (Executed None) t
+brasl_step s t memory at acts = step_at (ril_b opcodes.BRASL 14 6) 4 s t refl memory at brasl_stands (fits_ril_b opcodes.BRASL 14 6 (omega arith) (omega arith) (omega arith)) brasl_listed acts
 
-agr_step : (s t : State) → s.core.memory ≡ core.memory → s.address ≡ 4112 → FetchedStep (Found (decoded_of Rre (rre 0xb908 2 4).slots)) s (Executed None) t → MachineStep s (Executed None) t
-agr_step s t memory at acts = step_at (rre 0xb908 2 4) 16 s t refl memory at agr_stands (fits_rre 0xb908 2 4 (omega arith) (omega arith) (omega arith)) (agr_listed 2 4) acts
+agr_step : (s t : State) → s.core.memory ≡ core.memory → s.address ≡ 4112 → FetchedStep (Found (decoded_of Rre (rre opcodes.AGR 2 4).slots)) s (Executed None) t → MachineStep s (Executed None) t
+agr_step s t memory at acts = step_at (rre opcodes.AGR 2 4) 16 s t refl memory at agr_stands (fits_rre opcodes.AGR 2 4 (omega arith) (omega arith) (omega arith)) (agr_listed 2 4) acts
 
-back_step : (s t : State) → s.core.memory ≡ core.memory → s.address ≡ 4116 → FetchedStep (Found (decoded_of Rr (rr 0x07 15 14).slots)) s (Executed None) t → MachineStep s (Executed None) t
-back_step s t memory at acts = step_at (rr 0x07 15 14) 20 s t refl memory at back_stands (fits_rr 0x07 15 14 (omega arith) (omega arith) (omega arith)) (bcr_listed 15 14) acts
+back_step : (s t : State) → s.core.memory ≡ core.memory → s.address ≡ 4116 → FetchedStep (Found (decoded_of Rr (rr opcodes.BCR 15 14).slots)) s (Executed None) t → MachineStep s (Executed None) t
+back_step s t memory at acts = step_at (rr opcodes.BCR 15 14) 20 s t refl memory at back_stands (fits_rr opcodes.BCR 15 14 (omega arith) (omega arith) (omega arith)) (bcr_listed 15 14) acts
 
-last_step : (s t : State) → s.core.memory ≡ core.memory → s.address ≡ 4106 → FetchedStep (Found (decoded_of Rr (rr 0x07 15 6).slots)) s (Executed None) t → MachineStep s (Executed None) t
-last_step s t memory at acts = step_at (rr 0x07 15 6) 10 s t refl memory at last_stands (fits_rr 0x07 15 6 (omega arith) (omega arith) (omega arith)) (bcr_listed 15 6) acts
+last_step : (s t : State) → s.core.memory ≡ core.memory → s.address ≡ 4106 → FetchedStep (Found (decoded_of Rr (rr opcodes.BCR 15 6).slots)) s (Executed None) t → MachineStep s (Executed None) t
+last_step s t memory at acts = step_at (rr opcodes.BCR 15 6) 10 s t refl memory at last_stands (fits_rr opcodes.BCR 15 6 (omega arith) (omega arith) (omega arith)) (bcr_listed 15 6) acts
 
 run : Run image (record { core = core; address = 4096 }) (concatenated groups)
 unfolding length_of semantics_in semantics_of

@@ -4,6 +4,7 @@ use Rattle.std.specs.Prelude.{pos, ◌+ℤ◌, ◌-ℤ◌, ◌*ℤ◌, unsigned_
 use Rattle.std.specs.Int.{cast_signed}
 use Rattle.std.proofs.lemmas.Bool.{and_from, and_parts, or_from, or_left, or_right}
 use Rattle.std.proofs.lemmas.Int.{ints, int_rem_euclid_is}
+use Rattle.s390x_rows.specs.declared.opcodes.TheConstants as opcodes
 use mir.Syntax.{w32}
 use Rattle.s390x_format.specs.Formats.{length_of}
 use Rattle.s390x_operations.specs.Access.{Reads, fault, store_event_at}
@@ -190,9 +191,9 @@ module _ (base word addend : ℕ) (even : Bool) (u : Usable base word) (below : 
   adds_on t three five fourteen placed = record { addend_is = three ∙ adding.addend_is; word_is = five ∙ adding.word_is; link_is = fourteen ∙ adding.link_is; at = placed_from even base addend (own t) placed }
 
   -- an instruction that is neither of the two that store
-  plain : (d : Decoded) (o : ℕ) → IsFound s.core.memory s.address d → d.row.opcode ≡ o → (o ≡ 0xba → ⊥) → (o ≡ 0xebfa → ⊥) → (t : State) → CompletesStore s t → ⊥
-  plain d o found is swap add t (inl h) = not_row s d o 0xba found is swap h.0
-  plain d o found is swap add t (inr h) = not_row s d o 0xebfa found is add h
+  plain : (d : Decoded) (o : ℕ) → IsFound s.core.memory s.address d → d.row.opcode ≡ o → (o ≡ opcodes.CS → ⊥) → (o ≡ opcodes.LAAL → ⊥) → (t : State) → CompletesStore s t → ⊥
+  plain d o found is swap add t (inl h) = not_row s d o opcodes.CS found is swap h.0
+  plain d o found is swap add t (inr h) = not_row s d o opcodes.LAAL found is add h
 
   -- the address behind an instruction of the code
   next : (o n : ℕ) → s.address ≡ base + o → o + n < 24 → wrapping_add64 s.address n ≡ base + (o + n)
@@ -224,7 +225,7 @@ module _ (base word addend : ℕ) (even : Bool) (u : Usable base word) (below : 
         adding = adds_on t (register 3) (register 5) (register 14) (subst (λ b. IsPlaced b base addend (own t)) (sym is) (inr (inl (h.1 ∙ next 0 4 at (omega arith), sum ∙ ap (λ n. (n + addend) % 2 ^ 32) (sym two)))));
         has = ap (λ (m : Memory). m.has) h.0.memory;
         others = λ a out. ap (λ (m : Memory). m.get a) h.0.memory;
-        tells = subst (λ b. Tells word addend b s t) (sym (none_stored 0 refl refl t.core.registers.code)) (plain (row_found sum_row) 0xb9f8 (here sum_row 0 sum_there at) refl (λ e. omega (arith, e)) (λ e. omega (arith, e)) t, ap (λ (m : Memory). number_at m.get word 4) h.0.memory);
+        tells = subst (λ b. Tells word addend b s t) (sym (none_stored 0 refl refl t.core.registers.code)) (plain (row_found sum_row) opcodes.ARK (here sum_row 0 sum_there at) refl (λ e. omega (arith, e)) (λ e. omega (arith, e)) t, ap (λ (m : Memory). number_at m.get word 4) h.0.memory);
       }
 
   sum_goes : even ≡ true → s.address ≡ base + 0 → GoesOn base word addend even s
@@ -262,7 +263,7 @@ module _ (base word addend : ℕ) (even : Bool) (u : Usable base word) (below : 
     where
       unswapped : (t : State) → s.address ≡ base + 4 → t.core.registers.code ≡ Code1 → CompletesStore s t → ⊥
       unswapped t at code (inl h) = let e : Code1 ≡ Code0 = sym code ∙ h.1 in absurd (cc)
-      unswapped t at code (inr h) = not_row s (row_found swap_row) 0xba 0xebfa (here swap_row 4 swap_there at) refl (λ e. omega (arith, e)) h
+      unswapped t at code (inr h) = not_row s (row_found swap_row) opcodes.CS opcodes.LAAL (here swap_row 4 swap_there at) refl (λ e. omega (arith, e)) h
 
   swap_others : (t : State) (b : Bool) (v a : ℕ) → t.core.memory ≡ after_store (store_event_at word 4 (cond b (Some v) None)) s.core.memory → is_in_word word a ≡ false → t.core.memory.get a ≡ s.core.memory.get a
   swap_others t true v a memory out = ap (λ (m : Memory). m.get a) memory ∙ others_stored s.core.memory.get word v u.word_aligned below a out
@@ -322,7 +323,7 @@ module _ (base word addend : ℕ) (even : Bool) (u : Usable base word) (below : 
         adding = adds_on t (register 3) (register 5) (register 14) (subst (λ b. IsPlaced b base addend (own t)) (sym is) (back_placed t at (is_selected 4 s.core.registers.code) h.1));
         has = ap (λ (c : Core). c.memory.has) h.0;
         others = λ a out. ap (λ (c : Core). c.memory.get a) h.0;
-        tells = subst (λ b. Tells word addend b s t) (sym (none_stored 8 refl refl t.core.registers.code)) (plain (row_found back_row) 0xc04 (here back_row 8 back_there at) refl (λ e. omega (arith, e)) (λ e. omega (arith, e)) t, ap (λ (c : Core). number_at c.memory.get word 4) h.0);
+        tells = subst (λ b. Tells word addend b s t) (sym (none_stored 8 refl refl t.core.registers.code)) (plain (row_found back_row) opcodes.BRCL (here back_row 8 back_there at) refl (λ e. omega (arith, e)) (λ e. omega (arith, e)) t, ap (λ (c : Core). number_at c.memory.get word 4) h.0);
       }
 
   back_goes : even ≡ true → s.address ≡ base + 8 → GoesOn base word addend even s
@@ -356,7 +357,7 @@ module _ (base word addend : ℕ) (even : Bool) (u : Usable base word) (below : 
         adding = adds_on t (register 3) (register 5) (register 14) (begins even (own t) (to ∙ adding.link_is));
         has = ap (λ (c : Core). c.memory.has) h.0;
         others = λ a out. ap (λ (c : Core). c.memory.get a) h.0;
-        tells = subst (λ b. Tells word addend b s t) (sym (none_stored o four sixteen t.core.registers.code)) (plain (row_found return_row) 0x07 (here return_row o there at) refl (λ e. omega (arith, e)) (λ e. omega (arith, e)) t, ap (λ (c : Core). number_at c.memory.get word 4) h.0);
+        tells = subst (λ b. Tells word addend b s t) (sym (none_stored o four sixteen t.core.registers.code)) (plain (row_found return_row) opcodes.BCR (here return_row o there at) refl (λ e. omega (arith, e)) (λ e. omega (arith, e)) t, ap (λ (c : Core). number_at c.memory.get word 4) h.0);
       }
 
   return_goes : (o : ℕ) → StandsInCode return_row o → (o == 4) ≡ false → (o == 16) ≡ false → s.address ≡ base + o → GoesOn base word addend even s

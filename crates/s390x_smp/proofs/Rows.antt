@@ -9,6 +9,7 @@ use Rattle.s390x_format.specs.Fetch.{machine_rows}
 use Rattle.s390x_format.specs.Lookup.{row_for}
 use Rattle.s390x_format.specs.Encoded.{IsEncoded, decoded_of}
 use Rattle.s390x_format.proofs.Encoding.{listed}
+use Rattle.s390x_rows.specs.declared.opcodes.TheConstants as opcodes
 use Rattle.s390x_typed_steps.specs.MachineInstruction.{MachineInstruction, bytes_of, rr, rrf_ab, ril_c, rs, rsy}
 use Rattle.s390x_operations.specs.State.{Memory, State, IsLoaded, wrapping_add64}
 use Rattle.s390x_machine.specs.declared.instruction_fetch.Fetched.{Fetched}
@@ -27,20 +28,20 @@ use Rattle.s390x_smp.specs.Stores.{IsRow}
 -- ---- the rows
 
 abbrev pub sum_row : MachineInstruction
-sum_row = rrf_ab 0xb9f8 4 2 3 0
+sum_row = rrf_ab opcodes.ARK 4 2 3 0
 
 abbrev pub swap_row : MachineInstruction
-swap_row = rs 0xba 2 4 5 0
+swap_row = rs opcodes.CS 2 4 5 0
 
 -- the distance is -8
 abbrev pub back_row : MachineInstruction
-back_row = ril_c 0xc04 4 4294967292
+back_row = ril_c opcodes.BRCL 4 4294967292
 
 abbrev pub return_row : MachineInstruction
-return_row = rr 0x07 15 14
+return_row = rr opcodes.BCR 15 14
 
 abbrev pub add_row : MachineInstruction
-add_row = rsy 0xebfa 4 3 5 0
+add_row = rsy opcodes.LAAL 4 3 5 0
 
 abbrev pub row_found : MachineInstruction → Decoded
 row_found m = decoded_of m.format m.slots
@@ -90,22 +91,22 @@ unfolding number bits layout_of length_of be_bytes
 add_return_stands base = record { earlier = 0xb9 ∷ 0xf8 ∷ 0x30 ∷ 0x42 ∷ 0xba ∷ 0x24 ∷ 0x50 ∷ 0x00 ∷ 0xc0 ∷ 0x44 ∷ 0xff ∷ 0xff ∷ 0xff ∷ 0xfc ∷ 0x07 ∷ 0xfe ∷ 0xeb ∷ 0x43 ∷ 0x50 ∷ 0x00 ∷ 0x00 ∷ 0xfa ∷ []; later = []; at = refl; is = refl }
 
 pub sum_there : StandsInCode sum_row 0
-sum_there = record { even = refl; inside = omega arith; stands = sum_stands; fits = fits_rrf_ab 0xb9f8 4 2 3 (omega arith) (omega arith) (omega arith) (omega arith); is_listed = sum_listed }
+sum_there = record { even = refl; inside = omega arith; stands = sum_stands; fits = fits_rrf_ab opcodes.ARK 4 2 3 (omega arith) (omega arith) (omega arith) (omega arith); is_listed = sum_listed }
 
 pub swap_there : StandsInCode swap_row 4
-swap_there = record { even = refl; inside = omega arith; stands = swap_stands; fits = fits_rs 0xba 2 4 5 0 (omega arith) (omega arith) (omega arith) (omega arith) (omega arith); is_listed = swap_listed }
+swap_there = record { even = refl; inside = omega arith; stands = swap_stands; fits = fits_rs opcodes.CS 2 4 5 0 (omega arith) (omega arith) (omega arith) (omega arith) (omega arith); is_listed = swap_listed }
 
 pub back_there : StandsInCode back_row 8
-back_there = record { even = refl; inside = omega arith; stands = back_stands; fits = fits_ril_c 0xc04 4 4294967292 (omega arith) (omega arith) (omega arith); is_listed = brcl_listed 4 4294967292 }
+back_there = record { even = refl; inside = omega arith; stands = back_stands; fits = fits_ril_c opcodes.BRCL 4 4294967292 (omega arith) (omega arith) (omega arith); is_listed = brcl_listed 4 4294967292 }
 
 pub loop_return_there : StandsInCode return_row 14
-loop_return_there = record { even = refl; inside = omega arith; stands = loop_return_stands; fits = fits_rr 0x07 15 14 (omega arith) (omega arith) (omega arith); is_listed = bcr_listed 15 14 }
+loop_return_there = record { even = refl; inside = omega arith; stands = loop_return_stands; fits = fits_rr opcodes.BCR 15 14 (omega arith) (omega arith) (omega arith); is_listed = bcr_listed 15 14 }
 
 pub add_there : StandsInCode add_row 16
-add_there = record { even = refl; inside = omega arith; stands = add_stands; fits = fits_rsy 0xebfa 4 3 5 0 (omega arith) (omega arith) (omega arith) (omega arith) (omega arith); is_listed = add_listed }
+add_there = record { even = refl; inside = omega arith; stands = add_stands; fits = fits_rsy opcodes.LAAL 4 3 5 0 (omega arith) (omega arith) (omega arith) (omega arith) (omega arith); is_listed = add_listed }
 
 pub add_return_there : StandsInCode return_row 22
-add_return_there = record { even = refl; inside = omega arith; stands = add_return_stands; fits = fits_rr 0x07 15 14 (omega arith) (omega arith) (omega arith); is_listed = bcr_listed 15 14 }
+add_return_there = record { even = refl; inside = omega arith; stands = add_return_stands; fits = fits_rr opcodes.BCR 15 14 (omega arith) (omega arith) (omega arith); is_listed = bcr_listed 15 14 }
 
 -- ---- at a row
 

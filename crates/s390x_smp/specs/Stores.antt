@@ -5,6 +5,7 @@ use Rattle.s390x_operations.specs.State.{State}
 use Rattle.s390x_operations.specs.declared.stop.ConditionCode.{ConditionCode}
 use Rattle.s390x_operations.specs.declared.stop.ConditionCode.TheVariants.{Code0}
 use Rattle.s390x_machine.specs.Fetch.{IsFound}
+use Rattle.s390x_rows.specs.declared.opcodes.TheConstants as opcodes
 use Rattle.s390x_schedule.specs.Schedule.{World, Tick, Goes, Scheduled, after_tick, after_ticks, view}
 use Rattle.s390x_smp.specs.Simulation.{Simulation, world}
 
@@ -14,7 +15,7 @@ IsRow opcode s = (d : Decoded) × IsFound s.core.memory s.address d × (d.row.op
 
 -- a step from one state to another is COMPARE AND SWAP that ends with code 0, or LOAD AND ADD LOGICAL
 abbrev pub CompletesStore : (s t : State) → Type 0
-CompletesStore s t = (IsRow 0xba s × (t.core.registers.code ≡ Code0)) ⊎ IsRow 0xebfa s
+CompletesStore s t = (IsRow opcodes.CS s × (t.core.registers.code ≡ Code0)) ⊎ IsRow opcodes.LAAL s
 
 -- a processor's completed store
 abbrev pub IsStoreOf : ℕ → World → Tick → Type 0

@@ -10,13 +10,17 @@ use Rattle.s390x_inst.specs.declared.args.MemArg.{MemArg}
 use Rattle.s390x_inst.specs.declared.args.MemArg.TheVariants.{Label, Constant, Symbol}
 use Rattle.s390x_inst.specs.declared.function.Block.{Block}
 use Rattle.s390x_inst.specs.declared.inst.Inst.{Inst}
-use Rattle.s390x_inst.specs.declared.inst.Inst.TheVariants.{AluRX, CmpRX, Store16, Store32, Store64, AtomicRmw, CondBreak, Jump, CondBr, Vector}
+use Rattle.s390x_inst.specs.declared.inst.Inst.TheVariants.{AluRX, CmpRX, AtomicRmw, CondBreak, Jump, CondBr, Vector}
 use Rattle.s390x_inst.specs.declared.load.LoadOp.{LoadOp}
 use Rattle.s390x_inst.specs.declared.load.LoadOp.TheVariants as LoadOps
+use Rattle.s390x_inst.specs.declared.store.Store.{Store}
+use Rattle.s390x_inst.specs.declared.store.StoreOp.{StoreOp}
+use Rattle.s390x_inst.specs.declared.store.StoreOp.TheVariants as StoreOps
+use Rattle.s390x_inst.specs.Stores.{as_store, store_instruction, by_store}
 use Rattle.s390x_inst.specs.declared.state.IsaFlags.{IsaFlags}
 use Rattle.s390x_typed_steps.specs.Baseline.{whole_or_loaded, body_for, tree_for}
 use Rattle.s390x_typed_steps.specs.Folding.{folded, fold, shortened, remainder, branches_of, folded_before, folded_from, folded_trees, next_block}
-use Rattle.s390x_typed_steps.specs.Memory.{StorageForm, RxForm, MemoryInstruction, memory, load_memory, other_memory, accesses_relative, has_relative_row, other_rows, with_rows, without_relative}
+use Rattle.s390x_typed_steps.specs.Memory.{StorageForm, RxForm, MemoryInstruction, memory, load_memory, store_memory, other_memory, accesses_relative, has_relative_row, other_rows, with_rows, without_relative}
 use Rattle.s390x_typed_steps.specs.Operands.{is_relative}
 use Rattle.s390x_typed_steps.specs.Steps.{Step, Plain, LoadedStep, Opening, Back, step_of, steps_of, steps_from, step_count, first_step, function_steps}
 use Rattle.s390x_typed_steps.specs.Storage.{alu_rx, alu_rxy, atomic_rsy}
@@ -64,16 +68,22 @@ relative_load : (L : Layout) (op : LoadOp) (rd : Reg) (mem : MemArg) → accesse
 relative_load L LoadOps.Load64 rd mem e = record { x = _; is = refl; alone = refl; relative = relative_here (memory (load_instruction LoadOps.Load64 rd mem)) mem refl e }
 relative_load L op rd mem e = record { x = _; is = refl; alone = refl; relative = relative_here (memory (load_instruction op rd mem)) mem refl e }
 
--- the last clause is a copy for each without such a row, loads among them
+-- the same of stores
+relative_store : (L : Layout) (op : StoreOp) (rd : Reg) (mem : MemArg) → accesses_relative (store_memory (record { op = op; rd = rd; mem = mem })) ≡ true → IsRelativeStep L (store_instruction op rd mem)
+relative_store L StoreOps.Store64 rd mem e = record { x = _; is = refl; alone = refl; relative = relative_here (memory (store_instruction StoreOps.Store64 rd mem)) mem refl e }
+relative_store L op rd mem e = record { x = _; is = refl; alone = refl; relative = relative_here (memory (store_instruction op rd mem)) mem refl e }
+
+store_or_none : (L : Layout) (i : Inst) (o : Option Store) → accesses_relative (by_store store_memory None o) ≡ true → IsRelativeStep L (by_store (λ s. store_instruction s.op s.rd s.mem) i o)
+store_or_none L i None e = absurd (true≢false (sym e))
+store_or_none L i (Some s) e = relative_store L s.op s.rd s.mem e
+
+-- the last clause is a copy for each store, and for each without such a row, loads among them
 relative_other : (L : Layout) (i : Inst) → accesses_relative (other_memory i) ≡ true → IsRelativeStep L i
 relative_other L (CmpRX op rn mem) e = record { x = _; is = refl; alone = refl; relative = relative_here (other_memory (CmpRX op rn mem)) mem refl e }
-relative_other L (Store16 rd mem) e = record { x = _; is = refl; alone = refl; relative = relative_here (other_memory (Store16 rd mem)) mem refl e }
-relative_other L (Store32 rd mem) e = record { x = _; is = refl; alone = refl; relative = relative_here (other_memory (Store32 rd mem)) mem refl e }
-relative_other L (Store64 rd mem) e = record { x = _; is = refl; alone = refl; relative = relative_here (other_memory (Store64 rd mem)) mem refl e }
 relative_other L (AluRX op rd ri mem) e = absurd (none_relative (other_memory (AluRX op rd ri mem)) (alu_none (is_some (alu_rx op) || is_some (alu_rxy op)) (alu_rx op) (alu_rxy op) rd ri mem) e)
 relative_other L (AtomicRmw op rd rn mem) e = absurd (none_relative (other_memory (AtomicRmw op rd rn mem)) (locked_none (atomic_rsy op) rd rn mem) e)
 relative_other L (Vector v) e = absurd (none_relative (other_memory (Vector v)) (vector_none v) e)
-relative_other L i e = absurd (true≢false (sym e))
+relative_other L i e = store_or_none L i (as_store i) e
 
 relative_step : (L : Layout) (i : Inst) → accesses_relative (memory i) ≡ true → IsRelativeStep L i
 relative_step L =

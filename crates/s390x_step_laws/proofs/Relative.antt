@@ -6,23 +6,27 @@ use Rattle.s390x_base.specs.declared.regs.Reg.{Reg}
 use Rattle.s390x_base.specs.declared.trap.TrapKind.{TrapKind}
 use Rattle.s390x_inst.specs.Emission.{Emission}
 use Rattle.s390x_inst.specs.Loads.{as_load, by_load}
+use Rattle.s390x_inst.specs.Stores.{as_store, by_store}
+use Rattle.s390x_inst.specs.Wholes.{as_whole, by_whole}
 use Rattle.s390x_inst.specs.declared.args.MemArg.{MemArg}
 use Rattle.s390x_inst.specs.declared.args.MemArg.TheVariants.{BXD12, Label, Constant, Symbol, RegOffset}
 use Rattle.s390x_inst.specs.declared.calls.CallInstDest.{CallInstDest}
 use Rattle.s390x_inst.specs.declared.calls.CallInstDest.TheVariants.{Direct, Indirect}
 use Rattle.s390x_inst.specs.declared.function.Block.{Block}
 use Rattle.s390x_inst.specs.declared.inst.Inst.{Inst}
-use Rattle.s390x_inst.specs.declared.inst.Inst.TheVariants.{AluRX, CmpRX, Store8, Store16, Store32, Store64, StoreRev16, StoreRev32, StoreRev64, StoreImm8, StoreImm16, StoreImm32SExt16, StoreImm64SExt16, LoadMultiple64, StoreMultiple64, AtomicRmw, AtomicCas32, AtomicCas64}
+use Rattle.s390x_inst.specs.declared.inst.Inst.TheVariants.{AluRX, CmpRX, StoreImm8, StoreImm16, StoreImm32SExt16, StoreImm64SExt16, LoadMultiple64, StoreMultiple64, AtomicRmw, AtomicCas32, AtomicCas64}
 use Rattle.s390x_inst.specs.declared.inst.Inst.TheVariants.{LoadAddr, Mov64SImm32, JTSequence, LabelAddress, Jump, CondBr, IndirectBr, Ret, LoadSymbolReloc, Trap, TrapIf, Debugtrap, Vector, CondBreak}
 use Rattle.s390x_inst.specs.declared.load.Load.{Load}
+use Rattle.s390x_inst.specs.declared.store.Store.{Store}
+use Rattle.s390x_inst.specs.declared.whole.WholeAccess.{WholeAccess}
 use Rattle.s390x_inst.specs.declared.state.IsaFlags.{IsaFlags}
 use Rattle.s390x_inst.specs.declared.vec_inst.VecInst.{VecInst}
-use Rattle.s390x_inst.specs.declared.vec_inst.VecInst.TheVariants.{VecLoad, VecLoadRev, VecLoadByte16Rev, VecLoadByte32Rev, VecLoadByte64Rev, VecLoadElt16Rev, VecLoadElt32Rev, VecLoadElt64Rev, VecStore, VecStoreRev, VecStoreByte16Rev, VecStoreByte32Rev, VecStoreByte64Rev, VecStoreElt16Rev, VecStoreElt32Rev, VecStoreElt64Rev}
 use Rattle.s390x_inst.specs.declared.vec_inst.VecInst.TheVariants.{VecLoadReplicate, VecLoadReplicateRev, VecLoadLane, VecLoadLaneRev, VecLoadLaneUndef, VecLoadLaneRevUndef, VecStoreLane, VecStoreLaneRev}
+use Rattle.s390x_rows.specs.declared.opcodes.TheConstants as opcodes
 use Rattle.s390x_typed_steps.specs.Baseline.{whole_or_loaded, body_for, tree_for}
 use Rattle.s390x_typed_steps.specs.Folding.{folded, fold, shortened, remainder, branches_of, folded_before, folded_from, next_block}
 use Rattle.s390x_typed_steps.specs.MachineInstruction.{MachineInstruction}
-use Rattle.s390x_typed_steps.specs.Memory.{StorageForm, RxForm, VrxForm, MemoryInstruction, memory, load_memory, other_memory, accesses_relative, has_relative_row, other_rows, with_rows, without_relative, address_form, storage_row, type_of, fault_code, operate, load_and_operate, access_vector, access_elements, access_lane, vector_memory, load_left, store_left, is_left_lane, load_lane_opcode, load_reversed_opcode, store_lane_opcode, store_reversed_opcode, reversed_code}
+use Rattle.s390x_typed_steps.specs.Memory.{StorageForm, RxForm, VrxForm, MemoryInstruction, memory, load_memory, store_memory, whole_memory, other_memory, accesses_relative, has_relative_row, other_rows, with_rows, without_relative, address_form, storage_row, type_of, fault_code, operate, load_and_operate, access_vector, access_elements, access_lane, vector_memory, load_left, store_left, is_left_lane, load_lane_opcode, load_reversed_opcode, store_lane_opcode, store_reversed_opcode, reversed_code}
 use Rattle.s390x_typed_steps.specs.Operands.{Finalized, finalized, displaced, addressed, widened, needs_address, is_relative, fits_12, fits_20, fits_32}
 use Rattle.s390x_typed_steps.specs.Parts.{CodePart, step_parts, instruction_parts, parts_or, row_part, memory_or, memory_parts, helpers_parts, helper_parts, operand_parts, relative_parts, relative_part, access_parts, trap_here, branch_parts, table_words, row_parts, site_parts, call_part, tail_part, remainder_parts}
 use Rattle.s390x_typed_steps.specs.SingleInstruction.{SingleInstruction, single_instruction, stop_code}
@@ -177,26 +181,14 @@ left_or : (t valid : Bool) (form : StorageForm) (mem : MemArg) (o : Option Memor
 left_or true valid form mem o h = inl refl
 left_or false valid form mem o h = h
 
--- the last clause is a copy for each that has no operand in memory
+whole_or_none : (o : Option WholeAccess) → MayAccess (by_whole whole_memory None o)
+whole_or_none None = tt
+whole_or_none (Some w) = inl refl
+
+-- the last clause is a copy for each load and store of a whole register, and for each that has no operand in memory
 vector_accesses : (v : VecInst) → MayAccess (vector_memory v)
-vector_accesses (VecLoad rd mem) = inl refl
-vector_accesses (VecLoadRev rd mem) = inl refl
-vector_accesses (VecLoadByte16Rev rd mem) = inl refl
-vector_accesses (VecLoadByte32Rev rd mem) = inl refl
-vector_accesses (VecLoadByte64Rev rd mem) = inl refl
-vector_accesses (VecLoadElt16Rev rd mem) = inl refl
-vector_accesses (VecLoadElt32Rev rd mem) = inl refl
-vector_accesses (VecLoadElt64Rev rd mem) = inl refl
-vector_accesses (VecStore rd mem) = inl refl
-vector_accesses (VecStoreRev rd mem) = inl refl
-vector_accesses (VecStoreByte16Rev rd mem) = inl refl
-vector_accesses (VecStoreByte32Rev rd mem) = inl refl
-vector_accesses (VecStoreByte64Rev rd mem) = inl refl
-vector_accesses (VecStoreElt16Rev rd mem) = inl refl
-vector_accesses (VecStoreElt32Rev rd mem) = inl refl
-vector_accesses (VecStoreElt64Rev rd mem) = inl refl
-vector_accesses (VecLoadReplicate size rd mem) = elements 0xe705 rd (element_code size) mem
-vector_accesses (VecLoadReplicateRev size rd mem) = elements 0xe605 rd (reversed_code size) mem
+vector_accesses (VecLoadReplicate size rd mem) = elements opcodes.VLREP rd (element_code size) mem
+vector_accesses (VecLoadReplicateRev size rd mem) = elements opcodes.VLBRREP rd (reversed_code size) mem
 vector_accesses (VecLoadLane size rd ri mem lane) = one_lane (reuses_vector rd ri) load_lane_opcode (number_of rd) (element_code size) size lane mem
 vector_accesses (VecLoadLaneRev size rd ri mem lane) = one_lane (reuses_vector rd ri) load_reversed_opcode (number_of rd) (reversed_code size) size lane mem
 vector_accesses (VecLoadLaneUndef size rd mem lane) =
@@ -205,19 +197,16 @@ vector_accesses (VecLoadLaneRevUndef size rd mem lane) = one_lane (is_vector rd)
 vector_accesses (VecStoreLane size rd mem lane) =
     left_or (is_left_lane size lane (number_of rd)) (is_vector rd) (store_left size (number_of rd)) mem (access_lane (is_vector rd) store_lane_opcode (number_of rd) (element_code size) size lane mem) (one_lane (is_vector rd) store_lane_opcode (number_of rd) (element_code size) size lane mem)
 vector_accesses (VecStoreLaneRev size rd mem lane) = one_lane (is_vector rd) store_reversed_opcode (number_of rd) (reversed_code size) size lane mem
-vector_accesses v = tt
+vector_accesses v = whole_or_none (as_whole v)
 
--- the last clause is a copy for each that has no operand in memory
+store_or_none : (o : Option Store) → MayAccess (by_store store_memory None o)
+store_or_none None = tt
+store_or_none (Some s) = inl refl
+
+-- the last clause is a copy for each store of a register, and for each that has no operand in memory
 other_accesses : (i : Inst) → MayAccess (other_memory i)
 other_accesses (AluRX op rd ri mem) = operates (is_some (alu_rx op) || is_some (alu_rxy op)) (alu_rx op) (alu_rxy op) rd ri mem
 other_accesses (CmpRX op rn mem) = inl refl
-other_accesses (Store8 rd mem) = inl refl
-other_accesses (Store16 rd mem) = inl refl
-other_accesses (Store32 rd mem) = inl refl
-other_accesses (Store64 rd mem) = inl refl
-other_accesses (StoreRev16 rd mem) = inl refl
-other_accesses (StoreRev32 rd mem) = inl refl
-other_accesses (StoreRev64 rd mem) = inl refl
 other_accesses (StoreImm8 imm mem) = inl refl
 other_accesses (StoreImm16 imm mem) = inl refl
 other_accesses (StoreImm32SExt16 imm mem) = inl refl
@@ -229,7 +218,7 @@ other_accesses (AtomicRmw op rd rn mem) = locks (atomic_rsy op) rd rn mem
 other_accesses (AtomicCas32 rd ri rn mem) = inl refl
 other_accesses (AtomicCas64 rd ri rn mem) = inl refl
 other_accesses (Vector v) = vector_accesses v
-other_accesses i = tt
+other_accesses i = store_or_none (as_store i)
 
 may_access : (i : Inst) → MayAccess (memory i)
 may_access i = go (as_load i)

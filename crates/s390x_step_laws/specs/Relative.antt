@@ -4,13 +4,14 @@ use Rattle.s390x_inst.specs.Emission.{Emission}
 use Rattle.s390x_inst.specs.declared.function.Block.{Block}
 use Rattle.s390x_inst.specs.declared.inst.Inst.{Inst}
 use Rattle.s390x_inst.specs.declared.state.IsaFlags.{IsaFlags}
+use Rattle.s390x_rows.specs.declared.opcodes.TheConstants as opcodes
 use Rattle.s390x_typed_steps.specs.Parts.{CodePart, Relative, RelativeConstant, RelativeSymbol, step_parts}
 use Rattle.s390x_typed_steps.specs.Steps.{Step, function_steps}
 use Rattle.s390x_step_laws.specs.Given.{emitted_alone, emitted_trees}
 
 -- LOAD ADDRESS RELATIVE LONG, which accesses nothing
 abbrev pub larl : ℕ
-larl = 0xc00
+larl = opcodes.LARL
 
 -- a part is no load, store or comparison of an operand relative to the instruction: of such an operand it takes the address alone
 abbrev pub IsNoRelativeAccess : CodePart → Type 0

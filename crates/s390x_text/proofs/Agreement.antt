@@ -16,26 +16,31 @@ use Rattle.s390x_inst.specs.declared.load.Load.{Load}
 use Rattle.s390x_inst.specs.declared.load.LoadOp.{LoadOp}
 use Rattle.s390x_inst.specs.declared.load.LoadOp.TheVariants as LoadOps
 use Rattle.s390x_inst.specs.Loads.{as_load, by_load}
+use Rattle.s390x_inst.specs.declared.store.Store.{Store}
+use Rattle.s390x_inst.specs.declared.store.StoreOp.{StoreOp}
+use Rattle.s390x_inst.specs.declared.store.StoreOp.TheVariants as StoreOps
+use Rattle.s390x_inst.specs.Stores.{as_store, by_store}
 use Rattle.s390x_job_fields.specs.Atoms.{reg_text}
 use Rattle.s390x_inst.specs.declared.inst.Inst.{Inst}
 use Rattle.s390x_inst.specs.declared.inst.Inst.TheVariants.{AluRRR, AluRR, AluRRSImm16, AluRSImm16, AluRSImm32, AluRUImm32, AluRUImm16Shifted, AluRUImm32Shifted, ShiftRR, RxSBG, RxSBGTest, UnaryRR, SMulWide, UMulWide, Flogr, SDivMod32, SDivMod64, UDivMod32, UDivMod64, CmpRR, CmpRSImm16, CmpRSImm32}
 use Rattle.s390x_inst.specs.declared.inst.Inst.TheVariants.{CmpRUImm32, CmpTrapRR, CmpTrapRSImm16, CmpTrapRUImm16, Mov64UImm16Shifted, Mov64UImm32Shifted, Insert64UImm16Shifted, Insert64UImm32Shifted, Extend, LoadIndexedAddr, LoadLogicalIndexedAddr, Mov64, MovPReg, Mov32, Mov32Imm, Mov32SImm16}
 use Rattle.s390x_inst.specs.declared.inst.Inst.TheVariants.{Mov64SImm16, Mov64SImm32, CMov32, CMov64, CMov32SImm16, CMov64SImm16, LoadAR, InsertAR, AluRX, CmpRX, LoadMultiple64, StoreMultiple64, LoadAddr, AtomicRmw, AtomicCas32, AtomicCas64}
-use Rattle.s390x_inst.specs.declared.inst.Inst.TheVariants.{Store8, Store16, Store32, Store64, StoreRev16, StoreRev32, StoreRev64, StoreImm8, StoreImm16}
+use Rattle.s390x_inst.specs.declared.inst.Inst.TheVariants.{StoreImm8, StoreImm16}
 use Rattle.s390x_inst.specs.declared.inst.Inst.TheVariants.{StoreImm32SExt16, StoreImm64SExt16}
+use Rattle.s390x_rows.specs.declared.opcodes.TheConstants as opcodes
 use Rattle.s390x_typed_steps.specs.MachineInstruction.{MachineInstruction}
 use Rattle.s390x_typed_steps.specs.SingleInstruction.{single_instruction, single_with, two_row, three_row, halfword_row, word_row, three_halfword_row, masked_row, masked_halfword_row, indexed_row}
 use Rattle.s390x_typed_steps.specs.Opcodes.{alu_three, alu_two, cmp_two, cmp_trap, cmp_trap_signed, cmp_trap_unsigned, alu_halfword, alu_three_halfword, alu_signed_word, alu_unsigned_word, cmp_halfword, cmp_signed_word, cmp_unsigned_word, of_one, of_two, of_four, alu_part, alu_half, load_part}
 use Rattle.s390x_typed_steps.specs.Opcodes.{load_half, insert_part, insert_half, extend_two, rotate_then_test, indexed_opcode, logical_indexed_opcode}
 use Rattle.s390x_typed_steps.specs.Storage.{alu_rx, alu_rxy, atomic_rsy}
-use Rattle.s390x_typed_steps.specs.Memory.{MemoryInstruction, load_memory, other_memory, operate, load_and_operate, memory}
+use Rattle.s390x_typed_steps.specs.Memory.{MemoryInstruction, load_memory, store_memory, other_memory, operate, load_and_operate, memory}
 use Rattle.s390x_text_rows.specs.Texts.{Text, row}
 use Rattle.s390x_base.specs.declared.regs.Reg.TheVariants.{Real, Virtual}
 use Rattle.s390x_text_rows.specs.Operands.{is_reg, pair_cause}
 use Rattle.s390x_text_rows.specs.Mnemonics.{alu_three_name, alu_two_name, alu_halfword_name, alu_three_halfword_name, alu_signed_word_name, alu_unsigned_word_name, alu_short_name, alu_long_name, atomic_name, cmp_short_name, cmp_long_name, cmp_relative_name, cmp_two_name, cmp_halfword_name}
-use Rattle.s390x_text_rows.specs.Mnemonics.{cmp_signed_word_name, cmp_unsigned_word_name, cmp_trap_name, cmp_trap_signed_name, cmp_trap_unsigned_name, load_short_name, load_long_name, load_relative_name, rotate_name, rotate_test_name}
+use Rattle.s390x_text_rows.specs.Mnemonics.{cmp_signed_word_name, cmp_unsigned_word_name, cmp_trap_name, cmp_trap_signed_name, cmp_trap_unsigned_name, load_mnemonic, store_mnemonic, rotate_name, rotate_test_name}
 use Rattle.s390x_text_rows.specs.Integer.{three_text, conditional_row, one_of_two, one_of_four, only_one, alu_part_name, alu_half_name, load_part_name, load_half_name, insert_part_name, insert_half_name, extend_name, indexed_name, logical_indexed_name, arithmetic_text, pair_instruction_text, compare_text, move_text}
-use Rattle.s390x_text_rows.specs.Storage.{rx, rs, has_row, access_where, address_cause, load_mnemonics, load_text, store_text, storage_operator_text}
+use Rattle.s390x_text_rows.specs.Storage.{rx, rs, has_row, access_where, address_cause, load_mnemonics, load_text, store_mnemonics, store_text, storage_operator_text}
 use Rattle.s390x_text.specs.Agreement.{has_row_text, Agrees, RowsAgree}
 use Rattle.s390x_text_rows.specs.declared.error.TextError.TheVariants.{NoRow, BadPair}
 
@@ -139,19 +144,19 @@ four_same a b c d x y z w n =
     (by_test (nat_eq n 2) (Some c) _ (Some z) _ refl (by_test (nat_eq n 3) (Some d) None (Some w) None refl refl)))
 
 part_same : (op : ALUOp) (n : ℕ) → is_some (alu_part_name op n) ≡ is_some (alu_part op n)
-part_same And32 n = two_same _ _ 0xa57 0xa56 n
-part_same And64 n = four_same _ _ _ _ 0xa57 0xa56 0xa55 0xa54 n
-part_same Orr32 n = two_same _ _ 0xa5b 0xa5a n
-part_same Orr64 n = four_same _ _ _ _ 0xa5b 0xa5a 0xa59 0xa58 n
+part_same And32 n = two_same _ _ opcodes.NILL opcodes.NILH n
+part_same And64 n = four_same _ _ _ _ opcodes.NILL opcodes.NILH opcodes.NIHL opcodes.NIHH n
+part_same Orr32 n = two_same _ _ opcodes.OILL opcodes.OILH n
+part_same Orr64 n = four_same _ _ _ _ opcodes.OILL opcodes.OILH opcodes.OIHL opcodes.OIHH n
 part_same op n = refl
 
 half_same : (op : ALUOp) (n : ℕ) → is_some (alu_half_name op n) ≡ is_some (alu_half op n)
-half_same And32 n = one_same _ 0xc0b n
-half_same And64 n = two_same _ _ 0xc0b 0xc0a n
-half_same Orr32 n = one_same _ 0xc0d n
-half_same Orr64 n = two_same _ _ 0xc0d 0xc0c n
-half_same Xor32 n = one_same _ 0xc07 n
-half_same Xor64 n = two_same _ _ 0xc07 0xc06 n
+half_same And32 n = one_same _ opcodes.NILF n
+half_same And64 n = two_same _ _ opcodes.NILF opcodes.NIHF n
+half_same Orr32 n = one_same _ opcodes.OILF n
+half_same Orr64 n = two_same _ _ opcodes.OILF opcodes.OIHF n
+half_same Xor32 n = one_same _ opcodes.XILF n
+half_same Xor64 n = two_same _ _ opcodes.XILF opcodes.XIHF n
 half_same op n = refl
 
 extend_same : (signed : Bool) (from to : ℕ) → is_some (extend_name signed from to) ≡ is_some (extend_two signed from to)
@@ -332,10 +337,10 @@ comparisons (CmpTrapRUImm16 op rn imm mask code) = masked_halfword_agrees (cmp_t
 comparisons i = tt
 
 moves : (i : Inst) → Agrees (move_text i) (is_some (single_instruction i))
-moves (Mov64UImm16Shifted rd imm) = halfword_agrees (load_part_name imm.shift) (load_part imm.shift) _ _ _ _ (four_same _ _ _ _ 0xa5f 0xa5e 0xa5d 0xa5c imm.shift)
-moves (Mov64UImm32Shifted rd imm) = word_agrees (load_half_name imm.shift) (load_half imm.shift) _ _ _ _ (two_same _ _ 0xc0f 0xc0e imm.shift)
-moves (Insert64UImm16Shifted rd ri imm) = halfword_agrees (insert_part_name imm.shift) (insert_part imm.shift) _ _ _ _ (four_same _ _ _ _ 0xa53 0xa52 0xa51 0xa50 imm.shift)
-moves (Insert64UImm32Shifted rd ri imm) = word_agrees (insert_half_name imm.shift) (insert_half imm.shift) _ _ _ _ (two_same _ _ 0xc09 0xc08 imm.shift)
+moves (Mov64UImm16Shifted rd imm) = halfword_agrees (load_part_name imm.shift) (load_part imm.shift) _ _ _ _ (four_same _ _ _ _ opcodes.LLILL opcodes.LLILH opcodes.LLIHL opcodes.LLIHH imm.shift)
+moves (Mov64UImm32Shifted rd imm) = word_agrees (load_half_name imm.shift) (load_half imm.shift) _ _ _ _ (two_same _ _ opcodes.LLILF opcodes.LLIHF imm.shift)
+moves (Insert64UImm16Shifted rd ri imm) = halfword_agrees (insert_part_name imm.shift) (insert_part imm.shift) _ _ _ _ (four_same _ _ _ _ opcodes.IILL opcodes.IILH opcodes.IIHL opcodes.IIHH imm.shift)
+moves (Insert64UImm32Shifted rd ri imm) = word_agrees (insert_half_name imm.shift) (insert_half imm.shift) _ _ _ _ (two_same _ _ opcodes.IILF opcodes.IIHF imm.shift)
 moves (Extend rd rn signed from to) = two_agrees (extend_name signed from to) (extend_two signed from to) _ _ _ _ (extend_same signed from to)
 moves (LoadIndexedAddr rd base index offset size) = indexed_agrees (indexed_name size) (indexed_opcode size) _ _ _ _ _ _ (indexed_same size)
 moves (LoadLogicalIndexedAddr rd base index offset size) = indexed_agrees (logical_indexed_name size) (logical_indexed_opcode size) _ _ _ _ _ _ (logical_same size)
@@ -356,7 +361,7 @@ moves i = tt
 
 -- each load has a row: the last clause is a copy for each
 load_has_row : (op : LoadOp) → has_row (load_mnemonics op) ≡ true
-unfolding load_short_name load_long_name load_relative_name
+unfolding load_mnemonic
 load_has_row LoadOps.Load64 = refl
 load_has_row op = refl
 
@@ -367,19 +372,21 @@ load_agrees has e (Some l) other = access_row (has_row (load_mnemonics l.op)) _ 
 loads : (has : Bool) (e : Emission) (i : Inst) → Agrees (load_text has e i) (is_some (memory i))
 loads has e i = load_agrees has e (as_load i) (other_memory i)
 
+store_has_row : (op : StoreOp) → has_row (store_mnemonics op) ≡ true
+unfolding store_mnemonic
+store_has_row StoreOps.Store64 = refl
+store_has_row op = refl
+
+store_agrees : (has : Bool) (e : Emission) (o : Option Store) (other : Option MemoryInstruction) → Agrees (by_store (λ s. Some (access_where has (store_mnemonics s.op) e (reg_text s.rd ∷ []) s.mem [])) None o) (is_some (by_store store_memory other o))
+store_agrees has e None other = tt
+store_agrees has e (Some s) other = access_row (has_row (store_mnemonics s.op)) _ ∙ store_has_row s.op
+
 stores : (has : Bool) (e : Emission) (i : Inst) → Agrees (store_text has e i) (is_some (memory i))
-stores has e (Store8 rd mem) = address_row _
-stores has e (Store16 rd mem) = address_row _
-stores has e (Store32 rd mem) = address_row _
-stores has e (Store64 rd mem) = address_row _
-stores has e (StoreRev16 rd mem) = address_row _
-stores has e (StoreRev32 rd mem) = address_row _
-stores has e (StoreRev64 rd mem) = address_row _
 stores has e (StoreImm8 imm mem) = address_row _
 stores has e (StoreImm16 imm mem) = address_row _
 stores has e (StoreImm32SExt16 imm mem) = address_row _
 stores has e (StoreImm64SExt16 imm mem) = address_row _
-stores has e i = tt
+stores has e i = store_agrees has e (as_store i) (memory i)
 
 operators : (has : Bool) (e : Emission) (i : Inst) → Agrees (storage_operator_text has e i) (is_some (memory i))
 operators has e (AluRX op rd ri mem) =

@@ -4,16 +4,19 @@ use Rattle.std.proofs.lemmas.Bool.{and_parts, and_right}
 use Rattle.s390x_base.specs.declared.error.EmitError.{EmitError}
 use Rattle.s390x_inst.specs.Emission.{Emission}
 use Rattle.s390x_inst.specs.declared.state.IsaFlags.{IsaFlags}
-use Rattle.s390x_inst.specs.declared.load.Load.{Load}
 use Rattle.s390x_inst.specs.declared.load.LoadOp.{LoadOp}
 use Rattle.s390x_inst.specs.declared.load.LoadOp.TheVariants as LoadOps
-use Rattle.s390x_inst.specs.Loads.{as_load, by_load, load_instruction}
+use Rattle.s390x_inst.specs.Loads.{load_instruction}
+use Rattle.s390x_inst.specs.declared.store.StoreOp.{StoreOp}
+use Rattle.s390x_inst.specs.declared.store.StoreOp.TheVariants as StoreOps
+use Rattle.s390x_inst.specs.Stores.{store_instruction}
+use Rattle.s390x_inst.proofs.Transfers.{Transfer, LoadOf, StoreOf, as_transfer, by_transfer}
 use Rattle.s390x_base.specs.declared.regs.Reg.{Reg}
 use Rattle.s390x_inst.specs.declared.args.MemArg.{MemArg}
 use Rattle.s390x_inst.specs.declared.inst.Inst.{Inst}
 use Rattle.s390x_inst.specs.declared.inst.Inst.TheVariants.{AluRRR, AluRR, AluRRSImm16, AluRSImm16, AluRSImm32, AluRUImm32, AluRUImm16Shifted, AluRUImm32Shifted, RxSBG, RxSBGTest, SMulWide, Flogr, CmpRR, CmpRSImm16, CmpRSImm32, CmpRUImm32, CmpTrapRR, CmpTrapRSImm16, CmpTrapRUImm16}
 use Rattle.s390x_inst.specs.declared.inst.Inst.TheVariants.{Mov64UImm16Shifted, Mov64UImm32Shifted, Insert64UImm16Shifted, Insert64UImm32Shifted, Extend, LoadIndexedAddr, LoadLogicalIndexedAddr, AluRX, CmpRX, LoadMultiple64, StoreMultiple64, LoadAddr, AtomicRmw, AtomicCas32, AtomicCas64}
-use Rattle.s390x_inst.specs.declared.inst.Inst.TheVariants.{Store8, Store16, Store32, Store64, StoreRev16, StoreRev32, StoreRev64, StoreImm8, StoreImm16}
+use Rattle.s390x_inst.specs.declared.inst.Inst.TheVariants.{StoreImm8, StoreImm16}
 use Rattle.s390x_inst.specs.declared.inst.Inst.TheVariants.{StoreImm32SExt16, StoreImm64SExt16, Loop', Call, ReturnCall, Vector}
 use Rattle.s390x_typed_steps.proofs.Causes.{first_left, first_right}
 use Rattle.s390x_typed_steps.proofs.RelativeRows.{alu_none, locked_none, vector_none}
@@ -32,7 +35,7 @@ use Rattle.s390x_text.specs.Calls.{call_text}
 use Rattle.s390x_text.specs.Instructions.{leaf_text}
 use Rattle.s390x_text_rows.specs.Integer.{alu_half_name, alu_part_name, extend_name, indexed_name, insert_half_name, insert_part_name, load_half_name, load_part_name, logical_indexed_name, selected_name}
 use Rattle.s390x_text_rows.specs.Mnemonics.{alu_halfword_name, alu_signed_word_name, alu_three_halfword_name, alu_three_name, alu_two_name, alu_unsigned_word_name, atomic_name, cmp_halfword_name, cmp_signed_word_name, cmp_trap_name, cmp_trap_signed_name, cmp_trap_unsigned_name, cmp_two_name, cmp_unsigned_word_name}
-use Rattle.s390x_text_rows.specs.Mnemonics.{load_short_name, load_long_name, load_relative_name, rotate_name, rotate_test_name}
+use Rattle.s390x_text_rows.specs.Mnemonics.{load_mnemonic, store_mnemonic, rotate_name, rotate_test_name}
 use Rattle.s390x_text_rows.specs.Simple.{simple_text}
 use Rattle.s390x_text_rows.specs.Texts.{Text, text_or}
 use Rattle.s390x_text.proofs.Machines.{has_others, loaded_there, whole_there}
@@ -47,23 +50,31 @@ own_cause D depth i = cause_or (single_instruction i) (memory_cause_or D (memory
 abbrev alone_text : (has : Bool) → Emission → Inst → Text
 alone_text has e i = text_or (call_text e i) (simple_text has e i)
 
--- a load: the last clause is a copy for each
+-- a load, and a store: the last clause is a copy for each
 load_fine : (has : Bool) (e : Emission) (op : LoadOp) (rd : Reg) (mem : MemArg) → refusal_there has (memory (resolved_instruction e (load_instruction op rd mem))) ≡ None → (alone_text has e (load_instruction op rd mem)).cause ≡ None
-unfolding load_short_name load_long_name load_relative_name
+unfolding load_mnemonic
 load_fine has e LoadOps.Load64 rd mem t = address_fine _ t
 load_fine has e op rd mem t = address_fine _ t
 
--- a load, or an instruction whose text has no cause of refusal
-load_or_fine : (has : Bool) (e : Emission) (i : Inst) (o : Option Load) → by_load (λ l. true ≡ true) ((alone_text has e i).cause ≡ None) o → refusal_there has (memory (resolved_instruction e (by_load (λ l. load_instruction l.op l.rd l.mem) i o))) ≡ None →
-    (alone_text has e (by_load (λ l. load_instruction l.op l.rd l.mem) i o)).cause ≡ None
-load_or_fine has e i None plain t = plain
-load_or_fine has e i (Some l) plain t = load_fine has e l.op l.rd l.mem t
+store_fine : (has : Bool) (e : Emission) (op : StoreOp) (rd : Reg) (mem : MemArg) → refusal_there has (memory (resolved_instruction e (store_instruction op rd mem))) ≡ None → (alone_text has e (store_instruction op rd mem)).cause ≡ None
+unfolding store_mnemonic
+store_fine has e StoreOps.Store64 rd mem t = address_fine _ t
+store_fine has e op rd mem t = address_fine _ t
 
--- a load, or an instruction that has no row relative to the instruction
-load_or_refused : (e : Emission) (i : Inst) (o : Option Load) → is_some (by_load (λ l. loaded_memory (resolved_instruction e (load_instruction l.op l.rd l.mem))) None o) ≡ true → refusal_there false (memory (resolved_instruction e (by_load (λ l. load_instruction l.op l.rd l.mem) i o))) ≡ None →
-    (alone_text false e (by_load (λ l. load_instruction l.op l.rd l.mem) i o)).cause ≡ None
-load_or_refused e i None s t = absurd (cc)
-load_or_refused e i (Some l) s t = load_fine false e l.op l.rd l.mem t
+-- a load or a store, or an instruction whose text has no cause of refusal
+transfer_or_fine : (has : Bool) (e : Emission) (i : Inst) (o : Option Transfer) → by_transfer (λ l. true ≡ true) (λ s. true ≡ true) ((alone_text has e i).cause ≡ None) o → refusal_there has (memory (resolved_instruction e (by_transfer (λ l. load_instruction l.op l.rd l.mem) (λ s. store_instruction s.op s.rd s.mem) i o))) ≡ None →
+    (alone_text has e (by_transfer (λ l. load_instruction l.op l.rd l.mem) (λ s. store_instruction s.op s.rd s.mem) i o)).cause ≡ None
+transfer_or_fine has e i None plain t = plain
+transfer_or_fine has e i (Some (LoadOf l)) plain t = load_fine has e l.op l.rd l.mem t
+transfer_or_fine has e i (Some (StoreOf s)) plain t = store_fine has e s.op s.rd s.mem t
+
+-- a load or a store, or an instruction that has no row relative to the instruction
+transfer_or_refused : (e : Emission) (i : Inst) (o : Option Transfer) →
+    is_some (by_transfer (λ l. loaded_memory (resolved_instruction e (load_instruction l.op l.rd l.mem))) (λ s. loaded_memory (resolved_instruction e (store_instruction s.op s.rd s.mem))) None o) ≡ true → refusal_there false (memory (resolved_instruction e (by_transfer (λ l. load_instruction l.op l.rd l.mem) (λ s. store_instruction s.op s.rd s.mem) i o))) ≡ None →
+    (alone_text false e (by_transfer (λ l. load_instruction l.op l.rd l.mem) (λ s. store_instruction s.op s.rd s.mem) i o)).cause ≡ None
+transfer_or_refused e i None s t = absurd (cc)
+transfer_or_refused e i (Some (LoadOf l)) s t = load_fine false e l.op l.rd l.mem t
+transfer_or_refused e i (Some (StoreOf x)) s t = store_fine false e x.op x.rd x.mem t
 
 -- on a machine that has accesses relative to the instruction, or where this one is none
 fine : (has : Bool) (e : Emission) (D : Declared) (depth : ℕ) (i : Inst) → RowsAgree has e i → own_cause D depth (resolved_instruction e i) ≡ None → access_refusal (memory (resolved_instruction e i)) ≡ None → refusal_there has (memory (resolved_instruction e i)) ≡ None → (alone_text has e i).cause ≡ None
@@ -93,13 +104,6 @@ fine has e D depth (Insert64UImm32Shifted rd ri imm) a h m t = row_fine (insert_
 fine has e D depth (Extend rd rn signed from to) a h m t = row_fine (extend_name signed from to) _ _ _ a.moves h
 fine has e D depth (LoadIndexedAddr rd base index offset size) a h m t = row_fine (indexed_name size) _ _ _ a.moves h
 fine has e D depth (LoadLogicalIndexedAddr rd base index offset size) a h m t = row_fine (logical_indexed_name size) _ _ _ a.moves h
-fine has e D depth (Store8 rd mem) a h m t = address_fine _ t
-fine has e D depth (Store16 rd mem) a h m t = address_fine _ t
-fine has e D depth (Store32 rd mem) a h m t = address_fine _ t
-fine has e D depth (Store64 rd mem) a h m t = address_fine _ t
-fine has e D depth (StoreRev16 rd mem) a h m t = address_fine _ t
-fine has e D depth (StoreRev32 rd mem) a h m t = address_fine _ t
-fine has e D depth (StoreRev64 rd mem) a h m t = address_fine _ t
 fine has e D depth (StoreImm8 imm mem) a h m t = address_fine _ t
 fine has e D depth (StoreImm16 imm mem) a h m t = address_fine _ t
 fine has e D depth (StoreImm32SExt16 imm mem) a h m t = address_fine _ t
@@ -117,7 +121,7 @@ fine has e D depth (Vector v) a h m t = vector_fine e D v h m
 fine has e D depth (Loop' mask body all) a h m t = absurd (cc)
 fine has e D depth (Call link info) a h m t = absurd (cc)
 fine has e D depth (ReturnCall info) a h m t = absurd (cc)
-fine has e D depth i a h m t = load_or_fine has e i (as_load i) refl t
+fine has e D depth i a h m t = transfer_or_fine has e i (as_transfer i) refl t
 
 there : (lacks : Bool) (flags : IsaFlags) (D : Declared) (n depth : ℕ) (e : Emission) (i : Inst) → (accesses_relative (memory (resolved_instruction e i)) && lacks) ≡ false → leaf_cause flags D n e.nominal depth (resolved_instruction e i) ≡ None → (alone_text (not lacks) e i).cause ≡ None
 there lacks flags D n depth e i has h =
@@ -137,16 +141,13 @@ not_there None e s = absurd (cc)
 not_there (Some x) e s = absurd (cc)
 
 loaded_fine : (e : Emission) (i : Inst) → is_some (loaded_memory (resolved_instruction e i)) ≡ true → refusal_there false (memory (resolved_instruction e i)) ≡ None → (alone_text false e i).cause ≡ None
-loaded_fine e (Store16 rd mem) s t = address_fine _ t
-loaded_fine e (Store32 rd mem) s t = address_fine _ t
-loaded_fine e (Store64 rd mem) s t = address_fine _ t
 loaded_fine e (CmpRX op rn mem) s t = comparison_fine false op (resolved e mem) t
 -- the others have no such row
 loaded_fine e (AluRX op rd ri mem) s t =
     absurd (not_there (loaded_memory (AluRX op rd ri (resolved e mem))) (alu_none (is_some (alu_rx op) || is_some (alu_rxy op)) (alu_rx op) (alu_rxy op) rd ri (resolved e mem)) s)
 loaded_fine e (AtomicRmw op rd rn mem) s t = absurd (not_there (loaded_memory (AtomicRmw op rd rn (resolved e mem))) (locked_none (atomic_rsy op) rd rn (resolved e mem)) s)
 loaded_fine e (Vector v) s t = absurd (not_there (loaded_memory (Vector (resolved_vector e v))) (vector_none (resolved_vector e v)) s)
-loaded_fine e i s t = load_or_refused e i (as_load i) s t
+loaded_fine e i s t = transfer_or_refused e i (as_transfer i) s t
 
 -- ---- on each machine
 

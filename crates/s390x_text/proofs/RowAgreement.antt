@@ -10,7 +10,7 @@ use Rattle.s390x_inst.specs.declared.inst.Inst.{Inst}
 use Rattle.s390x_inst.specs.declared.inst.Inst.TheVariants.{AluRRR, AluRR, AluRRSImm16, AluRSImm16, AluRSImm32, AluRUImm32, AluRUImm16Shifted, AluRUImm32Shifted, ShiftRR, RxSBG, RxSBGTest, UnaryRR, SMulWide, UMulWide, Flogr, SDivMod32, SDivMod64, UDivMod32, UDivMod64, CmpRR, CmpRSImm16, CmpRSImm32}
 use Rattle.s390x_inst.specs.declared.inst.Inst.TheVariants.{CmpRUImm32, CmpTrapRR, CmpTrapRSImm16, CmpTrapRUImm16, Mov64UImm16Shifted, Mov64UImm32Shifted, Insert64UImm16Shifted, Insert64UImm32Shifted, Extend, LoadIndexedAddr, LoadLogicalIndexedAddr, Mov64, MovPReg, Mov32, Mov32Imm, Mov32SImm16}
 use Rattle.s390x_inst.specs.declared.inst.Inst.TheVariants.{Mov64SImm16, Mov64SImm32, CMov32, CMov64, CMov32SImm16, CMov64SImm16, LoadAR, InsertAR, AluRX, CmpRX, LoadMultiple64, StoreMultiple64, LoadAddr, AtomicRmw, AtomicCas32, AtomicCas64}
-use Rattle.s390x_inst.specs.declared.inst.Inst.TheVariants.{Store8, Store16, Store32, Store64, StoreRev16, StoreRev32, StoreRev64, StoreImm8, StoreImm16, StoreImm32SExt16, StoreImm64SExt16}
+use Rattle.s390x_inst.specs.declared.inst.Inst.TheVariants.{StoreImm8, StoreImm16, StoreImm32SExt16, StoreImm64SExt16}
 use Rattle.s390x_inst.specs.declared.inst.Inst.TheVariants.{Jump, CondBr, IndirectBr, Ret, JTSequence, CondBreak, LabelAddress, LoadSymbolReloc, Nop0, Trap, TrapIf, Debugtrap, Args, Rets, DummyUse, SequencePoint, AllocateArgs, Fence, Nop2, Loop', Call, ReturnCall, Vector}
 use Rattle.s390x_typed_steps.specs.Causes.{first_emit_cause, labels_cause, table_cause, target_label_cause, unless}
 use Rattle.s390x_typed_steps.specs.General.{is_general, is_nonzero, is_scratch}
@@ -19,8 +19,10 @@ use Rattle.s390x_typed_steps.specs.Operands.{resolved}
 use Rattle.s390x_typed_steps.specs.Resolved.{resolved_instruction}
 use Rattle.s390x_typed_steps.specs.SingleInstruction.{single_instruction}
 use Rattle.s390x_typed_steps.specs.Storage.{alu_rx, alu_rxy, atomic_rsy}
-use Rattle.s390x_text_rows.specs.Simple.{simple_text}
-use Rattle.s390x_text.specs.Agreement.{has_row_text}
+use Rattle.s390x_text_rows.specs.Simple.{register_text, simple_text}
+use Rattle.s390x_text_rows.specs.Storage.{load_text, store_text, storage_operator_text}
+use Rattle.s390x_text_rows.specs.Texts.{Text, text_or}
+use Rattle.s390x_text.specs.Agreement.{Agrees, has_row_text}
 use Rattle.s390x_text.proofs.Agreement.{rows_agree}
 use Rattle.s390x_text.specs.Rows.{has_rows, names_row}
 use Rattle.s390x_text.proofs.VectorAgreement.{operands_stay, vector_rows}
@@ -57,7 +59,13 @@ table_row blocks index other ls =
 
 -- ---- instructions
 
--- the last clause is a copy for each load
+-- the first of two texts that there is, where each agrees
+first_agrees : (a b : Option Text) (rest : Text) (t : Bool) → Agrees a t → Agrees b t → (is_some a || is_some b) ≡ true → has_row_text (text_or a (text_or b rest)).cause ≡ t
+first_agrees (Some x) b rest t h k some = h
+first_agrees None (Some y) rest t h k some = k
+first_agrees None None rest t h k some = absurd (cc)
+
+-- the last clause is a copy for each load and store of one register
 pub simple_rows : (has : Bool) (e : Emission) (blocks depth : ℕ) (i : Inst) → has_row_text (simple_text has e i).cause ≡ has_rows blocks depth i
 simple_rows has e b d (AluRRR op rd rn rm) = (rows_agree has e (AluRRR op rd rn rm)).arithmetic ∙ sym (or_none (is_some (single_instruction (AluRRR op rd rn rm))))
 simple_rows has e b d (AluRRSImm16 op rd rn imm) = (rows_agree has e (AluRRSImm16 op rd rn imm)).arithmetic ∙ sym (or_none (is_some (single_instruction (AluRRSImm16 op rd rn imm))))
@@ -105,13 +113,6 @@ simple_rows has e b d (CMov32SImm16 rd mask ri imm) = (rows_agree has e (CMov32S
 simple_rows has e b d (CMov64SImm16 rd mask ri imm) = (rows_agree has e (CMov64SImm16 rd mask ri imm)).moves ∙ sym (or_none (is_some (single_instruction (CMov64SImm16 rd mask ri imm))))
 simple_rows has e b d (LoadAR rd ar) = (rows_agree has e (LoadAR rd ar)).moves ∙ sym (or_none (is_some (single_instruction (LoadAR rd ar))))
 simple_rows has e b d (InsertAR rd ri ar) = (rows_agree has e (InsertAR rd ri ar)).moves ∙ sym (or_none (is_some (single_instruction (InsertAR rd ri ar))))
-simple_rows has e b d (Store8 rd mem) = (rows_agree has e (Store8 rd mem)).stores ∙ sym (or_false (is_some (memory (Store8 rd mem))))
-simple_rows has e b d (Store16 rd mem) = (rows_agree has e (Store16 rd mem)).stores ∙ sym (or_false (is_some (memory (Store16 rd mem))))
-simple_rows has e b d (Store32 rd mem) = (rows_agree has e (Store32 rd mem)).stores ∙ sym (or_false (is_some (memory (Store32 rd mem))))
-simple_rows has e b d (Store64 rd mem) = (rows_agree has e (Store64 rd mem)).stores ∙ sym (or_false (is_some (memory (Store64 rd mem))))
-simple_rows has e b d (StoreRev16 rd mem) = (rows_agree has e (StoreRev16 rd mem)).stores ∙ sym (or_false (is_some (memory (StoreRev16 rd mem))))
-simple_rows has e b d (StoreRev32 rd mem) = (rows_agree has e (StoreRev32 rd mem)).stores ∙ sym (or_false (is_some (memory (StoreRev32 rd mem))))
-simple_rows has e b d (StoreRev64 rd mem) = (rows_agree has e (StoreRev64 rd mem)).stores ∙ sym (or_false (is_some (memory (StoreRev64 rd mem))))
 simple_rows has e b d (StoreImm8 imm mem) = (rows_agree has e (StoreImm8 imm mem)).stores ∙ sym (or_false (is_some (memory (StoreImm8 imm mem))))
 simple_rows has e b d (StoreImm16 imm mem) = (rows_agree has e (StoreImm16 imm mem)).stores ∙ sym (or_false (is_some (memory (StoreImm16 imm mem))))
 simple_rows has e b d (StoreImm32SExt16 imm mem) = (rows_agree has e (StoreImm32SExt16 imm mem)).stores ∙ sym (or_false (is_some (memory (StoreImm32SExt16 imm mem))))
@@ -147,7 +148,7 @@ simple_rows has e b d (Loop' mask body all) = refl
 simple_rows has e b d (Call link info) = refl
 simple_rows has e b d (ReturnCall info) = refl
 simple_rows has e b d (Vector v) = vector_rows e b d v
-simple_rows has e b d i = (rows_agree has e i).loads
+simple_rows has e b d i = first_agrees (load_text has e i) (store_text has e i) (text_or (storage_operator_text has e i) (register_text e i)) true (rows_agree has e i).loads (rows_agree has e i).stores refl
 
 -- ---- operands of the frame
 

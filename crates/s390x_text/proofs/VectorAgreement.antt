@@ -9,10 +9,16 @@ use Rattle.s390x_base.specs.declared.regs.Reg.{Reg}
 use Rattle.s390x_inst.specs.Emission.{Emission}
 use Rattle.s390x_inst.specs.declared.args.MemArg.{MemArg}
 use Rattle.s390x_inst.specs.declared.inst.Inst.TheVariants.{Vector}
+use Rattle.s390x_inst.specs.declared.whole.WholeAccess.{WholeAccess}
+use Rattle.s390x_inst.specs.declared.whole.Direction.{Direction}
+use Rattle.s390x_inst.specs.declared.whole.Direction.TheVariants.{Load, Store}
+use Rattle.s390x_inst.specs.declared.whole.WholeLayout.{WholeLayout}
+use Rattle.s390x_inst.specs.declared.whole.WholeLayout.TheVariants.{Straight}
+use Rattle.s390x_inst.specs.Wholes.{as_whole, by_whole, whole_instruction}
 use Rattle.s390x_inst.specs.declared.vec_inst.VecInst.{VecInst}
-use Rattle.s390x_inst.specs.declared.vec_inst.VecInst.TheVariants.{VecRRR, VecPermuteDWImm, VecImmReplicate, VecImmBitMask, VecReplicateLane, VecInsertLaneImm, VecInsertLaneImmUndef, VecInsertLane, VecInsertLaneUndef, VecExtractLane, FpuCMov32, FpuCMov64, VecCMov, VecEltRev, VecInt128SCmpHi, VecInt128UCmpHi}
-use Rattle.s390x_inst.specs.declared.vec_inst.VecInst.TheVariants.{VecLoad, VecLoadRev, VecLoadByte16Rev, VecLoadByte32Rev, VecLoadByte64Rev, VecLoadElt16Rev, VecLoadElt32Rev, VecLoadElt64Rev, VecStore, VecStoreRev, VecStoreByte16Rev, VecStoreByte32Rev, VecStoreByte64Rev, VecStoreElt16Rev}
-use Rattle.s390x_inst.specs.declared.vec_inst.VecInst.TheVariants.{VecStoreElt32Rev, VecStoreElt64Rev, VecLoadReplicate, VecLoadReplicateRev, VecLoadLane, VecLoadLaneRev, VecLoadLaneUndef, VecLoadLaneRevUndef, VecStoreLane, VecStoreLaneRev}
+use Rattle.s390x_inst.specs.declared.vec_inst.VecInst.TheVariants.{VecMov, VecPermuteDWImm, VecImmReplicate, VecImmBitMask, VecReplicateLane, VecInsertLaneImm, VecInsertLaneImmUndef, VecInsertLane, VecInsertLaneUndef, VecExtractLane, FpuCMov32, FpuCMov64, VecCMov, VecEltRev, VecInt128SCmpHi, VecInt128UCmpHi}
+use Rattle.s390x_inst.specs.declared.vec_inst.VecInst.TheVariants.{VecLoadReplicate, VecLoadReplicateRev, VecLoadLane, VecLoadLaneRev, VecLoadLaneUndef, VecLoadLaneRevUndef, VecStoreLane, VecStoreLaneRev}
+use Rattle.s390x_rows.specs.declared.opcodes.TheConstants as opcodes
 use Rattle.s390x_typed_steps.specs.MachineInstruction.{MachineInstruction}
 use Rattle.s390x_typed_steps.specs.Memory.{MemoryInstruction, StorageForm, VrxForm, access_elements, access_lane, access_vector, is_left_lane, load_left, store_left, load_lane_opcode, load_reversed_opcode, store_lane_opcode, store_reversed_opcode, reversed_code}
 use Rattle.s390x_typed_steps.specs.Operands.{resolved}
@@ -23,6 +29,7 @@ use Rattle.s390x_typed_steps.specs.VectorInstruction.{bit_mask_row, element_code
 use Rattle.s390x_text_rows.specs.Operands.{is_float, is_zero}
 use Rattle.s390x_text_rows.specs.Storage.{address_cause}
 use Rattle.s390x_text_rows.specs.Texts.{Text, fixed, row}
+use Rattle.s390x_text_rows.specs.VectorMnemonics.{whole_name}
 use Rattle.s390x_text_rows.specs.Vector.{is_float_lane, lane_name, mask_name, reversed_name, vector_text}
 use Rattle.s390x_text_rows.specs.declared.error.TextError.TheVariants.{NoRow}
 use Rattle.s390x_text.specs.Agreement.{has_row_text}
@@ -280,6 +287,19 @@ left_agrees b h f g rd valid other form opcode size lane m x y z p q r =
 
 -- ---- instructions
 
+-- a load or a store of a whole register: the clauses without `Straight` are a copy for each other layout
+whole_row : (e : Emission) (blocks depth : ℕ) (direction : Direction) (layout : WholeLayout) (rd : Reg) (mem : MemArg) → has_row_text (vector_text e (whole_instruction direction layout rd mem)).cause ≡ has_rows blocks depth (Vector (whole_instruction direction layout rd mem))
+unfolding whole_name
+whole_row e bs k Load Straight rd mem = address_row _
+whole_row e bs k Load layout rd mem = address_row _
+whole_row e bs k Store Straight rd mem = address_row _
+whole_row e bs k Store layout rd mem = address_row _
+
+whole_or_row : (e : Emission) (blocks depth : ℕ) (v : VecInst) (o : Option WholeAccess) → by_whole (λ w. true ≡ true) (has_row_text (vector_text e v).cause ≡ has_rows blocks depth (Vector v)) o →
+    has_row_text (vector_text e (by_whole (λ w. whole_instruction w.direction w.layout w.rd w.mem) v o)).cause ≡ has_rows blocks depth (Vector (by_whole (λ w. whole_instruction w.direction w.layout w.rd w.mem) v o))
+whole_or_row e bs k v None plain = plain
+whole_or_row e bs k v (Some w) plain = whole_row e bs k w.direction w.layout w.rd w.mem
+
 pub vector_rows : (e : Emission) (blocks depth : ℕ) (v : VecInst) → has_row_text (vector_text e v).cause ≡ has_rows blocks depth (Vector v)
 vector_rows e bs k (VecPermuteDWImm rd rn rm first second) = row_agrees (cond (nat_lt first 2 && nat_lt second 2) (Some (codes "vpdi")) None) _ _ _ (tested_same (nat_lt first 2 && nat_lt second 2) _ _)
 vector_rows e bs k (VecImmReplicate size rd imm) = row_agrees _ _ _ _ (first_agrees _ _ _ _ size ∙ sym (replicate_some (element_code size) _ _))
@@ -298,24 +318,8 @@ vector_rows e bs k (VecCMov rd mask ri rm) = sym (valid_row (reuses_vector rd ri
 vector_rows e bs k (VecInt128SCmpHi tmp rn rm) = sym (valid_row (is_vector tmp && is_vector rn && is_vector rm))
 vector_rows e bs k (VecInt128UCmpHi tmp rn rm) = sym (valid_row (is_vector tmp && is_vector rn && is_vector rm))
 vector_rows e bs k (VecEltRev count rd rn) = reversal_agrees (nat_eq count 2) (nat_eq count 4) (nat_eq count 8) (nat_eq count 16) (is_vector rd && is_vector rn) _ _ _ _ _ _ _ _
-vector_rows e bs k (VecLoad rd mem) = address_row _
-vector_rows e bs k (VecLoadRev rd mem) = address_row _
-vector_rows e bs k (VecLoadByte16Rev rd mem) = address_row _
-vector_rows e bs k (VecLoadByte32Rev rd mem) = address_row _
-vector_rows e bs k (VecLoadByte64Rev rd mem) = address_row _
-vector_rows e bs k (VecLoadElt16Rev rd mem) = address_row _
-vector_rows e bs k (VecLoadElt32Rev rd mem) = address_row _
-vector_rows e bs k (VecLoadElt64Rev rd mem) = address_row _
-vector_rows e bs k (VecStore rd mem) = address_row _
-vector_rows e bs k (VecStoreRev rd mem) = address_row _
-vector_rows e bs k (VecStoreByte16Rev rd mem) = address_row _
-vector_rows e bs k (VecStoreByte32Rev rd mem) = address_row _
-vector_rows e bs k (VecStoreByte64Rev rd mem) = address_row _
-vector_rows e bs k (VecStoreElt16Rev rd mem) = address_row _
-vector_rows e bs k (VecStoreElt32Rev rd mem) = address_row _
-vector_rows e bs k (VecStoreElt64Rev rd mem) = address_row _
-vector_rows e bs k (VecLoadReplicate size rd mem) = access_agrees _ _ _ (first_agrees _ _ _ _ size ∙ sym (elements_some 0xe705 rd (element_code size) mem))
-vector_rows e bs k (VecLoadReplicateRev size rd mem) = access_agrees _ _ _ (first_reversed_agrees _ _ _ size ∙ sym (elements_some 0xe605 rd (reversed_code size) mem))
+vector_rows e bs k (VecLoadReplicate size rd mem) = access_agrees _ _ _ (first_agrees _ _ _ _ size ∙ sym (elements_some opcodes.VLREP rd (element_code size) mem))
+vector_rows e bs k (VecLoadReplicateRev size rd mem) = access_agrees _ _ _ (first_reversed_agrees _ _ _ size ∙ sym (elements_some opcodes.VLBRREP rd (reversed_code size) mem))
 vector_rows e bs k (VecLoadLane size rd ri mem lane) = access_agrees _ _ _ (name_agrees _ _ _ _ size lane ∙ sym (lane_some (reuses_vector rd ri) load_lane_opcode (number_of rd) (element_code size) size lane mem))
 vector_rows e bs k (VecLoadLaneRev size rd ri mem lane) = access_agrees _ _ _ (reversed_agrees _ _ _ size lane ∙ sym (lane_some (reuses_vector rd ri) load_reversed_opcode (number_of rd) (reversed_code size) size lane mem))
 vector_rows e bs k (VecLoadLaneRevUndef size rd mem lane) = access_agrees _ _ _ (reversed_agrees _ _ _ size lane ∙ sym (lane_some (is_vector rd) load_reversed_opcode (number_of rd) (reversed_code size) size lane mem))
@@ -324,15 +328,14 @@ vector_rows e bs k (VecLoadLaneUndef size rd mem lane) =
     left_agrees (codes "vleb") (codes "vleh") (codes "vlef") (codes "vleg") rd (is_vector rd) (is_vector rd) (load_left size (number_of rd)) load_lane_opcode size lane mem _ _ _ (address_row _) (address_row _) (named_access _ _)
 vector_rows e bs k (VecStoreLane size rd mem lane) =
     left_agrees (codes "vsteb") (codes "vsteh") (codes "vstef") (codes "vsteg") rd (is_vector rd) (is_vector rd) (store_left size (number_of rd)) store_lane_opcode size lane mem _ _ _ (address_row _) (address_row _) (named_access _ _)
--- the others are one machine instruction at any values; the clause is a copy for each
-vector_rows e bs k (VecRRR op rd rn rm) = refl
-vector_rows e bs k v = refl
+-- the others are loads and stores of a whole register, and one machine instruction at any values; the clause is a copy for each
+vector_rows e bs k v = whole_or_row e bs k v (as_whole v) refl
 
 -- ---- operands of the frame
 
 pub operands_stay : (e : Emission) (blocks depth : ℕ) (v : VecInst) → has_rows blocks depth (Vector (resolved_vector e v)) ≡ has_rows blocks depth (Vector v)
-operands_stay e bs k (VecLoadReplicate size rd mem) = ap (λ s. s || false) (elements_some 0xe705 rd (element_code size) (resolved e mem) ∙ sym (elements_some 0xe705 rd (element_code size) mem))
-operands_stay e bs k (VecLoadReplicateRev size rd mem) = ap (λ s. s || false) (elements_some 0xe605 rd (reversed_code size) (resolved e mem) ∙ sym (elements_some 0xe605 rd (reversed_code size) mem))
+operands_stay e bs k (VecLoadReplicate size rd mem) = ap (λ s. s || false) (elements_some opcodes.VLREP rd (element_code size) (resolved e mem) ∙ sym (elements_some opcodes.VLREP rd (element_code size) mem))
+operands_stay e bs k (VecLoadReplicateRev size rd mem) = ap (λ s. s || false) (elements_some opcodes.VLBRREP rd (reversed_code size) (resolved e mem) ∙ sym (elements_some opcodes.VLBRREP rd (reversed_code size) mem))
 operands_stay e bs k (VecLoadLane size rd ri mem lane) = ap (λ s. s || false) (lane_some (reuses_vector rd ri) load_lane_opcode (number_of rd) (element_code size) size lane (resolved e mem) ∙ sym (lane_some (reuses_vector rd ri) load_lane_opcode (number_of rd) (element_code size) size lane mem))
 operands_stay e bs k (VecLoadLaneRev size rd ri mem lane) = ap (λ s. s || false) (lane_some (reuses_vector rd ri) load_reversed_opcode (number_of rd) (reversed_code size) size lane (resolved e mem) ∙ sym (lane_some (reuses_vector rd ri) load_reversed_opcode (number_of rd) (reversed_code size) size lane mem))
 operands_stay e bs k (VecLoadLaneRevUndef size rd mem lane) = ap (λ s. s || false) (lane_some (is_vector rd) load_reversed_opcode (number_of rd) (reversed_code size) size lane (resolved e mem) ∙ sym (lane_some (is_vector rd) load_reversed_opcode (number_of rd) (reversed_code size) size lane mem))
@@ -341,5 +344,5 @@ operands_stay e bs k (VecLoadLaneUndef size rd mem lane) =
     ap (λ s. s || false) (left_lane_some (is_vector rd) (is_vector rd) (load_left size (number_of rd)) load_lane_opcode (number_of rd) size lane (resolved e mem) ∙ sym (left_lane_some (is_vector rd) (is_vector rd) (load_left size (number_of rd)) load_lane_opcode (number_of rd) size lane mem))
 operands_stay e bs k (VecStoreLane size rd mem lane) =
     ap (λ s. s || false) (left_lane_some (is_vector rd) (is_vector rd) (store_left size (number_of rd)) store_lane_opcode (number_of rd) size lane (resolved e mem) ∙ sym (left_lane_some (is_vector rd) (is_vector rd) (store_left size (number_of rd)) store_lane_opcode (number_of rd) size lane mem))
-operands_stay e bs k (VecLoad rd mem) = refl
+operands_stay e bs k (VecMov rd rn) = refl
 operands_stay e bs k v = refl

@@ -5,20 +5,29 @@ use Rattle.std.specs.Prelude.{cond, nat_eq, nat_lt, codes}
 use Rattle.s390x_base.specs.Regs.{number_of}
 use Rattle.s390x_base.specs.declared.error.EmitError.{EmitError}
 use Rattle.s390x_base.specs.declared.error.EmitError.TheVariants.{BadOperator}
+use Rattle.s390x_base.specs.declared.regs.Reg.{Reg}
 use Rattle.s390x_inst.specs.Emission.{Emission}
+use Rattle.s390x_inst.specs.declared.args.MemArg.{MemArg}
+use Rattle.s390x_inst.specs.declared.whole.WholeAccess.{WholeAccess}
+use Rattle.s390x_inst.specs.declared.whole.Direction.{Direction}
+use Rattle.s390x_inst.specs.declared.whole.Direction.TheVariants.{Load, Store}
+use Rattle.s390x_inst.specs.declared.whole.WholeLayout.{WholeLayout}
+use Rattle.s390x_inst.specs.declared.whole.WholeLayout.TheVariants.{Straight}
+use Rattle.s390x_inst.specs.Wholes.{as_whole, by_whole, whole_instruction}
 use Rattle.s390x_inst.specs.declared.vec_inst.VecInst.{VecInst}
 use Rattle.s390x_inst.specs.declared.vec_inst.VecInst.TheVariants.{VecPermuteDWImm, VecImmReplicate, VecImmBitMask, VecReplicateLane, VecInsertLaneImm, VecInsertLaneImmUndef, VecInsertLane, VecInsertLaneUndef, VecExtractLane, FpuCMov32, FpuCMov64, VecCMov, VecEltRev, VecInt128SCmpHi, VecInt128UCmpHi}
-use Rattle.s390x_inst.specs.declared.vec_inst.VecInst.TheVariants.{VecLoad, VecLoadRev, VecLoadByte16Rev, VecLoadByte32Rev, VecLoadByte64Rev, VecLoadElt16Rev, VecLoadElt32Rev, VecLoadElt64Rev, VecStore, VecStoreRev, VecStoreByte16Rev, VecStoreByte32Rev, VecStoreByte64Rev, VecStoreElt16Rev}
-use Rattle.s390x_inst.specs.declared.vec_inst.VecInst.TheVariants.{VecStoreElt32Rev, VecStoreElt64Rev, VecLoadReplicate, VecLoadReplicateRev, VecLoadLane, VecLoadLaneRev, VecLoadLaneUndef, VecLoadLaneRevUndef, VecStoreLane, VecStoreLaneRev}
+use Rattle.s390x_inst.specs.declared.vec_inst.VecInst.TheVariants.{VecLoadReplicate, VecLoadReplicateRev, VecLoadLane, VecLoadLaneRev, VecLoadLaneUndef, VecLoadLaneRevUndef, VecStoreLane, VecStoreLaneRev}
+use Rattle.s390x_rows.specs.declared.opcodes.TheConstants as opcodes
 use Rattle.s390x_typed_steps.specs.Causes.{Declared, cause_or, memory_cause_or}
 use Rattle.s390x_typed_steps.specs.MachineInstruction.{MachineInstruction}
-use Rattle.s390x_typed_steps.specs.Memory.{load_lane_opcode, load_reversed_opcode, store_lane_opcode, store_reversed_opcode, vector_memory}
+use Rattle.s390x_typed_steps.specs.Memory.{MemoryInstruction, load_lane_opcode, load_reversed_opcode, store_lane_opcode, store_reversed_opcode, vector_memory}
 use Rattle.s390x_typed_steps.specs.Operands.{resolved}
 use Rattle.s390x_typed_steps.specs.Resolved.{resolved_vector}
 use Rattle.s390x_typed_steps.specs.SingleInstruction.{single_with}
 use Rattle.s390x_typed_steps.specs.VectorComposite.{composite_cause, rows_cause}
 use Rattle.s390x_typed_steps.specs.VectorInstruction.{bit_mask_row, element_code, is_float_doubleword, is_lane, is_vector, lane_row, replicate_row, reuses_vector, vector_operands_valid, vector_row}
 use Rattle.s390x_text_rows.specs.Texts.{fixed, row}
+use Rattle.s390x_text_rows.specs.VectorMnemonics.{whole_name}
 use Rattle.s390x_text_rows.specs.Vector.{is_float_lane, lane_name, mask_name, vector_text}
 use Rattle.s390x_text.proofs.Elements.{named_at, one_size}
 use Rattle.s390x_text.proofs.Rows.{access_refusal, address_fine}
@@ -112,40 +121,39 @@ reversal_fine false false true d valid p q r s w x y z h = refl
 reversal_fine false false false true valid p q r s w x y z h = refl
 reversal_fine false false false false valid p q r s w x y z h = absurd (cc)
 
-found : (valid : Bool) (o : Option MachineInstruction) (c : EmitError) → cause_or (single_with valid o) (Some c) ≡ None → is_some o ≡ true
-found valid None c h = absurd (cc)
-found valid (Some m) c h = refl
+-- an access or one machine instruction
+found : (D : Declared) (valid : Bool) (o : Option MachineInstruction) (x : Option MemoryInstruction) (c : EmitError) → cause_or (single_with valid o) (memory_cause_or D x (Some c)) ≡ None → (is_some x || is_some o) ≡ true
+found D valid o (Some x) c h = refl
+found D valid (Some m) None c h = refl
+found D valid None None c h = absurd (cc)
+
+-- a load or a store of a whole register: the clauses without `Straight` are a copy for each other layout
+whole_fine : (e : Emission) (direction : Direction) (layout : WholeLayout) (rd : Reg) (mem : MemArg) → access_refusal (vector_memory (resolved_vector e (whole_instruction direction layout rd mem))) ≡ None → (vector_text e (whole_instruction direction layout rd mem)).cause ≡ None
+unfolding whole_name
+whole_fine e Load Straight rd mem m = address_fine _ m
+whole_fine e Load layout rd mem m = address_fine _ m
+whole_fine e Store Straight rd mem m = address_fine _ m
+whole_fine e Store layout rd mem m = address_fine _ m
+
+whole_or_row : (e : Emission) (v : VecInst) (o : Option WholeAccess) → by_whole (λ w. true ≡ true) (is_some (vector_row v) ≡ true) o → access_refusal (vector_memory (resolved_vector e (by_whole (λ w. whole_instruction w.direction w.layout w.rd w.mem) v o))) ≡ None →
+    (vector_text e (by_whole (λ w. whole_instruction w.direction w.layout w.rd w.mem) v o)).cause ≡ None
+whole_or_row e v None some m = has_text e v some
+whole_or_row e v (Some w) some m = whole_fine e w.direction w.layout w.rd w.mem m
 
 -- one without a cause of refusal
 pub vector_fine : (e : Emission) (D : Declared) (v : VecInst)
     → cause_or (single_with (vector_operands_valid (resolved_vector e v)) (vector_row (resolved_vector e v))) (memory_cause_or D (vector_memory (resolved_vector e v)) (composite_cause (resolved_vector e v))) ≡ None
     → access_refusal (vector_memory (resolved_vector e v)) ≡ None → (vector_text e v).cause ≡ None
-vector_fine e D (VecLoad rd mem) h m = address_fine _ m
-vector_fine e D (VecLoadRev rd mem) h m = address_fine _ m
-vector_fine e D (VecLoadByte16Rev rd mem) h m = address_fine _ m
-vector_fine e D (VecLoadByte32Rev rd mem) h m = address_fine _ m
-vector_fine e D (VecLoadByte64Rev rd mem) h m = address_fine _ m
-vector_fine e D (VecLoadElt16Rev rd mem) h m = address_fine _ m
-vector_fine e D (VecLoadElt32Rev rd mem) h m = address_fine _ m
-vector_fine e D (VecLoadElt64Rev rd mem) h m = address_fine _ m
-vector_fine e D (VecStore rd mem) h m = address_fine _ m
-vector_fine e D (VecStoreRev rd mem) h m = address_fine _ m
-vector_fine e D (VecStoreByte16Rev rd mem) h m = address_fine _ m
-vector_fine e D (VecStoreByte32Rev rd mem) h m = address_fine _ m
-vector_fine e D (VecStoreByte64Rev rd mem) h m = address_fine _ m
-vector_fine e D (VecStoreElt16Rev rd mem) h m = address_fine _ m
-vector_fine e D (VecStoreElt32Rev rd mem) h m = address_fine _ m
-vector_fine e D (VecStoreElt64Rev rd mem) h m = address_fine _ m
-vector_fine e D (VecLoadReplicate size rd mem) h m = replicated_fine D _ _ _ _ 0xe705 rd size (resolved e mem) BadOperator h m
-vector_fine e D (VecLoadReplicateRev size rd mem) h m = reversed_replicated_fine D _ _ _ 0xe605 rd size (resolved e mem) BadOperator h m
+vector_fine e D (VecLoadReplicate size rd mem) h m = replicated_fine D _ _ _ _ opcodes.VLREP rd size (resolved e mem) BadOperator h m
+vector_fine e D (VecLoadReplicateRev size rd mem) h m = reversed_replicated_fine D _ _ _ opcodes.VLBRREP rd size (resolved e mem) BadOperator h m
 vector_fine e D (VecLoadLane size rd ri mem lane) h m = lane_fine D _ _ _ _ (reuses_vector rd ri) load_lane_opcode (number_of rd) size lane (resolved e mem) BadOperator h m
 vector_fine e D (VecLoadLaneRev size rd ri mem lane) h m = reversed_lane_fine D _ _ _ (reuses_vector rd ri) load_reversed_opcode (number_of rd) size lane (resolved e mem) BadOperator h m
 vector_fine e D (VecLoadLaneRevUndef size rd mem lane) h m = reversed_lane_fine D _ _ _ (is_vector rd) load_reversed_opcode (number_of rd) size lane (resolved e mem) BadOperator h m
 vector_fine e D (VecStoreLaneRev size rd mem lane) h m = reversed_lane_fine D _ _ _ (is_vector rd) store_reversed_opcode (number_of rd) size lane (resolved e mem) BadOperator h m
 vector_fine e D (VecLoadLaneUndef size rd mem lane) h m =
-    left_lane_fine D (codes "vleb") (codes "vleh") (codes "vlef") (codes "vleg") rd 0x78 0xed64 0x68 0xed65 load_lane_opcode size lane (resolved e mem) BadOperator _ _ _ h m (λ fine. (address_fine _ fine, address_fine _ fine)) refl
+    left_lane_fine D (codes "vleb") (codes "vleh") (codes "vlef") (codes "vleg") rd opcodes.LE opcodes.LEY opcodes.LD opcodes.LDY load_lane_opcode size lane (resolved e mem) BadOperator _ _ _ h m (λ fine. (address_fine _ fine, address_fine _ fine)) refl
 vector_fine e D (VecStoreLane size rd mem lane) h m =
-    left_lane_fine D (codes "vsteb") (codes "vsteh") (codes "vstef") (codes "vsteg") rd 0x70 0xed66 0x60 0xed67 store_lane_opcode size lane (resolved e mem) BadOperator _ _ _ h m (λ fine. (address_fine _ fine, address_fine _ fine)) refl
+    left_lane_fine D (codes "vsteb") (codes "vsteh") (codes "vstef") (codes "vsteg") rd opcodes.STE opcodes.STEY opcodes.STD opcodes.STDY store_lane_opcode size lane (resolved e mem) BadOperator _ _ _ h m (λ fine. (address_fine _ fine, address_fine _ fine)) refl
 -- moves under a condition and comparisons have a text at any values, elements in reverse order at the counts that have machine instructions
 vector_fine e D (FpuCMov32 rd mask ri rm) h m = refl
 vector_fine e D (FpuCMov64 rd mask ri rm) h m = refl
@@ -153,4 +161,4 @@ vector_fine e D (VecCMov rd mask ri rm) h m = refl
 vector_fine e D (VecInt128SCmpHi tmp rn rm) h m = refl
 vector_fine e D (VecInt128UCmpHi tmp rn rm) h m = refl
 vector_fine e D (VecEltRev count rd rn) h m = reversal_fine (nat_eq count 2) (nat_eq count 4) (nat_eq count 8) (nat_eq count 16) (is_vector rd && is_vector rn) _ _ _ _ _ _ _ _ h
-vector_fine e D v h m = has_text e v (found (vector_operands_valid v) (vector_row v) BadOperator h)
+vector_fine e D v h m = whole_or_row e v (as_whole v) (found D (vector_operands_valid v) (vector_row v) (vector_memory (resolved_vector e v)) BadOperator h) m

@@ -1,25 +1,26 @@
--- The mnemonics of integer operators and of loads, by the form of their operands (the manual, chapter 7; those of the newest rows are this project's).
+-- The mnemonics of integer operators, of loads and of stores, by the form of their operands (the manual, chapter 7; those of the newest rows are this project's).
 use Rattle.std.specs.Prelude.{ℕ, List, Option, Some, None}
 use denote.Enum.Declared.{tag_of}
 use Rattle.s390x_job_fields.specs.Found.{name_at}
 use Rattle.s390x_job_fields.specs.Found.{rows as names_of}
 use Rattle.s390x_text_rows.specs.Tables.{in_column, rows}
-use Rattle.s390x_text_rows.specs.declared.mnemonics.TheConstants.{ALU_MNEMONICS, CMP_MNEMONICS, CMP_RELATIVE_MNEMONICS, LOAD_MNEMONICS, SHIFT_MNEMONICS, ROTATE_MNEMONICS, UNARY_MNEMONICS}
+use Rattle.s390x_text_rows.specs.declared.mnemonics.TheConstants.{ALU_MNEMONICS, CMP_MNEMONICS, CMP_RELATIVE_MNEMONICS, LOAD_MNEMONICS, STORE_MNEMONICS, SHIFT_MNEMONICS, ROTATE_MNEMONICS, UNARY_MNEMONICS}
 use Rattle.s390x_text_rows.specs.declared.mnemonics.AluForm.{AluForm}
 use Rattle.s390x_text_rows.specs.declared.mnemonics.AluForm.TheVariants as AluForms
 use Rattle.s390x_text_rows.specs.contracts.mnemonics.AluForm as the_alu_form
 use Rattle.s390x_text_rows.specs.declared.mnemonics.CmpForm.{CmpForm}
 use Rattle.s390x_text_rows.specs.declared.mnemonics.CmpForm.TheVariants as CmpForms
 use Rattle.s390x_text_rows.specs.contracts.mnemonics.CmpForm as the_cmp_form
-use Rattle.s390x_text_rows.specs.declared.mnemonics.LoadForm.{LoadForm}
-use Rattle.s390x_text_rows.specs.declared.mnemonics.LoadForm.TheVariants as LoadForms
-use Rattle.s390x_text_rows.specs.contracts.mnemonics.LoadForm as the_load_form
+use Rattle.s390x_text_rows.specs.declared.mnemonics.AccessForm.{AccessForm}
+use Rattle.s390x_text_rows.specs.contracts.mnemonics.AccessForm as the_access_form
 use Rattle.s390x_inst.specs.declared.ops.ALUOp.{ALUOp}
 use Rattle.s390x_inst.specs.contracts.ops.ALUOp as the_alu
 use Rattle.s390x_inst.specs.declared.ops.CmpOp.{CmpOp}
 use Rattle.s390x_inst.specs.contracts.ops.CmpOp as the_cmp
 use Rattle.s390x_inst.specs.Loads.{load_place}
 use Rattle.s390x_inst.specs.declared.load.LoadOp.{LoadOp}
+use Rattle.s390x_inst.specs.Stores.{store_place}
+use Rattle.s390x_inst.specs.declared.store.StoreOp.{StoreOp}
 use Rattle.s390x_inst.specs.declared.ops.ShiftOp.{ShiftOp}
 use Rattle.s390x_inst.specs.contracts.ops.ShiftOp as the_shift
 use Rattle.s390x_inst.specs.declared.ops.RxSBGOp.{RxSBGOp}
@@ -113,20 +114,12 @@ unfoldable pub cmp_trap_unsigned_name : CmpOp → Option (List ℕ)
 cmp_trap_unsigned_name op = cmp_in_form op CmpForms.TrapUnsigned
 
 -- a load in a form
-abbrev pub load_in_form : LoadOp → LoadForm → Option (List ℕ)
-load_in_form op form = in_column (rows LOAD_MNEMONICS.now) (load_place op) (tag_of the_load_form.the_type form)
+unfoldable pub load_mnemonic : LoadOp → AccessForm → Option (List ℕ)
+load_mnemonic op form = in_column (rows LOAD_MNEMONICS.now) (load_place op) (tag_of the_access_form.the_type form)
 
--- a load at a displacement of 12 bits
-unfoldable pub load_short_name : LoadOp → Option (List ℕ)
-load_short_name op = load_in_form op LoadForms.Short
-
--- at one of 20 bits
-unfoldable pub load_long_name : LoadOp → Option (List ℕ)
-load_long_name op = load_in_form op LoadForms.Long
-
--- at an address relative to the instruction
-unfoldable pub load_relative_name : LoadOp → Option (List ℕ)
-load_relative_name op = load_in_form op LoadForms.Relative
+-- a store in a form
+unfoldable pub store_mnemonic : StoreOp → AccessForm → Option (List ℕ)
+store_mnemonic op form = in_column (rows STORE_MNEMONICS.now) (store_place op) (tag_of the_access_form.the_type form)
 
 -- a shift by an amount
 unfoldable pub shift_name : ShiftOp → List ℕ

@@ -9,16 +9,19 @@ use Rattle.s390x_inst.specs.declared.args.MemArg.{MemArg}
 use Rattle.s390x_inst.specs.declared.args.MemArg.TheVariants.{BXD12, BXD20, Label, Constant, Symbol, RegOffset, InitialSPOffset, IncomingArgOffset, OutgoingArgOffset, SlotOffset, SpillOffset}
 use Rattle.s390x_inst.specs.declared.load.LoadOp.{LoadOp}
 use Rattle.s390x_inst.specs.Loads.{as_load, by_load}
+use Rattle.s390x_inst.specs.declared.store.StoreOp.{StoreOp}
+use Rattle.s390x_inst.specs.Stores.{as_store, by_store}
 use Rattle.s390x_inst.specs.declared.inst.Inst.{Inst}
-use Rattle.s390x_inst.specs.declared.inst.Inst.TheVariants.{Mov64SImm32, AluRX, CmpRX, Store8, Store16, Store32}
-use Rattle.s390x_inst.specs.declared.inst.Inst.TheVariants.{Store64, StoreRev16, StoreRev32, StoreRev64, StoreImm8, StoreImm16, StoreImm32SExt16, StoreImm64SExt16, LoadMultiple64, StoreMultiple64, LoadAddr, AtomicRmw, AtomicCas32, AtomicCas64}
+use Rattle.s390x_inst.specs.declared.inst.Inst.TheVariants.{Mov64SImm32, AluRX, CmpRX}
+use Rattle.s390x_inst.specs.declared.inst.Inst.TheVariants.{StoreImm8, StoreImm16, StoreImm32SExt16, StoreImm64SExt16, LoadMultiple64, StoreMultiple64, LoadAddr, AtomicRmw, AtomicCas32, AtomicCas64}
 use Rattle.s390x_typed_steps.specs.Operands.{Finalized, finalized, resolved}
 use Rattle.s390x_typed_steps.specs.Causes.{operand_cause}
 use Rattle.s390x_typed_steps.specs.declared.mem_inst_type.MemInstType.{MemInstType}
 use Rattle.s390x_job_fields.specs.Atoms.{reg_text}
 use Rattle.s390x_text_rows.specs.Texts.{Text, spelled}
 use Rattle.s390x_text_rows.specs.Operands.{is_zero, label_text, name_text, reused_text}
-use Rattle.s390x_text_rows.specs.Mnemonics.{alu_short_name, alu_long_name, atomic_name, cmp_short_name, cmp_long_name, cmp_relative_name, load_short_name, load_long_name, load_relative_name}
+use Rattle.s390x_text_rows.specs.declared.mnemonics.AccessForm.TheVariants.{Short, Long, Relative}
+use Rattle.s390x_text_rows.specs.Mnemonics.{alu_short_name, alu_long_name, atomic_name, cmp_short_name, cmp_long_name, cmp_relative_name, load_mnemonic, store_mnemonic}
 use Rattle.s390x_text_rows.specs.declared.error.TextError.{TextError}
 use Rattle.s390x_text_rows.specs.declared.error.TextError.TheVariants.{NoRow, Virtual, Address}
 use Rattle.s390x_text_rows.specs.declared.storage.Rows.{Rows as DeclaredRows}
@@ -141,26 +144,27 @@ access r e before m after = access_where true r e before m after
 
 -- the mnemonics of a load
 abbrev pub load_mnemonics : LoadOp → Rows
-load_mnemonics op = rx (load_short_name op) (load_long_name op) (load_relative_name op)
+load_mnemonics op = rx (load_mnemonic op Short) (load_mnemonic op Long) (load_mnemonic op Relative)
 
 -- loads, on a machine that has rows relative to the instruction or lacks them
 abbrev pub load_text : (has_relative : Bool) → Emission → Inst → Option Text
 load_text has e i = by_load (λ l. Some (access_where has (load_mnemonics l.op) e (reg_text l.rd ∷ []) l.mem [])) None (as_load i)
 
--- stores; those of an immediate show the operand first
+-- stores of an immediate, which show the operand first
+abbrev pub immediate_store_text : (has_relative : Bool) → Emission → Inst → Option Text
+immediate_store_text has e (StoreImm8 imm mem) = Some (access_where has (rs (Some (codes "mvi")) (Some (codes "mviy"))) e [] mem (decimal imm ∷ []))
+immediate_store_text has e (StoreImm16 imm mem) = Some (access_where has (rs (Some (codes "mvhhi")) None) e [] mem (signed_decimal imm ∷ []))
+immediate_store_text has e (StoreImm32SExt16 imm mem) = Some (access_where has (rs (Some (codes "mvhi")) None) e [] mem (signed_decimal imm ∷ []))
+immediate_store_text has e (StoreImm64SExt16 imm mem) = Some (access_where has (rs (Some (codes "mvghi")) None) e [] mem (signed_decimal imm ∷ []))
+immediate_store_text has e _ = None
+
+-- the mnemonics of a store
+abbrev pub store_mnemonics : StoreOp → Rows
+store_mnemonics op = rx (store_mnemonic op Short) (store_mnemonic op Long) (store_mnemonic op Relative)
+
+-- stores
 abbrev pub store_text : (has_relative : Bool) → Emission → Inst → Option Text
-store_text has e (Store8 rd mem) = Some (access_where has (rx (Some (codes "stc")) (Some (codes "stcy")) None) e (reg_text rd ∷ []) mem [])
-store_text has e (Store16 rd mem) = Some (access_where has (rx (Some (codes "sth")) (Some (codes "sthy")) (Some (codes "sthrl"))) e (reg_text rd ∷ []) mem [])
-store_text has e (Store32 rd mem) = Some (access_where has (rx (Some (codes "st")) (Some (codes "sty")) (Some (codes "strl"))) e (reg_text rd ∷ []) mem [])
-store_text has e (Store64 rd mem) = Some (access_where has (rx None (Some (codes "stg")) (Some (codes "stgrl"))) e (reg_text rd ∷ []) mem [])
-store_text has e (StoreRev16 rd mem) = Some (access_where has (rx None (Some (codes "strvh")) None) e (reg_text rd ∷ []) mem [])
-store_text has e (StoreRev32 rd mem) = Some (access_where has (rx None (Some (codes "strv")) None) e (reg_text rd ∷ []) mem [])
-store_text has e (StoreRev64 rd mem) = Some (access_where has (rx None (Some (codes "strvg")) None) e (reg_text rd ∷ []) mem [])
-store_text has e (StoreImm8 imm mem) = Some (access_where has (rs (Some (codes "mvi")) (Some (codes "mviy"))) e [] mem (decimal imm ∷ []))
-store_text has e (StoreImm16 imm mem) = Some (access_where has (rs (Some (codes "mvhhi")) None) e [] mem (signed_decimal imm ∷ []))
-store_text has e (StoreImm32SExt16 imm mem) = Some (access_where has (rs (Some (codes "mvhi")) None) e [] mem (signed_decimal imm ∷ []))
-store_text has e (StoreImm64SExt16 imm mem) = Some (access_where has (rs (Some (codes "mvghi")) None) e [] mem (signed_decimal imm ∷ []))
-store_text has e _ = None
+store_text has e i = by_store (λ s. Some (access_where has (store_mnemonics s.op) e (reg_text s.rd ∷ []) s.mem [])) (immediate_store_text has e i) (as_store i)
 
 -- operators with an operand in memory, multiples, addresses, and accesses that are locked
 abbrev pub storage_operator_text : (has_relative : Bool) → Emission → Inst → Option Text

@@ -4,9 +4,10 @@ use Rattle.std.specs.Fmt.{decimal, signed_decimal}
 use Rattle.s390x_base.specs.declared.regs.Reg.{Reg}
 use Rattle.s390x_inst.specs.Emission.{Emission}
 use Rattle.s390x_inst.specs.declared.args.MemArg.{MemArg}
+use Rattle.s390x_inst.specs.Wholes.{as_whole, by_whole}
 use Rattle.s390x_inst.specs.declared.vec_inst.VecInst.{VecInst}
-use Rattle.s390x_inst.specs.declared.vec_inst.VecInst.TheVariants.{VecRRR, VecRR, VecShiftRR, VecSelect, VecPermute, VecBlend, VecEvaluate, VecPermuteDWImm, VecIntCmp, VecIntCmpS, VecIntEltCmp, VecInt128SCmpHi, VecInt128UCmpHi, VecLoad, VecLoadRev, VecLoadByte16Rev, VecLoadByte32Rev}
-use Rattle.s390x_inst.specs.declared.vec_inst.VecInst.TheVariants.{VecLoadByte64Rev, VecLoadElt16Rev, VecLoadElt32Rev, VecLoadElt64Rev, VecStore, VecStoreRev, VecStoreByte16Rev, VecStoreByte32Rev, VecStoreByte64Rev, VecStoreElt16Rev, VecStoreElt32Rev, VecStoreElt64Rev, VecLoadReplicate}
+use Rattle.s390x_inst.specs.declared.vec_inst.VecInst.TheVariants.{VecRRR, VecRR, VecShiftRR, VecSelect, VecPermute, VecBlend, VecEvaluate, VecPermuteDWImm, VecIntCmp, VecIntCmpS, VecIntEltCmp, VecInt128SCmpHi, VecInt128UCmpHi}
+use Rattle.s390x_inst.specs.declared.vec_inst.VecInst.TheVariants.{VecLoadReplicate}
 use Rattle.s390x_inst.specs.declared.vec_inst.VecInst.TheVariants.{VecLoadReplicateRev, VecLoadLane, VecLoadLaneRev, VecLoadLaneUndef, VecLoadLaneRevUndef, VecStoreLane, VecStoreLaneRev, VecMov, FpuMove32, FpuMove64, FpuCMov32, FpuCMov64, VecCMov, MovToVec128, VecImmByteMask, VecImmBitMask}
 use Rattle.s390x_inst.specs.declared.vec_inst.VecInst.TheVariants.{VecImmReplicate, VecInsertLane, VecInsertLaneUndef, VecExtractLane, VecInsertLaneImm, VecInsertLaneImmUndef, VecReplicateLane, VecEltRev}
 use Rattle.s390x_inst.specs.declared.vec_ops.VecBinaryOp.{VecBinaryOp}
@@ -15,7 +16,7 @@ use Rattle.s390x_job_fields.specs.Atoms.{reg_text}
 use Rattle.s390x_text_rows.specs.Texts.{Text, row, fixed, spelled, text_or}
 use Rattle.s390x_text_rows.specs.Operands.{reused_text, amount_text, cond_text, is_float, float_text, is_zero}
 use Rattle.s390x_text_rows.specs.Storage.{rx, access}
-use Rattle.s390x_text_rows.specs.VectorMnemonics.{vec_binary_name, vec_unary_name, vec_shift_name, vec_compare_name, vec_compare_set_name, vec_element_compare_name}
+use Rattle.s390x_text_rows.specs.VectorMnemonics.{vec_binary_name, vec_unary_name, vec_shift_name, vec_compare_name, vec_compare_set_name, vec_element_compare_name, whole_name}
 
 -- ---- mnemonics that a width and a lane choose
 
@@ -113,10 +114,6 @@ store_lane_text e size rd mem lane =
     (cond (is_float rd && nat_eq lane 0 && nat_eq size 64) (access (rx (Some (codes "std")) (Some (codes "stdy")) None) e (float_text rd ∷ []) mem [])
     (access (rx (lane_name (codes "vsteb") (codes "vsteh") (codes "vstef") (codes "vsteg") size lane) None None) e (reg_text rd ∷ []) mem (decimal lane ∷ [])))
 
--- a whole register, by a row of format VRX
-abbrev pub whole_text : List ℕ → Emission → Reg → MemArg → Text
-whole_text name e rd mem = access (rx (Some name) None None) e (reg_text rd ∷ []) mem []
-
 -- ---- instructions
 
 -- operators, and bits and lanes that are chosen
@@ -179,23 +176,7 @@ vec_lane_text _ = None
 
 -- loads and stores of whole registers
 abbrev pub vec_whole_text : Emission → VecInst → Option Text
-vec_whole_text e (VecLoad rd mem) = Some (whole_text (codes "vl") e rd mem)
-vec_whole_text e (VecLoadRev rd mem) = Some (whole_text (codes "vlbrq") e rd mem)
-vec_whole_text e (VecLoadByte16Rev rd mem) = Some (whole_text (codes "vlbrh") e rd mem)
-vec_whole_text e (VecLoadByte32Rev rd mem) = Some (whole_text (codes "vlbrf") e rd mem)
-vec_whole_text e (VecLoadByte64Rev rd mem) = Some (whole_text (codes "vlbrg") e rd mem)
-vec_whole_text e (VecLoadElt16Rev rd mem) = Some (whole_text (codes "vlerh") e rd mem)
-vec_whole_text e (VecLoadElt32Rev rd mem) = Some (whole_text (codes "vlerf") e rd mem)
-vec_whole_text e (VecLoadElt64Rev rd mem) = Some (whole_text (codes "vlerg") e rd mem)
-vec_whole_text e (VecStore rd mem) = Some (whole_text (codes "vst") e rd mem)
-vec_whole_text e (VecStoreRev rd mem) = Some (whole_text (codes "vstbrq") e rd mem)
-vec_whole_text e (VecStoreByte16Rev rd mem) = Some (whole_text (codes "vstbrh") e rd mem)
-vec_whole_text e (VecStoreByte32Rev rd mem) = Some (whole_text (codes "vstbrf") e rd mem)
-vec_whole_text e (VecStoreByte64Rev rd mem) = Some (whole_text (codes "vstbrg") e rd mem)
-vec_whole_text e (VecStoreElt16Rev rd mem) = Some (whole_text (codes "vsterh") e rd mem)
-vec_whole_text e (VecStoreElt32Rev rd mem) = Some (whole_text (codes "vsterf") e rd mem)
-vec_whole_text e (VecStoreElt64Rev rd mem) = Some (whole_text (codes "vsterg") e rd mem)
-vec_whole_text e _ = None
+vec_whole_text e v = by_whole (λ w. Some (access (rx (whole_name w.direction w.layout) None None) e (reg_text w.rd ∷ []) w.mem [])) None (as_whole v)
 
 -- loads and stores of lanes
 abbrev pub vec_part_text : Emission → VecInst → Option Text

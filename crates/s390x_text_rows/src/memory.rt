@@ -1,13 +1,13 @@
 //! The texts of integer instructions with an operand in memory.
 ghost use Rattle.std.specs.Prelude.{string_bytes};
 ghost use Rattle.s390x_text_rows.specs.Texts.{PrintsWhere};
-ghost use Rattle.s390x_text_rows.specs.Storage.{load_text, store_text, storage_operator_text};
+ghost use Rattle.s390x_text_rows.specs.Storage.{load_text, store_text, immediate_store_text, storage_operator_text};
 
 use crate::arithmetic::reused;
 use crate::error::TextError;
 use crate::mnemonics::{
-    alu_long_name, alu_short_name, atomic_name, cmp_long_name, cmp_relative_name, cmp_short_name,
-    load_long_name, load_relative_name, load_short_name,
+    AccessForm, alu_long_name, alu_short_name, atomic_name, cmp_long_name, cmp_relative_name,
+    cmp_short_name, load_mnemonic, store_mnemonic,
 };
 use crate::storage::{access2, address_rows, rs_access_then, rs_access3, rx_access};
 use s390x_inst::{EmitState, Inst};
@@ -30,9 +30,9 @@ pub fn put_load(
             out,
             has,
             state,
-            load_short_name(load.op),
-            load_long_name(load.op),
-            load_relative_name(load.op),
+            load_mnemonic(load.op, AccessForm::Short),
+            load_mnemonic(load.op, AccessForm::Long),
+            load_mnemonic(load.op, AccessForm::Relative),
             &load.rd,
             &load.mem,
         )),
@@ -40,8 +40,28 @@ pub fn put_load(
     }
 }
 
-/// Appends the text of a store, likewise; None for another instruction.
+// Appends the text of a store of an immediate; None for another instruction.
 #[rattlefmt::skip]
+fn put_immediate_store(
+    alloc: Global,
+    out: &mut String,
+    has: bool,
+    state: &EmitState,
+    inst: &Inst,
+) -> Option<Result<(), TextError>>
+    ensures { PrintsWhere result (string_bytes out.old) (string_bytes out.new)
+        (immediate_store_text has state.now inst.now) }
+{
+    match inst {
+        Inst::StoreImm8 { imm, mem } => Some(rs_access_then(alloc, out, state, Some("mvi"), Some("mviy"), mem, imm)),
+        Inst::StoreImm16 { imm, mem } => Some(rs_access_then(alloc, out, state, Some("mvhhi"), None, mem, imm)),
+        Inst::StoreImm32SExt16 { imm, mem } => Some(rs_access_then(alloc, out, state, Some("mvhi"), None, mem, imm)),
+        Inst::StoreImm64SExt16 { imm, mem } => Some(rs_access_then(alloc, out, state, Some("mvghi"), None, mem, imm)),
+        _ => None,
+    }
+}
+
+/// Appends the text of a store, likewise; None for another instruction.
 pub fn put_store(
     alloc: Global,
     out: &mut String,
@@ -52,19 +72,19 @@ pub fn put_store(
     ensures { PrintsWhere result (string_bytes out.old) (string_bytes out.new)
         (store_text has state.now inst.now) }
 {
-    match inst {
-        Inst::Store8 { rd, mem } => Some(rx_access(alloc, out, has, state, Some("stc"), Some("stcy"), None, rd, mem)),
-        Inst::Store16 { rd, mem } => Some(rx_access(alloc, out, has, state, Some("sth"), Some("sthy"), Some("sthrl"), rd, mem)),
-        Inst::Store32 { rd, mem } => Some(rx_access(alloc, out, has, state, Some("st"), Some("sty"), Some("strl"), rd, mem)),
-        Inst::Store64 { rd, mem } => Some(rx_access(alloc, out, has, state, None, Some("stg"), Some("stgrl"), rd, mem)),
-        Inst::StoreRev16 { rd, mem } => Some(rx_access(alloc, out, has, state, None, Some("strvh"), None, rd, mem)),
-        Inst::StoreRev32 { rd, mem } => Some(rx_access(alloc, out, has, state, None, Some("strv"), None, rd, mem)),
-        Inst::StoreRev64 { rd, mem } => Some(rx_access(alloc, out, has, state, None, Some("strvg"), None, rd, mem)),
-        Inst::StoreImm8 { imm, mem } => Some(rs_access_then(alloc, out, state, Some("mvi"), Some("mviy"), mem, imm)),
-        Inst::StoreImm16 { imm, mem } => Some(rs_access_then(alloc, out, state, Some("mvhhi"), None, mem, imm)),
-        Inst::StoreImm32SExt16 { imm, mem } => Some(rs_access_then(alloc, out, state, Some("mvhi"), None, mem, imm)),
-        Inst::StoreImm64SExt16 { imm, mem } => Some(rs_access_then(alloc, out, state, Some("mvghi"), None, mem, imm)),
-        _ => None,
+    match inst.as_store() {
+        Some(store) => Some(rx_access(
+            alloc,
+            out,
+            has,
+            state,
+            store_mnemonic(store.op, AccessForm::Short),
+            store_mnemonic(store.op, AccessForm::Long),
+            store_mnemonic(store.op, AccessForm::Relative),
+            &store.rd,
+            &store.mem,
+        )),
+        None => put_immediate_store(alloc, out, has, state, inst),
     }
 }
 

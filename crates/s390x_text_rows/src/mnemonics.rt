@@ -1,11 +1,11 @@
-//! The mnemonics of integer operators and of loads, by the form of their operands.
+//! The mnemonics of integer operators, loads and stores, by the form of their operands.
 ghost use Rattle.std.specs.Prelude.{◌≡◌};
 ghost use Rattle.std.specs.Option.{option_map};
-ghost use Rattle.s390x_text_rows.specs.Mnemonics.{alu_in_form, cmp_in_form, load_in_form, alu_three_name, alu_two_name, alu_halfword_name, alu_three_halfword_name, alu_signed_word_name, alu_unsigned_word_name, alu_short_name, alu_long_name, atomic_name, cmp_two_name, cmp_halfword_name, cmp_signed_word_name, cmp_unsigned_word_name};
-ghost use Rattle.s390x_text_rows.specs.Mnemonics.{cmp_short_name, cmp_long_name, cmp_relative_name, cmp_trap_name, cmp_trap_signed_name, cmp_trap_unsigned_name, load_short_name, load_long_name, load_relative_name, shift_name, rotate_name, rotate_test_name, unary_name};
+ghost use Rattle.s390x_text_rows.specs.Mnemonics.{alu_in_form, cmp_in_form, load_mnemonic, store_mnemonic, alu_three_name, alu_two_name, alu_halfword_name, alu_three_halfword_name, alu_signed_word_name, alu_unsigned_word_name, alu_short_name, alu_long_name, atomic_name, cmp_two_name, cmp_halfword_name, cmp_signed_word_name, cmp_unsigned_word_name};
+ghost use Rattle.s390x_text_rows.specs.Mnemonics.{cmp_short_name, cmp_long_name, cmp_relative_name, cmp_trap_name, cmp_trap_signed_name, cmp_trap_unsigned_name, shift_name, rotate_name, rotate_test_name, unary_name};
 
 use crate::table::{Table, in_column};
-use s390x_inst::{ALUOp, CmpOp, LoadOp, RxSBGOp, ShiftOp, UnaryOp};
+use s390x_inst::{ALUOp, CmpOp, LoadOp, RxSBGOp, ShiftOp, StoreOp, UnaryOp};
 use s390x_job_fields::word::{Names, name_at};
 
 /// The forms of the operands of an `ALUOp`, in the order of the columns of `ALU_MNEMONICS`.
@@ -295,9 +295,9 @@ pub fn cmp_relative_name(op: CmpOp) -> &'static str
     name_at(CMP_RELATIVE_MNEMONICS, op as usize)
 }
 
-/// The forms of the operand of a `LoadOp`, in the order of the columns of `LOAD_MNEMONICS`.
+/// The forms of the operand of a load or a store of one register, in the order of the columns of `LOAD_MNEMONICS` and `STORE_MNEMONICS`.
 #[derive(Clone, Copy)]
-pub enum LoadForm {
+pub enum AccessForm {
     /// A displacement of 12 bits.
     Short,
     /// A displacement of 20 bits.
@@ -306,7 +306,7 @@ pub enum LoadForm {
     Relative,
 }
 
-/// The mnemonics of each load of one register, in the order of the declaration, by `LoadForm`; empty where there is no row.
+/// The mnemonics of each load of one register, in the order of the declaration, by `AccessForm`; empty where there is no row.
 #[rattlefmt::skip]
 pub const LOAD_MNEMONICS: Table<LoadOp> = &[
     (LoadOp::Load32, &["l", "ly", "lrl"]),
@@ -326,36 +326,32 @@ pub const LOAD_MNEMONICS: Table<LoadOp> = &[
     (LoadOp::LoadRev64, &["", "lrvg", ""]),
 ];
 
-// The mnemonic of a load in a form; None where there is no row.
-#[inline(always)]
-fn load_in_form(op: LoadOp, form: LoadForm) -> Option<&'static str>
-    ensures { option_map (λ s. s.now) result ≡ load_in_form op form }
+/// The mnemonic of a load in a form; None where there is no row.
+#[tactic(auto, unfolding(crate::specs::Mnemonics::load_mnemonic))]
+pub fn load_mnemonic(op: LoadOp, form: AccessForm) -> Option<&'static str>
+    ensures { option_map (λ s. s.now) result ≡ load_mnemonic op form }
 {
     in_column(LOAD_MNEMONICS, op.place(), form as usize)
 }
 
-/// A load at a displacement of 12 bits; None where there is no row.
-#[tactic(auto, unfolding(crate::specs::Mnemonics::load_short_name))]
-pub fn load_short_name(op: LoadOp) -> Option<&'static str>
-    ensures { option_map (λ s. s.now) result ≡ load_short_name op }
-{
-    load_in_form(op, LoadForm::Short)
-}
+/// The mnemonics of each store of one register, likewise.
+#[rattlefmt::skip]
+pub const STORE_MNEMONICS: Table<StoreOp> = &[
+    (StoreOp::Store8, &["stc", "stcy", ""]),
+    (StoreOp::Store16, &["sth", "sthy", "sthrl"]),
+    (StoreOp::Store32, &["st", "sty", "strl"]),
+    (StoreOp::Store64, &["", "stg", "stgrl"]),
+    (StoreOp::StoreRev16, &["", "strvh", ""]),
+    (StoreOp::StoreRev32, &["", "strv", ""]),
+    (StoreOp::StoreRev64, &["", "strvg", ""]),
+];
 
-/// At one of 20 bits; None where there is no row.
-#[tactic(auto, unfolding(crate::specs::Mnemonics::load_long_name))]
-pub fn load_long_name(op: LoadOp) -> Option<&'static str>
-    ensures { option_map (λ s. s.now) result ≡ load_long_name op }
+/// The mnemonic of a store in a form; None where there is no row.
+#[tactic(auto, unfolding(crate::specs::Mnemonics::store_mnemonic))]
+pub fn store_mnemonic(op: StoreOp, form: AccessForm) -> Option<&'static str>
+    ensures { option_map (λ s. s.now) result ≡ store_mnemonic op form }
 {
-    load_in_form(op, LoadForm::Long)
-}
-
-/// At an address relative to the instruction; None where there is no row.
-#[tactic(auto, unfolding(crate::specs::Mnemonics::load_relative_name))]
-pub fn load_relative_name(op: LoadOp) -> Option<&'static str>
-    ensures { option_map (λ s. s.now) result ≡ load_relative_name op }
-{
-    load_in_form(op, LoadForm::Relative)
+    in_column(STORE_MNEMONICS, op.place(), form as usize)
 }
 
 /// Each with its mnemonic, in the order of the declaration.

@@ -8,6 +8,7 @@ use crate::operand::Float;
 use crate::regs::is_float;
 use crate::storage::{rx_access, rx_access_between};
 use crate::vector::{lane_name, put_vec_lane, put_vec_move, put_vec_operator, reversed_name};
+use crate::vector_mnemonics::whole_name;
 use s390x_base::Reg;
 use s390x_inst::{EmitState, MemArg, VecInst};
 use std::alloc::Global;
@@ -101,7 +102,6 @@ fn put_store_lane(
 }
 
 /// Appends the text of a load or a store of a whole register; None for another instruction.
-#[rattlefmt::skip]
 pub fn put_vec_whole(
     alloc: Global,
     out: &mut String,
@@ -111,24 +111,19 @@ pub fn put_vec_whole(
     ensures { PrintsWhere result (string_bytes out.old) (string_bytes out.new)
         (vec_whole_text state.now inst.now) }
 {
-    match inst {
-        VecInst::VecLoad { rd, mem } => Some(rx_access(alloc, out, true, state, Some("vl"), None, None, rd, mem)),
-        VecInst::VecLoadRev { rd, mem } => Some(rx_access(alloc, out, true, state, Some("vlbrq"), None, None, rd, mem)),
-        VecInst::VecLoadByte16Rev { rd, mem } => Some(rx_access(alloc, out, true, state, Some("vlbrh"), None, None, rd, mem)),
-        VecInst::VecLoadByte32Rev { rd, mem } => Some(rx_access(alloc, out, true, state, Some("vlbrf"), None, None, rd, mem)),
-        VecInst::VecLoadByte64Rev { rd, mem } => Some(rx_access(alloc, out, true, state, Some("vlbrg"), None, None, rd, mem)),
-        VecInst::VecLoadElt16Rev { rd, mem } => Some(rx_access(alloc, out, true, state, Some("vlerh"), None, None, rd, mem)),
-        VecInst::VecLoadElt32Rev { rd, mem } => Some(rx_access(alloc, out, true, state, Some("vlerf"), None, None, rd, mem)),
-        VecInst::VecLoadElt64Rev { rd, mem } => Some(rx_access(alloc, out, true, state, Some("vlerg"), None, None, rd, mem)),
-        VecInst::VecStore { rd, mem } => Some(rx_access(alloc, out, true, state, Some("vst"), None, None, rd, mem)),
-        VecInst::VecStoreRev { rd, mem } => Some(rx_access(alloc, out, true, state, Some("vstbrq"), None, None, rd, mem)),
-        VecInst::VecStoreByte16Rev { rd, mem } => Some(rx_access(alloc, out, true, state, Some("vstbrh"), None, None, rd, mem)),
-        VecInst::VecStoreByte32Rev { rd, mem } => Some(rx_access(alloc, out, true, state, Some("vstbrf"), None, None, rd, mem)),
-        VecInst::VecStoreByte64Rev { rd, mem } => Some(rx_access(alloc, out, true, state, Some("vstbrg"), None, None, rd, mem)),
-        VecInst::VecStoreElt16Rev { rd, mem } => Some(rx_access(alloc, out, true, state, Some("vsterh"), None, None, rd, mem)),
-        VecInst::VecStoreElt32Rev { rd, mem } => Some(rx_access(alloc, out, true, state, Some("vsterf"), None, None, rd, mem)),
-        VecInst::VecStoreElt64Rev { rd, mem } => Some(rx_access(alloc, out, true, state, Some("vsterg"), None, None, rd, mem)),
-        _ => None,
+    match inst.as_whole() {
+        Some(whole) => Some(rx_access(
+            alloc,
+            out,
+            true,
+            state,
+            whole_name(whole.direction, whole.layout),
+            None,
+            None,
+            &whole.rd,
+            &whole.mem,
+        )),
+        None => None,
     }
 }
 

@@ -1,8 +1,12 @@
-//! The mnemonics of vector operators.
+//! The mnemonics of vector operators, and of loads and stores of whole registers.
 ghost use Rattle.std.specs.Prelude.{◌≡◌};
-ghost use Rattle.s390x_text_rows.specs.VectorMnemonics.{vec_binary_name, vec_unary_name, vec_shift_name, vec_compare_name, vec_compare_set_name, vec_element_compare_name};
+ghost use Rattle.std.specs.Option.{option_map};
+ghost use Rattle.s390x_text_rows.specs.VectorMnemonics.{vec_binary_name, vec_unary_name, vec_shift_name, vec_compare_name, vec_compare_set_name, vec_element_compare_name, whole_name};
 
-use s390x_inst::{VecBinaryOp, VecIntCmpOp, VecIntEltCmpOp, VecShiftOp, VecUnaryOp};
+use crate::table::{Table, in_column};
+use s390x_inst::{
+    Direction, VecBinaryOp, VecIntCmpOp, VecIntEltCmpOp, VecShiftOp, VecUnaryOp, WholeLayout,
+};
 use s390x_job_fields::word::{Names, name_at};
 
 /// Each with its mnemonic, in the order of the declaration.
@@ -280,4 +284,25 @@ pub fn vec_element_compare_name(op: VecIntEltCmpOp) -> &'static str
     ensures { result.now ≡ vec_element_compare_name op }
 {
     name_at(VEC_ELEMENT_COMPARE_MNEMONICS, op as usize)
+}
+
+/// The mnemonics of a load and of a store of a whole register in each layout, in the order of the declaration.
+#[rattlefmt::skip]
+pub const WHOLE_MNEMONICS: Table<WholeLayout> = &[
+    (WholeLayout::Straight, &["vl", "vst"]),
+    (WholeLayout::Reversed, &["vlbrq", "vstbrq"]),
+    (WholeLayout::Bytes16, &["vlbrh", "vstbrh"]),
+    (WholeLayout::Bytes32, &["vlbrf", "vstbrf"]),
+    (WholeLayout::Bytes64, &["vlbrg", "vstbrg"]),
+    (WholeLayout::Elements16, &["vlerh", "vsterh"]),
+    (WholeLayout::Elements32, &["vlerf", "vsterf"]),
+    (WholeLayout::Elements64, &["vlerg", "vsterg"]),
+];
+
+/// A load or a store of a whole register.
+#[tactic(auto, unfolding(crate::specs::VectorMnemonics::whole_name))]
+pub fn whole_name(direction: Direction, layout: WholeLayout) -> Option<&'static str>
+    ensures { option_map (λ s. s.now) result ≡ whole_name direction layout }
+{
+    in_column(WHOLE_MNEMONICS, layout.place(), direction as usize)
 }

@@ -19,6 +19,7 @@ use Rattle.s390x_inst.specs.declared.inst.Inst.TheVariants.{Store8, Store16, Sto
 use Rattle.s390x_inst.specs.declared.inst.Inst.TheVariants.{StoreImm8, StoreImm16, StoreImm32SExt16, StoreImm64SExt16, LoadMultiple64, StoreMultiple64, AtomicRmw, AtomicCas32, AtomicCas64, AllocateArgs, DummyUse, SequencePoint}
 use Rattle.s390x_inst.specs.declared.vec_inst.VecInst.{VecInst}
 use Rattle.s390x_inst.specs.declared.vec_inst.VecInst.TheVariants as V
+use Rattle.s390x_rows.specs.declared.opcodes.TheConstants as opcodes
 use Rattle.s390x_typed_steps.specs.MachineInstruction.{rr}
 use Rattle.s390x_typed_steps.specs.Causes.{Declared, first_emit_cause, unless, labels_cause, table_cause, instruction_cause, instruction_fresh_labels}
 use Rattle.s390x_typed_steps.specs.General.{is_general, is_nonzero}
@@ -236,7 +237,7 @@ reading_fresh_labels Other = 0
 -- the parts of the step in a loop that ends at the step `after`
 abbrev pub reading_parts : ℕ → Reading → List CodePart
 reading_parts after (Whole i) = step_parts (step_of after (Body.Whole i))
-reading_parts after (Picks rn targets) = Row (rr 0x07 15 (number_of rn)) ∷ []
+reading_parts after (Picks rn targets) = Row (rr opcodes.BCR 15 (number_of rn)) ∷ []
 reading_parts after (Jumps index other mask targets) = table_parts (number_of index) mask other.0 targets
 reading_parts after Names = []
 reading_parts after (Pops size) = []

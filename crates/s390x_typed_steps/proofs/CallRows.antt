@@ -24,6 +24,7 @@ use Rattle.s390x_inst.specs.declared.inst.Inst.TheVariants.{LoadAddr, Mov64, Vec
 use Rattle.s390x_inst.specs.declared.state.FrameLayout.{FrameLayout}
 use Rattle.s390x_inst.specs.declared.state.IsaFlags.{IsaFlags}
 use Rattle.s390x_inst.specs.declared.vec_inst.VecInst.TheVariants.{VecLoadLaneUndef}
+use Rattle.s390x_rows.specs.declared.opcodes.TheConstants as opcodes
 use Rattle.s390x_typed_steps.specs.Baseline.{whole_or_loaded, body_for, tree_for}
 use Rattle.s390x_typed_steps.specs.Calls.{wholes, load_or, load_before, load_bodies, behind_call, result_bodies, continuation_bodies, call_bodies, tail_bodies, jump_target}
 use Rattle.s390x_typed_steps.specs.Memory.{MemoryInstruction, FloatForm, VrxForm, memory, accesses_relative, access_vector, access_lane, load_left, load_lane_opcode, is_left_lane}
@@ -57,7 +58,7 @@ either_none false a b h k = k
 left_none : (valid : Bool) (size register : ℕ) (mem : MemArg) → accesses_relative (access_vector valid (load_left size register) mem) ≡ false
 left_none valid size register mem = go (nat_eq size 32)
   where
-    go : (t : Bool) → accesses_relative (access_vector valid (cond t (FloatForm register 0x78 0xed64) (FloatForm register 0x68 0xed65)) mem) ≡ false
+    go : (t : Bool) → accesses_relative (access_vector valid (cond t (FloatForm register opcodes.LE opcodes.LEY) (FloatForm register opcodes.LD opcodes.LDY)) mem) ≡ false
     go true = refl
     go false = refl
 

@@ -5,8 +5,8 @@ use Rattle.s390x_base.specs.Regs.{number_of}
 use Rattle.s390x_base.specs.declared.regs.Reg.{Reg}
 use Rattle.s390x_inst.specs.declared.args.MemArg.{MemArg}
 use Rattle.s390x_inst.specs.declared.vec_inst.VecInst.{VecInst}
-use Rattle.s390x_inst.specs.declared.vec_inst.VecInst.TheVariants.{VecLoad, VecLoadRev, VecLoadByte16Rev, VecLoadByte32Rev, VecLoadByte64Rev, VecLoadElt16Rev, VecLoadElt32Rev, VecLoadElt64Rev, VecStore, VecStoreRev, VecStoreByte16Rev, VecStoreByte32Rev, VecStoreByte64Rev, VecStoreElt16Rev, VecStoreElt32Rev, VecStoreElt64Rev}
 use Rattle.s390x_inst.specs.declared.vec_inst.VecInst.TheVariants.{VecLoadReplicate, VecLoadReplicateRev, VecLoadLane, VecLoadLaneRev, VecLoadLaneUndef, VecLoadLaneRevUndef, VecStoreLane, VecStoreLaneRev}
+use Rattle.s390x_rows.specs.declared.opcodes.TheConstants as opcodes
 use Rattle.s390x_typed_steps.specs.Memory.{VrxForm, FloatForm, MemoryInstruction, operate, load_and_operate, access_vector, access_elements, access_lane, load_left, store_left, is_left_lane, vector_memory, without_relative, reversed_code, load_lane_opcode, load_reversed_opcode, store_lane_opcode, store_reversed_opcode}
 use Rattle.s390x_typed_steps.specs.VectorInstruction.{is_vector, reuses_vector, element_code, is_lane}
 
@@ -33,14 +33,14 @@ lane_none valid opcode register (Some code) size lane mem = go (is_lane size lan
 load_left_none : (valid : Bool) (size register : ℕ) (mem : MemArg) → without_relative (access_vector valid (load_left size register) mem) ≡ None
 load_left_none valid size register mem = go (nat_eq size 32)
   where
-    go : (t : Bool) → without_relative (access_vector valid (cond t (FloatForm register 0x78 0xed64) (FloatForm register 0x68 0xed65)) mem) ≡ None
+    go : (t : Bool) → without_relative (access_vector valid (cond t (FloatForm register opcodes.LE opcodes.LEY) (FloatForm register opcodes.LD opcodes.LDY)) mem) ≡ None
     go true = refl
     go false = refl
 
 store_left_none : (valid : Bool) (size register : ℕ) (mem : MemArg) → without_relative (access_vector valid (store_left size register) mem) ≡ None
 store_left_none valid size register mem = go (nat_eq size 32)
   where
-    go : (t : Bool) → without_relative (access_vector valid (cond t (FloatForm register 0x70 0xed66) (FloatForm register 0x60 0xed67)) mem) ≡ None
+    go : (t : Bool) → without_relative (access_vector valid (cond t (FloatForm register opcodes.STE opcodes.STEY) (FloatForm register opcodes.STD opcodes.STDY)) mem) ≡ None
     go true = refl
     go false = refl
 
@@ -49,24 +49,8 @@ either_none true a b h k = h
 either_none false a b h k = k
 
 pub vector_none : (v : VecInst) → without_relative (vector_memory v) ≡ None
-vector_none (VecLoad rd mem) = refl
-vector_none (VecLoadRev rd mem) = refl
-vector_none (VecLoadByte16Rev rd mem) = refl
-vector_none (VecLoadByte32Rev rd mem) = refl
-vector_none (VecLoadByte64Rev rd mem) = refl
-vector_none (VecLoadElt16Rev rd mem) = refl
-vector_none (VecLoadElt32Rev rd mem) = refl
-vector_none (VecLoadElt64Rev rd mem) = refl
-vector_none (VecStore rd mem) = refl
-vector_none (VecStoreRev rd mem) = refl
-vector_none (VecStoreByte16Rev rd mem) = refl
-vector_none (VecStoreByte32Rev rd mem) = refl
-vector_none (VecStoreByte64Rev rd mem) = refl
-vector_none (VecStoreElt16Rev rd mem) = refl
-vector_none (VecStoreElt32Rev rd mem) = refl
-vector_none (VecStoreElt64Rev rd mem) = refl
-vector_none (VecLoadReplicate size rd mem) = elements_none 0xe705 rd (element_code size) mem
-vector_none (VecLoadReplicateRev size rd mem) = elements_none 0xe605 rd (reversed_code size) mem
+vector_none (VecLoadReplicate size rd mem) = elements_none opcodes.VLREP rd (element_code size) mem
+vector_none (VecLoadReplicateRev size rd mem) = elements_none opcodes.VLBRREP rd (reversed_code size) mem
 vector_none (VecLoadLane size rd ri mem lane) = lane_none (reuses_vector rd ri) load_lane_opcode (number_of rd) (element_code size) size lane mem
 vector_none (VecLoadLaneRev size rd ri mem lane) = lane_none (reuses_vector rd ri) load_reversed_opcode (number_of rd) (reversed_code size) size lane mem
 vector_none (VecLoadLaneUndef size rd mem lane) =

@@ -7,21 +7,28 @@ use Rattle.s390x_inst.specs.Memory.{flags_of}
 use Rattle.s390x_inst.specs.declared.args.MemArg.{MemArg}
 use Rattle.s390x_inst.specs.declared.args.MemArg.TheVariants.{BXD12, BXD20}
 use Rattle.s390x_inst.specs.declared.inst.Inst.{Inst}
-use Rattle.s390x_inst.specs.declared.inst.Inst.TheVariants.{AluRX, CmpRX, Store8, Store16, Store32, Store64}
-use Rattle.s390x_inst.specs.declared.inst.Inst.TheVariants.{StoreRev16, StoreRev32, StoreRev64, StoreImm8, StoreImm16, StoreImm32SExt16, StoreImm64SExt16, LoadMultiple64, StoreMultiple64, LoadAddr, AtomicRmw, AtomicCas32, AtomicCas64, Vector}
+use Rattle.s390x_inst.specs.declared.inst.Inst.TheVariants.{AluRX, CmpRX}
+use Rattle.s390x_inst.specs.declared.inst.Inst.TheVariants.{StoreImm8, StoreImm16, StoreImm32SExt16, StoreImm64SExt16, LoadMultiple64, StoreMultiple64, LoadAddr, AtomicRmw, AtomicCas32, AtomicCas64, Vector}
 use Rattle.s390x_inst.specs.declared.load.Load.{Load}
 use Rattle.s390x_inst.specs.declared.load.LoadOp.{LoadOp}
 use Rattle.s390x_inst.specs.Loads.{as_load, by_load, load_place}
+use Rattle.s390x_inst.specs.declared.store.Store.{Store}
+use Rattle.s390x_inst.specs.declared.store.StoreOp.{StoreOp}
+use Rattle.s390x_inst.specs.Stores.{as_store, by_store, store_place}
+use Rattle.s390x_inst.specs.declared.whole.WholeAccess.{WholeAccess}
+use Rattle.s390x_inst.specs.declared.whole.WholeLayout.{WholeLayout}
+use Rattle.s390x_inst.specs.Wholes.{as_whole, by_whole, by_direction, layout_place}
 use Rattle.s390x_inst.specs.declared.vec_inst.VecInst.{VecInst}
-use Rattle.s390x_inst.specs.declared.vec_inst.VecInst.TheVariants.{VecLoad, VecLoadRev, VecLoadByte16Rev, VecLoadByte32Rev, VecLoadByte64Rev, VecLoadElt16Rev, VecLoadElt32Rev, VecLoadElt64Rev, VecStore, VecStoreRev, VecStoreByte16Rev, VecStoreByte32Rev, VecStoreByte64Rev, VecStoreElt16Rev, VecStoreElt32Rev, VecStoreElt64Rev}
 use Rattle.s390x_inst.specs.declared.vec_inst.VecInst.TheVariants.{VecLoadReplicate, VecLoadReplicateRev, VecLoadLane, VecLoadLaneRev, VecLoadLaneUndef, VecLoadLaneRevUndef, VecStoreLane, VecStoreLaneRev}
+use Rattle.s390x_rows.specs.declared.opcodes.TheConstants as opcodes
 use Rattle.s390x_typed_steps.specs.General.{is_general, reuses, low_byte, low_halfword, low_displacement, low_12}
 use Rattle.s390x_typed_steps.specs.MachineInstruction.{MachineInstruction, rx, rxy, rs, rsy, si, siy, sil, vrx}
 use Rattle.s390x_typed_steps.specs.Operands.{is_numbered, is_relative}
 use Rattle.s390x_typed_steps.specs.Storage.{alu_rx, alu_rxy, cmp_rx, cmp_rxy, cmp_ril, atomic_rsy}
 use Rattle.s390x_typed_steps.specs.VectorInstruction.{is_vector, reuses_vector, element_code, is_lane}
-use Rattle.s390x_typed_steps.specs.declared.load_rows.LoadRows.{LoadRows}
-use Rattle.s390x_typed_steps.specs.declared.load_rows.TheConstants.{LOAD_ROWS}
+use Rattle.s390x_typed_steps.specs.declared.access_rows.RegisterRows.{RegisterRows}
+use Rattle.s390x_typed_steps.specs.declared.access_rows.WholeRows.{WholeRows}
+use Rattle.s390x_typed_steps.specs.declared.access_rows.TheConstants.{LOAD_ROWS, STORE_ROWS, WHOLE_ROWS}
 use Rattle.s390x_typed_steps.specs.declared.mem_inst_type.MemInstType.{MemInstType}
 
 -- the machine rows that an instruction has for its operand, by format, and what else stands in them
@@ -103,7 +110,7 @@ store_immediate form mem = Some (record { form = form; operand = mem; accesses =
 
 -- the rows of LOAD ADDRESS, which accesses nothing
 abbrev pub address_form : Reg → StorageForm
-address_form rd = RxForm (number_of rd) (Some 0x41) (Some 0xe371) (Some 0xc00)
+address_form rd = RxForm (number_of rd) (Some opcodes.LA) (Some opcodes.LAY) (Some opcodes.LARL)
 
 -- registers from the first to the last, in order
 abbrev pub is_range : (first last : Reg) → Bool
@@ -162,17 +169,17 @@ access_lane valid opcode register (Some code) size lane mem = cond (is_lane size
 
 -- the opcodes of one element's rows, by the code of its size
 abbrev pub load_lane_opcode : (code : ℕ) → ℕ
-load_lane_opcode code = cond (nat_eq code 0) 0xe700 (cond (nat_eq code 1) 0xe701 (cond (nat_eq code 2) 0xe703 0xe702))
+load_lane_opcode code = cond (nat_eq code 0) opcodes.VLEB (cond (nat_eq code 1) opcodes.VLEH (cond (nat_eq code 2) opcodes.VLEF opcodes.VLEG))
 
 abbrev pub store_lane_opcode : (code : ℕ) → ℕ
-store_lane_opcode code = cond (nat_eq code 0) 0xe708 (cond (nat_eq code 1) 0xe709 (cond (nat_eq code 2) 0xe70b 0xe70a))
+store_lane_opcode code = cond (nat_eq code 0) opcodes.VSTEB (cond (nat_eq code 1) opcodes.VSTEH (cond (nat_eq code 2) opcodes.VSTEF opcodes.VSTEG))
 
 -- those with its bytes reversed
 abbrev pub load_reversed_opcode : (code : ℕ) → ℕ
-load_reversed_opcode code = cond (nat_eq code 1) 0xe601 (cond (nat_eq code 2) 0xe603 0xe602)
+load_reversed_opcode code = cond (nat_eq code 1) opcodes.VLEBRH (cond (nat_eq code 2) opcodes.VLEBRF opcodes.VLEBRG)
 
 abbrev pub store_reversed_opcode : (code : ℕ) → ℕ
-store_reversed_opcode code = cond (nat_eq code 1) 0xe609 (cond (nat_eq code 2) 0xe60b 0xe60a)
+store_reversed_opcode code = cond (nat_eq code 1) opcodes.VSTEBRH (cond (nat_eq code 2) opcodes.VSTEBRF opcodes.VSTEBRG)
 
 -- the leftmost word or doubleword of a register that is a float register too
 abbrev pub is_left_lane : (size lane register : ℕ) → Bool
@@ -180,10 +187,10 @@ is_left_lane size lane register = (nat_eq size 32 || nat_eq size 64) && nat_eq l
 
 -- its rows
 abbrev pub load_left : (size register : ℕ) → StorageForm
-load_left size register = cond (nat_eq size 32) (FloatForm register 0x78 0xed64) (FloatForm register 0x68 0xed65)
+load_left size register = cond (nat_eq size 32) (FloatForm register opcodes.LE opcodes.LEY) (FloatForm register opcodes.LD opcodes.LDY)
 
 abbrev pub store_left : (size register : ℕ) → StorageForm
-store_left size register = cond (nat_eq size 32) (FloatForm register 0x70 0xed66) (FloatForm register 0x60 0xed67)
+store_left size register = cond (nat_eq size 32) (FloatForm register opcodes.STE opcodes.STEY) (FloatForm register opcodes.STD opcodes.STDY)
 
 -- loads and stores of one element. Where the other ones may become any, the leftmost one is also loaded as a float register
 abbrev pub lane_memory : VecInst → Option MemoryInstruction
@@ -199,58 +206,57 @@ lane_memory (VecStoreLane size rd mem lane) =
 lane_memory (VecStoreLaneRev size rd mem lane) = access_lane (is_vector rd) store_reversed_opcode (number_of rd) (reversed_code size) size lane mem
 lane_memory _ = None
 
+-- loads and stores of elements
+abbrev pub part_memory : VecInst → Option MemoryInstruction
+part_memory (VecLoadReplicate size rd mem) = access_elements opcodes.VLREP rd (element_code size) mem
+part_memory (VecLoadReplicateRev size rd mem) = access_elements opcodes.VLBRREP rd (reversed_code size) mem
+part_memory v = lane_memory v
+
+-- the rows of a layout
+abbrev pub layout_rows : WholeLayout → WholeRows
+layout_rows layout = get_or WHOLE_ROWS (layout_place layout) (record { load_opcode = 0; store_opcode = 0; mask = 0 })
+
+abbrev pub whole_memory : WholeAccess → Option MemoryInstruction
+whole_memory w = access_elements (by_direction w.direction (layout_rows w.layout).load_opcode (layout_rows w.layout).store_opcode) w.rd (Some (layout_rows w.layout).mask) w.mem
+
 -- the loads and stores of vector registers
 abbrev pub vector_memory : VecInst → Option MemoryInstruction
-vector_memory (VecLoad rd mem) = access_elements 0xe706 rd (Some 0) mem
-vector_memory (VecLoadRev rd mem) = access_elements 0xe606 rd (Some 4) mem
-vector_memory (VecLoadByte16Rev rd mem) = access_elements 0xe606 rd (Some 1) mem
-vector_memory (VecLoadByte32Rev rd mem) = access_elements 0xe606 rd (Some 2) mem
-vector_memory (VecLoadByte64Rev rd mem) = access_elements 0xe606 rd (Some 3) mem
-vector_memory (VecLoadElt16Rev rd mem) = access_elements 0xe607 rd (Some 1) mem
-vector_memory (VecLoadElt32Rev rd mem) = access_elements 0xe607 rd (Some 2) mem
-vector_memory (VecLoadElt64Rev rd mem) = access_elements 0xe607 rd (Some 3) mem
-vector_memory (VecStore rd mem) = access_elements 0xe70e rd (Some 0) mem
-vector_memory (VecStoreRev rd mem) = access_elements 0xe60e rd (Some 4) mem
-vector_memory (VecStoreByte16Rev rd mem) = access_elements 0xe60e rd (Some 1) mem
-vector_memory (VecStoreByte32Rev rd mem) = access_elements 0xe60e rd (Some 2) mem
-vector_memory (VecStoreByte64Rev rd mem) = access_elements 0xe60e rd (Some 3) mem
-vector_memory (VecStoreElt16Rev rd mem) = access_elements 0xe60f rd (Some 1) mem
-vector_memory (VecStoreElt32Rev rd mem) = access_elements 0xe60f rd (Some 2) mem
-vector_memory (VecStoreElt64Rev rd mem) = access_elements 0xe60f rd (Some 3) mem
-vector_memory (VecLoadReplicate size rd mem) = access_elements 0xe705 rd (element_code size) mem
-vector_memory (VecLoadReplicateRev size rd mem) = access_elements 0xe605 rd (reversed_code size) mem
-vector_memory v = lane_memory v
+vector_memory v = by_whole whole_memory (part_memory v) (as_whole v)
 
 -- the rows of a load
-abbrev pub load_rows : LoadOp → LoadRows
+abbrev pub load_rows : LoadOp → RegisterRows
 load_rows op = get_or LOAD_ROWS (load_place op) (record { rx = None; rxy = None; ril = None })
 
 abbrev pub load_memory : Load → Option MemoryInstruction
 load_memory l = load l.rd (load_rows l.op).rx (load_rows l.op).rxy (load_rows l.op).ril l.mem
 
--- the machine rows and the operand of one that is no load of one register
+-- the rows of a store
+abbrev pub store_rows : StoreOp → RegisterRows
+store_rows op = get_or STORE_ROWS (store_place op) (record { rx = None; rxy = None; ril = None })
+
+abbrev pub store_memory : Store → Option MemoryInstruction
+store_memory s = store s.rd (store_rows s.op).rx (store_rows s.op).rxy (store_rows s.op).ril s.mem
+
+-- the machine rows and the operand of one that is neither a load nor a store of one register
+abbrev pub rest_memory : Inst → Option MemoryInstruction
+rest_memory (AluRX op rd ri mem) = operate (is_some (alu_rx op) || is_some (alu_rxy op)) (alu_rx op) (alu_rxy op) rd ri mem
+rest_memory (CmpRX op rn mem) = compare rn (cmp_rx op) (cmp_rxy op) (cmp_ril op) mem
+rest_memory (StoreImm8 imm mem) = store_immediate (SiForm (low_byte imm) opcodes.MVI opcodes.MVIY) mem
+rest_memory (StoreImm16 imm mem) = store_immediate (SilForm (low_halfword imm) opcodes.MVHHI) mem
+rest_memory (StoreImm32SExt16 imm mem) = store_immediate (SilForm (low_halfword imm) opcodes.MVHI) mem
+rest_memory (StoreImm64SExt16 imm mem) = store_immediate (SilForm (low_halfword imm) opcodes.MVGHI) mem
+rest_memory (LoadMultiple64 rt rt2 mem) = multiple rt rt2 opcodes.LMG false mem
+rest_memory (StoreMultiple64 rt rt2 mem) = multiple rt rt2 opcodes.STMG (holds_scratch rt rt2) mem
+rest_memory (LoadAddr rd mem) = Some (record { form = address_form rd; operand = mem; accesses = false; operands_valid = is_general rd; reads_scratch = false })
+rest_memory (AtomicRmw op rd rn mem) = load_and_operate (atomic_rsy op) rd rn mem
+rest_memory (AtomicCas32 rd ri rn mem) = compare_and_swap (Some opcodes.CS) opcodes.CSY rd ri rn mem
+rest_memory (AtomicCas64 rd ri rn mem) = compare_and_swap None opcodes.CSG rd ri rn mem
+rest_memory (Vector v) = vector_memory v
+rest_memory _ = None
+
+-- the same of one that is no load of one register
 abbrev pub other_memory : Inst → Option MemoryInstruction
-other_memory (AluRX op rd ri mem) = operate (is_some (alu_rx op) || is_some (alu_rxy op)) (alu_rx op) (alu_rxy op) rd ri mem
-other_memory (CmpRX op rn mem) = compare rn (cmp_rx op) (cmp_rxy op) (cmp_ril op) mem
-other_memory (Store8 rd mem) = store rd (Some 0x42) (Some 0xe372) None mem
-other_memory (Store16 rd mem) = store rd (Some 0x40) (Some 0xe370) (Some 0xc47) mem
-other_memory (Store32 rd mem) = store rd (Some 0x50) (Some 0xe350) (Some 0xc4f) mem
-other_memory (Store64 rd mem) = store rd None (Some 0xe324) (Some 0xc4b) mem
-other_memory (StoreRev16 rd mem) = store rd None (Some 0xe33f) None mem
-other_memory (StoreRev32 rd mem) = store rd None (Some 0xe33e) None mem
-other_memory (StoreRev64 rd mem) = store rd None (Some 0xe32f) None mem
-other_memory (StoreImm8 imm mem) = store_immediate (SiForm (low_byte imm) 0x92 0xeb52) mem
-other_memory (StoreImm16 imm mem) = store_immediate (SilForm (low_halfword imm) 0xe544) mem
-other_memory (StoreImm32SExt16 imm mem) = store_immediate (SilForm (low_halfword imm) 0xe54c) mem
-other_memory (StoreImm64SExt16 imm mem) = store_immediate (SilForm (low_halfword imm) 0xe548) mem
-other_memory (LoadMultiple64 rt rt2 mem) = multiple rt rt2 0xeb04 false mem
-other_memory (StoreMultiple64 rt rt2 mem) = multiple rt rt2 0xeb24 (holds_scratch rt rt2) mem
-other_memory (LoadAddr rd mem) = Some (record { form = address_form rd; operand = mem; accesses = false; operands_valid = is_general rd; reads_scratch = false })
-other_memory (AtomicRmw op rd rn mem) = load_and_operate (atomic_rsy op) rd rn mem
-other_memory (AtomicCas32 rd ri rn mem) = compare_and_swap (Some 0xba) 0xeb14 rd ri rn mem
-other_memory (AtomicCas64 rd ri rn mem) = compare_and_swap None 0xeb30 rd ri rn mem
-other_memory (Vector v) = vector_memory v
-other_memory _ = None
+other_memory i = by_store store_memory (rest_memory i) (as_store i)
 
 -- the machine rows and the operand of an instruction with a memory operand, where it is one
 abbrev pub memory : Inst → Option MemoryInstruction

@@ -12,6 +12,7 @@ use Rattle.s390x_inst.specs.declared.calls.SymbolReloc.{SymbolReloc}
 use Rattle.s390x_inst.specs.declared.calls.SymbolReloc.TheVariants.{Absolute}
 use Rattle.s390x_inst.specs.declared.inst.Inst.{Inst}
 use Rattle.s390x_inst.specs.declared.inst.Inst.TheVariants.{Mov64SImm32, LoadAddr, Jump, CondBr, IndirectBr, Ret, LabelAddress, LoadSymbolReloc, Trap, TrapIf, Debugtrap, JTSequence, Vector}
+use Rattle.s390x_rows.specs.declared.opcodes.TheConstants as opcodes
 use Rattle.s390x_typed_steps.specs.General.{low_word}
 use Rattle.s390x_typed_steps.specs.MachineInstruction.{MachineInstruction, size_of, format_e, rr, ri_b, ril_a, ril_c, ril_b, rxy}
 use Rattle.s390x_typed_steps.specs.SingleInstruction.{SingleInstruction, single_instruction, stop_code}
@@ -87,7 +88,7 @@ operand_parts form code m = cond (is_relative m) (relative_parts form code m) (a
 
 -- the parts of a helper, whose operand stands in it as it is
 abbrev pub helper_parts : Inst → List CodePart
-helper_parts (Mov64SImm32 rd imm) = Row (ril_a 0xc01 (number_of rd) (low_word imm)) ∷ []
+helper_parts (Mov64SImm32 rd imm) = Row (ril_a opcodes.LGFI (number_of rd) (low_word imm)) ∷ []
 helper_parts (LoadAddr rd mem) = operand_parts (address_form rd) None mem
 helper_parts _ = []
 
@@ -113,7 +114,7 @@ table_words before (l ∷ ls) = TableWord before (ToBlock l.0) ∷ table_words (
 -- at the index, which is counted in bytes; and a branch there. The table stands behind these
 abbrev pub table_parts : (index mask other : ℕ) → List MachLabel → List CodePart
 table_parts index mask other targets =
-    Branch mask (ToBlock other) ∷ Row (ril_b 0xc00 1 7) ∷ Row (rxy 0xe318 1 1 index 0) ∷ Row (rr 0x07 15 1) ∷ table_words 0 targets
+    Branch mask (ToBlock other) ∷ Row (ril_b opcodes.LARL 1 7) ∷ Row (rxy opcodes.AGF 1 1 index 0) ∷ Row (rr opcodes.BCR 15 1) ∷ table_words 0 targets
 
 -- the symbol that a relocation names
 abbrev pub name_in : SymbolReloc → ExternalName
@@ -125,7 +126,7 @@ offset_in (Absolute name offset) = offset
 
 -- BRANCH RELATIVE AND SAVE to six halfwords on, over a doubleword, whose address goes into %r1; that doubleword; LOAD (64) of it
 abbrev pub symbol_parts : (register : ℕ) → SymbolReloc → List CodePart
-symbol_parts register reloc = Row (ri_b 0xa75 1 6) ∷ SymbolValue (name_in reloc) (offset_in reloc) ∷ Row (rxy 0xe304 register 1 0 0) ∷ []
+symbol_parts register reloc = Row (ri_b opcodes.BRAS 1 6) ∷ SymbolValue (name_in reloc) (offset_in reloc) ∷ Row (rxy opcodes.LG register 1 0 0) ∷ []
 
 -- machine instructions one behind the other
 abbrev pub row_parts : List MachineInstruction → List CodePart
@@ -136,15 +137,15 @@ row_parts (m ∷ ms) = Row m ∷ row_parts ms
 abbrev pub branch_parts : Inst → List CodePart
 branch_parts (Jump dest) = Branch 15 (ToBlock dest.0) ∷ []
 branch_parts (CondBr taken not_taken mask) = Branch mask (ToBlock taken.0) ∷ Branch 15 (ToBlock not_taken.0) ∷ []
-branch_parts (IndirectBr rn targets) = Row (rr 0x07 15 (number_of rn)) ∷ []
-branch_parts (Ret link) = Row (rr 0x07 15 (number_of link)) ∷ []
+branch_parts (IndirectBr rn targets) = Row (rr opcodes.BCR 15 (number_of rn)) ∷ []
+branch_parts (Ret link) = Row (rr opcodes.BCR 15 (number_of link)) ∷ []
 branch_parts (JTSequence ridx other mask targets) = table_parts (number_of ridx) mask other.0 targets.items
-branch_parts (LabelAddress dst label) = Relative 0xc00 (number_of dst) (ToBlock label.0) ∷ []
+branch_parts (LabelAddress dst label) = Relative opcodes.LARL (number_of dst) (ToBlock label.0) ∷ []
 branch_parts (LoadSymbolReloc rd reloc) = symbol_parts (number_of rd) reloc
 -- no machine instruction begins with a byte of zeros
 branch_parts (Trap code) = stopping (format_e 0x0000) code ∷ []
 -- a branch into its own bytes, to the zeros of its distance
-branch_parts (TrapIf mask code) = Trapping (ril_c 0xc04 mask 1) 3 code ∷ []
+branch_parts (TrapIf mask code) = Trapping (ril_c opcodes.BRCL mask 1) 3 code ∷ []
 branch_parts Debugtrap = Row (format_e 0x0001) ∷ []
 branch_parts (Vector v) = row_parts (composite_rows v)
 branch_parts _ = []
@@ -171,12 +172,12 @@ instruction_parts i = parts_or (single_instruction i) (stop_code i) (memory_or (
 -- the machine instruction of a call. BRANCH AND SAVE goes to the address in a register
 abbrev pub call_part : (link : Reg) → CallInstDest → CodePart
 call_part link (Direct name) = CallSymbol (Some (number_of link)) name
-call_part link (Indirect reg) = Row (rr 0x0d (number_of link) (number_of reg))
+call_part link (Indirect reg) = Row (rr opcodes.BASR (number_of link) (number_of reg))
 
 -- that of a tail call's jump
 abbrev pub tail_part : CallInstDest → CodePart
 tail_part (Direct name) = CallSymbol None name
-tail_part (Indirect reg) = Row (rr 0x07 15 (number_of reg))
+tail_part (Indirect reg) = Row (rr opcodes.BCR 15 (number_of reg))
 
 -- what is recorded behind it
 abbrev pub site_parts : List Site → List CodePart

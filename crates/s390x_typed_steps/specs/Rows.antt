@@ -3,6 +3,7 @@
 use Rattle.std.specs.Int.{w64, to_be_bytes}
 use Rattle.s390x_base.specs.declared.ir.ExternalName.{ExternalName}
 use Rattle.std.specs.Prelude.{ℕ, ℤ, pos, ◌+◌, ◌-◌, ◌/◌, ◌%◌, List, [], ◌∷◌, ◌++◌, Option, Some, None}
+use Rattle.s390x_rows.specs.declared.opcodes.TheConstants as opcodes
 use Rattle.s390x_typed_steps.specs.MachineInstruction.{MachineInstruction, bytes_of, ril_b, ril_c}
 use Rattle.s390x_typed_steps.specs.Parts.{Target, ToBlock, ToStep, CodePart, Row, Trapping, Branch, Relative, RelativeConstant, RelativeSymbol, SymbolValue, TrapHere, TableWord, CallSymbol, SiteHere, step_parts, part_size}
 use Rattle.s390x_typed_steps.specs.Steps.{Step}
@@ -43,14 +44,14 @@ word_bytes n = n / 16777216 % 256 ∷ n / 65536 % 256 ∷ n / 256 % 256 ∷ n % 
 
 -- a call of a symbol, or a jump to it where there is no link register, by half of the distance
 abbrev pub symbol_call : (link : Option ℕ) → (half : ℕ) → MachineInstruction
-symbol_call (Some link) half = ril_b 0xc05 link half
-symbol_call None half = ril_c 0xc04 15 half
+symbol_call (Some link) half = ril_b opcodes.BRASL link half
+symbol_call None half = ril_c opcodes.BRCL 15 half
 
 -- the bytes of a part at an offset
 abbrev pub part_bytes : Offsets → ℕ → CodePart → List ℕ
 part_bytes P p (Row m) = bytes_of m
 part_bytes P p (Trapping m byte code) = bytes_of m
-part_bytes P p (Branch mask target) = bytes_of (ril_c 0xc04 mask (half_distance p (target_offset P target)))
+part_bytes P p (Branch mask target) = bytes_of (ril_c opcodes.BRCL mask (half_distance p (target_offset P target)))
 part_bytes P p (Relative opcode register target) = bytes_of (ril_b opcode register (half_distance p (target_offset P target)))
 part_bytes P p (RelativeConstant opcode register c) = bytes_of (ril_b opcode register (half_distance p (P.environment.constant c)))
 part_bytes P p (RelativeSymbol opcode register name offset) = bytes_of (ril_b opcode register (P.environment.symbol_distance p name offset))

@@ -10,6 +10,7 @@ use Rattle.s390x_inst.specs.declared.inst.Inst.TheVariants.{Mov32SImm16, Mov64SI
 use Rattle.s390x_inst.specs.declared.inst.Inst.TheVariants.{AllocateArgs, Fence, Nop2, SDivMod32, SDivMod64, UDivMod32, UDivMod64, CmpTrapRR, CmpTrapRSImm16, CmpTrapRUImm16}
 use Rattle.s390x_inst.specs.declared.ops.UnaryOp.{UnaryOp}
 use Rattle.s390x_inst.specs.declared.ops.UnaryOp.TheVariants.{PopcntByte, PopcntReg}
+use Rattle.s390x_rows.specs.declared.opcodes.TheConstants as opcodes
 use Rattle.s390x_typed_steps.specs.General.{is_general, is_even_pair, reuses, reuses_pair, low_halfword, low_word, four_bits, low_displacement, low_byte, rotation, is_access}
 use Rattle.s390x_typed_steps.specs.MachineInstruction.{MachineInstruction, rr, rre, rrf_ab, rrf_cde, ri_a, rie_a, rie_d, rie_f, rie_g, ril_a, rsy, rxy}
 use Rattle.s390x_inst.specs.declared.inst.Inst.TheVariants.{Vector}
@@ -65,8 +66,8 @@ masked_halfword_row (Some opcode) n bits mask = Some (rie_a opcode n bits mask)
 
 -- one operand: of two registers, but for the count of ones, whose mode stands in a mask
 abbrev pub unary_row : UnaryOp → (d n : ℕ) → Option MachineInstruction
-unary_row PopcntByte d n = Some (rrf_cde 0xb9e1 d n 0 0)
-unary_row PopcntReg d n = Some (rrf_cde 0xb9e1 d n 8 0)
+unary_row PopcntByte d n = Some (rrf_cde opcodes.POPCNT d n 0 0)
+unary_row PopcntReg d n = Some (rrf_cde opcodes.POPCNT d n 8 0)
 unary_row op d n = two_row (unary_two op) d n
 
 -- selected bits, numbered from the left below 64; none for others
@@ -81,7 +82,7 @@ indexed_row (Some opcode) d base index displacement = Some (rxy opcode d base in
 
 -- so many bytes are taken from the stack pointer: ADD HALFWORD IMMEDIATE of the size with a minus sign where it fits, else SUBTRACT LOGICAL IMMEDIATE
 abbrev pub allocate_row : (size : ℕ) → MachineInstruction
-allocate_row size = cond (nat_lt size 32768) (ri_a 0xa7b 15 (low_halfword (neg_ℤ (pos size)))) (ril_a 0xc24 15 (low_word (pos size)))
+allocate_row size = cond (nat_lt size 32768) (ri_a opcodes.AGHI 15 (low_halfword (neg_ℤ (pos size)))) (ril_a opcodes.SLGFI 15 (low_word (pos size)))
 
 -- with these registers; none where there is no row
 abbrev pub single_with : Bool → Option MachineInstruction → Option SingleInstruction
@@ -94,9 +95,9 @@ single_instruction (AluRRR op rd rn rm) = single_with (is_general rd && is_gener
 single_instruction (AluRR op rd ri rm) = single_with (reuses rd ri && is_general rm) (two_row (alu_two op) (number_of rd) (number_of rm))
 single_instruction (UnaryRR op rd rn) = single_with (is_general rd && is_general rn) (unary_row op (number_of rd) (number_of rn))
 single_instruction (CmpRR op rn rm) = single_with (is_general rn && is_general rm) (two_row (cmp_two op) (number_of rn) (number_of rm))
-single_instruction (Mov64 rd rm) = single_with (is_general rd && is_general rm) (two_row (Some 0xb904) (number_of rd) (number_of rm))
-single_instruction (MovPReg rd rm) = single_with (is_general rd && is_general (Real rm)) (two_row (Some 0xb904) (number_of rd) (number_of (Real rm)))
-single_instruction (Mov32 rd rm) = single_with (is_general rd && is_general rm) (two_row (Some 0x18) (number_of rd) (number_of rm))
+single_instruction (Mov64 rd rm) = single_with (is_general rd && is_general rm) (two_row (Some opcodes.LGR) (number_of rd) (number_of rm))
+single_instruction (MovPReg rd rm) = single_with (is_general rd && is_general (Real rm)) (two_row (Some opcodes.LGR) (number_of rd) (number_of (Real rm)))
+single_instruction (Mov32 rd rm) = single_with (is_general rd && is_general rm) (two_row (Some opcodes.LR) (number_of rd) (number_of rm))
 single_instruction (AluRRSImm16 op rd rn imm) = single_with (is_general rd && is_general rn) (three_halfword_row (alu_three_halfword op) (alu_halfword op) (number_of rd) (number_of rn) (low_halfword imm))
 single_instruction (AluRSImm16 op rd ri imm) = single_with (reuses rd ri) (halfword_row (alu_halfword op) (number_of rd) (low_halfword imm))
 single_instruction (AluRSImm32 op rd ri imm) = single_with (reuses rd ri) (word_row (alu_signed_word op) (number_of rd) (low_word imm))
@@ -104,10 +105,10 @@ single_instruction (AluRUImm32 op rd ri imm) = single_with (reuses rd ri) (word_
 single_instruction (CmpRSImm16 op rn imm) = single_with (is_general rn) (halfword_row (cmp_halfword op) (number_of rn) (low_halfword imm))
 single_instruction (CmpRSImm32 op rn imm) = single_with (is_general rn) (word_row (cmp_signed_word op) (number_of rn) (low_word imm))
 single_instruction (CmpRUImm32 op rn imm) = single_with (is_general rn) (word_row (cmp_unsigned_word op) (number_of rn) (low_word (pos imm)))
-single_instruction (Mov32Imm rd imm) = single_with (is_general rd) (word_row (Some 0xc09) (number_of rd) (low_word (pos imm)))
-single_instruction (Mov32SImm16 rd imm) = single_with (is_general rd) (halfword_row (Some 0xa78) (number_of rd) (low_halfword imm))
-single_instruction (Mov64SImm16 rd imm) = single_with (is_general rd) (halfword_row (Some 0xa79) (number_of rd) (low_halfword imm))
-single_instruction (Mov64SImm32 rd imm) = single_with (is_general rd) (word_row (Some 0xc01) (number_of rd) (low_word imm))
+single_instruction (Mov32Imm rd imm) = single_with (is_general rd) (word_row (Some opcodes.IILF) (number_of rd) (low_word (pos imm)))
+single_instruction (Mov32SImm16 rd imm) = single_with (is_general rd) (halfword_row (Some opcodes.LHI) (number_of rd) (low_halfword imm))
+single_instruction (Mov64SImm16 rd imm) = single_with (is_general rd) (halfword_row (Some opcodes.LGHI) (number_of rd) (low_halfword imm))
+single_instruction (Mov64SImm32 rd imm) = single_with (is_general rd) (word_row (Some opcodes.LGFI) (number_of rd) (low_word imm))
 single_instruction (AluRUImm16Shifted op rd ri imm) = single_with (reuses rd ri) (halfword_row (alu_part op imm.shift) (number_of rd) (low_halfword (pos imm.bits)))
 single_instruction (AluRUImm32Shifted op rd ri imm) = single_with (reuses rd ri) (word_row (alu_half op imm.shift) (number_of rd) (low_word (pos imm.bits)))
 single_instruction (Mov64UImm16Shifted rd imm) = single_with (is_general rd) (halfword_row (load_part imm.shift) (number_of rd) (low_halfword (pos imm.bits)))
@@ -115,8 +116,8 @@ single_instruction (Mov64UImm32Shifted rd imm) = single_with (is_general rd) (wo
 single_instruction (Insert64UImm16Shifted rd ri imm) = single_with (reuses rd ri) (halfword_row (insert_part imm.shift) (number_of rd) (low_halfword (pos imm.bits)))
 single_instruction (Insert64UImm32Shifted rd ri imm) = single_with (reuses rd ri) (word_row (insert_half imm.shift) (number_of rd) (low_word (pos imm.bits)))
 single_instruction (Extend rd rn signed from to) = single_with (is_general rd && is_general rn) (two_row (extend_two signed from to) (number_of rd) (number_of rn))
-single_instruction (LoadAR rd ar) = single_with (is_general rd && is_access ar) (two_row (Some 0xb24f) (number_of rd) (four_bits ar))
-single_instruction (InsertAR rd ri ar) = single_with (reuses rd ri && is_access ar) (two_row (Some 0xb24f) (number_of rd) (four_bits ar))
+single_instruction (LoadAR rd ar) = single_with (is_general rd && is_access ar) (two_row (Some opcodes.EAR) (number_of rd) (four_bits ar))
+single_instruction (InsertAR rd ri ar) = single_with (reuses rd ri && is_access ar) (two_row (Some opcodes.EAR) (number_of rd) (four_bits ar))
 single_instruction (ShiftRR op rd rn amount register) =
     single_with (is_general rd && is_general rn && is_general register) (Some (rsy (shift_opcode op) (number_of rd) (number_of rn) (number_of register) (low_byte amount)))
 single_instruction (RxSBG op rd ri rn start end amount) =
@@ -124,28 +125,28 @@ single_instruction (RxSBG op rd ri rn start end amount) =
 single_instruction (RxSBGTest op rd rn start end amount) =
     single_with (is_general rd && is_general rn) (rotated_row (rotate_then_test op) (number_of rd) (number_of rn) start end (start + 128) (rotation amount))
 single_instruction (SMulWide rd rn rm) =
-    single_with (is_even_pair rd.hi rd.lo && is_general rn && is_general rm) (Some (rrf_ab 0xb9ec (number_of rd.hi) (number_of rn) (number_of rm) 0))
-single_instruction (UMulWide rd ri rn) = single_with (is_even_pair rd.hi rd.lo && reuses rd.lo ri && is_general rn) (Some (rre 0xb986 (number_of rd.hi) (number_of rn)))
-single_instruction (Flogr rd rn) = single_with (is_even_pair rd.hi rd.lo && is_general rn) (Some (rre 0xb983 (number_of rd.hi) (number_of rn)))
-single_instruction (SDivMod32 rd ri rn) = single_with (is_even_pair rd.hi rd.lo && reuses rd.lo ri && is_general rn) (Some (rre 0xb91d (number_of rd.hi) (number_of rn)))
-single_instruction (SDivMod64 rd ri rn) = single_with (is_even_pair rd.hi rd.lo && reuses rd.lo ri && is_general rn) (Some (rre 0xb90d (number_of rd.hi) (number_of rn)))
-single_instruction (UDivMod32 rd ri rn) = single_with (is_even_pair rd.hi rd.lo && reuses_pair rd ri && is_general rn) (Some (rre 0xb997 (number_of rd.hi) (number_of rn)))
-single_instruction (UDivMod64 rd ri rn) = single_with (is_even_pair rd.hi rd.lo && reuses_pair rd ri && is_general rn) (Some (rre 0xb987 (number_of rd.hi) (number_of rn)))
+    single_with (is_even_pair rd.hi rd.lo && is_general rn && is_general rm) (Some (rrf_ab opcodes.MGRK (number_of rd.hi) (number_of rn) (number_of rm) 0))
+single_instruction (UMulWide rd ri rn) = single_with (is_even_pair rd.hi rd.lo && reuses rd.lo ri && is_general rn) (Some (rre opcodes.MLGR (number_of rd.hi) (number_of rn)))
+single_instruction (Flogr rd rn) = single_with (is_even_pair rd.hi rd.lo && is_general rn) (Some (rre opcodes.FLOGR (number_of rd.hi) (number_of rn)))
+single_instruction (SDivMod32 rd ri rn) = single_with (is_even_pair rd.hi rd.lo && reuses rd.lo ri && is_general rn) (Some (rre opcodes.DSGFR (number_of rd.hi) (number_of rn)))
+single_instruction (SDivMod64 rd ri rn) = single_with (is_even_pair rd.hi rd.lo && reuses rd.lo ri && is_general rn) (Some (rre opcodes.DSGR (number_of rd.hi) (number_of rn)))
+single_instruction (UDivMod32 rd ri rn) = single_with (is_even_pair rd.hi rd.lo && reuses_pair rd ri && is_general rn) (Some (rre opcodes.DLR (number_of rd.hi) (number_of rn)))
+single_instruction (UDivMod64 rd ri rn) = single_with (is_even_pair rd.hi rd.lo && reuses_pair rd ri && is_general rn) (Some (rre opcodes.DLGR (number_of rd.hi) (number_of rn)))
 single_instruction (CmpTrapRR op rn rm mask code) = single_with (is_general rn && is_general rm) (masked_row (cmp_trap op) (number_of rn) (number_of rm) (four_bits mask))
 single_instruction (CmpTrapRSImm16 op rn imm mask code) = single_with (is_general rn) (masked_halfword_row (cmp_trap_signed op) (number_of rn) (low_halfword imm) (four_bits mask))
 single_instruction (CmpTrapRUImm16 op rn imm mask code) = single_with (is_general rn) (masked_halfword_row (cmp_trap_unsigned op) (number_of rn) (low_halfword (pos imm)) (four_bits mask))
-single_instruction (CMov32 rd mask ri rm) = single_with (reuses rd ri && is_general rm) (Some (rrf_cde 0xb9f2 (number_of rd) (number_of rm) (four_bits mask) 0))
-single_instruction (CMov64 rd mask ri rm) = single_with (reuses rd ri && is_general rm) (Some (rrf_cde 0xb9e2 (number_of rd) (number_of rm) (four_bits mask) 0))
-single_instruction (CMov32SImm16 rd mask ri imm) = single_with (reuses rd ri) (Some (rie_g 0xec42 (number_of rd) (low_halfword imm) (four_bits mask)))
-single_instruction (CMov64SImm16 rd mask ri imm) = single_with (reuses rd ri) (Some (rie_g 0xec46 (number_of rd) (low_halfword imm) (four_bits mask)))
+single_instruction (CMov32 rd mask ri rm) = single_with (reuses rd ri && is_general rm) (Some (rrf_cde opcodes.LOCR (number_of rd) (number_of rm) (four_bits mask) 0))
+single_instruction (CMov64 rd mask ri rm) = single_with (reuses rd ri && is_general rm) (Some (rrf_cde opcodes.LOCGR (number_of rd) (number_of rm) (four_bits mask) 0))
+single_instruction (CMov32SImm16 rd mask ri imm) = single_with (reuses rd ri) (Some (rie_g opcodes.LOCHI (number_of rd) (low_halfword imm) (four_bits mask)))
+single_instruction (CMov64SImm16 rd mask ri imm) = single_with (reuses rd ri) (Some (rie_g opcodes.LOCGHI (number_of rd) (low_halfword imm) (four_bits mask)))
 single_instruction (LoadIndexedAddr rd base index offset size) =
     single_with (is_general rd && is_general base && is_general index) (indexed_row (indexed_opcode size) (number_of rd) (number_of base) (number_of index) (low_displacement offset))
 single_instruction (LoadLogicalIndexedAddr rd base index offset size) =
     single_with (is_general rd && is_general base && is_general index) (indexed_row (logical_indexed_opcode size) (number_of rd) (number_of base) (number_of index) (low_displacement offset))
 single_instruction (AllocateArgs size) = Some (record { row = allocate_row size; operands_valid = true })
 -- BRANCH ON CONDITION to no address, and under a mask that selects nothing
-single_instruction Fence = Some (record { row = rr 0x07 14 0; operands_valid = true })
-single_instruction Nop2 = Some (record { row = rr 0x07 0 7; operands_valid = true })
+single_instruction Fence = Some (record { row = rr opcodes.BCR 14 0; operands_valid = true })
+single_instruction Nop2 = Some (record { row = rr opcodes.BCR 0 7; operands_valid = true })
 single_instruction (Vector v) = single_with (vector_operands_valid v) (vector_row v)
 single_instruction _ = None
 

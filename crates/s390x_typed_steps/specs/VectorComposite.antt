@@ -5,6 +5,7 @@ use Rattle.s390x_base.specs.declared.error.EmitError.{EmitError}
 use Rattle.s390x_base.specs.declared.error.EmitError.TheVariants.{BadOperator, BadRegister}
 use Rattle.s390x_inst.specs.declared.vec_inst.VecInst.{VecInst}
 use Rattle.s390x_inst.specs.declared.vec_inst.VecInst.TheVariants.{FpuCMov32, FpuCMov64, VecCMov, VecEltRev, VecInt128SCmpHi, VecInt128UCmpHi}
+use Rattle.s390x_rows.specs.declared.opcodes.TheConstants as opcodes
 use Rattle.s390x_typed_steps.specs.General.{four_bits}
 use Rattle.s390x_typed_steps.specs.MachineInstruction.{MachineInstruction, size_of, ri_c, vrr_a, vrr_b, vrr_c, vrs_a}
 use Rattle.s390x_typed_steps.specs.VectorInstruction.{is_vector, move_left_row, reuses_vector}
@@ -17,14 +18,14 @@ pub record MoveUnder : Type 0 where
 
 -- the vector instructions that are such a move
 abbrev pub move_under : VecInst → Option MoveUnder
-move_under (FpuCMov32 rd mask ri rm) = Some (record { mask = four_bits mask; row = move_left_row 0x38 (number_of rd) (number_of rm); operands_valid = reuses_vector rd ri && is_vector rm })
-move_under (FpuCMov64 rd mask ri rm) = Some (record { mask = four_bits mask; row = move_left_row 0x28 (number_of rd) (number_of rm); operands_valid = reuses_vector rd ri && is_vector rm })
-move_under (VecCMov rd mask ri rm) = Some (record { mask = four_bits mask; row = vrr_a 0xe756 (number_of rd) (number_of rm) 0; operands_valid = reuses_vector rd ri && is_vector rm })
+move_under (FpuCMov32 rd mask ri rm) = Some (record { mask = four_bits mask; row = move_left_row opcodes.LER (number_of rd) (number_of rm); operands_valid = reuses_vector rd ri && is_vector rm })
+move_under (FpuCMov64 rd mask ri rm) = Some (record { mask = four_bits mask; row = move_left_row opcodes.LDR (number_of rd) (number_of rm); operands_valid = reuses_vector rd ri && is_vector rm })
+move_under (VecCMov rd mask ri rm) = Some (record { mask = four_bits mask; row = vrr_a opcodes.VLR (number_of rd) (number_of rm) 0; operands_valid = reuses_vector rd ri && is_vector rm })
 move_under _ = None
 
 -- BRANCH RELATIVE ON CONDITION over a machine instruction, under the codes that the mask doesn't select, and that instruction
 abbrev pub skipping : (mask : ℕ) → MachineInstruction → List MachineInstruction
-skipping mask row = ri_c 0xa74 (15 - mask) ((4 + size_of row) / 2) ∷ row ∷ []
+skipping mask row = ri_c opcodes.BRC (15 - mask) ((4 + size_of row) / 2) ∷ row ∷ []
 
 -- the machine instructions of such a move
 abbrev pub rows_under : Option MoveUnder → List MachineInstruction
@@ -33,11 +34,11 @@ rows_under (Some x) = skipping x.mask x.row
 
 -- PERMUTE DOUBLEWORD IMMEDIATE of one register: its doublewords change places
 abbrev pub exchanges_doublewords : (d n : ℕ) → MachineInstruction
-exchanges_doublewords d n = vrr_c 0xe784 d n n 4
+exchanges_doublewords d n = vrr_c opcodes.VPDI d n n 4
 
 -- ELEMENT ROTATE LEFT LOGICAL by half of each element, whose size has a code: the element's halves change places
 abbrev pub exchanges_halves : (d code half : ℕ) → MachineInstruction
-exchanges_halves d code half = vrs_a 0xe733 d 0 d code half
+exchanges_halves d code half = vrs_a opcodes.VERLL d 0 d code half
 
 -- so many elements in reverse order: the doublewords change places, then the halves of each doubleword, of each word and of each halfword, down to the
 -- elements. None for another count
@@ -51,7 +52,7 @@ reversing_rows count d n =
 -- ELEMENT COMPARE (or its logical form, by its opcode) of the left doublewords of m and n; where they differ a branch skips COMPARE HIGH LOGICAL of n and m,
 -- which tells of the right ones
 abbrev pub comparing_rows : (opcode tmp n m : ℕ) → List MachineInstruction
-comparing_rows opcode tmp n m = vrr_a opcode m n 3 ∷ ri_c 0xa74 7 5 ∷ vrr_b 0xe7f9 tmp n m 3 1 ∷ []
+comparing_rows opcode tmp n m = vrr_a opcode m n 3 ∷ ri_c opcodes.BRC 7 5 ∷ vrr_b opcodes.VCHL tmp n m 3 1 ∷ []
 
 -- the machine instructions, where there are some
 abbrev pub rows_or_none : Option (List MachineInstruction) → List MachineInstruction
@@ -61,8 +62,8 @@ rows_or_none (Some rows) = rows
 -- those of a vector instruction that is several; none of another one
 abbrev pub composite_rows : VecInst → List MachineInstruction
 composite_rows (VecEltRev count rd rn) = rows_or_none (reversing_rows count (number_of rd) (number_of rn))
-composite_rows (VecInt128SCmpHi tmp rn rm) = comparing_rows 0xe7db (number_of tmp) (number_of rn) (number_of rm)
-composite_rows (VecInt128UCmpHi tmp rn rm) = comparing_rows 0xe7d9 (number_of tmp) (number_of rn) (number_of rm)
+composite_rows (VecInt128SCmpHi tmp rn rm) = comparing_rows opcodes.VEC (number_of tmp) (number_of rn) (number_of rm)
+composite_rows (VecInt128UCmpHi tmp rn rm) = comparing_rows opcodes.VECL (number_of tmp) (number_of rn) (number_of rm)
 composite_rows v = rows_under (move_under v)
 
 -- why such a move is refused; another instruction isn't one

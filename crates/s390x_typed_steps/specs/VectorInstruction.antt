@@ -7,6 +7,7 @@ use Rattle.s390x_base.specs.declared.trap.TrapKind.{TrapKind}
 use Rattle.s390x_base.specs.declared.trap.TrapKind.TheVariants.{IntegerDivisionByZero}
 use Rattle.s390x_inst.specs.declared.vec_inst.VecInst.{VecInst}
 use Rattle.s390x_inst.specs.declared.vec_inst.VecInst.TheVariants.{VecRRR, VecRR, VecSelect, VecPermute, VecBlend, VecIntCmp, VecIntCmpS, VecIntEltCmp, VecMov, VecShiftRR, VecEvaluate, VecPermuteDWImm, MovToVec128, VecImmByteMask, VecImmReplicate, VecImmBitMask, VecReplicateLane, VecInsertLaneImm, VecInsertLaneImmUndef, VecInsertLane, VecInsertLaneUndef, VecExtractLane, FpuMove32, FpuMove64}
+use Rattle.s390x_rows.specs.declared.opcodes.TheConstants as opcodes
 use Rattle.s390x_typed_steps.specs.General.{is_general, low_halfword, low_byte}
 use Rattle.s390x_typed_steps.specs.MachineInstruction.{MachineInstruction, rr, rre, vri_a, vri_b, vri_c, vri_k, vrr_a, vrr_b, vrr_c, vrr_d, vrr_e, vrr_f, vrs_a, vrs_b, vrs_c}
 use Rattle.s390x_typed_steps.specs.VectorOpcodes.{binary_row, unary_row, shift_row, comparison_row, element_comparison_row, is_division}
@@ -22,12 +23,12 @@ element_code size = cond (nat_eq size 8) (Some 0) (cond (nat_eq size 16) (Some 1
 
 -- doublewords of two vectors, by their numbers 0 and 1; none for others
 abbrev pub doublewords_row : (d n m first second : ℕ) → Option MachineInstruction
-doublewords_row d n m first second = cond (nat_lt first 2 && nat_lt second 2) (Some (vrr_c 0xe784 d n m (4 * first + second))) None
+doublewords_row d n m first second = cond (nat_lt first 2 && nat_lt second 2) (Some (vrr_c opcodes.VPDI d n m (4 * first + second))) None
 
 -- an immediate in each element; none where there are no such elements
 abbrev pub replicate_row : (code : Option ℕ) → (d bits : ℕ) → Option MachineInstruction
 replicate_row None d bits = None
-replicate_row (Some code) d bits = Some (vri_a 0xe745 d bits code)
+replicate_row (Some code) d bits = Some (vri_a opcodes.VREPI d bits code)
 
 -- the number is one of an element of so many bits
 abbrev pub is_lane : (size lane : ℕ) → Bool
@@ -40,27 +41,27 @@ lane_row row (Some code) size lane = cond (is_lane size lane) (Some (row code)) 
 
 -- one element for all
 abbrev pub replicate_lane_row : (code : Option ℕ) → (size d n lane : ℕ) → Option MachineInstruction
-replicate_lane_row code size d n lane = lane_row (λ c. vri_c 0xe74d d n lane c) code size lane
+replicate_lane_row code size d n lane = lane_row (λ c. vri_c opcodes.VREP d n lane c) code size lane
 
 -- ones from a bit to another one in each element; none where there are no such bits
 abbrev pub bit_mask_row : (code : Option ℕ) → (size d start end : ℕ) → Option MachineInstruction
 bit_mask_row None size d start end = None
-bit_mask_row (Some code) size d start end = cond (nat_lt start size && nat_lt end size) (Some (vri_b 0xe746 d start end code)) None
+bit_mask_row (Some code) size d start end = cond (nat_lt start size && nat_lt end size) (Some (vri_b opcodes.VGM d start end code)) None
 
 -- an immediate in one element, by the code of its size
 abbrev pub insert_immediate_opcode : (code : ℕ) → ℕ
-insert_immediate_opcode code = cond (nat_eq code 0) 0xe740 (cond (nat_eq code 1) 0xe741 (cond (nat_eq code 2) 0xe743 0xe742))
+insert_immediate_opcode code = cond (nat_eq code 0) opcodes.VLEIB (cond (nat_eq code 1) opcodes.VLEIH (cond (nat_eq code 2) opcodes.VLEIF opcodes.VLEIG))
 
 abbrev pub insert_immediate_row : (code : Option ℕ) → (size d bits lane : ℕ) → Option MachineInstruction
 insert_immediate_row code size d bits lane = lane_row (λ c. vri_a (insert_immediate_opcode c) d bits lane) code size lane
 
 -- the low bits of a general register in one element, whose number is a base plus a displacement; none where the displacement isn't an element's number
 abbrev pub insert_lane_row : (code : Option ℕ) → (size d n base lane : ℕ) → Option MachineInstruction
-insert_lane_row code size d n base lane = lane_row (λ c. vrs_b 0xe722 d base n c lane) code size lane
+insert_lane_row code size d n base lane = lane_row (λ c. vrs_b opcodes.VLVG d base n c lane) code size lane
 
 -- one element, whose number is a base plus a displacement, in a general register
 abbrev pub extract_lane_row : (code : Option ℕ) → (size d n base lane : ℕ) → Option MachineInstruction
-extract_lane_row code size d n base lane = lane_row (λ c. vrs_c 0xe721 d base n c lane) code size lane
+extract_lane_row code size d n base lane = lane_row (λ c. vrs_c opcodes.VLGV d base n c lane) code size lane
 
 -- the leftmost doubleword of a register that is a float register too
 abbrev pub is_float_doubleword : (size v base lane : ℕ) → Bool
@@ -68,14 +69,14 @@ is_float_doubleword size v base lane = nat_eq size 64 && nat_eq lane 0 && nat_eq
 
 -- such a doubleword goes between a float register and a general one, where the other elements may become any
 abbrev pub insert_alone_row : (size d n base lane : ℕ) → Option MachineInstruction
-insert_alone_row size d n base lane = cond (is_float_doubleword size d base lane) (Some (rre 0xb3c1 d n)) (insert_lane_row (element_code size) size d n base lane)
+insert_alone_row size d n base lane = cond (is_float_doubleword size d base lane) (Some (rre opcodes.LDGR d n)) (insert_lane_row (element_code size) size d n base lane)
 
 abbrev pub extract_row : (size d n base lane : ℕ) → Option MachineInstruction
-extract_row size d n base lane = cond (is_float_doubleword size n base lane) (Some (rre 0xb3cd d n)) (extract_lane_row (element_code size) size d n base lane)
+extract_row size d n base lane = cond (is_float_doubleword size n base lane) (Some (rre opcodes.LGDR d n)) (extract_lane_row (element_code size) size d n base lane)
 
 -- a move of the leftmost bits: of float registers where both are such, else of whole vectors
 abbrev pub move_left_row : (opcode d n : ℕ) → MachineInstruction
-move_left_row opcode d n = cond (nat_lt d 16 && nat_lt n 16) (rr opcode d n) (vrr_a 0xe756 d n 0)
+move_left_row opcode d n = cond (nat_lt d 16 && nat_lt n 16) (rr opcode d n) (vrr_a opcodes.VLR d n 0)
 
 -- a vector register that has to be the output is it
 abbrev pub reuses_vector : (output input : Reg) → Bool
@@ -85,19 +86,19 @@ reuses_vector output input = is_vector output && is_vector input && nat_eq (numb
 abbrev pub vector_row : VecInst → Option MachineInstruction
 vector_row (VecRRR op rd rn rm) = Some (vrr_c (binary_row op).opcode (number_of rd) (number_of rn) (number_of rm) (binary_row op).code)
 vector_row (VecRR op rd rn) = Some (vrr_a (unary_row op).opcode (number_of rd) (number_of rn) (unary_row op).code)
-vector_row (VecSelect rd rn rm ra) = Some (vrr_e 0xe78d (number_of rd) (number_of rn) (number_of rm) (number_of ra))
-vector_row (VecPermute rd rn rm ra) = Some (vrr_e 0xe78c (number_of rd) (number_of rn) (number_of rm) (number_of ra))
-vector_row (VecBlend rd rn rm ra) = Some (vrr_d 0xe789 (number_of rd) (number_of rn) (number_of rm) (number_of ra) 0)
+vector_row (VecSelect rd rn rm ra) = Some (vrr_e opcodes.VSEL (number_of rd) (number_of rn) (number_of rm) (number_of ra))
+vector_row (VecPermute rd rn rm ra) = Some (vrr_e opcodes.VPERM (number_of rd) (number_of rn) (number_of rm) (number_of ra))
+vector_row (VecBlend rd rn rm ra) = Some (vrr_d opcodes.VBLEND (number_of rd) (number_of rn) (number_of rm) (number_of ra) 0)
 vector_row (VecIntCmp op rd rn rm) = Some (vrr_b (comparison_row op).opcode (number_of rd) (number_of rn) (number_of rm) (comparison_row op).code 0)
 -- the second mask asks for the condition code
 vector_row (VecIntCmpS op rd rn rm) = Some (vrr_b (comparison_row op).opcode (number_of rd) (number_of rn) (number_of rm) (comparison_row op).code 1)
 vector_row (VecIntEltCmp op rn rm) = Some (vrr_a (element_comparison_row op).opcode (number_of rn) (number_of rm) (element_comparison_row op).code)
-vector_row (VecMov rd rn) = Some (vrr_a 0xe756 (number_of rd) (number_of rn) 0)
+vector_row (VecMov rd rn) = Some (vrr_a opcodes.VLR (number_of rd) (number_of rn) 0)
 vector_row (VecShiftRR op rd rn amount register) = Some (vrs_a (shift_row op).opcode (number_of rd) (number_of register) (number_of rn) (shift_row op).code (low_byte amount))
-vector_row (VecEvaluate imm rd rn rm ra) = Some (vri_k 0xe788 (low_byte imm) (number_of rd) (number_of rn) (number_of rm) (number_of ra))
+vector_row (VecEvaluate imm rd rn rm ra) = Some (vri_k opcodes.VEVAL (low_byte imm) (number_of rd) (number_of rn) (number_of rm) (number_of ra))
 vector_row (VecPermuteDWImm rd rn rm first second) = doublewords_row (number_of rd) (number_of rn) (number_of rm) first second
-vector_row (MovToVec128 rd rn rm) = Some (vrr_f 0xe762 (number_of rd) (number_of rn) (number_of rm))
-vector_row (VecImmByteMask rd mask) = Some (vri_a 0xe744 (number_of rd) (low_halfword (pos mask)) 0)
+vector_row (MovToVec128 rd rn rm) = Some (vrr_f opcodes.VLVGP (number_of rd) (number_of rn) (number_of rm))
+vector_row (VecImmByteMask rd mask) = Some (vri_a opcodes.VGBM (number_of rd) (low_halfword (pos mask)) 0)
 vector_row (VecImmReplicate size rd imm) = replicate_row (element_code size) (number_of rd) (low_halfword imm)
 vector_row (VecImmBitMask size rd start end) = bit_mask_row (element_code size) size (number_of rd) start end
 vector_row (VecReplicateLane size rd rn lane) = replicate_lane_row (element_code size) size (number_of rd) (number_of rn) lane
@@ -106,8 +107,8 @@ vector_row (VecInsertLaneImmUndef size rd imm lane) = insert_immediate_row (elem
 vector_row (VecInsertLane size rd ri rn lane base) = insert_lane_row (element_code size) size (number_of rd) (number_of rn) (number_of base) lane
 vector_row (VecInsertLaneUndef size rd rn lane base) = insert_alone_row size (number_of rd) (number_of rn) (number_of base) lane
 vector_row (VecExtractLane size rd rn lane base) = extract_row size (number_of rd) (number_of rn) (number_of base) lane
-vector_row (FpuMove32 rd rn) = Some (move_left_row 0x38 (number_of rd) (number_of rn))
-vector_row (FpuMove64 rd rn) = Some (move_left_row 0x28 (number_of rd) (number_of rn))
+vector_row (FpuMove32 rd rn) = Some (move_left_row opcodes.LER (number_of rd) (number_of rn))
+vector_row (FpuMove64 rd rn) = Some (move_left_row opcodes.LDR (number_of rd) (number_of rn))
 vector_row _ = None
 
 -- its registers may stand there: real ones of the row's classes, and the input that has to be the output is it

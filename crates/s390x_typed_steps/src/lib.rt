@@ -1,12 +1,16 @@
 //! The typed steps of a function: one numbered list, in which a loop is flat. Definitions, the types that they need, and the bits of immediates.
 #![tactic(auto)]
 
+mod access_rows;
 mod immediates;
 mod law;
-mod load_rows;
 mod mem_inst_type;
 mod vector_opcode;
 
+pub use access_rows::{
+    LOAD_ROWS, RegisterRows, STORE_ROWS, WHOLE_ROWS, WholeRows, rows_of_layout, rows_of_load,
+    rows_of_store,
+};
 pub use immediates::{
     bits_of_halfword, bits_of_unsigned, bits_of_unsigned_halfword, bits_of_word, low_12, low_byte,
     low_displacement,
@@ -15,6 +19,5 @@ pub use law::{
     calls_keep_their_steps, codes_of_steps, members_in_order, members_in_order_on_a_machine,
     relative_machines_keep_trees,
 };
-pub use load_rows::{LOAD_ROWS, LoadRows, rows_of_load};
 pub use mem_inst_type::MemInstType;
 pub use vector_opcode::VectorOpcode;

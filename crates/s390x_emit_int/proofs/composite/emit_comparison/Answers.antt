@@ -1,6 +1,7 @@
 use Rattle.std.proofs.Common.{[], ◌∷◌, arith}
 use Rattle.s390x_base.specs.Regs.{number_of}
 use Rattle.s390x_format.specs.Formats.{length_of}
+use Rattle.s390x_rows.specs.declared.opcodes.TheConstants as opcodes
 use Rattle.s390x_typed_steps.specs.MachineInstruction.{ri_c, vrr_a}
 use Rattle.s390x_typed_steps.specs.Parts.{Row}
 use Rattle.s390x_typed_steps.specs.VectorInstruction.{is_vector}
@@ -15,4 +16,4 @@ returns-in_err-compare_first-clause-lacks c = λ put valid. lacks_again c.from_r
 pub returns-clause-lacks : goal.returns-clause-lacks
 unfolding length_of
 returns-clause-lacks c = λ put valid.
-    c.compare_right.ensures.lacks (room_behind c.args.sink.now c.compare_first.new.sink (Row (vrr_a c.args.opcode (number_of c.args.rm.now) (number_of c.args.rn.now) 3) ∷ Row (ri_c 0xa74 7 5) ∷ []) 16 6 put c.in_ok-compare_first.ensures.answer (omega arith)) valid
+    c.compare_right.ensures.lacks (room_behind c.args.sink.now c.compare_first.new.sink (Row (vrr_a c.args.opcode (number_of c.args.rm.now) (number_of c.args.rn.now) 3) ∷ Row (ri_c opcodes.BRC 7 5) ∷ []) 16 6 put c.in_ok-compare_first.ensures.answer (omega arith)) valid

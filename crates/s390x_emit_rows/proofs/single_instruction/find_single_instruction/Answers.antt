@@ -1,6 +1,7 @@
 use Rattle.std.proofs.Common.{Some, sym, ap, ◌∙◌}
 use Rattle.s390x_base.specs.Regs.{number_of}
 use Rattle.s390x_inst.specs.declared.inst.Inst.{Inst}
+use Rattle.s390x_rows.specs.declared.opcodes.TheConstants as opcodes
 use Rattle.s390x_typed_steps.specs.General.{is_general, low_halfword, low_word}
 use Rattle.s390x_typed_steps.specs.SingleCode.{single_code}
 use Rattle.s390x_typed_steps.specs.SingleInstruction.{single_instruction, single_with, halfword_row, word_row}
@@ -21,7 +22,7 @@ returns-in-Mov32Imm c =
     let bits = c.bits_of_unsigned-in-Mov32Imm in
     c.into_word_row.ensures
     ∙ ap (λ o. single_code (single_with (is_general rd) (word_row o (number_of rd) bits.result))) c.always.ensures
-    ∙ ap (λ n. single_code (single_with (is_general rd) (word_row (Some 0xc09) (number_of rd) n))) bits.ensures
+    ∙ ap (λ n. single_code (single_with (is_general rd) (word_row (Some opcodes.IILF) (number_of rd) n))) bits.ensures
     ∙ ap (λ (i : Inst). single_code (single_instruction i)) (sym c.in-Mov32Imm.is)
 
 pub returns-in-Mov32SImm16 : goal.returns-in-Mov32SImm16

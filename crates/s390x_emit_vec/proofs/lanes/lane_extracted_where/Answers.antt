@@ -1,5 +1,6 @@
 use Rattle.std.proofs.Common.{◌≡◌, ◌∙◌, Some, sym, ap, true}
 use Rattle.s390x_base.specs.Regs.{number_of}
+use Rattle.s390x_rows.specs.declared.opcodes.TheConstants as opcodes
 use Rattle.s390x_typed_steps.specs.MachineInstruction.{vrs_c}
 use Rattle.s390x_typed_steps.specs.VectorInstruction.{element_code, is_lane}
 use Rattle.s390x_emit_vec.proofs.Encoding.{lane_coded}
@@ -10,4 +11,4 @@ returns-then-is_lane c =
     let code = c.element_code.ensures.code in
     let some = c.in-Some.is in
     let e : element_code c.args.size ≡ Some c.in-Some.code = cc in
-    ap Some c.extracted_element.ensures ∙ lane_coded c.args.valid (λ n. vrs_c 0xe721 (number_of c.args.r1) (number_of c.args.base) (number_of c.args.v3) n c.args.lane) (element_code c.args.size) c.in-Some.code c.args.size c.args.lane e (sym c.is_lane.ensures ∙ c.if-is_lane.true)
+    ap Some c.extracted_element.ensures ∙ lane_coded c.args.valid (λ n. vrs_c opcodes.VLGV (number_of c.args.r1) (number_of c.args.base) (number_of c.args.v3) n c.args.lane) (element_code c.args.size) c.in-Some.code c.args.size c.args.lane e (sym c.is_lane.ensures ∙ c.if-is_lane.true)

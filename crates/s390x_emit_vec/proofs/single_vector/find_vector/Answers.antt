@@ -1,6 +1,7 @@
 use Rattle.std.proofs.Common.{◌&&◌, ℕ, Some, ap, ◌∙◌}
 use Rattle.s390x_base.specs.Regs.{number_of}
 use Rattle.s390x_base.specs.declared.regs.Reg.{Reg}
+use Rattle.s390x_rows.specs.declared.opcodes.TheConstants as opcodes
 use Rattle.s390x_typed_steps.specs.General.{is_general}
 use Rattle.s390x_typed_steps.specs.MachineInstruction.{vri_a, vrs_a}
 use Rattle.s390x_typed_steps.specs.SingleCode.{code_where}
@@ -23,5 +24,5 @@ returns-in-VecImmByteMask c =
     let i = c.in-VecImmByteMask in
     rw i.is
     (ap Some (c.immediate_vector.ensures
-    ∙ ap (λ (v : Reg). code_where (is_vector v) (vri_a 0xe744 (number_of v) c.bits_of_unsigned_halfword.result 0)) c.to_reg-in-VecImmByteMask.ensures
-    ∙ ap (λ (n : ℕ). code_where (is_vector i.rd) (vri_a 0xe744 (number_of i.rd) n 0)) c.bits_of_unsigned_halfword.ensures))
+    ∙ ap (λ (v : Reg). code_where (is_vector v) (vri_a opcodes.VGBM (number_of v) c.bits_of_unsigned_halfword.result 0)) c.to_reg-in-VecImmByteMask.ensures
+    ∙ ap (λ (n : ℕ). code_where (is_vector i.rd) (vri_a opcodes.VGBM (number_of i.rd) n 0)) c.bits_of_unsigned_halfword.ensures))

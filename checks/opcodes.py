@@ -1,0 +1,57 @@
+#!/usr/bin/env python3
+"""Lists the opcodes that stand as bare numbers in the sources, where their constants have to stand; it needs nothing else.
+
+    checks/opcodes.py
+
+An opcode of three digits or more is looked for in all crates but those of tests. It ends with 1 where there is one.
+Other scripts that read the sources take `plain` from it, which puts the numbers in the constants' place.
+"""
+import os
+import re
+import sys
+
+CRATES = os.path.join(os.path.dirname(os.path.abspath(__file__)), "..", "crates")
+CONSTANTS = os.path.join(CRATES, "s390x_rows", "src", "opcodes.rt")
+TESTS = ("s390x_buffer_tests", "s390x_instruction_tests")
+
+
+def constants():
+    """The opcodes by their names, as they are written."""
+    with open(CONSTANTS) as file:
+        return dict(re.findall(r"^pub const (\w+): u16 = (0x[0-9a-f]+);", file.read(), re.M))
+
+
+def plain(text):
+    """A source with the numbers in place of the opcodes' names."""
+    known = constants()
+    return re.sub(r"\bopcodes(?:::|\.)([A-Z][A-Z0-9]*)\b( as u8\b)?", lambda name: known[name[1]], text)
+
+
+def sources():
+    """The program files, definitions and proofs of the crates, but for those of tests and the constants themselves."""
+    for crate in sorted(set(os.listdir(CRATES)) - set(TESTS)):
+        for part in ("src", "specs", "proofs"):
+            for folder, _, files in sorted(os.walk(os.path.join(CRATES, crate, part))):
+                for file in sorted(files):
+                    path = os.path.join(folder, file)
+                    if file.endswith((".rt", ".antt")) and not os.path.samefile(path, CONSTANTS):
+                        yield path
+
+
+def main():
+    names = {number: name for name, number in constants().items() if len(number) >= 5}
+    found = 0
+    for path in sources():
+        with open(path) as file:
+            for number, line in enumerate(file, 1):
+                code = re.split(r"//|--", line)[0]
+                for word in re.findall(r"(?<![\w.\"])0x[0-9a-f]{3,4}(?![\w.])", code):
+                    if word in names:
+                        print(f"{os.path.relpath(path, CRATES)}:{number}: {word} is {names[word]}")
+                        found += 1
+    print(f"{len(constants())} opcodes, {found} bare")
+    sys.exit(found > 0)
+
+
+if __name__ == "__main__":
+    main()
