@@ -40,6 +40,6 @@ impl EmitError {
     }
 }
 
-/// The error of a call that refuses for want of memory alone.
+/// The error of a call that refuses where there is no memory, and for nothing else.
 #[derive(Clone, Copy, Debug)]
 pub struct NoMemory;

@@ -62,347 +62,146 @@ fn copy_tail_call(
     })
 }
 
+// Copies what is borrowed: of the variants that are listed, each field by itself.
+macro_rules! copied {
+    ($inst:ident, { $($name:ident { $($field:ident),* })* }, $($rest:tt)*) => {
+        match $inst {
+            $(Inst::$name { $($field),* } => Ok(Inst::$name { $($field: *$field),* }),)*
+            $($rest)*
+        }
+    };
+}
+
 // An instruction; of a `Loop`, its head without members.
 fn copy_head(alloc: Global, inst: &Inst) -> Result<Inst, AllocError>
     ensures { IfOk result (λ copied. first_portion copied ≡ first_portion inst.now) }
 {
-    match *inst {
-        Inst::AluRRR { alu_op, rd, rn, rm } => Ok(Inst::AluRRR { alu_op, rd, rn, rm }),
-        Inst::AluRRSImm16 {
-            alu_op,
-            rd,
-            rn,
-            imm,
-        } => Ok(Inst::AluRRSImm16 {
-            alu_op,
-            rd,
-            rn,
-            imm,
-        }),
-        Inst::AluRR { alu_op, rd, ri, rm } => Ok(Inst::AluRR { alu_op, rd, ri, rm }),
-        Inst::AluRX {
-            alu_op,
-            rd,
-            ri,
-            mem,
-        } => Ok(Inst::AluRX {
-            alu_op,
-            rd,
-            ri,
-            mem,
-        }),
-        Inst::AluRSImm16 {
-            alu_op,
-            rd,
-            ri,
-            imm,
-        } => Ok(Inst::AluRSImm16 {
-            alu_op,
-            rd,
-            ri,
-            imm,
-        }),
-        Inst::AluRSImm32 {
-            alu_op,
-            rd,
-            ri,
-            imm,
-        } => Ok(Inst::AluRSImm32 {
-            alu_op,
-            rd,
-            ri,
-            imm,
-        }),
-        Inst::AluRUImm32 {
-            alu_op,
-            rd,
-            ri,
-            imm,
-        } => Ok(Inst::AluRUImm32 {
-            alu_op,
-            rd,
-            ri,
-            imm,
-        }),
-        Inst::AluRUImm16Shifted {
-            alu_op,
-            rd,
-            ri,
-            imm,
-        } => Ok(Inst::AluRUImm16Shifted {
-            alu_op,
-            rd,
-            ri,
-            imm,
-        }),
-        Inst::AluRUImm32Shifted {
-            alu_op,
-            rd,
-            ri,
-            imm,
-        } => Ok(Inst::AluRUImm32Shifted {
-            alu_op,
-            rd,
-            ri,
-            imm,
-        }),
-        Inst::SMulWide { rd, rn, rm } => Ok(Inst::SMulWide { rd, rn, rm }),
-        Inst::UMulWide { rd, ri, rn } => Ok(Inst::UMulWide { rd, ri, rn }),
-        Inst::SDivMod32 { rd, ri, rn } => Ok(Inst::SDivMod32 { rd, ri, rn }),
-        Inst::SDivMod64 { rd, ri, rn } => Ok(Inst::SDivMod64 { rd, ri, rn }),
-        Inst::UDivMod32 { rd, ri, rn } => Ok(Inst::UDivMod32 { rd, ri, rn }),
-        Inst::UDivMod64 { rd, ri, rn } => Ok(Inst::UDivMod64 { rd, ri, rn }),
-        Inst::Flogr { rd, rn } => Ok(Inst::Flogr { rd, rn }),
-        Inst::ShiftRR {
-            shift_op,
-            rd,
-            rn,
-            shift_imm,
-            shift_reg,
-        } => Ok(Inst::ShiftRR {
-            shift_op,
-            rd,
-            rn,
-            shift_imm,
-            shift_reg,
-        }),
-        Inst::RxSBG {
-            op,
-            rd,
-            ri,
-            rn,
-            start_bit,
-            end_bit,
-            rotate_amt,
-        } => Ok(Inst::RxSBG {
-            op,
-            rd,
-            ri,
-            rn,
-            start_bit,
-            end_bit,
-            rotate_amt,
-        }),
-        Inst::RxSBGTest {
-            op,
-            rd,
-            rn,
-            start_bit,
-            end_bit,
-            rotate_amt,
-        } => Ok(Inst::RxSBGTest {
-            op,
-            rd,
-            rn,
-            start_bit,
-            end_bit,
-            rotate_amt,
-        }),
-        Inst::UnaryRR { op, rd, rn } => Ok(Inst::UnaryRR { op, rd, rn }),
-        Inst::CmpRR { op, rn, rm } => Ok(Inst::CmpRR { op, rn, rm }),
-        Inst::CmpRX { op, rn, mem } => Ok(Inst::CmpRX { op, rn, mem }),
-        Inst::CmpRSImm16 { op, rn, imm } => Ok(Inst::CmpRSImm16 { op, rn, imm }),
-        Inst::CmpRSImm32 { op, rn, imm } => Ok(Inst::CmpRSImm32 { op, rn, imm }),
-        Inst::CmpRUImm32 { op, rn, imm } => Ok(Inst::CmpRUImm32 { op, rn, imm }),
-        Inst::CmpTrapRR {
-            op,
-            rn,
-            rm,
-            cond,
-            trap_code,
-        } => Ok(Inst::CmpTrapRR {
-            op,
-            rn,
-            rm,
-            cond,
-            trap_code,
-        }),
-        Inst::CmpTrapRSImm16 {
-            op,
-            rn,
-            imm,
-            cond,
-            trap_code,
-        } => Ok(Inst::CmpTrapRSImm16 {
-            op,
-            rn,
-            imm,
-            cond,
-            trap_code,
-        }),
-        Inst::CmpTrapRUImm16 {
-            op,
-            rn,
-            imm,
-            cond,
-            trap_code,
-        } => Ok(Inst::CmpTrapRUImm16 {
-            op,
-            rn,
-            imm,
-            cond,
-            trap_code,
-        }),
-        Inst::Mov64 { rd, rm } => Ok(Inst::Mov64 { rd, rm }),
-        Inst::MovPReg { rd, rm } => Ok(Inst::MovPReg { rd, rm }),
-        Inst::Mov32 { rd, rm } => Ok(Inst::Mov32 { rd, rm }),
-        Inst::Mov32Imm { rd, imm } => Ok(Inst::Mov32Imm { rd, imm }),
-        Inst::Mov32SImm16 { rd, imm } => Ok(Inst::Mov32SImm16 { rd, imm }),
-        Inst::Mov64SImm16 { rd, imm } => Ok(Inst::Mov64SImm16 { rd, imm }),
-        Inst::Mov64SImm32 { rd, imm } => Ok(Inst::Mov64SImm32 { rd, imm }),
-        Inst::Mov64UImm16Shifted { rd, imm } => Ok(Inst::Mov64UImm16Shifted { rd, imm }),
-        Inst::Mov64UImm32Shifted { rd, imm } => Ok(Inst::Mov64UImm32Shifted { rd, imm }),
-        Inst::Insert64UImm16Shifted { rd, ri, imm } => Ok(Inst::Insert64UImm16Shifted {
-            rd,
-            ri,
-            imm,
-        }),
-        Inst::Insert64UImm32Shifted { rd, ri, imm } => Ok(Inst::Insert64UImm32Shifted {
-            rd,
-            ri,
-            imm,
-        }),
-        Inst::CMov32 { rd, cond, ri, rm } => Ok(Inst::CMov32 { rd, cond, ri, rm }),
-        Inst::CMov64 { rd, cond, ri, rm } => Ok(Inst::CMov64 { rd, cond, ri, rm }),
-        Inst::CMov32SImm16 { rd, cond, ri, imm } => Ok(Inst::CMov32SImm16 { rd, cond, ri, imm }),
-        Inst::CMov64SImm16 { rd, cond, ri, imm } => Ok(Inst::CMov64SImm16 { rd, cond, ri, imm }),
-        Inst::Extend {
-            rd,
-            rn,
-            signed,
-            from_bits,
-            to_bits,
-        } => Ok(Inst::Extend {
-            rd,
-            rn,
-            signed,
-            from_bits,
-            to_bits,
-        }),
-        Inst::LoadAR { rd, ar } => Ok(Inst::LoadAR { rd, ar }),
-        Inst::InsertAR { rd, ri, ar } => Ok(Inst::InsertAR { rd, ri, ar }),
-        Inst::Load32 { rd, mem } => Ok(Inst::Load32 { rd, mem }),
-        Inst::Load32ZExt8 { rd, mem } => Ok(Inst::Load32ZExt8 { rd, mem }),
-        Inst::Load32SExt8 { rd, mem } => Ok(Inst::Load32SExt8 { rd, mem }),
-        Inst::Load32ZExt16 { rd, mem } => Ok(Inst::Load32ZExt16 { rd, mem }),
-        Inst::Load32SExt16 { rd, mem } => Ok(Inst::Load32SExt16 { rd, mem }),
-        Inst::Load64 { rd, mem } => Ok(Inst::Load64 { rd, mem }),
-        Inst::Load64ZExt8 { rd, mem } => Ok(Inst::Load64ZExt8 { rd, mem }),
-        Inst::Load64SExt8 { rd, mem } => Ok(Inst::Load64SExt8 { rd, mem }),
-        Inst::Load64ZExt16 { rd, mem } => Ok(Inst::Load64ZExt16 { rd, mem }),
-        Inst::Load64SExt16 { rd, mem } => Ok(Inst::Load64SExt16 { rd, mem }),
-        Inst::Load64ZExt32 { rd, mem } => Ok(Inst::Load64ZExt32 { rd, mem }),
-        Inst::Load64SExt32 { rd, mem } => Ok(Inst::Load64SExt32 { rd, mem }),
-        Inst::LoadRev16 { rd, mem } => Ok(Inst::LoadRev16 { rd, mem }),
-        Inst::LoadRev32 { rd, mem } => Ok(Inst::LoadRev32 { rd, mem }),
-        Inst::LoadRev64 { rd, mem } => Ok(Inst::LoadRev64 { rd, mem }),
-        Inst::Store8 { rd, mem } => Ok(Inst::Store8 { rd, mem }),
-        Inst::Store16 { rd, mem } => Ok(Inst::Store16 { rd, mem }),
-        Inst::Store32 { rd, mem } => Ok(Inst::Store32 { rd, mem }),
-        Inst::Store64 { rd, mem } => Ok(Inst::Store64 { rd, mem }),
-        Inst::StoreRev16 { rd, mem } => Ok(Inst::StoreRev16 { rd, mem }),
-        Inst::StoreRev32 { rd, mem } => Ok(Inst::StoreRev32 { rd, mem }),
-        Inst::StoreRev64 { rd, mem } => Ok(Inst::StoreRev64 { rd, mem }),
-        Inst::StoreImm8 { imm, mem } => Ok(Inst::StoreImm8 { imm, mem }),
-        Inst::StoreImm16 { imm, mem } => Ok(Inst::StoreImm16 { imm, mem }),
-        Inst::StoreImm32SExt16 { imm, mem } => Ok(Inst::StoreImm32SExt16 { imm, mem }),
-        Inst::StoreImm64SExt16 { imm, mem } => Ok(Inst::StoreImm64SExt16 { imm, mem }),
-        Inst::LoadMultiple64 { rt, rt2, mem } => Ok(Inst::LoadMultiple64 { rt, rt2, mem }),
-        Inst::StoreMultiple64 { rt, rt2, mem } => Ok(Inst::StoreMultiple64 { rt, rt2, mem }),
-        Inst::LoadAddr { rd, mem } => Ok(Inst::LoadAddr { rd, mem }),
-        Inst::LoadIndexedAddr {
-            rd,
-            base,
-            index,
-            offset,
-            size,
-        } => Ok(Inst::LoadIndexedAddr {
-            rd,
-            base,
-            index,
-            offset,
-            size,
-        }),
-        Inst::LoadLogicalIndexedAddr {
-            rd,
-            base,
-            index,
-            offset,
-            size,
-        } => Ok(Inst::LoadLogicalIndexedAddr {
-            rd,
-            base,
-            index,
-            offset,
-            size,
-        }),
-        Inst::AtomicRmw {
-            alu_op,
-            rd,
-            rn,
-            mem,
-        } => Ok(Inst::AtomicRmw {
-            alu_op,
-            rd,
-            rn,
-            mem,
-        }),
-        Inst::AtomicCas32 { rd, ri, rn, mem } => Ok(Inst::AtomicCas32 { rd, ri, rn, mem }),
-        Inst::AtomicCas64 { rd, ri, rn, mem } => Ok(Inst::AtomicCas64 { rd, ri, rn, mem }),
+    copied! { inst,
+        {
+            AluRRR { alu_op, rd, rn, rm }
+            AluRRSImm16 { alu_op, rd, rn, imm }
+            AluRR { alu_op, rd, ri, rm }
+            AluRX { alu_op, rd, ri, mem }
+            AluRSImm16 { alu_op, rd, ri, imm }
+            AluRSImm32 { alu_op, rd, ri, imm }
+            AluRUImm32 { alu_op, rd, ri, imm }
+            AluRUImm16Shifted { alu_op, rd, ri, imm }
+            AluRUImm32Shifted { alu_op, rd, ri, imm }
+            SMulWide { rd, rn, rm }
+            UMulWide { rd, ri, rn }
+            SDivMod32 { rd, ri, rn }
+            SDivMod64 { rd, ri, rn }
+            UDivMod32 { rd, ri, rn }
+            UDivMod64 { rd, ri, rn }
+            Flogr { rd, rn }
+            ShiftRR { shift_op, rd, rn, shift_imm, shift_reg }
+            RxSBG { op, rd, ri, rn, start_bit, end_bit, rotate_amt }
+            RxSBGTest { op, rd, rn, start_bit, end_bit, rotate_amt }
+            UnaryRR { op, rd, rn }
+            CmpRR { op, rn, rm }
+            CmpRX { op, rn, mem }
+            CmpRSImm16 { op, rn, imm }
+            CmpRSImm32 { op, rn, imm }
+            CmpRUImm32 { op, rn, imm }
+            CmpTrapRR { op, rn, rm, cond, trap_code }
+            CmpTrapRSImm16 { op, rn, imm, cond, trap_code }
+            CmpTrapRUImm16 { op, rn, imm, cond, trap_code }
+            Mov64 { rd, rm }
+            MovPReg { rd, rm }
+            Mov32 { rd, rm }
+            Mov32Imm { rd, imm }
+            Mov32SImm16 { rd, imm }
+            Mov64SImm16 { rd, imm }
+            Mov64SImm32 { rd, imm }
+            Mov64UImm16Shifted { rd, imm }
+            Mov64UImm32Shifted { rd, imm }
+            Insert64UImm16Shifted { rd, ri, imm }
+            Insert64UImm32Shifted { rd, ri, imm }
+            CMov32 { rd, cond, ri, rm }
+            CMov64 { rd, cond, ri, rm }
+            CMov32SImm16 { rd, cond, ri, imm }
+            CMov64SImm16 { rd, cond, ri, imm }
+            Extend { rd, rn, signed, from_bits, to_bits }
+            LoadAR { rd, ar }
+            InsertAR { rd, ri, ar }
+            Load32 { rd, mem }
+            Load32ZExt8 { rd, mem }
+            Load32SExt8 { rd, mem }
+            Load32ZExt16 { rd, mem }
+            Load32SExt16 { rd, mem }
+            Load64 { rd, mem }
+            Load64ZExt8 { rd, mem }
+            Load64SExt8 { rd, mem }
+            Load64ZExt16 { rd, mem }
+            Load64SExt16 { rd, mem }
+            Load64ZExt32 { rd, mem }
+            Load64SExt32 { rd, mem }
+            LoadRev16 { rd, mem }
+            LoadRev32 { rd, mem }
+            LoadRev64 { rd, mem }
+            Store8 { rd, mem }
+            Store16 { rd, mem }
+            Store32 { rd, mem }
+            Store64 { rd, mem }
+            StoreRev16 { rd, mem }
+            StoreRev32 { rd, mem }
+            StoreRev64 { rd, mem }
+            StoreImm8 { imm, mem }
+            StoreImm16 { imm, mem }
+            StoreImm32SExt16 { imm, mem }
+            StoreImm64SExt16 { imm, mem }
+            LoadMultiple64 { rt, rt2, mem }
+            StoreMultiple64 { rt, rt2, mem }
+            LoadAddr { rd, mem }
+            LoadIndexedAddr { rd, base, index, offset, size }
+            LoadLogicalIndexedAddr { rd, base, index, offset, size }
+            AtomicRmw { alu_op, rd, rn, mem }
+            AtomicCas32 { rd, ri, rn, mem }
+            AtomicCas64 { rd, ri, rn, mem }
+            Trap { trap_code }
+            TrapIf { cond, trap_code }
+            Jump { dest }
+            CondBr { taken, not_taken, cond }
+            Ret { link }
+            CondBreak { cond }
+            AllocateArgs { size }
+            LoadSymbolReloc { rd, symbol_reloc }
+            LabelAddress { dst, label }
+            DummyUse { reg }
+        },
         Inst::Fence => Ok(Inst::Fence),
         Inst::Nop0 => Ok(Inst::Nop0),
         Inst::Nop2 => Ok(Inst::Nop2),
         Inst::Debugtrap => Ok(Inst::Debugtrap),
-        Inst::Trap { trap_code } => Ok(Inst::Trap { trap_code }),
-        Inst::TrapIf { cond, trap_code } => Ok(Inst::TrapIf { cond, trap_code }),
-        Inst::Jump { dest } => Ok(Inst::Jump { dest }),
-        Inst::CondBr {
-            taken,
-            not_taken,
-            cond,
-        } => Ok(Inst::CondBr {
-            taken,
-            not_taken,
-            cond,
-        }),
-        Inst::Ret { link } => Ok(Inst::Ret { link }),
-        Inst::CondBreak { cond } => Ok(Inst::CondBreak { cond }),
-        Inst::AllocateArgs { size } => Ok(Inst::AllocateArgs { size }),
-        Inst::LoadSymbolReloc { rd, symbol_reloc } => Ok(Inst::LoadSymbolReloc {
-            rd,
-            symbol_reloc,
-        }),
-        Inst::LabelAddress { dst, label } => Ok(Inst::LabelAddress { dst, label }),
-        Inst::DummyUse { reg } => Ok(Inst::DummyUse { reg }),
         Inst::SequencePoint => Ok(Inst::SequencePoint),
-        Inst::Vector(vector) => Ok(Inst::Vector(vector)),
-        Inst::IndirectBr { rn, ref targets } => Ok(Inst::IndirectBr {
-            rn,
+        Inst::Vector(vector) => Ok(Inst::Vector(*vector)),
+        Inst::IndirectBr { rn, targets } => Ok(Inst::IndirectBr {
+            rn: *rn,
             targets: Vec::from_slice(alloc, targets)?,
         }),
         Inst::JTSequence {
             ridx,
             default,
             default_cond,
-            ref targets,
+            targets,
         } => Ok(Inst::JTSequence {
-            ridx,
-            default,
-            default_cond,
+            ridx: *ridx,
+            default: *default,
+            default_cond: *default_cond,
             targets: Vec::from_slice(alloc, targets)?,
         }),
         Inst::Loop { cond, .. } => Ok(Inst::Loop {
-            cond,
+            cond: *cond,
             body: Vec::new(alloc),
         }),
-        Inst::Call { link, ref info } => copy_call(alloc, link, info),
-        Inst::ReturnCall { ref info } => Ok(Inst::ReturnCall {
+        Inst::Call { link, info } => copy_call(alloc, *link, info),
+        Inst::ReturnCall { info } => Ok(Inst::ReturnCall {
             info: copy_tail_call(alloc, info)?,
         }),
-        Inst::Args { ref args } => Ok(Inst::Args {
+        Inst::Args { args } => Ok(Inst::Args {
             args: Vec::from_slice(alloc, args)?,
         }),
-        Inst::Rets { ref rets } => Ok(Inst::Rets {
+        Inst::Rets { rets } => Ok(Inst::Rets {
             rets: Vec::from_slice(alloc, rets)?,
         }),
     }

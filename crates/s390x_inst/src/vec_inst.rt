@@ -88,13 +88,13 @@ pub enum VecInst {
         rn: Reg,
         rm: Reg,
     },
-    /// Tells whether `rn` is greater than `rm`, signed; `tmp` may change.
+    /// Whether `rn` is greater than `rm`, signed; `tmp` may change.
     VecInt128SCmpHi {
         tmp: Writable<Reg>,
         rn: Reg,
         rm: Reg,
     },
-    /// Tells whether `rn` is greater than `rm`, unsigned; `tmp` may change.
+    /// Whether `rn` is greater than `rm`, unsigned; `tmp` may change.
     VecInt128UCmpHi {
         tmp: Writable<Reg>,
         rn: Reg,
