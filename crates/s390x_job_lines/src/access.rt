@@ -54,12 +54,7 @@ fn whole_store(layout: WholeLayout, rd: Reg, mem: MemArg) -> VecInst
 }
 
 /// The load or the store of a whole vector register: a load writes `rd`.
-pub fn whole_instruction(
-    direction: Direction,
-    layout: WholeLayout,
-    rd: Reg,
-    mem: MemArg,
-) -> VecInst
+pub fn whole_instruction(direction: Direction, layout: WholeLayout, rd: Reg, mem: MemArg) -> VecInst
     ensures { result ≡ whole_instruction direction layout rd mem }
 {
     match direction {
