@@ -2,11 +2,11 @@
 ghost use Rattle.std.specs.Prelude.{◌≡◌, ◌+◌, ◌<◌, ◌&&◌, true, Some, nat_lt};
 ghost use Rattle.std.specs.Option.{option_map};
 ghost use Rattle.s390x_base.specs.Regs.{number_of};
-ghost use Rattle.s390x_typed_steps.specs.General.{is_general, is_even_pair, reuses, rotation, low_byte};
-ghost use Rattle.s390x_typed_steps.specs.MachineInstruction.{rrf_ab, rsy};
+ghost use Rattle.s390x_typed_steps.specs.General.{is_general, is_even_pair, reuses, rotation};
+ghost use Rattle.s390x_typed_steps.specs.MachineInstruction.{rrf_ab};
 ghost use Rattle.s390x_typed_steps.specs.Opcodes.{of_one, alu_part, alu_half, shift_opcode, rotate_then, rotate_then_test};
 ghost use Rattle.s390x_typed_steps.specs.SingleCode.{code_where, single_code};
-ghost use Rattle.s390x_typed_steps.specs.SingleInstruction.{single_with, two_operands, rotated_row};
+ghost use Rattle.s390x_typed_steps.specs.SingleInstruction.{single_instruction, single_with, two_operands, rotated_row};
 ghost use Rattle.s390x_emit_rows.specs.SingleInstruction.{opcode_of, takes_general};
 
 use crate::codes::{selected, shifted, short, three_operands, two_operands};
@@ -15,7 +15,7 @@ use crate::opcode::ShortOpcode;
 use crate::registers::{is_even_pair, is_reused, three_general, two_general};
 use s390x_address::general;
 use s390x_base::{Code, EmitError, Reg, Writable, WritableRegPair};
-use s390x_inst::{ALUOp, RxSBGOp, ShiftOp};
+use s390x_inst::{ALUOp, Inst, RxSBGOp, ShiftOp};
 use s390x_typed_steps::low_byte;
 
 fn of_one(zeroth: u16, n: u8) -> Option<ShortOpcode>
@@ -173,10 +173,7 @@ pub fn shift_row(
 ) -> Option<Result<Code, EmitError>>
     ensures { result
         ≡ single_code
-        (single_with (is_general rd.now && is_general rn.now && is_general register.now)
-        (Some
-        (rsy (shift_opcode op) (number_of rd.now) (number_of rn.now)
-        (number_of register.now) (low_byte amount)))) }
+        (single_instruction (Inst.ShiftRR op rd.now rn.now amount register.now)) }
 {
     let output = rd.to_reg();
     Some(shifted(

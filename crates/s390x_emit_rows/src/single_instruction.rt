@@ -14,14 +14,14 @@ use crate::bits::{
     half_opcode, pair_row, part_opcode, product_row, reused_low_row, rotated_row, shift_row,
     tested_row,
 };
-use crate::codes::always;
 use crate::moves::{
-    branch_nowhere, conditional_immediate_row, conditional_row, extend_opcode, indexed_opcode,
-    indexed_row, insert_access_row, load_access_row, logical_indexed_opcode, of_four, of_two,
+    branch_nowhere, conditional_doubleword, conditional_row, conditional_word, extend_opcode,
+    indexed_opcode, indexed_row, insert_access_row, load_access_row, logical_indexed_opcode,
+    of_four, of_two, set_doubleword, set_short_doubleword, set_short_word, set_word,
 };
 use crate::shapes::{
-    halfword_row, into_halfword_row, into_row, into_signed_halfword_row, into_signed_word_row,
-    into_word_row, reused_halfword_row, reused_row, reused_word_row, two_row, word_row,
+    halfword_row, into_halfword_row, into_row, into_word_row, reused_halfword_row, reused_row,
+    reused_word_row, two_row, word_row,
 };
 use crate::stops::{
     compare_opcode as trap_opcode, compare_signed_opcode as trap_signed_opcode,
@@ -144,10 +144,10 @@ pub fn find_single_instruction(inst: &Inst) -> Option<Result<Code, EmitError>>
         Inst::Mov64 { rd, rm } => into_row(Some(0xb904), rd, rm),
         Inst::MovPReg { rd, rm } => into_row(Some(0xb904), rd, &Reg::Real(*rm)),
         Inst::Mov32 { rd, rm } => into_row(Some(0x18), rd, rm),
-        Inst::Mov32Imm { rd, imm } => into_word_row(always(0xc09), rd, bits_of_unsigned(*imm)),
-        Inst::Mov32SImm16 { rd, imm } => into_signed_halfword_row(always(0xa78), rd, imm),
-        Inst::Mov64SImm16 { rd, imm } => into_signed_halfword_row(always(0xa79), rd, imm),
-        Inst::Mov64SImm32 { rd, imm } => into_signed_word_row(always(0xc01), rd, imm),
+        Inst::Mov32Imm { rd, imm } => set_word(rd, *imm),
+        Inst::Mov32SImm16 { rd, imm } => set_short_word(rd, imm),
+        Inst::Mov64SImm16 { rd, imm } => set_short_doubleword(rd, imm),
+        Inst::Mov64SImm32 { rd, imm } => set_doubleword(rd, imm),
         Inst::Mov64UImm16Shifted { rd, imm } => into_halfword_row(
             of_four(0xa5f, 0xa5e, 0xa5d, 0xa5c, imm.shift),
             rd,
@@ -172,12 +172,8 @@ pub fn find_single_instruction(inst: &Inst) -> Option<Result<Code, EmitError>>
         ),
         Inst::CMov32 { rd, cond, ri, rm } => conditional_row(0xb9f2, rd, ri, rm, *cond),
         Inst::CMov64 { rd, cond, ri, rm } => conditional_row(0xb9e2, rd, ri, rm, *cond),
-        Inst::CMov32SImm16 { rd, cond, ri, imm } => conditional_immediate_row(
-            0xec42, rd, ri, imm, *cond,
-        ),
-        Inst::CMov64SImm16 { rd, cond, ri, imm } => conditional_immediate_row(
-            0xec46, rd, ri, imm, *cond,
-        ),
+        Inst::CMov32SImm16 { rd, cond, ri, imm } => conditional_word(rd, *cond, ri, imm),
+        Inst::CMov64SImm16 { rd, cond, ri, imm } => conditional_doubleword(rd, *cond, ri, imm),
         Inst::Extend {
             rd,
             rn,
