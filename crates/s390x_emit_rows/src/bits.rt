@@ -164,7 +164,7 @@ pub fn tested_row(
 /// A shift by a number plus a register. None where there is no row; `BadRegister` comes where a register is not
 /// general, or an input that has to be the output isn't it.
 #[tactic(auto, using(crate::proofs::Encoding::itself))]
-pub fn shift_row(
+fn shift_row(
     op: ShiftOp,
     rd: &Writable<Reg>,
     rn: &Reg,
@@ -184,6 +184,20 @@ pub fn shift_row(
         *register,
         low_byte(amount),
     ))
+}
+
+/// The same of each instruction that is this shift. `BadRegister` comes where a register is not general.
+pub fn shift(
+    op: ShiftOp,
+    rd: &Writable<Reg>,
+    rn: &Reg,
+    amount: u8,
+    register: &Reg,
+) -> Option<Result<Code, EmitError>>
+    ensures { (i : _) → i ≡ Inst.ShiftRR op rd.now rn.now amount register.now
+        → result ≡ single_code (single_instruction i) }
+{
+    shift_row(op, rd, rn, amount, register)
 }
 
 /// The signed product of two registers, into a pair. None where there is no row; `BadRegister` comes where a register

@@ -208,8 +208,8 @@ pub fn conditional_word(
     ri: &Reg,
     imm: &i16,
 ) -> Option<Result<Code, EmitError>>
-    ensures { result
-        ≡ single_code (single_instruction (Inst.CMov32SImm16 rd.now cond ri.now imm.now)) }
+    ensures { (i : _) → i ≡ Inst.CMov32SImm16 rd.now cond ri.now imm.now
+        → result ≡ single_code (single_instruction i) }
 {
     conditional_immediate_row(0xec42, rd, ri, imm, cond)
 }
@@ -221,36 +221,40 @@ pub fn conditional_doubleword(
     ri: &Reg,
     imm: &i16,
 ) -> Option<Result<Code, EmitError>>
-    ensures { result
-        ≡ single_code (single_instruction (Inst.CMov64SImm16 rd.now cond ri.now imm.now)) }
+    ensures { (i : _) → i ≡ Inst.CMov64SImm16 rd.now cond ri.now imm.now
+        → result ≡ single_code (single_instruction i) }
 {
     conditional_immediate_row(0xec46, rd, ri, imm, cond)
 }
 
 /// An immediate becomes a word. `BadRegister` comes where the register is not general.
 pub fn set_word(rd: &Writable<Reg>, imm: u32) -> Option<Result<Code, EmitError>>
-    ensures { result ≡ single_code (single_instruction (Inst.Mov32Imm rd.now imm)) }
+    ensures { (i : _) → i ≡ Inst.Mov32Imm rd.now imm
+        → result ≡ single_code (single_instruction i) }
 {
     into_word_row(always(0xc09), rd, bits_of_unsigned(imm))
 }
 
 /// A signed immediate of 16 bits becomes a word. `BadRegister` comes where the register is not general.
 pub fn set_short_word(rd: &Writable<Reg>, imm: &i16) -> Option<Result<Code, EmitError>>
-    ensures { result ≡ single_code (single_instruction (Inst.Mov32SImm16 rd.now imm.now)) }
+    ensures { (i : _) → i ≡ Inst.Mov32SImm16 rd.now imm.now
+        → result ≡ single_code (single_instruction i) }
 {
     into_signed_halfword_row(always(0xa78), rd, imm)
 }
 
 /// A signed immediate of 16 bits becomes a doubleword. `BadRegister` comes where the register is not general.
 pub fn set_short_doubleword(rd: &Writable<Reg>, imm: &i16) -> Option<Result<Code, EmitError>>
-    ensures { result ≡ single_code (single_instruction (Inst.Mov64SImm16 rd.now imm.now)) }
+    ensures { (i : _) → i ≡ Inst.Mov64SImm16 rd.now imm.now
+        → result ≡ single_code (single_instruction i) }
 {
     into_signed_halfword_row(always(0xa79), rd, imm)
 }
 
 /// A signed immediate of 32 bits becomes a doubleword. `BadRegister` comes where the register is not general.
 pub fn set_doubleword(rd: &Writable<Reg>, imm: &i32) -> Option<Result<Code, EmitError>>
-    ensures { result ≡ single_code (single_instruction (Inst.Mov64SImm32 rd.now imm.now)) }
+    ensures { (i : _) → i ≡ Inst.Mov64SImm32 rd.now imm.now
+        → result ≡ single_code (single_instruction i) }
 {
     into_signed_word_row(always(0xc01), rd, imm)
 }

@@ -11,7 +11,7 @@ use crate::arithmetic::{
     three_row, two_opcode, unary_row, unsigned_word_opcode,
 };
 use crate::bits::{
-    half_opcode, pair_row, part_opcode, product_row, reused_low_row, rotated_row, shift_row,
+    half_opcode, pair_row, part_opcode, product_row, reused_low_row, rotated_row, shift,
     tested_row,
 };
 use crate::moves::{
@@ -120,7 +120,7 @@ pub fn find_single_instruction(inst: &Inst) -> Option<Result<Code, EmitError>>
             rn,
             shift_imm,
             shift_reg,
-        } => shift_row(*shift_op, rd, rn, *shift_imm, shift_reg),
+        } => shift(*shift_op, rd, rn, *shift_imm, shift_reg),
         Inst::RxSBG {
             op,
             rd,
