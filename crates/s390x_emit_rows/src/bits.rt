@@ -200,7 +200,7 @@ fn shift_row(
     ))
 }
 
-/// The same of each instruction that is this shift. `BadRegister` comes where a register is not general.
+/// The code of an instruction that is this shift. `BadRegister` comes where a register is not general.
 pub fn shift(
     op: ShiftOp,
     rd: &Writable<Reg>,

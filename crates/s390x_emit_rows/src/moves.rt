@@ -228,7 +228,8 @@ pub fn conditional_word(
     conditional_immediate_row(opcodes::LOCHI, rd, ri, imm, cond)
 }
 
-/// The same of a doubleword. `BadRegister` comes where the input that has to be the output isn't it.
+/// A move of an immediate into a doubleword under a condition. `BadRegister` comes where the input that has to be the
+/// output isn't it.
 pub fn conditional_doubleword(
     rd: &Writable<Reg>,
     cond: Cond,

@@ -11,8 +11,7 @@ use crate::arithmetic::{
     three_row, two_opcode, unary_row, unsigned_word_opcode,
 };
 use crate::bits::{
-    half_opcode, pair_row, part_opcode, product_row, reused_low_row, rotated_row, shift,
-    tested_row,
+    half_opcode, pair_row, part_opcode, product_row, reused_low_row, rotated_row, shift, tested_row,
 };
 use crate::moves::{
     branch_nowhere, conditional_doubleword, conditional_row, conditional_word, extend_opcode,
