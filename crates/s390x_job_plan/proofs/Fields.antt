@@ -33,6 +33,25 @@ use Rattle.s390x_described.specs.Instructions.{described_control, described_move
 use Rattle.s390x_described.specs.Roles.{described_again}
 use Rattle.s390x_assign.specs.Assignments.{after, assigned_by, assigned_operator, assigned_role, assigned_vector, dividend_at, memory_at, operand_at, pair_at, register_at}
 
+-- an instruction's groups with their registers, by their descriptions
+abbrev assigned_register_vector : VecInst → List Reg → VecInst × List Reg
+assigned_register_vector v s = described_again assigned_role (described_register_vector v) s
+
+abbrev assigned_control : Inst → List Reg → Inst × List Reg
+assigned_control i s = assigned_by (described_control i) i s
+
+abbrev assigned_store : Inst → List Reg → Inst × List Reg
+assigned_store i s = assigned_by (described_store i) i s
+
+abbrev assigned_storage : Inst → List Reg → Inst × List Reg
+assigned_storage i s = assigned_by (described_storage i) i s
+
+abbrev assigned_move : Inst → List Reg → Inst × List Reg
+assigned_move i s = assigned_by (described_move i) i s
+
+abbrev with_one_and_memory : (Reg → MemArg → Inst) → Reg → MemArg → List Reg → Inst × List Reg
+with_one_and_memory f a mem s = (f (register_at a s) (memory_at mem (after a s)).0, (memory_at mem (after a s)).1)
+
 -- all of them lie in their ranges
 abbrev pub Regs : List Reg → Type 0
 Regs s = AllItems IsReg s
@@ -72,22 +91,6 @@ pair d s h k = (given d.hi s h.0 k, given d.lo (drop 1 s) h.1 (dropped 1 s k))
 
 dividend : (i : RegPair) (s : List Reg) → IsReg i.hi × IsReg i.lo → Regs s → IsReg (dividend_at i s).hi × IsReg (dividend_at i s).lo
 dividend i s h k = (given i.hi s h.0 k, given i.lo (drop 1 s) h.1 (dropped 1 s k))
-
--- instructions with their registers, group by group, by the descriptions of these
-abbrev assigned_register_vector : VecInst → List Reg → VecInst × List Reg
-assigned_register_vector v s = described_again assigned_role (described_register_vector v) s
-
-abbrev assigned_control : Inst → List Reg → Inst × List Reg
-assigned_control i s = assigned_by (described_control i) i s
-
-abbrev assigned_store : Inst → List Reg → Inst × List Reg
-assigned_store i s = assigned_by (described_store i) i s
-
-abbrev assigned_storage : Inst → List Reg → Inst × List Reg
-assigned_storage i s = assigned_by (described_storage i) i s
-
-abbrev assigned_move : Inst → List Reg → Inst × List Reg
-assigned_move i s = assigned_by (described_move i) i s
 
 register_vector_fields : (v : VecInst) (s : List Reg) → AllFields (vector_line v).fields → Regs s → AllFields (vector_line (assigned_register_vector v s).0).fields × Regs (assigned_register_vector v s).1
 register_vector_fields (V.VecRRR op rd rn rm) s h k = ((h.0, (at rd s h.1.0 k, (at rn (after rd s) h.1.1.0 (left rd s k), (at rm (after rn (after rd s)) h.1.1.1.0 (left rn (after rd s) (left rd s k)), tt)))), left rm (after rn (after rd s)) (left rn (after rd s) (left rd s k)))
@@ -183,12 +186,12 @@ store_fields i s h k = store_or_control i s (as_store i) h k
 
 -- a load: the last clause is a copy for each
 load_fields : (op : LoadOp) (rd : Reg) (mem : MemArg) (s : List Reg) → AllFields (inst_line (load_instruction op rd mem)).fields → Regs s →
-    AllFields (inst_line (assigned_storage (load_instruction op rd mem) s).0).fields × Regs (assigned_storage (load_instruction op rd mem) s).1
+    AllFields (inst_line (with_one_and_memory (load_instruction op) rd mem s).0).fields × Regs (with_one_and_memory (load_instruction op) rd mem s).1
 load_fields LoadOps.Load64 rd mem s h k = ((at rd s h.0 k, (memory mem (after rd s) h.1.0 (left rd s k), tt)), memory_left mem (after rd s) (left rd s k))
 load_fields op rd mem s h k = ((at rd s h.0 k, (memory mem (after rd s) h.1.0 (left rd s k), tt)), memory_left mem (after rd s) (left rd s k))
 
 load_or_store : (i : Inst) (s : List Reg) (o : Option Load) → AllFields (inst_line (by_load (λ l. load_instruction l.op l.rd l.mem) i o)).fields → Regs s →
-    AllFields (inst_line (by_load (λ l. assigned_storage (load_instruction l.op l.rd l.mem) s) (assigned_store i s) o).0).fields × Regs (by_load (λ l. assigned_storage (load_instruction l.op l.rd l.mem) s) (assigned_store i s) o).1
+    AllFields (inst_line (by_load (λ l. with_one_and_memory (load_instruction l.op) l.rd l.mem s) (assigned_store i s) o).0).fields × Regs (by_load (λ l. with_one_and_memory (load_instruction l.op) l.rd l.mem s) (assigned_store i s) o).1
 load_or_store i s None h k = store_fields i s h k
 load_or_store i s (Some l) h k = load_fields l.op l.rd l.mem s h k
 
