@@ -3,7 +3,8 @@
 
     checks/opcodes.py
 
-An opcode of three digits or more is looked for in all crates but those of tests. It ends with 1 where there is one.
+An opcode of three digits or more is looked for in all crates but those of tests. Each constant's name has to be the mnemonic
+that stands beside its row in the decoder's table, without the letter of an element's size. It ends with 1 where one differs.
 Other scripts that read the sources take `plain` from it, which puts the numbers in the constants' place.
 """
 import os
@@ -12,6 +13,7 @@ import sys
 
 CRATES = os.path.join(os.path.dirname(os.path.abspath(__file__)), "..", "crates")
 CONSTANTS = os.path.join(CRATES, "s390x_rows", "src", "opcodes.rt")
+ROWS = os.path.join(CRATES, "s390x_format", "src", "table.rt")
 TESTS = ("s390x_buffer_tests", "s390x_instruction_tests")
 
 
@@ -38,6 +40,15 @@ def sources():
                         yield path
 
 
+def misnamed():
+    """The constants of rows whose mnemonic is another one, with these."""
+    with open(ROWS) as file:
+        rows = re.findall(r"opcode: opcodes::(\w+), .*// (\S+)", file.read())
+    if sorted(name for name, _ in rows) != sorted(constants()):
+        raise SystemExit("the decoder's table hasn't one row for each constant")
+    return [(name, mnemonic) for name, mnemonic in rows if not re.fullmatch(name.lower() + "[bhfgq]?", mnemonic)]
+
+
 def main():
     names = {number: name for name, number in constants().items() if len(number) >= 5}
     found = 0
@@ -49,8 +60,11 @@ def main():
                     if word in names:
                         print(f"{os.path.relpath(path, CRATES)}:{number}: {word} is {names[word]}")
                         found += 1
-    print(f"{len(constants())} opcodes, {found} bare")
-    sys.exit(found > 0)
+    wrong = misnamed()
+    for name, mnemonic in wrong:
+        print(f"{name} stands at the row of {mnemonic}")
+    print(f"{len(constants())} opcodes, {found} bare, {len(wrong)} misnamed")
+    sys.exit(found + len(wrong) > 0)
 
 
 if __name__ == "__main__":
