@@ -31,8 +31,7 @@ use Rattle.s390x_operands.specs.declared.constraint.Reported.TheVariants.{Operan
 use Rattle.s390x_operands.specs.Calls.{placed_use, placed_def, destination_requests, argument, result_in, call_result, incoming, outgoing, clobbered}
 use Rattle.s390x_operands.specs.Operands.{leaf_requests, vector_requests, requests, row_requests, operands}
 use Rattle.s390x_operands.specs.Requests.{items_of, used, defined, reused, fixed_use, fixed_def, scratch_request, memory_requests, fixed_general, range_requests}
-use Rattle.s390x_assign.specs.Assignments.{operand_at, register_at, after, placed_at, after_placed, pair_at, dividend_at, memory_at, each_at, assigned_vector, destination_at, argument_at, result_at, call_result_at, incoming_at, outgoing_at, portion_at, assigned, reported_again, replaced, operand_count}
-use Rattle.s390x_assign.specs.Roles.{assigned_role}
+use Rattle.s390x_assign.specs.Assignments.{operand_at, register_at, after, placed_at, after_placed, pair_at, dividend_at, memory_at, assigned_role, each_at, assigned_vector, destination_at, argument_at, result_at, call_result_at, incoming_at, outgoing_at, portion_at, assigned, reported_again, replaced, operand_count}
 
 -- requests become others, whose operands are replaced by the next registers of a list; so much is left of it
 record Follows (xs ys : List (Option Reported)) (s t : List Reg) : Type 0 where

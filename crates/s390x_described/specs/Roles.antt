@@ -62,6 +62,10 @@ pub record Described (T : Type 0) : Type 0 where
   pub roles : List Role
   pub again : List Role → T
 
+-- an instruction that has none
+abbrev pub of_none : {T : Type 0} → T → Described T
+of_none i = record { roles = []; again = λ xs. i }
+
 -- an instruction of so many registers and of memory, in this order
 abbrev pub of_one : {T : Type 0} → (Reg → T) → Role → Described T
 of_one f a = record { roles = a ∷ []; again = λ xs. f (register (first xs)) }

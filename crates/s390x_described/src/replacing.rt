@@ -1,13 +1,16 @@
 //! An instruction with other registers.
 ghost use Rattle.std.specs.Prelude.{◌≡◌};
+ghost use Rattle.s390x_inst.specs.Stores.{store_instruction};
 ghost use Rattle.s390x_described.specs.Roles.{again_or_none, described_again};
-ghost use Rattle.s390x_described.specs.Instructions.{described, described_move, described_storage, described_store, described_wide, described_vector};
+ghost use Rattle.s390x_described.specs.Instructions.{described, described_move, described_storage, described_store, described_rest, described_control, described_wide, described_vector};
 
 use crate::replacer::Replacer;
 use crate::table::{
-    again, in_role, move_table, operator_table, store_table, vector_again, vector_table,
+    again, control_table, in_role, move_table, operator_table, rest_table, vector_again,
+    vector_table,
 };
-use s390x_inst::{Inst, VecInst};
+use s390x_base::Reg;
+use s390x_inst::{Inst, MemArg, StoreOp, VecInst};
 
 // One on vector or float registers.
 fn replace_vector<R: Replacer>(inst: &VecInst, r: &mut R) -> VecInst
@@ -32,6 +35,41 @@ fn replace_wide<R: Replacer>(inst: &Inst, r: &mut R) -> Option<Inst>
     }
 }
 
+// One that has no operand in memory, and is no operator and no move.
+fn replace_control<R: Replacer>(inst: &Inst, r: &mut R) -> Option<Inst>
+    ensures value { result
+        ≡ (again_or_none R.role_at (described_control inst.now) (R.state r.old)).0 }
+    ensures after { R.state r.new
+        ≡ (again_or_none R.role_at (described_control inst.now) (R.state r.old)).1 }
+{
+    control_table!(again, inst, r, replace_wide(inst, r))
+}
+
+// One that is no operator, no move, and no load or store of one register.
+fn replace_rest<R: Replacer>(inst: &Inst, r: &mut R) -> Option<Inst>
+    ensures value { result
+        ≡ (again_or_none R.role_at (described_rest inst.now) (R.state r.old)).0 }
+    ensures after { R.state r.new
+        ≡ (again_or_none R.role_at (described_rest inst.now) (R.state r.old)).1 }
+{
+    rest_table!(again, inst, r, replace_control(inst, r))
+}
+
+// The store of a register to an operand.
+fn store_of(op: StoreOp, rd: Reg, mem: MemArg) -> Inst
+    ensures { result ≡ store_instruction op rd mem }
+{
+    match op {
+        StoreOp::Store8 => Inst::Store8 { rd, mem },
+        StoreOp::Store16 => Inst::Store16 { rd, mem },
+        StoreOp::Store32 => Inst::Store32 { rd, mem },
+        StoreOp::Store64 => Inst::Store64 { rd, mem },
+        StoreOp::StoreRev16 => Inst::StoreRev16 { rd, mem },
+        StoreOp::StoreRev32 => Inst::StoreRev32 { rd, mem },
+        StoreOp::StoreRev64 => Inst::StoreRev64 { rd, mem },
+    }
+}
+
 // One that is no operator, no move and no load of one register.
 fn replace_store<R: Replacer>(inst: &Inst, r: &mut R) -> Option<Inst>
     ensures value { result
@@ -39,7 +77,14 @@ fn replace_store<R: Replacer>(inst: &Inst, r: &mut R) -> Option<Inst>
     ensures after { R.state r.new
         ≡ (again_or_none R.role_at (described_store inst.now) (R.state r.old)).1 }
 {
-    store_table!(again, inst, r, replace_wide(inst, r))
+    match inst.as_store() {
+        Some(store) => {
+            let rd = r.input(store.rd);
+            let mem = r.memory(store.mem);
+            Some(store_of(store.op, rd, mem))
+        }
+        None => replace_rest(inst, r),
+    }
 }
 
 // One that is neither an operator nor a move.

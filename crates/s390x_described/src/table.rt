@@ -62,17 +62,10 @@ macro_rules! move_table {
     };
 }
 
-/// Stores, multiples, addresses, atomic instructions, and a use that has no code.
-macro_rules! store_table {
+/// Stores of numbers, multiples, addresses and atomic instructions.
+macro_rules! rest_table {
     ($walk:ident, $($with:tt)*) => {
         $walk! { ($($with)*)
-            Store8 { rd: input, mem: memory }
-            Store16 { rd: input, mem: memory }
-            Store32 { rd: input, mem: memory }
-            Store64 { rd: input, mem: memory }
-            StoreRev16 { rd: input, mem: memory }
-            StoreRev32 { rd: input, mem: memory }
-            StoreRev64 { rd: input, mem: memory }
             StoreImm8 { imm: plain, mem: memory }
             StoreImm16 { imm: plain, mem: memory }
             StoreImm32SExt16 { imm: plain, mem: memory }
@@ -85,6 +78,14 @@ macro_rules! store_table {
             AtomicRmw { alu_op: plain, rd: output, rn: input, mem: memory }
             AtomicCas32 { rd: reused, ri: input, rn: input, mem: memory }
             AtomicCas64 { rd: reused, ri: input, rn: input, mem: memory }
+        }
+    };
+}
+
+/// Addresses that the linker fills in or that are labels, and a use that has no code.
+macro_rules! control_table {
+    ($walk:ident, $($with:tt)*) => {
+        $walk! { ($($with)*)
             LoadSymbolReloc { rd: output, symbol_reloc: plain }
             LabelAddress { dst: output, label: plain }
             DummyUse { reg: input }
@@ -180,9 +181,10 @@ macro_rules! in_role {
 }
 
 pub(crate) use again;
+pub(crate) use control_table;
 pub(crate) use in_role;
 pub(crate) use move_table;
 pub(crate) use operator_table;
-pub(crate) use store_table;
+pub(crate) use rest_table;
 pub(crate) use vector_again;
 pub(crate) use vector_table;

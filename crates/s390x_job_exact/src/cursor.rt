@@ -1,5 +1,5 @@
 //! A cursor in a line, whose fields are taken only as they are printed.
-ghost use Rattle.std.specs.Prelude.{◌≡◌, ◌++◌, ◌∷◌, [], ◌<◌, ◌^◌, IfSome, IsTrue};
+ghost use Rattle.std.specs.Prelude.{◌≡◌, ◌++◌, ◌∷◌, [], ◌<◌, ◌^◌, IfSome};
 ghost use Rattle.std.specs.Fmt.{decimal, signed_decimal};
 ghost use Rattle.s390x_job_fields.specs.Numbers.{IsBelow};
 
@@ -28,11 +28,15 @@ impl<'a> ExactCursor<'a> {
         ExactCursor { left }
     }
 
-    /// Whether nothing is left.
-    pub fn is_end(&self) -> bool
-        ensures { IsTrue result → self.now ≡ [] }
+    /// That nothing is left.
+    #[inline(always)]
+    pub fn end(&self) -> Option<()>
+        ensures { IfSome result (λ _. self.now ≡ []) }
     {
-        self.left.is_empty()
+        match self.left {
+            [] => Some(()),
+            _ => None,
+        }
     }
 
     /// What is left.
@@ -53,6 +57,34 @@ impl<'a> ExactCursor<'a> {
                 Some(*first)
             }
             [] => None,
+        }
+    }
+
+    /// Takes `%` and the letter behind it.
+    #[inline(always)]
+    pub fn letter(&mut self) -> Option<u8>
+        ensures { IfSome result (λ x. self.old ≡ 37 ∷ x ∷ self.new) }
+    {
+        match self.left {
+            [b'%', letter, rest @ ..] => {
+                self.left = rest;
+                Some(*letter)
+            }
+            _ => None,
+        }
+    }
+
+    /// Takes a space, `%` and the letter behind it.
+    #[inline(always)]
+    pub fn spaced_letter(&mut self) -> Option<u8>
+        ensures { IfSome result (λ x. self.old ≡ 32 ∷ 37 ∷ x ∷ self.new) }
+    {
+        match self.left {
+            [b' ', b'%', letter, rest @ ..] => {
+                self.left = rest;
+                Some(*letter)
+            }
+            _ => None,
         }
     }
 
