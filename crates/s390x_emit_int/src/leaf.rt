@@ -35,7 +35,9 @@ use crate::table::emit_table;
 use s390x_address::MemoryInst;
 use s390x_base::{Code, Cond, EmitError, MachLabel, Reg, TrapCode, gpr};
 use s390x_buffer::{LabelUse, MachBuffer};
-use s390x_emit_rows::{find_memory, find_single_instruction, memory_of_load, memory_of_store, stop_code, three_row};
+use s390x_emit_rows::{
+    find_memory, find_single_instruction, memory_of_load, memory_of_store, stop_code, three_row,
+};
 use s390x_enc::{enc_e, enc_ril_b, enc_ril_c, enc_rr};
 use s390x_inst::{EmitState, Inst, IsaFlags, MemArg};
 use s390x_rows::opcodes;
