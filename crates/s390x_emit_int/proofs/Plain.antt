@@ -1,5 +1,5 @@
 -- The causes of an instruction that needs no facility, draws no label, and isn't one machine instruction.
-use Rattle.std.proofs.Common.{◌≡◌, ℕ, ◌+◌, ◌≤◌, true, false, is_some, None, refl, ap, ◌∙◌, arith, nat_lt, lt-ltb}
+use Rattle.std.proofs.Common.{◌≡◌, ℕ, ◌+◌, ◌≤◌, true, false, is_some, Some, None, refl, sym, ap, ◌∙◌, arith, nat_lt, lt-ltb}
 use Rattle.s390x_base.specs.declared.error.EmitError.TheVariants.{MissingFacility, LabelOutOfRange}
 use Rattle.s390x_base.specs.declared.regs.Reg.{Reg}
 use Rattle.s390x_inst.proofs.Loads.{each_instruction}
@@ -12,12 +12,13 @@ use Rattle.s390x_inst.specs.declared.inst.Inst.{Inst}
 use Rattle.s390x_inst.specs.declared.inst.Inst.TheVariants.{AllocateArgs}
 use Rattle.s390x_inst.specs.declared.load.LoadOp.{LoadOp}
 use Rattle.s390x_inst.specs.declared.load.LoadOp.TheVariants.{Load64}
+use Rattle.s390x_inst.specs.declared.store.Store.{Store}
 use Rattle.s390x_inst.specs.declared.store.StoreOp.{StoreOp}
 use Rattle.s390x_inst.specs.declared.store.StoreOp.TheVariants.{Store64}
-use Rattle.s390x_inst.specs.Stores.{as_store, store_instruction}
+use Rattle.s390x_inst.specs.Stores.{as_store, store_instruction, by_store}
 use Rattle.s390x_inst.specs.declared.state.IsaFlags.{IsaFlags}
 use Rattle.s390x_typed_steps.specs.Causes.{Declared, unless, facility_cause, stack_cause, numbers_cause, instruction_fresh_labels, cause_or, memory_cause_or, branch_cause, leaf_cause}
-use Rattle.s390x_typed_steps.specs.Memory.{memory}
+use Rattle.s390x_typed_steps.specs.Memory.{memory, store_memory}
 use Rattle.s390x_typed_steps.specs.Resolved.{resolved_instruction}
 use Rattle.s390x_typed_steps.specs.SingleInstruction.{single_instruction}
 use Rattle.s390x_emit_int.specs.Plain.{IsPlain, IsRegister}
@@ -40,6 +41,14 @@ plain_store op rd mem = (refl, refl, refl)
 
 pub store_is_plain : (i : Inst) → is_some (as_store i) ≡ true → IsPlain i
 store_is_plain = each_store (λ i. is_some (as_store i) ≡ true → IsPlain i) (λ op rd mem h. plain_store op rd mem) (λ i e h. let none : is_some (as_store i) ≡ false = ap is_some e in absurd (cc))
+
+-- a store's rows are its instruction's: the last clause is a copy for each other store
+store_found : (op : StoreOp) (rd : Reg) (mem : MemArg) (s : Store) → as_store (store_instruction op rd mem) ≡ Some s → store_memory s ≡ memory (store_instruction op rd mem)
+store_found Store64 rd mem s e = ap (by_store store_memory None) (sym e)
+store_found op rd mem s e = ap (by_store store_memory None) (sym e)
+
+pub memory_of_stored : (i : Inst) (s : Store) → as_store i ≡ Some s → store_memory s ≡ memory i
+memory_of_stored = each_store (λ i. (s : Store) → as_store i ≡ Some s → store_memory s ≡ memory i) store_found (λ i none s e. absurd (cc))
 
 -- no label is drawn where all of them have numbers
 pub numbers_none : (n : ℕ) → n ≤ 4294967296 → numbers_cause n 0 ≡ None

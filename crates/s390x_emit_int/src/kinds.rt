@@ -4,7 +4,7 @@ ghost use Rattle.s390x_inst.specs.Facilities.{alu_facility};
 ghost use Rattle.s390x_inst.specs.declared.facility.InstructionSet.TheVariants.{Base};
 ghost use Rattle.s390x_typed_steps.specs.Memory.{memory};
 ghost use Rattle.s390x_emit_int.specs.Plain.{IsPlain, IsRegister};
-ghost use Rattle.s390x_emit_int.specs.declared.kinds.Kind.TheVariants.{Load, Access, Branch, Register};
+ghost use Rattle.s390x_emit_int.specs.declared.kinds.Kind.TheVariants.{Load, Store, Access, Branch, Register};
 
 use s390x_inst::{ALUOp, Inst};
 
@@ -13,7 +13,9 @@ use s390x_inst::{ALUOp, Inst};
 pub enum Kind {
     /// A load into a general register.
     Load,
-    /// A store of a general register or of an immediate, or the load of an address.
+    /// A store of a general register.
+    Store,
+    /// A store of an immediate, or the load of an address.
     Access,
     /// A branch to labels or to the address in a register.
     Branch,
@@ -63,6 +65,7 @@ fn is_store(inst: &Inst) -> bool
 #[inline(always)]
 pub fn kind_of(inst: &Inst) -> Kind
     ensures load { result ≡ Load → IsPlain inst.now }
+    ensures store { result ≡ Store → IsPlain inst.now }
     ensures access { result ≡ Access → IsPlain inst.now }
     ensures branch { result ≡ Branch → IsPlain inst.now × (None ≡ memory inst.now) }
     ensures register { result ≡ Register → IsRegister inst.now }
@@ -98,7 +101,7 @@ pub fn kind_of(inst: &Inst) -> Kind
             if is_load(inst) {
                 Kind::Load
             } else if is_store(inst) {
-                Kind::Access
+                Kind::Store
             } else {
                 Kind::Other
             }

@@ -35,7 +35,9 @@ use crate::table::emit_table;
 use s390x_address::MemoryInst;
 use s390x_base::{Code, Cond, EmitError, MachLabel, Reg, TrapCode, gpr};
 use s390x_buffer::{LabelUse, MachBuffer};
-use s390x_emit_rows::{find_memory, find_single_instruction, memory_of_load, stop_code, three_row};
+use s390x_emit_rows::{
+    find_memory, find_single_instruction, memory_of_load, memory_of_store, stop_code, three_row,
+};
 use s390x_enc::{enc_e, enc_ril_b, enc_ril_c, enc_rr};
 use s390x_inst::{EmitState, Inst, IsaFlags, MemArg};
 use s390x_rows::opcodes;
@@ -468,6 +470,37 @@ fn emit_load(
     }
 }
 
+// The same, with a store of a general register asked first.
+fn emit_store(
+    sink: &mut MachBuffer,
+    state: &EmitState,
+    depth: u32,
+    inst: &Inst,
+    after: MachLabel,
+) -> Result<(), EmitError>
+    requires single_instruction { None ≡ single_instruction inst.now }
+    requires room { HasRoom sink.old }
+    ensures answer { OnOk result
+        ((memory_cause_or (declared_in sink.old) (memory (resolved_instruction state.now inst.now))
+        (branch_cause sink.old.block_count depth inst.now) ≡ None)
+        × (sink.new
+        ≡ apply_all sink.old
+        (leaf_fragments (length sink.old.labels) after.0
+        (resolved_instruction state.now inst.now)))) }
+    ensures lacks { (flags : IsaFlags)
+        → MembersPassed sink.old after.0 depth
+        (instruction_size (resolved_instruction state.now inst.now))
+        (leaf_cause flags (declared_in sink.old) (length sink.old.labels) state.now.nominal
+        depth (resolved_instruction state.now inst.now)) → LacksMemory result }
+    ensures range { OnOk result (InRange (resolved_instruction state.now inst.now)) }
+    ensures kept { Extends sink.old sink.new }
+{
+    match inst.as_store() {
+        Some(store) => emit_access(sink, state, &memory_of_store(&store)),
+        None => emit_other(sink, state, depth, inst, after),
+    }
+}
+
 // An instruction whose facility is there, and which the stack sizes and the labels allow, where no cause of its own refuses it.
 #[tactic(auto, using(s390x_buffer::proofs::Extending::extends_on, s390x_buffer::proofs::Extending::extends_same, crate::proofs::Single::no_single))]
 fn emit_allowed(
@@ -580,6 +613,7 @@ pub fn emit_leaf(
     count_labels(sink);
     match kind_of(inst) {
         Kind::Load => emit_load(sink, state, depth, inst, after),
+        Kind::Store => emit_store(sink, state, depth, inst, after),
         Kind::Access => emit_other(sink, state, depth, inst, after),
         Kind::Branch => emit_place(sink, depth, inst, after),
         Kind::Register => emit_register(sink, depth, inst, after),

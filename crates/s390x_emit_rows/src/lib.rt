@@ -13,6 +13,6 @@ mod single_instruction;
 mod stops;
 
 pub use arithmetic::three_row;
-pub use memory::{find_memory, memory_of_load};
+pub use memory::{find_memory, memory_of_load, memory_of_store};
 pub use single_instruction::find_single_instruction;
 pub use stops::stop_code;

@@ -63,9 +63,9 @@ pub fn memory_of_load(load: &Load) -> MemoryInst
     )
 }
 
-// The machine rows and the operand of a store of a register.
+/// The machine rows and the operand of a store of a register.
 #[inline(always)]
-fn memory_of_store(store: &Store) -> MemoryInst
+pub fn memory_of_store(store: &Store) -> MemoryInst
     ensures row { Some (memory_instruction_of result) ≡ store_memory store.now }
     ensures encodes { may_encode result ≡ true }
 {

@@ -19,6 +19,15 @@ returns-in-Load-clause-answer c =
 pub returns-in-Load-clause-lacks : goal.returns-in-Load-clause-lacks
 returns-in-Load-clause-lacks c = c.emit_load.ensures.lacks c.args.flags
 
+pub returns-in-Store-clause-answer : goal.returns-in-Store-clause-answer
+returns-in-Store-clause-answer c =
+    let s = c.args.sink.now in
+    let plain = c.kind_of.ensures.store c.in-Store.is in
+    on_ok c.emit_store.result c.emit_store.ensures.answer (λ h. (leaf_plain c.args.flags c.args.state.now (declared_in s) (length s.labels) c.args.state.now.nominal c.args.depth c.args.inst.now plain c.count_labels.ensures h.0, h.1))
+
+pub returns-in-Store-clause-lacks : goal.returns-in-Store-clause-lacks
+returns-in-Store-clause-lacks c = c.emit_store.ensures.lacks c.args.flags
+
 pub returns-in-Access-clause-answer : goal.returns-in-Access-clause-answer
 returns-in-Access-clause-answer c =
     let s = c.args.sink.now in
