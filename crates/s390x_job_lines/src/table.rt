@@ -1,4 +1,5 @@
-//! The tables of instructions' lines, from which their printers and their readers are written: a line for each tells its fields in order, each with the call that reads it.
+//! The tables of instructions' lines, from which their names' texts, their printers and their readers are written: a line for each tells its fields in order, each with the call that reads it.
+//! The names of a group are declared in the same order.
 
 /// Instructions on general registers alone.
 macro_rules! integer_table {
@@ -138,6 +139,13 @@ macro_rules! vector_table {
     };
 }
 
+/// Each name of a group with its text.
+macro_rules! named {
+    (($names:ident) $($n:ident { $($f:ident : $m:ident),* })*) => {
+        &[$(($names::$n, stringify!($n))),*]
+    };
+}
+
 /// The instruction of a name, of which each field is read.
 macro_rules! read_rows {
     (($names:ident, $inst:ident, $name:expr, $c:expr) $($n:ident { $($f:ident : $m:ident),* })*) => {
@@ -215,6 +223,7 @@ pub(crate) use and_memory;
 pub(crate) use control_table;
 pub(crate) use integer_table;
 pub(crate) use memory_table;
+pub(crate) use named;
 pub(crate) use put_fields;
 pub(crate) use put_rows;
 pub(crate) use put_vector_rows;
