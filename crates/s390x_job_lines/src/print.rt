@@ -42,7 +42,7 @@ pub fn put_inst(alloc: Global, out: &mut String, i: &Inst) -> Result<(), AllocEr
         Inst::Nop2 => line0(out, Control(ControlName::Nop2)),
         Inst::Debugtrap => line0(out, Control(ControlName::Debugtrap)),
         Inst::IndirectBr { rn, targets } => line2(alloc, out, Control(ControlName::IndirectBr), rn, targets),
-        Inst::JTSequence { ridx, default, default_cond, targets } => line4(alloc, out, Control(ControlName::JTSequence), ridx, default, default_cond, targets),
+        Inst::JTSequence { ridx, default, default_cond, targets } => line4(alloc, out, Control(ControlName::JTSequence), (ridx, default, default_cond, targets)),
         Inst::Loop { cond, .. } => line1(alloc, out, LineName::Loop, cond),
         Inst::Call { link, info } => put_call(alloc, out, link, info),
         Inst::ReturnCall { info } => put_return_call(alloc, out, info),

@@ -212,10 +212,10 @@ macro_rules! put_fields {
     ($alloc:expr, $out:expr, $name:expr, $a:ident) => { line1($alloc, $out, $name, $a) };
     ($alloc:expr, $out:expr, $name:expr, $a:ident, $b:ident) => { line2($alloc, $out, $name, $a, $b) };
     ($alloc:expr, $out:expr, $name:expr, $a:ident, $b:ident, $c:ident) => { line3($alloc, $out, $name, $a, $b, $c) };
-    ($alloc:expr, $out:expr, $name:expr, $a:ident, $b:ident, $c:ident, $d:ident) => { line4($alloc, $out, $name, $a, $b, $c, $d) };
-    ($alloc:expr, $out:expr, $name:expr, $a:ident, $b:ident, $c:ident, $d:ident, $e:ident) => { line5($alloc, $out, $name, $a, $b, $c, $d, $e) };
-    ($alloc:expr, $out:expr, $name:expr, $a:ident, $b:ident, $c:ident, $d:ident, $e:ident, $f:ident) => { line6($alloc, $out, $name, $a, $b, $c, $d, $e, $f) };
-    ($alloc:expr, $out:expr, $name:expr, $a:ident, $b:ident, $c:ident, $d:ident, $e:ident, $f:ident, $g:ident) => { line7($alloc, $out, $name, $a, $b, $c, $d, $e, $f, $g) };
+    ($alloc:expr, $out:expr, $name:expr, $a:ident, $b:ident, $c:ident, $d:ident) => { line4($alloc, $out, $name, ($a, $b, $c, $d)) };
+    ($alloc:expr, $out:expr, $name:expr, $a:ident, $b:ident, $c:ident, $d:ident, $e:ident) => { line5($alloc, $out, $name, ($a, $b, $c, $d, $e)) };
+    ($alloc:expr, $out:expr, $name:expr, $a:ident, $b:ident, $c:ident, $d:ident, $e:ident, $f:ident) => { line6($alloc, $out, $name, ($a, $b, $c, $d, $e, $f)) };
+    ($alloc:expr, $out:expr, $name:expr, $a:ident, $b:ident, $c:ident, $d:ident, $e:ident, $f:ident, $g:ident) => { line7($alloc, $out, $name, ($a, $b, $c, $d, $e, $f, $g)) };
 }
 
 pub(crate) use and_control;
