@@ -13,14 +13,9 @@ use Rattle.s390x_inst.specs.declared.store.StoreOp.TheVariants as StoreOps
 use Rattle.s390x_inst.specs.Stores.{store_instruction}
 use Rattle.s390x_inst.proofs.Transfers.{Transfer, LoadOf, StoreOf, as_transfer, by_transfer}
 use Rattle.s390x_inst.specs.declared.inst.Inst.{Inst}
-use Rattle.s390x_inst.specs.declared.inst.Inst.TheVariants.{Loop', CondBreak, Call, ReturnCall}
-use Rattle.s390x_inst.specs.declared.inst.Inst.TheVariants.{AluRRR, AluRR, UnaryRR, CmpRR, Mov64, MovPReg, Mov32, AluRRSImm16, AluRSImm16, AluRSImm32, AluRUImm32, CmpRSImm16, CmpRSImm32, CmpRUImm32, Mov32Imm, Mov32SImm16, Mov64SImm16, Mov64SImm32, AluRUImm16Shifted, AluRUImm32Shifted, Mov64UImm16Shifted, Mov64UImm32Shifted, Insert64UImm16Shifted, Insert64UImm32Shifted, Extend, LoadAR, InsertAR, ShiftRR}
-use Rattle.s390x_inst.specs.declared.inst.Inst.TheVariants.{RxSBG, RxSBGTest, SMulWide, UMulWide, Flogr, SDivMod32, SDivMod64, UDivMod32, UDivMod64, CmpTrapRR, CmpTrapRSImm16, CmpTrapRUImm16, CMov32, CMov64, CMov32SImm16, CMov64SImm16, LoadIndexedAddr, LoadLogicalIndexedAddr, AllocateArgs, Fence, Nop2, LabelAddress, LoadSymbolReloc, AluRX, CmpRX}
-use Rattle.s390x_inst.specs.declared.inst.Inst.TheVariants.{LoadAddr, StoreImm8, StoreImm16, StoreImm32SExt16, StoreImm64SExt16, LoadMultiple64, StoreMultiple64, AtomicRmw, AtomicCas32}
-use Rattle.s390x_inst.specs.declared.inst.Inst.TheVariants.{AtomicCas64, Jump, CondBr, IndirectBr, Ret, JTSequence, Nop0, Args, Rets, DummyUse, SequencePoint, Trap, TrapIf, Debugtrap, Vector}
+use Rattle.s390x_inst.specs.declared.inst.Inst.TheVariants as I
 use Rattle.s390x_inst.specs.declared.vec_inst.VecInst.{VecInst}
-use Rattle.s390x_inst.specs.declared.vec_inst.VecInst.TheVariants.{VecRRR, VecRR, VecSelect, VecPermute, VecBlend, VecIntCmp, VecIntCmpS, VecIntEltCmp, VecMov, VecShiftRR, VecEvaluate, VecPermuteDWImm, MovToVec128, VecImmByteMask, VecImmReplicate, VecImmBitMask, VecReplicateLane, VecInsertLaneImm, VecInsertLaneImmUndef, VecInsertLane, VecInsertLaneUndef, VecExtractLane, FpuMove32, FpuMove64, VecEltRev, FpuCMov32, FpuCMov64, VecCMov}
-use Rattle.s390x_inst.specs.declared.vec_inst.VecInst.TheVariants.{VecInt128SCmpHi, VecInt128UCmpHi, VecLoadReplicate, VecLoadReplicateRev, VecLoadLane, VecLoadLaneRev, VecLoadLaneUndef, VecLoadLaneRevUndef, VecStoreLane, VecStoreLaneRev}
+use Rattle.s390x_inst.specs.declared.vec_inst.VecInst.TheVariants as V
 use Rattle.s390x_rows.specs.declared.opcodes.TheConstants as opcodes
 use Rattle.s390x_typed_steps.proofs.RelativeRows.{alu_none, locked_none, vector_none}
 use Rattle.s390x_typed_steps.specs.Memory.{load_rows, store_rows, without_relative, StorageForm, RxForm, MemoryInstruction, loaded_memory, operate, load_and_operate, access_vector, access_elements, access_lane, reversed_code, load_lane_opcode, store_lane_opcode, load_reversed_opcode, store_reversed_opcode, is_left_lane, load_left, store_left}
@@ -92,130 +87,130 @@ refused L o e valid = subst (λ m. ValidMemoryOr L m ⊥) e valid
 -- ---- all of them
 
 -- the last clause is a copy for each load and store of a whole register
-told_vector : (L : Layout) (v : VecInst) → IsValidInstruction L (Vector v) → instruction_kind L (Vector v) ≡ Unsupported → ⊥
-told_vector L (VecRRR op rd rn rm) valid e = absurd (cc)
-told_vector L (VecRR op rd rn) valid e = absurd (cc)
-told_vector L (VecSelect rd rn rm ra) valid e = absurd (cc)
-told_vector L (VecPermute rd rn rm ra) valid e = absurd (cc)
-told_vector L (VecBlend rd rn rm ra) valid e = absurd (cc)
-told_vector L (VecIntCmp op rd rn rm) valid e = absurd (cc)
-told_vector L (VecIntCmpS op rd rn rm) valid e = absurd (cc)
-told_vector L (VecIntEltCmp op rn rm) valid e = absurd (cc)
-told_vector L (VecMov rd rn) valid e = absurd (cc)
-told_vector L (VecShiftRR op rd rn amount register) valid e = absurd (cc)
-told_vector L (VecEvaluate imm rd rn rm ra) valid e = absurd (cc)
-told_vector L (VecPermuteDWImm rd rn rm first second) valid e = absurd (cc)
-told_vector L (MovToVec128 rd rn rm) valid e = absurd (cc)
-told_vector L (VecImmByteMask rd mask) valid e = absurd (cc)
-told_vector L (VecImmReplicate size rd imm) valid e = absurd (cc)
-told_vector L (VecImmBitMask size rd start end) valid e = absurd (cc)
-told_vector L (VecReplicateLane size rd rn lane) valid e = absurd (cc)
-told_vector L (VecInsertLaneImm size rd ri imm lane) valid e = absurd (cc)
-told_vector L (VecInsertLaneImmUndef size rd imm lane) valid e = absurd (cc)
-told_vector L (VecInsertLane size rd ri rn lane base) valid e = absurd (cc)
-told_vector L (VecInsertLaneUndef size rd rn lane base) valid e = absurd (cc)
-told_vector L (VecExtractLane size rd rn lane base) valid e = absurd (cc)
-told_vector L (FpuMove32 rd rn) valid e = absurd (cc)
-told_vector L (FpuMove64 rd rn) valid e = absurd (cc)
-told_vector L (VecEltRev count rd rn) valid e = absurd (cc)
-told_vector L (FpuCMov32 rd mask ri rm) valid e = absurd (cc)
-told_vector L (FpuCMov64 rd mask ri rm) valid e = absurd (cc)
-told_vector L (VecCMov rd mask ri rm) valid e = absurd (cc)
-told_vector L (VecInt128SCmpHi tmp rn rm) valid e = absurd (cc)
-told_vector L (VecInt128UCmpHi tmp rn rm) valid e = absurd (cc)
-told_vector L (VecLoadReplicate size rd mem) valid e = access_told L (Vector (VecLoadReplicate size rd mem)) _ refl refl refl (elements L opcodes.VLREP rd (element_code size) mem valid) e
-told_vector L (VecLoadReplicateRev size rd mem) valid e = access_told L (Vector (VecLoadReplicateRev size rd mem)) _ refl refl refl (elements L opcodes.VLBRREP rd (reversed_code size) mem valid) e
-told_vector L (VecLoadLane size rd ri mem lane) valid e = access_told L (Vector (VecLoadLane size rd ri mem lane)) _ refl refl refl (one_lane L (reuses_vector rd ri) load_lane_opcode (number_of rd) (element_code size) size lane mem valid) e
-told_vector L (VecLoadLaneRev size rd ri mem lane) valid e = access_told L (Vector (VecLoadLaneRev size rd ri mem lane)) _ refl refl refl (one_lane L (reuses_vector rd ri) load_reversed_opcode (number_of rd) (reversed_code size) size lane mem valid) e
-told_vector L (VecLoadLaneUndef size rd mem lane) valid e = access_told L (Vector (VecLoadLaneUndef size rd mem lane)) _ refl refl refl (left_lane L (is_left_lane size lane (number_of rd)) (is_vector rd) (load_left size (number_of rd)) load_lane_opcode (number_of rd) (element_code size) size lane mem valid) e
-told_vector L (VecLoadLaneRevUndef size rd mem lane) valid e = access_told L (Vector (VecLoadLaneRevUndef size rd mem lane)) _ refl refl refl (one_lane L (is_vector rd) load_reversed_opcode (number_of rd) (reversed_code size) size lane mem valid) e
-told_vector L (VecStoreLane size rd mem lane) valid e = access_told L (Vector (VecStoreLane size rd mem lane)) _ refl refl refl (left_lane L (is_left_lane size lane (number_of rd)) (is_vector rd) (store_left size (number_of rd)) store_lane_opcode (number_of rd) (element_code size) size lane mem valid) e
-told_vector L (VecStoreLaneRev size rd mem lane) valid e = access_told L (Vector (VecStoreLaneRev size rd mem lane)) _ refl refl refl (one_lane L (is_vector rd) store_reversed_opcode (number_of rd) (reversed_code size) size lane mem valid) e
-told_vector L v valid e = access_told L (Vector v) _ refl refl refl valid.range e
+told_vector : (L : Layout) (v : VecInst) → IsValidInstruction L (I.Vector v) → instruction_kind L (I.Vector v) ≡ Unsupported → ⊥
+told_vector L (V.VecRRR op rd rn rm) valid e = absurd (cc)
+told_vector L (V.VecRR op rd rn) valid e = absurd (cc)
+told_vector L (V.VecSelect rd rn rm ra) valid e = absurd (cc)
+told_vector L (V.VecPermute rd rn rm ra) valid e = absurd (cc)
+told_vector L (V.VecBlend rd rn rm ra) valid e = absurd (cc)
+told_vector L (V.VecIntCmp op rd rn rm) valid e = absurd (cc)
+told_vector L (V.VecIntCmpS op rd rn rm) valid e = absurd (cc)
+told_vector L (V.VecIntEltCmp op rn rm) valid e = absurd (cc)
+told_vector L (V.VecMov rd rn) valid e = absurd (cc)
+told_vector L (V.VecShiftRR op rd rn amount register) valid e = absurd (cc)
+told_vector L (V.VecEvaluate imm rd rn rm ra) valid e = absurd (cc)
+told_vector L (V.VecPermuteDWImm rd rn rm first second) valid e = absurd (cc)
+told_vector L (V.MovToVec128 rd rn rm) valid e = absurd (cc)
+told_vector L (V.VecImmByteMask rd mask) valid e = absurd (cc)
+told_vector L (V.VecImmReplicate size rd imm) valid e = absurd (cc)
+told_vector L (V.VecImmBitMask size rd start end) valid e = absurd (cc)
+told_vector L (V.VecReplicateLane size rd rn lane) valid e = absurd (cc)
+told_vector L (V.VecInsertLaneImm size rd ri imm lane) valid e = absurd (cc)
+told_vector L (V.VecInsertLaneImmUndef size rd imm lane) valid e = absurd (cc)
+told_vector L (V.VecInsertLane size rd ri rn lane base) valid e = absurd (cc)
+told_vector L (V.VecInsertLaneUndef size rd rn lane base) valid e = absurd (cc)
+told_vector L (V.VecExtractLane size rd rn lane base) valid e = absurd (cc)
+told_vector L (V.FpuMove32 rd rn) valid e = absurd (cc)
+told_vector L (V.FpuMove64 rd rn) valid e = absurd (cc)
+told_vector L (V.VecEltRev count rd rn) valid e = absurd (cc)
+told_vector L (V.FpuCMov32 rd mask ri rm) valid e = absurd (cc)
+told_vector L (V.FpuCMov64 rd mask ri rm) valid e = absurd (cc)
+told_vector L (V.VecCMov rd mask ri rm) valid e = absurd (cc)
+told_vector L (V.VecInt128SCmpHi tmp rn rm) valid e = absurd (cc)
+told_vector L (V.VecInt128UCmpHi tmp rn rm) valid e = absurd (cc)
+told_vector L (V.VecLoadReplicate size rd mem) valid e = access_told L (I.Vector (V.VecLoadReplicate size rd mem)) _ refl refl refl (elements L opcodes.VLREP rd (element_code size) mem valid) e
+told_vector L (V.VecLoadReplicateRev size rd mem) valid e = access_told L (I.Vector (V.VecLoadReplicateRev size rd mem)) _ refl refl refl (elements L opcodes.VLBRREP rd (reversed_code size) mem valid) e
+told_vector L (V.VecLoadLane size rd ri mem lane) valid e = access_told L (I.Vector (V.VecLoadLane size rd ri mem lane)) _ refl refl refl (one_lane L (reuses_vector rd ri) load_lane_opcode (number_of rd) (element_code size) size lane mem valid) e
+told_vector L (V.VecLoadLaneRev size rd ri mem lane) valid e = access_told L (I.Vector (V.VecLoadLaneRev size rd ri mem lane)) _ refl refl refl (one_lane L (reuses_vector rd ri) load_reversed_opcode (number_of rd) (reversed_code size) size lane mem valid) e
+told_vector L (V.VecLoadLaneUndef size rd mem lane) valid e = access_told L (I.Vector (V.VecLoadLaneUndef size rd mem lane)) _ refl refl refl (left_lane L (is_left_lane size lane (number_of rd)) (is_vector rd) (load_left size (number_of rd)) load_lane_opcode (number_of rd) (element_code size) size lane mem valid) e
+told_vector L (V.VecLoadLaneRevUndef size rd mem lane) valid e = access_told L (I.Vector (V.VecLoadLaneRevUndef size rd mem lane)) _ refl refl refl (one_lane L (is_vector rd) load_reversed_opcode (number_of rd) (reversed_code size) size lane mem valid) e
+told_vector L (V.VecStoreLane size rd mem lane) valid e = access_told L (I.Vector (V.VecStoreLane size rd mem lane)) _ refl refl refl (left_lane L (is_left_lane size lane (number_of rd)) (is_vector rd) (store_left size (number_of rd)) store_lane_opcode (number_of rd) (element_code size) size lane mem valid) e
+told_vector L (V.VecStoreLaneRev size rd mem lane) valid e = access_told L (I.Vector (V.VecStoreLaneRev size rd mem lane)) _ refl refl refl (one_lane L (is_vector rd) store_reversed_opcode (number_of rd) (reversed_code size) size lane mem valid) e
+told_vector L v valid e = access_told L (I.Vector v) _ refl refl refl valid.range e
 
 -- the last clause is a copy for each load and store of one register
 told_instruction : (L : Layout) (i : Inst) → IsValidInstruction L i → instruction_kind L i ≡ Unsupported → ⊥
-told_instruction L (AluRRR op rd rn rm) valid e = absurd (cc)
-told_instruction L (AluRR op rd ri rm) valid e = absurd (cc)
-told_instruction L (UnaryRR op rd rn) valid e = absurd (cc)
-told_instruction L (CmpRR op rn rm) valid e = absurd (cc)
-told_instruction L (Mov64 rd rm) valid e = absurd (cc)
-told_instruction L (MovPReg rd rm) valid e = absurd (cc)
-told_instruction L (Mov32 rd rm) valid e = absurd (cc)
-told_instruction L (AluRRSImm16 op rd rn imm) valid e = absurd (cc)
-told_instruction L (AluRSImm16 op rd ri imm) valid e = absurd (cc)
-told_instruction L (AluRSImm32 op rd ri imm) valid e = absurd (cc)
-told_instruction L (AluRUImm32 op rd ri imm) valid e = absurd (cc)
-told_instruction L (CmpRSImm16 op rn imm) valid e = absurd (cc)
-told_instruction L (CmpRSImm32 op rn imm) valid e = absurd (cc)
-told_instruction L (CmpRUImm32 op rn imm) valid e = absurd (cc)
-told_instruction L (Mov32Imm rd imm) valid e = absurd (cc)
-told_instruction L (Mov32SImm16 rd imm) valid e = absurd (cc)
-told_instruction L (Mov64SImm16 rd imm) valid e = absurd (cc)
-told_instruction L (Mov64SImm32 rd imm) valid e = absurd (cc)
-told_instruction L (AluRUImm16Shifted op rd ri imm) valid e = absurd (cc)
-told_instruction L (AluRUImm32Shifted op rd ri imm) valid e = absurd (cc)
-told_instruction L (Mov64UImm16Shifted rd imm) valid e = absurd (cc)
-told_instruction L (Mov64UImm32Shifted rd imm) valid e = absurd (cc)
-told_instruction L (Insert64UImm16Shifted rd ri imm) valid e = absurd (cc)
-told_instruction L (Insert64UImm32Shifted rd ri imm) valid e = absurd (cc)
-told_instruction L (Extend rd rn signed from to) valid e = absurd (cc)
-told_instruction L (LoadAR rd ar) valid e = absurd (cc)
-told_instruction L (InsertAR rd ri ar) valid e = absurd (cc)
-told_instruction L (ShiftRR op rd rn amount register) valid e = absurd (cc)
-told_instruction L (RxSBG op rd ri rn first last amount) valid e = absurd (cc)
-told_instruction L (RxSBGTest op rd rn first last amount) valid e = absurd (cc)
-told_instruction L (SMulWide rd rn rm) valid e = absurd (cc)
-told_instruction L (UMulWide rd ri rn) valid e = absurd (cc)
-told_instruction L (Flogr rd rn) valid e = absurd (cc)
-told_instruction L (SDivMod32 rd ri rn) valid e = absurd (cc)
-told_instruction L (SDivMod64 rd ri rn) valid e = absurd (cc)
-told_instruction L (UDivMod32 rd ri rn) valid e = absurd (cc)
-told_instruction L (UDivMod64 rd ri rn) valid e = absurd (cc)
-told_instruction L (CmpTrapRR op rn rm mask code) valid e = absurd (cc)
-told_instruction L (CmpTrapRSImm16 op rn imm mask code) valid e = absurd (cc)
-told_instruction L (CmpTrapRUImm16 op rn imm mask code) valid e = absurd (cc)
-told_instruction L (CMov32 rd mask ri rm) valid e = absurd (cc)
-told_instruction L (CMov64 rd mask ri rm) valid e = absurd (cc)
-told_instruction L (CMov32SImm16 rd mask ri imm) valid e = absurd (cc)
-told_instruction L (CMov64SImm16 rd mask ri imm) valid e = absurd (cc)
-told_instruction L (LoadIndexedAddr rd base index offset size) valid e = absurd (cc)
-told_instruction L (LoadLogicalIndexedAddr rd base index offset size) valid e = absurd (cc)
-told_instruction L (AllocateArgs size) valid e = absurd (cc)
-told_instruction L Fence valid e = absurd (cc)
-told_instruction L Nop2 valid e = absurd (cc)
-told_instruction L (LabelAddress dst label) valid e = absurd (cc)
-told_instruction L (LoadSymbolReloc rd reloc) valid e = absurd (cc)
-told_instruction L (AluRX op rd ri mem) valid e = access_told L (AluRX op rd ri mem) _ refl refl refl (operated L (is_some (alu_rx op) || is_some (alu_rxy op)) (alu_rx op) (alu_rxy op) rd ri mem valid) e
-told_instruction L (CmpRX op rn mem) valid e = access_told L (CmpRX op rn mem) _ refl refl refl valid.range e
-told_instruction L (LoadAddr rd mem) valid e = access_told L (LoadAddr rd mem) _ refl refl refl valid.range e
-told_instruction L (StoreImm8 imm mem) valid e = access_told L (StoreImm8 imm mem) _ refl refl refl valid.range e
-told_instruction L (StoreImm16 imm mem) valid e = access_told L (StoreImm16 imm mem) _ refl refl refl valid.range e
-told_instruction L (StoreImm32SExt16 imm mem) valid e = access_told L (StoreImm32SExt16 imm mem) _ refl refl refl valid.range e
-told_instruction L (StoreImm64SExt16 imm mem) valid e = access_told L (StoreImm64SExt16 imm mem) _ refl refl refl valid.range e
-told_instruction L (LoadMultiple64 rt rt2 mem) valid e = access_told L (LoadMultiple64 rt rt2 mem) _ refl refl refl valid.range e
-told_instruction L (StoreMultiple64 rt rt2 mem) valid e = access_told L (StoreMultiple64 rt rt2 mem) _ refl refl refl valid.range e
-told_instruction L (AtomicRmw op rd rn mem) valid e = access_told L (AtomicRmw op rd rn mem) _ refl refl refl (locked L (atomic_rsy op) rd rn mem valid) e
-told_instruction L (AtomicCas32 rd ri rn mem) valid e = access_told L (AtomicCas32 rd ri rn mem) _ refl refl refl valid.range e
-told_instruction L (AtomicCas64 rd ri rn mem) valid e = access_told L (AtomicCas64 rd ri rn mem) _ refl refl refl valid.range e
-told_instruction L (Jump dest) valid e = absurd (cc)
-told_instruction L (CondBr taken not_taken mask) valid e = absurd (cc)
-told_instruction L (IndirectBr rn targets) valid e = absurd (cc)
-told_instruction L (Ret link) valid e = absurd (cc)
-told_instruction L (JTSequence ridx other mask targets) valid e = absurd (cc)
-told_instruction L Nop0 valid e = absurd (cc)
-told_instruction L (Args args) valid e = absurd (cc)
-told_instruction L (Rets rets) valid e = absurd (cc)
-told_instruction L (DummyUse reg) valid e = absurd (cc)
-told_instruction L SequencePoint valid e = absurd (cc)
-told_instruction L (Trap code) valid e = absurd (cc)
-told_instruction L (TrapIf mask code) valid e = absurd (cc)
-told_instruction L Debugtrap valid e = absurd (cc)
-told_instruction L (Vector v) valid e = told_vector L v valid e
-told_instruction L (Loop' mask body all) valid e = absurd valid
-told_instruction L (CondBreak mask) valid e = absurd valid
-told_instruction L (Call link info) valid e = absurd valid
-told_instruction L (ReturnCall info) valid e = absurd valid
+told_instruction L (I.AluRRR op rd rn rm) valid e = absurd (cc)
+told_instruction L (I.AluRR op rd ri rm) valid e = absurd (cc)
+told_instruction L (I.UnaryRR op rd rn) valid e = absurd (cc)
+told_instruction L (I.CmpRR op rn rm) valid e = absurd (cc)
+told_instruction L (I.Mov64 rd rm) valid e = absurd (cc)
+told_instruction L (I.MovPReg rd rm) valid e = absurd (cc)
+told_instruction L (I.Mov32 rd rm) valid e = absurd (cc)
+told_instruction L (I.AluRRSImm16 op rd rn imm) valid e = absurd (cc)
+told_instruction L (I.AluRSImm16 op rd ri imm) valid e = absurd (cc)
+told_instruction L (I.AluRSImm32 op rd ri imm) valid e = absurd (cc)
+told_instruction L (I.AluRUImm32 op rd ri imm) valid e = absurd (cc)
+told_instruction L (I.CmpRSImm16 op rn imm) valid e = absurd (cc)
+told_instruction L (I.CmpRSImm32 op rn imm) valid e = absurd (cc)
+told_instruction L (I.CmpRUImm32 op rn imm) valid e = absurd (cc)
+told_instruction L (I.Mov32Imm rd imm) valid e = absurd (cc)
+told_instruction L (I.Mov32SImm16 rd imm) valid e = absurd (cc)
+told_instruction L (I.Mov64SImm16 rd imm) valid e = absurd (cc)
+told_instruction L (I.Mov64SImm32 rd imm) valid e = absurd (cc)
+told_instruction L (I.AluRUImm16Shifted op rd ri imm) valid e = absurd (cc)
+told_instruction L (I.AluRUImm32Shifted op rd ri imm) valid e = absurd (cc)
+told_instruction L (I.Mov64UImm16Shifted rd imm) valid e = absurd (cc)
+told_instruction L (I.Mov64UImm32Shifted rd imm) valid e = absurd (cc)
+told_instruction L (I.Insert64UImm16Shifted rd ri imm) valid e = absurd (cc)
+told_instruction L (I.Insert64UImm32Shifted rd ri imm) valid e = absurd (cc)
+told_instruction L (I.Extend rd rn signed from to) valid e = absurd (cc)
+told_instruction L (I.LoadAR rd ar) valid e = absurd (cc)
+told_instruction L (I.InsertAR rd ri ar) valid e = absurd (cc)
+told_instruction L (I.ShiftRR op rd rn amount register) valid e = absurd (cc)
+told_instruction L (I.RxSBG op rd ri rn first last amount) valid e = absurd (cc)
+told_instruction L (I.RxSBGTest op rd rn first last amount) valid e = absurd (cc)
+told_instruction L (I.SMulWide rd rn rm) valid e = absurd (cc)
+told_instruction L (I.UMulWide rd ri rn) valid e = absurd (cc)
+told_instruction L (I.Flogr rd rn) valid e = absurd (cc)
+told_instruction L (I.SDivMod32 rd ri rn) valid e = absurd (cc)
+told_instruction L (I.SDivMod64 rd ri rn) valid e = absurd (cc)
+told_instruction L (I.UDivMod32 rd ri rn) valid e = absurd (cc)
+told_instruction L (I.UDivMod64 rd ri rn) valid e = absurd (cc)
+told_instruction L (I.CmpTrapRR op rn rm mask code) valid e = absurd (cc)
+told_instruction L (I.CmpTrapRSImm16 op rn imm mask code) valid e = absurd (cc)
+told_instruction L (I.CmpTrapRUImm16 op rn imm mask code) valid e = absurd (cc)
+told_instruction L (I.CMov32 rd mask ri rm) valid e = absurd (cc)
+told_instruction L (I.CMov64 rd mask ri rm) valid e = absurd (cc)
+told_instruction L (I.CMov32SImm16 rd mask ri imm) valid e = absurd (cc)
+told_instruction L (I.CMov64SImm16 rd mask ri imm) valid e = absurd (cc)
+told_instruction L (I.LoadIndexedAddr rd base index offset size) valid e = absurd (cc)
+told_instruction L (I.LoadLogicalIndexedAddr rd base index offset size) valid e = absurd (cc)
+told_instruction L (I.AllocateArgs size) valid e = absurd (cc)
+told_instruction L I.Fence valid e = absurd (cc)
+told_instruction L I.Nop2 valid e = absurd (cc)
+told_instruction L (I.LabelAddress dst label) valid e = absurd (cc)
+told_instruction L (I.LoadSymbolReloc rd reloc) valid e = absurd (cc)
+told_instruction L (I.AluRX op rd ri mem) valid e = access_told L (I.AluRX op rd ri mem) _ refl refl refl (operated L (is_some (alu_rx op) || is_some (alu_rxy op)) (alu_rx op) (alu_rxy op) rd ri mem valid) e
+told_instruction L (I.CmpRX op rn mem) valid e = access_told L (I.CmpRX op rn mem) _ refl refl refl valid.range e
+told_instruction L (I.LoadAddr rd mem) valid e = access_told L (I.LoadAddr rd mem) _ refl refl refl valid.range e
+told_instruction L (I.StoreImm8 imm mem) valid e = access_told L (I.StoreImm8 imm mem) _ refl refl refl valid.range e
+told_instruction L (I.StoreImm16 imm mem) valid e = access_told L (I.StoreImm16 imm mem) _ refl refl refl valid.range e
+told_instruction L (I.StoreImm32SExt16 imm mem) valid e = access_told L (I.StoreImm32SExt16 imm mem) _ refl refl refl valid.range e
+told_instruction L (I.StoreImm64SExt16 imm mem) valid e = access_told L (I.StoreImm64SExt16 imm mem) _ refl refl refl valid.range e
+told_instruction L (I.LoadMultiple64 rt rt2 mem) valid e = access_told L (I.LoadMultiple64 rt rt2 mem) _ refl refl refl valid.range e
+told_instruction L (I.StoreMultiple64 rt rt2 mem) valid e = access_told L (I.StoreMultiple64 rt rt2 mem) _ refl refl refl valid.range e
+told_instruction L (I.AtomicRmw op rd rn mem) valid e = access_told L (I.AtomicRmw op rd rn mem) _ refl refl refl (locked L (atomic_rsy op) rd rn mem valid) e
+told_instruction L (I.AtomicCas32 rd ri rn mem) valid e = access_told L (I.AtomicCas32 rd ri rn mem) _ refl refl refl valid.range e
+told_instruction L (I.AtomicCas64 rd ri rn mem) valid e = access_told L (I.AtomicCas64 rd ri rn mem) _ refl refl refl valid.range e
+told_instruction L (I.Jump dest) valid e = absurd (cc)
+told_instruction L (I.CondBr taken not_taken mask) valid e = absurd (cc)
+told_instruction L (I.IndirectBr rn targets) valid e = absurd (cc)
+told_instruction L (I.Ret link) valid e = absurd (cc)
+told_instruction L (I.JTSequence ridx other mask targets) valid e = absurd (cc)
+told_instruction L I.Nop0 valid e = absurd (cc)
+told_instruction L (I.Args args) valid e = absurd (cc)
+told_instruction L (I.Rets rets) valid e = absurd (cc)
+told_instruction L (I.DummyUse reg) valid e = absurd (cc)
+told_instruction L I.SequencePoint valid e = absurd (cc)
+told_instruction L (I.Trap code) valid e = absurd (cc)
+told_instruction L (I.TrapIf mask code) valid e = absurd (cc)
+told_instruction L I.Debugtrap valid e = absurd (cc)
+told_instruction L (I.Vector v) valid e = told_vector L v valid e
+told_instruction L (I.Loop' mask body all) valid e = absurd valid
+told_instruction L (I.CondBreak mask) valid e = absurd valid
+told_instruction L (I.Call link info) valid e = absurd valid
+told_instruction L (I.ReturnCall info) valid e = absurd valid
 told_instruction L i valid e = access_told L i _ refl refl refl valid.range e
 
 row_range : (L : Layout) (register : ℕ) (short long relative : Option ℕ) (general reads : Bool) (mem : MemArg) →
@@ -240,10 +235,10 @@ told_loaded_or L i (Some (LoadOf l)) valid e = told_load_loaded L l.op l.rd l.me
 told_loaded_or L i (Some (StoreOf s)) valid e = told_store_loaded L s.op s.rd s.mem valid e
 
 told_loaded : (L : Layout) (i : Inst) → ValidMemoryOr L (loaded_memory i) ⊥ → loaded_kind L i ≡ Unsupported → ⊥
-told_loaded L (CmpRX op rn mem) valid e = loaded_told L (CmpRX op rn mem) _ refl valid.range e
-told_loaded L (AluRX op rd ri mem) valid e = refused L (loaded_memory (AluRX op rd ri mem)) (alu_none (is_some (alu_rx op) || is_some (alu_rxy op)) (alu_rx op) (alu_rxy op) rd ri mem) valid
-told_loaded L (AtomicRmw op rd rn mem) valid e = refused L (loaded_memory (AtomicRmw op rd rn mem)) (locked_none (atomic_rsy op) rd rn mem) valid
-told_loaded L (Vector v) valid e = refused L (loaded_memory (Vector v)) (vector_none v) valid
+told_loaded L (I.CmpRX op rn mem) valid e = loaded_told L (I.CmpRX op rn mem) _ refl valid.range e
+told_loaded L (I.AluRX op rd ri mem) valid e = refused L (loaded_memory (I.AluRX op rd ri mem)) (alu_none (is_some (alu_rx op) || is_some (alu_rxy op)) (alu_rx op) (alu_rxy op) rd ri mem) valid
+told_loaded L (I.AtomicRmw op rd rn mem) valid e = refused L (loaded_memory (I.AtomicRmw op rd rn mem)) (locked_none (atomic_rsy op) rd rn mem) valid
+told_loaded L (I.Vector v) valid e = refused L (loaded_memory (I.Vector v)) (vector_none v) valid
 told_loaded L i valid e = told_loaded_or L i (as_transfer i) valid e
 
 pub told : (L : Layout) (s : Step) → IsValidStep L s → step_kind L s ≡ Unsupported → ⊥
