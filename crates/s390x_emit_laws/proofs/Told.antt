@@ -28,32 +28,36 @@ use Rattle.s390x_typed_steps.specs.VectorInstruction.{is_vector, is_lane, reuses
 use Rattle.s390x_machine.specs.CodeAt.{IsValidInstruction, IsValidStep, ValidMemoryOr}
 use Rattle.s390x_machine.specs.Layout.{Layout}
 use Rattle.s390x_machine.specs.Storage.{OperandStep, operand_address, operand_step, loaded_step}
-use Rattle.s390x_machine.specs.StepKinds.{Unsupported, performed, performed_at, performed_by, kind_or, branch_kind, instruction_kind, loaded_kind, step_kind}
+use Rattle.s390x_machine.specs.StepKinds.{StepKind, Unsupported, Performed, performed, performed_at, performed_by, kind_or, branch_kind, instruction_kind, loaded_kind, step_kind}
 
 -- ---- operands in memory
 
 -- an operand that isn't one of the frame has an address
-address_told : (L : Layout) (o : OperandStep) (m : MemArg) → OperandInRange m → kind_or (performed_at o (operand_address L m)) Unsupported ≡ Unsupported → ⊥
-address_told L o (BXD12 base index disp flags) range e = absurd (cc)
-address_told L o (BXD20 base index disp flags) range e = absurd (cc)
-address_told L o (Label target) range e = absurd (cc)
-address_told L o (Constant constant) range e = absurd (cc)
-address_told L o (Symbol name offset flags) range e = absurd (cc)
-address_told L o (RegOffset reg off flags) range e = absurd (cc)
-address_told L o (InitialSPOffset off) range e = range
-address_told L o (IncomingArgOffset off) range e = range
-address_told L o (OutgoingArgOffset off) range e = range
-address_told L o (SlotOffset off) range e = range
-address_told L o (SpillOffset off) range e = range
+address_told : (L : Layout) (o : OperandStep) (m : MemArg) (others : StepKind) → OperandInRange m → kind_or (performed_at o (operand_address L m)) others ≡ Unsupported → ⊥
+address_told L o (BXD12 base index disp flags) others range e = absurd (cc)
+address_told L o (BXD20 base index disp flags) others range e = absurd (cc)
+address_told L o (Label target) others range e = absurd (cc)
+address_told L o (Constant constant) others range e = absurd (cc)
+address_told L o (Symbol name offset flags) others range e = absurd (cc)
+address_told L o (RegOffset reg off flags) others range e = absurd (cc)
+address_told L o (InitialSPOffset off) others range e = range
+address_told L o (IncomingArgOffset off) others range e = range
+address_told L o (OutgoingArgOffset off) others range e = range
+address_told L o (SlotOffset off) others range e = range
+address_told L o (SpillOffset off) others range e = range
 
-access_told : (L : Layout) (i : Inst) (o : OperandStep) → operand_step i ≡ Some o → performed L i ≡ None → branch_kind i ≡ Unsupported → OperandInRange o.operand → instruction_kind L i ≡ Unsupported → ⊥
-access_told L i o is none others range e =
-    let kind : instruction_kind L i ≡ kind_or (performed_by L (Some o)) Unsupported =
-    ap (λ p. kind_or p (kind_or (performed_by L (operand_step i)) (branch_kind i))) none ∙ ap (λ q. kind_or (performed_by L q) (branch_kind i)) is ∙ ap (λ b. kind_or (performed_by L (Some o)) b) others in
-    address_told L o o.operand range (sym kind ∙ e)
+-- what isn't told by an operation isn't told by what stands behind it
+behind : (p : Option Performed) (others : StepKind) → kind_or p others ≡ Unsupported → others ≡ Unsupported
+behind None others e = e
+behind (Some x) others e = absurd (cc)
+
+access_told : (L : Layout) (i : Inst) (o : OperandStep) → operand_step i ≡ Some o → OperandInRange o.operand → instruction_kind L i ≡ Unsupported → ⊥
+access_told L i o is range e =
+    address_told L o o.operand (branch_kind i) range
+    (subst (λ q. kind_or (performed_by L q) (branch_kind i) ≡ Unsupported) is (behind (performed L i) (kind_or (performed_by L (operand_step i)) (branch_kind i)) e))
 
 loaded_told : (L : Layout) (i : Inst) (o : OperandStep) → operand_step i ≡ Some o → OperandInRange o.operand → loaded_kind L i ≡ Unsupported → ⊥
-loaded_told L i o is range e = address_told L (loaded_step o) o.operand range (sym (ap (λ q. kind_or (performed_by L (option_map loaded_step q)) Unsupported) is) ∙ e)
+loaded_told L i o is range e = address_told L (loaded_step o) o.operand Unsupported range (sym (ap (λ q. kind_or (performed_by L (option_map loaded_step q)) Unsupported) is) ∙ e)
 
 operated : (L : Layout) (t : Bool) (rx_opcode rxy_opcode : Option ℕ) (rd ri : Reg) (mem : MemArg) → ValidMemoryOr L (operate t rx_opcode rxy_opcode rd ri mem) ⊥ → OperandInRange mem
 operated L true rx_opcode rxy_opcode rd ri mem valid = valid.range
@@ -86,132 +90,55 @@ refused L o e valid = subst (λ m. ValidMemoryOr L m ⊥) e valid
 
 -- ---- all of them
 
--- the last clause is a copy for each load and store of a whole register
-told_vector : (L : Layout) (v : VecInst) → IsValidInstruction L (I.Vector v) → instruction_kind L (I.Vector v) ≡ Unsupported → ⊥
-told_vector L (V.VecRRR op rd rn rm) valid e = absurd (cc)
-told_vector L (V.VecRR op rd rn) valid e = absurd (cc)
-told_vector L (V.VecSelect rd rn rm ra) valid e = absurd (cc)
-told_vector L (V.VecPermute rd rn rm ra) valid e = absurd (cc)
-told_vector L (V.VecBlend rd rn rm ra) valid e = absurd (cc)
-told_vector L (V.VecIntCmp op rd rn rm) valid e = absurd (cc)
-told_vector L (V.VecIntCmpS op rd rn rm) valid e = absurd (cc)
-told_vector L (V.VecIntEltCmp op rn rm) valid e = absurd (cc)
-told_vector L (V.VecMov rd rn) valid e = absurd (cc)
-told_vector L (V.VecShiftRR op rd rn amount register) valid e = absurd (cc)
-told_vector L (V.VecEvaluate imm rd rn rm ra) valid e = absurd (cc)
-told_vector L (V.VecPermuteDWImm rd rn rm first second) valid e = absurd (cc)
-told_vector L (V.MovToVec128 rd rn rm) valid e = absurd (cc)
-told_vector L (V.VecImmByteMask rd mask) valid e = absurd (cc)
-told_vector L (V.VecImmReplicate size rd imm) valid e = absurd (cc)
-told_vector L (V.VecImmBitMask size rd start end) valid e = absurd (cc)
-told_vector L (V.VecReplicateLane size rd rn lane) valid e = absurd (cc)
-told_vector L (V.VecInsertLaneImm size rd ri imm lane) valid e = absurd (cc)
-told_vector L (V.VecInsertLaneImmUndef size rd imm lane) valid e = absurd (cc)
-told_vector L (V.VecInsertLane size rd ri rn lane base) valid e = absurd (cc)
-told_vector L (V.VecInsertLaneUndef size rd rn lane base) valid e = absurd (cc)
-told_vector L (V.VecExtractLane size rd rn lane base) valid e = absurd (cc)
-told_vector L (V.FpuMove32 rd rn) valid e = absurd (cc)
-told_vector L (V.FpuMove64 rd rn) valid e = absurd (cc)
-told_vector L (V.VecEltRev count rd rn) valid e = absurd (cc)
-told_vector L (V.FpuCMov32 rd mask ri rm) valid e = absurd (cc)
-told_vector L (V.FpuCMov64 rd mask ri rm) valid e = absurd (cc)
-told_vector L (V.VecCMov rd mask ri rm) valid e = absurd (cc)
-told_vector L (V.VecInt128SCmpHi tmp rn rm) valid e = absurd (cc)
-told_vector L (V.VecInt128UCmpHi tmp rn rm) valid e = absurd (cc)
-told_vector L (V.VecLoadReplicate size rd mem) valid e = access_told L (I.Vector (V.VecLoadReplicate size rd mem)) _ refl refl refl (elements L opcodes.VLREP rd (element_code size) mem valid) e
-told_vector L (V.VecLoadReplicateRev size rd mem) valid e = access_told L (I.Vector (V.VecLoadReplicateRev size rd mem)) _ refl refl refl (elements L opcodes.VLBRREP rd (reversed_code size) mem valid) e
-told_vector L (V.VecLoadLane size rd ri mem lane) valid e = access_told L (I.Vector (V.VecLoadLane size rd ri mem lane)) _ refl refl refl (one_lane L (reuses_vector rd ri) load_lane_opcode (number_of rd) (element_code size) size lane mem valid) e
-told_vector L (V.VecLoadLaneRev size rd ri mem lane) valid e = access_told L (I.Vector (V.VecLoadLaneRev size rd ri mem lane)) _ refl refl refl (one_lane L (reuses_vector rd ri) load_reversed_opcode (number_of rd) (reversed_code size) size lane mem valid) e
-told_vector L (V.VecLoadLaneUndef size rd mem lane) valid e = access_told L (I.Vector (V.VecLoadLaneUndef size rd mem lane)) _ refl refl refl (left_lane L (is_left_lane size lane (number_of rd)) (is_vector rd) (load_left size (number_of rd)) load_lane_opcode (number_of rd) (element_code size) size lane mem valid) e
-told_vector L (V.VecLoadLaneRevUndef size rd mem lane) valid e = access_told L (I.Vector (V.VecLoadLaneRevUndef size rd mem lane)) _ refl refl refl (one_lane L (is_vector rd) load_reversed_opcode (number_of rd) (reversed_code size) size lane mem valid) e
-told_vector L (V.VecStoreLane size rd mem lane) valid e = access_told L (I.Vector (V.VecStoreLane size rd mem lane)) _ refl refl refl (left_lane L (is_left_lane size lane (number_of rd)) (is_vector rd) (store_left size (number_of rd)) store_lane_opcode (number_of rd) (element_code size) size lane mem valid) e
-told_vector L (V.VecStoreLaneRev size rd mem lane) valid e = access_told L (I.Vector (V.VecStoreLaneRev size rd mem lane)) _ refl refl refl (one_lane L (is_vector rd) store_reversed_opcode (number_of rd) (reversed_code size) size lane mem valid) e
-told_vector L v valid e = access_told L (I.Vector v) _ refl refl refl valid.range e
+abbrev IsTold : StepKind → Type 0
+IsTold Unsupported = ⊥
+IsTold k = Unit {0}
 
--- the last clause is a copy for each load and store of one register
+-- of an instruction without an operand in memory its kind is told, and of one with an operand that lies in its range
+abbrev ToldOr : Option OperandStep → StepKind → Type 0
+ToldOr None k = IsTold k
+ToldOr (Some o) k = Unit {0}
+
+abbrev RangeOf : Option OperandStep → Type 0
+RangeOf None = Unit {0}
+RangeOf (Some o) = OperandInRange o.operand
+
+-- the last clause of each is a copy for each other instruction
+told_vector : (L : Layout) (v : VecInst) → ToldOr (operand_step (I.Vector v)) (instruction_kind L (I.Vector v))
+told_vector L (V.VecRR op rd rn) = tt
+told_vector L v = tt
+
+told_otherwise : (L : Layout) (i : Inst) → IsValidInstruction L i → ToldOr (operand_step i) (instruction_kind L i)
+told_otherwise L (I.Loop' mask body all) valid = absurd valid
+told_otherwise L (I.CondBreak mask) valid = absurd valid
+told_otherwise L (I.Call link info) valid = absurd valid
+told_otherwise L (I.ReturnCall info) valid = absurd valid
+told_otherwise L (I.Vector v) valid = told_vector L v
+told_otherwise L i valid = tt
+
+ranged_vector : (L : Layout) (v : VecInst) → IsValidInstruction L (I.Vector v) → RangeOf (operand_step (I.Vector v))
+ranged_vector L (V.VecLoadReplicate size rd mem) valid = elements L opcodes.VLREP rd (element_code size) mem valid
+ranged_vector L (V.VecLoadReplicateRev size rd mem) valid = elements L opcodes.VLBRREP rd (reversed_code size) mem valid
+ranged_vector L (V.VecLoadLane size rd ri mem lane) valid = one_lane L (reuses_vector rd ri) load_lane_opcode (number_of rd) (element_code size) size lane mem valid
+ranged_vector L (V.VecLoadLaneRev size rd ri mem lane) valid = one_lane L (reuses_vector rd ri) load_reversed_opcode (number_of rd) (reversed_code size) size lane mem valid
+ranged_vector L (V.VecLoadLaneUndef size rd mem lane) valid = left_lane L (is_left_lane size lane (number_of rd)) (is_vector rd) (load_left size (number_of rd)) load_lane_opcode (number_of rd) (element_code size) size lane mem valid
+ranged_vector L (V.VecLoadLaneRevUndef size rd mem lane) valid = one_lane L (is_vector rd) load_reversed_opcode (number_of rd) (reversed_code size) size lane mem valid
+ranged_vector L (V.VecStoreLane size rd mem lane) valid = left_lane L (is_left_lane size lane (number_of rd)) (is_vector rd) (store_left size (number_of rd)) store_lane_opcode (number_of rd) (element_code size) size lane mem valid
+ranged_vector L (V.VecStoreLaneRev size rd mem lane) valid = one_lane L (is_vector rd) store_reversed_opcode (number_of rd) (reversed_code size) size lane mem valid
+ranged_vector L v valid = assumption
+
+ranged : (L : Layout) (i : Inst) → IsValidInstruction L i → RangeOf (operand_step i)
+ranged L (I.AluRX op rd ri mem) valid = operated L (is_some (alu_rx op) || is_some (alu_rxy op)) (alu_rx op) (alu_rxy op) rd ri mem valid
+ranged L (I.AtomicRmw op rd rn mem) valid = locked L (atomic_rsy op) rd rn mem valid
+ranged L (I.Vector v) valid = ranged_vector L v valid
+ranged L i valid = assumption
+
+told_by : (L : Layout) (i : Inst) (o : Option OperandStep) → operand_step i ≡ o → ToldOr o (instruction_kind L i) → RangeOf o → instruction_kind L i ≡ Unsupported → ⊥
+told_by L i None is told range e = subst IsTold e told
+told_by L i (Some o) is told range e = access_told L i o is range e
+
 told_instruction : (L : Layout) (i : Inst) → IsValidInstruction L i → instruction_kind L i ≡ Unsupported → ⊥
-told_instruction L (I.AluRRR op rd rn rm) valid e = absurd (cc)
-told_instruction L (I.AluRR op rd ri rm) valid e = absurd (cc)
-told_instruction L (I.UnaryRR op rd rn) valid e = absurd (cc)
-told_instruction L (I.CmpRR op rn rm) valid e = absurd (cc)
-told_instruction L (I.Mov64 rd rm) valid e = absurd (cc)
-told_instruction L (I.MovPReg rd rm) valid e = absurd (cc)
-told_instruction L (I.Mov32 rd rm) valid e = absurd (cc)
-told_instruction L (I.AluRRSImm16 op rd rn imm) valid e = absurd (cc)
-told_instruction L (I.AluRSImm16 op rd ri imm) valid e = absurd (cc)
-told_instruction L (I.AluRSImm32 op rd ri imm) valid e = absurd (cc)
-told_instruction L (I.AluRUImm32 op rd ri imm) valid e = absurd (cc)
-told_instruction L (I.CmpRSImm16 op rn imm) valid e = absurd (cc)
-told_instruction L (I.CmpRSImm32 op rn imm) valid e = absurd (cc)
-told_instruction L (I.CmpRUImm32 op rn imm) valid e = absurd (cc)
-told_instruction L (I.Mov32Imm rd imm) valid e = absurd (cc)
-told_instruction L (I.Mov32SImm16 rd imm) valid e = absurd (cc)
-told_instruction L (I.Mov64SImm16 rd imm) valid e = absurd (cc)
-told_instruction L (I.Mov64SImm32 rd imm) valid e = absurd (cc)
-told_instruction L (I.AluRUImm16Shifted op rd ri imm) valid e = absurd (cc)
-told_instruction L (I.AluRUImm32Shifted op rd ri imm) valid e = absurd (cc)
-told_instruction L (I.Mov64UImm16Shifted rd imm) valid e = absurd (cc)
-told_instruction L (I.Mov64UImm32Shifted rd imm) valid e = absurd (cc)
-told_instruction L (I.Insert64UImm16Shifted rd ri imm) valid e = absurd (cc)
-told_instruction L (I.Insert64UImm32Shifted rd ri imm) valid e = absurd (cc)
-told_instruction L (I.Extend rd rn signed from to) valid e = absurd (cc)
-told_instruction L (I.LoadAR rd ar) valid e = absurd (cc)
-told_instruction L (I.InsertAR rd ri ar) valid e = absurd (cc)
-told_instruction L (I.ShiftRR op rd rn amount register) valid e = absurd (cc)
-told_instruction L (I.RxSBG op rd ri rn first last amount) valid e = absurd (cc)
-told_instruction L (I.RxSBGTest op rd rn first last amount) valid e = absurd (cc)
-told_instruction L (I.SMulWide rd rn rm) valid e = absurd (cc)
-told_instruction L (I.UMulWide rd ri rn) valid e = absurd (cc)
-told_instruction L (I.Flogr rd rn) valid e = absurd (cc)
-told_instruction L (I.SDivMod32 rd ri rn) valid e = absurd (cc)
-told_instruction L (I.SDivMod64 rd ri rn) valid e = absurd (cc)
-told_instruction L (I.UDivMod32 rd ri rn) valid e = absurd (cc)
-told_instruction L (I.UDivMod64 rd ri rn) valid e = absurd (cc)
-told_instruction L (I.CmpTrapRR op rn rm mask code) valid e = absurd (cc)
-told_instruction L (I.CmpTrapRSImm16 op rn imm mask code) valid e = absurd (cc)
-told_instruction L (I.CmpTrapRUImm16 op rn imm mask code) valid e = absurd (cc)
-told_instruction L (I.CMov32 rd mask ri rm) valid e = absurd (cc)
-told_instruction L (I.CMov64 rd mask ri rm) valid e = absurd (cc)
-told_instruction L (I.CMov32SImm16 rd mask ri imm) valid e = absurd (cc)
-told_instruction L (I.CMov64SImm16 rd mask ri imm) valid e = absurd (cc)
-told_instruction L (I.LoadIndexedAddr rd base index offset size) valid e = absurd (cc)
-told_instruction L (I.LoadLogicalIndexedAddr rd base index offset size) valid e = absurd (cc)
-told_instruction L (I.AllocateArgs size) valid e = absurd (cc)
-told_instruction L I.Fence valid e = absurd (cc)
-told_instruction L I.Nop2 valid e = absurd (cc)
-told_instruction L (I.LabelAddress dst label) valid e = absurd (cc)
-told_instruction L (I.LoadSymbolReloc rd reloc) valid e = absurd (cc)
-told_instruction L (I.AluRX op rd ri mem) valid e = access_told L (I.AluRX op rd ri mem) _ refl refl refl (operated L (is_some (alu_rx op) || is_some (alu_rxy op)) (alu_rx op) (alu_rxy op) rd ri mem valid) e
-told_instruction L (I.CmpRX op rn mem) valid e = access_told L (I.CmpRX op rn mem) _ refl refl refl valid.range e
-told_instruction L (I.LoadAddr rd mem) valid e = access_told L (I.LoadAddr rd mem) _ refl refl refl valid.range e
-told_instruction L (I.StoreImm8 imm mem) valid e = access_told L (I.StoreImm8 imm mem) _ refl refl refl valid.range e
-told_instruction L (I.StoreImm16 imm mem) valid e = access_told L (I.StoreImm16 imm mem) _ refl refl refl valid.range e
-told_instruction L (I.StoreImm32SExt16 imm mem) valid e = access_told L (I.StoreImm32SExt16 imm mem) _ refl refl refl valid.range e
-told_instruction L (I.StoreImm64SExt16 imm mem) valid e = access_told L (I.StoreImm64SExt16 imm mem) _ refl refl refl valid.range e
-told_instruction L (I.LoadMultiple64 rt rt2 mem) valid e = access_told L (I.LoadMultiple64 rt rt2 mem) _ refl refl refl valid.range e
-told_instruction L (I.StoreMultiple64 rt rt2 mem) valid e = access_told L (I.StoreMultiple64 rt rt2 mem) _ refl refl refl valid.range e
-told_instruction L (I.AtomicRmw op rd rn mem) valid e = access_told L (I.AtomicRmw op rd rn mem) _ refl refl refl (locked L (atomic_rsy op) rd rn mem valid) e
-told_instruction L (I.AtomicCas32 rd ri rn mem) valid e = access_told L (I.AtomicCas32 rd ri rn mem) _ refl refl refl valid.range e
-told_instruction L (I.AtomicCas64 rd ri rn mem) valid e = access_told L (I.AtomicCas64 rd ri rn mem) _ refl refl refl valid.range e
-told_instruction L (I.Jump dest) valid e = absurd (cc)
-told_instruction L (I.CondBr taken not_taken mask) valid e = absurd (cc)
-told_instruction L (I.IndirectBr rn targets) valid e = absurd (cc)
-told_instruction L (I.Ret link) valid e = absurd (cc)
-told_instruction L (I.JTSequence ridx other mask targets) valid e = absurd (cc)
-told_instruction L I.Nop0 valid e = absurd (cc)
-told_instruction L (I.Args args) valid e = absurd (cc)
-told_instruction L (I.Rets rets) valid e = absurd (cc)
-told_instruction L (I.DummyUse reg) valid e = absurd (cc)
-told_instruction L I.SequencePoint valid e = absurd (cc)
-told_instruction L (I.Trap code) valid e = absurd (cc)
-told_instruction L (I.TrapIf mask code) valid e = absurd (cc)
-told_instruction L I.Debugtrap valid e = absurd (cc)
-told_instruction L (I.Vector v) valid e = told_vector L v valid e
-told_instruction L (I.Loop' mask body all) valid e = absurd valid
-told_instruction L (I.CondBreak mask) valid e = absurd valid
-told_instruction L (I.Call link info) valid e = absurd valid
-told_instruction L (I.ReturnCall info) valid e = absurd valid
-told_instruction L i valid e = access_told L i _ refl refl refl valid.range e
+told_instruction L i valid e = told_by L i (operand_step i) refl (told_otherwise L i valid) (ranged L i valid) e
 
 row_range : (L : Layout) (register : ℕ) (short long relative : Option ℕ) (general reads : Bool) (mem : MemArg) →
     ValidMemoryOr L (without_relative (Some (record { form = RxForm register short long relative; operand = mem; accesses = true; operands_valid = general; reads_scratch = reads }))) ⊥ → OperandInRange mem
