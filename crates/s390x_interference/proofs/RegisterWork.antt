@@ -32,7 +32,7 @@ use Rattle.s390x_machine.specs.Computations.{Second, with_rule, computes_immedia
 use Rattle.s390x_machine.specs.VectorSteps.{elements_of, element_index}
 use Rattle.s390x_machine.specs.Layout.{Layout}
 use Rattle.s390x_machine.specs.Operands.{performed_where, value_in}
-use Rattle.s390x_machine.specs.StepKinds.{instruction_kind}
+use Rattle.s390x_machine.specs.StepKinds.{StepKind, instruction_kind}
 use Rattle.s390x_machine.specs.VectorOperations.{binary_operation, unary_operation, comparison_operation, element_comparison}
 use Rattle.s390x_machine.proofs.VectorSteps.{computed_vector, is_divide}
 use Rattle.s390x_interference.specs.Retry.{StaysInRegisters, IsRegisterWork}
@@ -130,55 +130,27 @@ vector_work L (V.FpuCMov32 rd mask ri rm) h = λ r. plain _ refl refl (λ kind b
 vector_work L (V.FpuCMov64 rd mask ri rm) h = λ r. plain _ refl refl (λ kind by. by)
 vector_work L _ h = absurd (true≢false (sym h))
 
+-- what the list has is register work; of any other nothing is said
+abbrev WorkIf : Bool → StepKind → Type 0
+WorkIf true k = IsRegisterWork k
+WorkIf false k = Unit {0}
+
+work_if : (listed : Bool) (k : StepKind) → (listed ≡ true → IsRegisterWork k) → WorkIf listed k
+work_if true k work = work refl
+work_if false k work = tt
+
+work_of : (listed : Bool) (k : StepKind) → WorkIf listed k → listed ≡ true → IsRegisterWork k
+work_of true k work h = work
+work_of false k work h = absurd (true≢false (sym h))
+
+-- the last clause is a copy for each other instruction
+work : (L : Layout) (i : Inst) → WorkIf (is_register_work i) (instruction_kind L i)
+work L (I.CMov32 rd mask ri rm) = moves_stay Word unsigned_word (four_bits mask) (number_of rd) (number_of rm)
+work L (I.CMov64 rd mask ri rm) = moves_stay Doubleword doubleword (four_bits mask) (number_of rd) (number_of rm)
+work L (I.CMov32SImm16 rd mask ri imm) = immediate_moves_stay Word (four_bits mask) (number_of rd) (low_halfword imm)
+work L (I.CMov64SImm16 rd mask ri imm) = immediate_moves_stay Doubleword (four_bits mask) (number_of rd) (low_halfword imm)
+work L (I.Vector v) = work_if (is_vector_work v) (instruction_kind L (I.Vector v)) (vector_work L v)
+work L i = assumption
+
 pub register_work : (L : Layout) (i : Inst) → IsTrue (is_register_work i) → IsRegisterWork (instruction_kind L i)
-register_work L (I.AluRRR op rd rn rm) h = λ r. plain _ refl refl (λ kind by. by)
-register_work L (I.AluRRSImm16 op rd rn imm) h = λ r. plain _ refl refl (λ kind by. by)
-register_work L (I.AluRR op rd ri rm) h = λ r. plain _ refl refl (λ kind by. by)
-register_work L (I.AluRSImm16 op rd ri imm) h = λ r. plain _ refl refl (λ kind by. by)
-register_work L (I.AluRSImm32 op rd ri imm) h = λ r. plain _ refl refl (λ kind by. by)
-register_work L (I.AluRUImm32 op rd ri imm) h = λ r. plain _ refl refl (λ kind by. by)
-register_work L (I.AluRUImm16Shifted op rd ri imm) h = λ r. plain _ refl refl (λ kind by. by)
-register_work L (I.AluRUImm32Shifted op rd ri imm) h = λ r. plain _ refl refl (λ kind by. by)
-register_work L (I.SMulWide rd rn rm) h = λ r. plain _ refl refl (λ kind by. by)
-register_work L (I.UMulWide rd ri rn) h = λ r. plain _ refl refl (λ kind by. by)
-register_work L (I.Flogr rd rn) h = λ r. plain _ refl refl (λ kind by. by)
-register_work L (I.ShiftRR op rd rn amount register) h = λ r. plain _ refl refl (λ kind by. by)
-register_work L (I.RxSBG op rd ri rn first last amount) h = λ r. plain _ refl refl (λ kind by. by)
-register_work L (I.RxSBGTest op rd rn first last amount) h = λ r. plain _ refl refl (λ kind by. by)
-register_work L (I.UnaryRR op rd rn) h = λ r. plain _ refl refl (λ kind by. by)
-register_work L (I.CmpRR op rn rm) h = λ r. plain _ refl refl (λ kind by. by)
-register_work L (I.CmpRSImm16 op rn imm) h = λ r. plain _ refl refl (λ kind by. by)
-register_work L (I.CmpRSImm32 op rn imm) h = λ r. plain _ refl refl (λ kind by. by)
-register_work L (I.CmpRUImm32 op rn imm) h = λ r. plain _ refl refl (λ kind by. by)
-register_work L (I.Mov64 rd rm) h = λ r. plain _ refl refl (λ kind by. by)
-register_work L (I.MovPReg rd rm) h = λ r. plain _ refl refl (λ kind by. by)
-register_work L (I.Mov32 rd rm) h = λ r. plain _ refl refl (λ kind by. by)
-register_work L (I.Mov32Imm rd imm) h = λ r. plain _ refl refl (λ kind by. by)
-register_work L (I.Mov32SImm16 rd imm) h = λ r. plain _ refl refl (λ kind by. by)
-register_work L (I.Mov64SImm16 rd imm) h = λ r. plain _ refl refl (λ kind by. by)
-register_work L (I.Mov64SImm32 rd imm) h = λ r. plain _ refl refl (λ kind by. by)
-register_work L (I.Mov64UImm16Shifted rd imm) h = λ r. plain _ refl refl (λ kind by. by)
-register_work L (I.Mov64UImm32Shifted rd imm) h = λ r. plain _ refl refl (λ kind by. by)
-register_work L (I.Insert64UImm16Shifted rd ri imm) h = λ r. plain _ refl refl (λ kind by. by)
-register_work L (I.Insert64UImm32Shifted rd ri imm) h = λ r. plain _ refl refl (λ kind by. by)
-register_work L (I.CMov32 rd mask ri rm) h = moves_stay Word unsigned_word (four_bits mask) (number_of rd) (number_of rm)
-register_work L (I.CMov64 rd mask ri rm) h = moves_stay Doubleword doubleword (four_bits mask) (number_of rd) (number_of rm)
-register_work L (I.CMov32SImm16 rd mask ri imm) h = immediate_moves_stay Word (four_bits mask) (number_of rd) (low_halfword imm)
-register_work L (I.CMov64SImm16 rd mask ri imm) h = immediate_moves_stay Doubleword (four_bits mask) (number_of rd) (low_halfword imm)
-register_work L (I.Extend rd rn signed from to) h = λ r. plain _ refl refl (λ kind by. by)
-register_work L (I.LoadAR rd ar) h = λ r. plain _ refl refl (λ kind by. by)
-register_work L (I.InsertAR rd ri ar) h = λ r. plain _ refl refl (λ kind by. by)
-register_work L (I.LoadIndexedAddr rd base index offset size) h = λ r. plain _ refl refl (λ kind by. by)
-register_work L (I.LoadLogicalIndexedAddr rd base index offset size) h = λ r. plain _ refl refl (λ kind by. by)
-register_work L (I.LabelAddress dst label) h = λ r. plain _ refl refl (λ kind by. by)
-register_work L (I.LoadSymbolReloc rd reloc) h = λ r. plain _ refl refl (λ kind by. by)
-register_work L (I.AllocateArgs size) h = λ r. plain _ refl refl (λ kind by. by)
-register_work L I.Fence h = λ r. plain _ refl refl (λ kind by. by)
-register_work L I.Nop0 h = tt
-register_work L I.Nop2 h = λ r. plain _ refl refl (λ kind by. by)
-register_work L (I.Args args) h = tt
-register_work L (I.Rets rets) h = tt
-register_work L (I.DummyUse reg) h = tt
-register_work L I.SequencePoint h = tt
-register_work L (I.Vector v) h = vector_work L v h
-register_work L _ h = absurd (true≢false (sym h))
+register_work L i h = work_of (is_register_work i) (instruction_kind L i) (work L i) h
