@@ -15,6 +15,7 @@ mod read_control;
 mod read_integer;
 mod read_memory;
 mod read_vector;
+mod table;
 
 pub use access::{store_instruction, whole_instruction};
 pub use access_names::{LOAD_NAMES, STORE_NAMES, WHOLE_LOAD_NAMES, WHOLE_STORE_NAMES};
