@@ -97,6 +97,39 @@ immediate_moves_stay size mask d bits r =
 
 -- ---- instructions
 
+vector_work : (L : Layout) (v : VecInst) → is_vector_work v ≡ true → IsRegisterWork (instruction_kind L (I.Vector v))
+vector_work L (V.VecRRR op rd rn rm) h = λ r. vector_stays (binary_operation op) _ _ _ _ _ (never_binary op h)
+vector_work L (V.VecRR op rd rn) h = λ r. vector_stays (unary_operation op) _ _ _ _ _ (never_unary op)
+vector_work L (V.VecShiftRR op rd rn amount register) h = λ r. plain _ refl refl (λ kind by. true≢false (sym by.1))
+vector_work L (V.VecSelect rd rn rm ra) h = λ r. plain _ refl refl (λ kind by. true≢false (sym by.1))
+vector_work L (V.VecPermute rd rn rm ra) h = λ r. plain _ refl refl (λ kind by. true≢false (sym by.1))
+vector_work L (V.VecBlend rd rn rm ra) h = λ r. plain _ refl refl (λ kind by. true≢false (sym by.1))
+vector_work L (V.VecEvaluate imm rd rn rm ra) h = λ r. plain _ refl refl (λ kind by. true≢false (sym by.1))
+vector_work L (V.VecPermuteDWImm rd rn rm first second) h = λ r. plain _ refl refl (λ kind by. true≢false (sym by.1))
+vector_work L (V.VecIntCmp op rd rn rm) h = λ r. vector_stays (comparison_operation op false) _ _ _ _ _ (never_comparison op false)
+vector_work L (V.VecIntCmpS op rd rn rm) h = λ r. vector_stays (comparison_operation op true) _ _ _ _ _ (never_comparison op true)
+vector_work L (V.VecIntEltCmp op rn rm) h = λ r. vector_stays (element_comparison op) _ _ _ _ _ (never_element op)
+vector_work L (V.VecMov rd rn) h = λ r. plain _ refl refl (λ kind by. true≢false (sym by.1))
+vector_work L (V.FpuMove32 rd rn) h = λ r. plain _ refl refl (λ kind by. by)
+vector_work L (V.FpuMove64 rd rn) h = λ r. plain _ refl refl (λ kind by. by)
+vector_work L (V.MovToVec128 rd rn rm) h = λ r. plain _ refl refl (λ kind by. by)
+vector_work L (V.VecImmByteMask rd mask) h = λ r. plain _ refl refl (λ kind by. true≢false (sym by.1))
+vector_work L (V.VecImmBitMask size rd start end) h = λ r. plain _ refl refl (λ kind by. true≢false (sym by.1))
+vector_work L (V.VecImmReplicate size rd imm) h = λ r. plain _ refl refl (λ kind by. true≢false (sym by.1))
+vector_work L (V.VecInsertLane size rd ri rn lane base) h = λ r. put_stays (nat_lt (element_index r (number_of base) lane) (lane_count (elements_of size))) _ _ _ _ _
+vector_work L (V.VecInsertLaneUndef size rd rn lane base) h = λ r. put_stays (nat_lt (element_index r (number_of base) lane) (lane_count (elements_of size))) _ _ _ _ _
+vector_work L (V.VecExtractLane size rd rn lane base) h = λ r. extract_stays (nat_lt (element_index r (number_of base) lane) (lane_count (elements_of size))) (number_of rd) _ r
+vector_work L (V.VecInsertLaneImm size rd ri imm lane) h = λ r. plain _ refl refl (λ kind by. true≢false (sym by.1))
+vector_work L (V.VecInsertLaneImmUndef size rd imm lane) h = λ r. plain _ refl refl (λ kind by. by)
+vector_work L (V.VecReplicateLane size rd rn lane) h = λ r. plain _ refl refl (λ kind by. true≢false (sym by.1))
+vector_work L (V.VecInt128SCmpHi tmp rn rm) h = tt
+vector_work L (V.VecInt128UCmpHi tmp rn rm) h = tt
+vector_work L (V.VecEltRev count rd rn) h = λ r. plain _ refl refl (λ kind by. by)
+vector_work L (V.VecCMov rd mask ri rm) h = λ r. plain _ refl refl (λ kind by. true≢false (sym by.1))
+vector_work L (V.FpuCMov32 rd mask ri rm) h = λ r. plain _ refl refl (λ kind by. by)
+vector_work L (V.FpuCMov64 rd mask ri rm) h = λ r. plain _ refl refl (λ kind by. by)
+vector_work L _ h = absurd (true≢false (sym h))
+
 -- what the list has is register work; of any other nothing is said
 abbrev WorkIf : Bool → StepKind → Type 0
 WorkIf true k = IsRegisterWork k
@@ -110,28 +143,13 @@ work_of : (listed : Bool) (k : StepKind) → WorkIf listed k → listed ≡ true
 work_of true k work h = work
 work_of false k work h = absurd (true≢false (sym h))
 
-apart : false ≡ true → ⊥
-apart e = true≢false (sym e)
-
--- the last clause is a copy for each other instruction
-vector_work : (L : Layout) (v : VecInst) → WorkIf (is_vector_work v) (instruction_kind L (I.Vector v))
-vector_work L (V.VecRRR op rd rn rm) = work_if (not (is_division op)) (instruction_kind L (I.Vector (V.VecRRR op rd rn rm))) (λ h. λ r. vector_stays (binary_operation op) _ _ _ _ _ (never_binary op h))
-vector_work L (V.VecRR op rd rn) = λ r. vector_stays (unary_operation op) _ _ _ _ _ (never_unary op)
-vector_work L (V.VecIntCmp op rd rn rm) = λ r. vector_stays (comparison_operation op false) _ _ _ _ _ (never_comparison op false)
-vector_work L (V.VecIntCmpS op rd rn rm) = λ r. vector_stays (comparison_operation op true) _ _ _ _ _ (never_comparison op true)
-vector_work L (V.VecIntEltCmp op rn rm) = λ r. vector_stays (element_comparison op) _ _ _ _ _ (never_element op)
-vector_work L (V.VecInsertLane size rd ri rn lane base) = λ r. put_stays (nat_lt (element_index r (number_of base) lane) (lane_count (elements_of size))) _ _ _ _ _
-vector_work L (V.VecInsertLaneUndef size rd rn lane base) = λ r. put_stays (nat_lt (element_index r (number_of base) lane) (lane_count (elements_of size))) _ _ _ _ _
-vector_work L (V.VecExtractLane size rd rn lane base) = λ r. extract_stays (nat_lt (element_index r (number_of base) lane) (lane_count (elements_of size))) (number_of rd) _ r
-vector_work L v = first_of (assumption, search (plain, apart))
-
 -- the last clause is a copy for each other instruction
 work : (L : Layout) (i : Inst) → WorkIf (is_register_work i) (instruction_kind L i)
 work L (I.CMov32 rd mask ri rm) = moves_stay Word unsigned_word (four_bits mask) (number_of rd) (number_of rm)
 work L (I.CMov64 rd mask ri rm) = moves_stay Doubleword doubleword (four_bits mask) (number_of rd) (number_of rm)
 work L (I.CMov32SImm16 rd mask ri imm) = immediate_moves_stay Word (four_bits mask) (number_of rd) (low_halfword imm)
 work L (I.CMov64SImm16 rd mask ri imm) = immediate_moves_stay Doubleword (four_bits mask) (number_of rd) (low_halfword imm)
-work L (I.Vector v) = vector_work L v
+work L (I.Vector v) = work_if (is_vector_work v) (instruction_kind L (I.Vector v)) (vector_work L v)
 work L i = assumption
 
 pub register_work : (L : Layout) (i : Inst) → IsTrue (is_register_work i) → IsRegisterWork (instruction_kind L i)
