@@ -3,6 +3,7 @@ ghost use Rattle.std.specs.Prelude.{◌≡◌};
 ghost use Rattle.s390x_format.specs.Rows.{is_allowed};
 
 use crate::kind::FormatKind;
+use crate::semantics::RowSemantics;
 
 /// Which masks and immediates of 8 bits a row allows. Bytes with others have no row.
 #[derive(Clone, Copy)]
@@ -35,6 +36,7 @@ pub struct MachineRow {
     pub format: FormatKind,
     pub opcode: u16,
     pub allowed: Allowed,
+    pub semantics: RowSemantics,
 }
 
 /// A row by its format and opcode.

@@ -33,8 +33,8 @@ use Rattle.s390x_typed_steps.specs.MachineInstruction.{MachineInstruction, vri_a
 use Rattle.s390x_lanes.specs.Size.{element_bits, lane_count}
 use Rattle.s390x_typed_steps.specs.VectorInstruction.{element_code, is_lane, insert_immediate_opcode}
 use Rattle.s390x_typed_steps.specs.VectorOpcodes.{binary_row, unary_row, shift_row, comparison_row, element_comparison_row}
-use Rattle.s390x_machine.specs.declared.semantics.RowSemantics.TheVariants.{Elements, JoinRegisters, MoveLeft, RegisterToLeft, LeftToRegister, InsertElement, ExtractElement}
-use Rattle.s390x_machine.specs.declared.semantics.RowSemantics.TheVariants as Row
+use Rattle.s390x_format.specs.declared.semantics.RowSemantics.TheVariants.{Elements, JoinRegisters, MoveLeft, RegisterToLeft, LeftToRegister, InsertElement, ExtractElement}
+use Rattle.s390x_format.specs.declared.semantics.RowSemantics.TheVariants as Row
 use Rattle.s390x_machine.specs.Semantics.{semantics_in, semantics_of}
 use Rattle.s390x_machine.specs.VectorOperations.{binary_operation, unary_operation, shift_operator, shifted_elements, comparison_operation, element_comparison}
 use Rattle.s390x_machine.specs.VectorSteps.{elements_of}

@@ -26,19 +26,19 @@ use Rattle.s390x_operations.specs.declared.operator.SelectedBitsOperator.{Select
 use Rattle.s390x_operations.specs.declared.effect.Effect.{Effect}
 use Rattle.s390x_operations.specs.declared.effect.CodeRule.{CodeRule}
 use Rattle.s390x_operations.specs.declared.effect.CodeRule.TheVariants.{Kept, Set}
-use Rattle.s390x_machine.specs.declared.semantics.OperandSource.{OperandSource}
-use Rattle.s390x_machine.specs.declared.semantics.OperandSource.TheVariants.{Register, ThreeRegisters, Indexed, IndexedAddress, Relative, Immediate, ThreeImmediate, ShiftedImmediate, Amount, AccessRegister, RelativeAddress}
-use Rattle.s390x_machine.specs.declared.semantics.SecondOperand.{SecondOperand}
-use Rattle.s390x_machine.specs.declared.semantics.RowSemantics.{RowSemantics}
-use Rattle.s390x_machine.specs.declared.semantics.RowSemantics.TheVariants.{Compute, Compare, MoveWhere, CountOnes, RotateThen, MultiplySigned, MultiplyLogical, DivideSigned, DivideLogical, CompareAndTrap, CompareImmediateAndTrap, FindLeftmostOne, Havoc}
-use Rattle.s390x_machine.specs.declared.semantics.RowSemantics.TheVariants.{BranchToRegister, BranchRelative, Store, StoreByte, StoreImmediate, LoadMultiple, StoreMultiple, LoadAndOperate, CompareAndSwap, BranchAndSaveToRegister, BranchAndSaveRelative}
-use Rattle.s390x_machine.specs.declared.semantics.RowSemantics.TheVariants.{Elements, ShiftElements, LoadVector, StoreVector, LoadLeft, StoreLeft, MoveLeft, RegisterToLeft, LeftToRegister, JoinRegisters, InsertElement, ExtractElement}
-use Rattle.s390x_machine.specs.declared.semantics.OpcodeSemantics.{OpcodeSemantics}
-use Rattle.s390x_machine.specs.declared.semantics.VectorStorage.{VectorStorage}
-use Rattle.s390x_machine.specs.declared.semantics.VectorStorage.TheVariants.{Whole, ReversedBytes, ReversedElements, Replicated, Element}
-use Rattle.s390x_machine.specs.declared.semantics.Action.{Action}
-use Rattle.s390x_machine.specs.declared.semantics.Action.TheVariants.{Perform, Branch, BranchAndSave}
-use Rattle.s390x_machine.specs.declared.semantics.TheConstants.{ROW_SEMANTICS}
+use Rattle.s390x_format.specs.declared.semantics.OperandSource.{OperandSource}
+use Rattle.s390x_format.specs.declared.semantics.OperandSource.TheVariants.{Register, ThreeRegisters, Indexed, IndexedAddress, Relative, Immediate, ThreeImmediate, ShiftedImmediate, Amount, AccessRegister, RelativeAddress}
+use Rattle.s390x_format.specs.declared.semantics.SecondOperand.{SecondOperand}
+use Rattle.s390x_format.specs.declared.semantics.RowSemantics.{RowSemantics}
+use Rattle.s390x_format.specs.declared.semantics.RowSemantics.TheVariants.{Compute, Compare, MoveWhere, CountOnes, RotateThen, MultiplySigned, MultiplyLogical, DivideSigned, DivideLogical, CompareAndTrap, CompareImmediateAndTrap, FindLeftmostOne, Havoc}
+use Rattle.s390x_format.specs.declared.semantics.RowSemantics.TheVariants.{BranchToRegister, BranchRelative, Store, StoreByte, StoreImmediate, LoadMultiple, StoreMultiple, LoadAndOperate, CompareAndSwap, BranchAndSaveToRegister, BranchAndSaveRelative}
+use Rattle.s390x_format.specs.declared.semantics.RowSemantics.TheVariants.{Elements, ShiftElements, LoadVector, StoreVector, LoadLeft, StoreLeft, MoveLeft, RegisterToLeft, LeftToRegister, JoinRegisters, InsertElement, ExtractElement}
+use Rattle.s390x_format.specs.declared.row.MachineRow.{MachineRow}
+use Rattle.s390x_format.specs.declared.table.TheConstants.{MACHINE_ROWS}
+use Rattle.s390x_format.specs.declared.semantics.VectorStorage.{VectorStorage}
+use Rattle.s390x_format.specs.declared.semantics.VectorStorage.TheVariants.{Whole, ReversedBytes, ReversedElements, Replicated, Element}
+use Rattle.s390x_machine.specs.declared.action.Action.{Action}
+use Rattle.s390x_machine.specs.declared.action.Action.TheVariants.{Perform, Branch, BranchAndSave}
 
 -- a register field's number
 abbrev pub register_field : Fields → ℕ → ℕ
@@ -219,15 +219,10 @@ abbrev pub is_odd_pair : RowSemantics → Fields → Bool
 is_odd_pair semantics f = names_pair semantics && (register_field f 0 % 2 == 1)
 
 -- the semantics that a list has for an opcode
-unfoldable pub semantics_in : List OpcodeSemantics → ℕ → Option RowSemantics
+unfoldable pub semantics_in : List MachineRow → ℕ → Option RowSemantics
 semantics_in [] opcode = None
 semantics_in (row ∷ rows) opcode = if row.opcode == opcode then Some row.semantics else semantics_in rows opcode
 
--- the opcodes rise, from n on
-unfoldable pub opcodes_rise : ℕ → List OpcodeSemantics → Bool
-opcodes_rise n [] = true
-opcodes_rise n (row ∷ rows) = nat_le n row.opcode && opcodes_rise (row.opcode + 1) rows
-
 -- the semantics of an opcode; none of one that no row has
 unfoldable pub semantics_of : ℕ → Option RowSemantics
-semantics_of opcode = semantics_in ROW_SEMANTICS opcode
+semantics_of opcode = semantics_in MACHINE_ROWS opcode

@@ -26,13 +26,13 @@ use Rattle.s390x_operations.specs.declared.size.Size.TheVariants.{Halfword, Word
 use Rattle.s390x_operations.specs.declared.size.Width.{Width}
 use Rattle.s390x_operations.specs.declared.effect.Effect.{Effect}
 use Rattle.s390x_machine.specs.Semantics.{register_field, mask_field, names_pair, semantics_of}
-use Rattle.s390x_machine.specs.declared.semantics.OperandSource.{OperandSource}
-use Rattle.s390x_machine.specs.declared.semantics.OperandSource.TheVariants.{ShiftedImmediate}
-use Rattle.s390x_machine.specs.declared.semantics.SecondOperand.{SecondOperand}
-use Rattle.s390x_machine.specs.declared.semantics.RowSemantics.{RowSemantics}
-use Rattle.s390x_machine.specs.declared.semantics.RowSemantics.TheVariants as Row
-use Rattle.s390x_machine.specs.declared.semantics.Action.{Action}
-use Rattle.s390x_machine.specs.declared.semantics.Action.TheVariants.{Perform, Branch, BranchAndSave}
+use Rattle.s390x_format.specs.declared.semantics.OperandSource.{OperandSource}
+use Rattle.s390x_format.specs.declared.semantics.OperandSource.TheVariants.{ShiftedImmediate}
+use Rattle.s390x_format.specs.declared.semantics.SecondOperand.{SecondOperand}
+use Rattle.s390x_format.specs.declared.semantics.RowSemantics.{RowSemantics}
+use Rattle.s390x_format.specs.declared.semantics.RowSemantics.TheVariants as Row
+use Rattle.s390x_machine.specs.declared.action.Action.{Action}
+use Rattle.s390x_machine.specs.declared.action.Action.TheVariants.{Perform, Branch, BranchAndSave}
 
 -- the bytes of an access are accessible
 abbrev pub is_reached : Access → (ℕ → Bool) → Bool

@@ -8,8 +8,8 @@ ghost use Rattle.s390x_machine.specs.Sound.{FieldsFit, IsSoundAction};
 use crate::field_values::{first_register, immediate, operand, performs, value_in, whole_operand};
 use crate::machine::Machine;
 use crate::perform::is_selected;
-use crate::semantics::{Action, RowSemantics, SecondOperand};
-use s390x_format::Fields;
+use crate::action::Action;
+use s390x_format::{Fields, RowSemantics, SecondOperand};
 use s390x_lanes::Signedness;
 use s390x_operations::{
     CodeRule, Effect, Operator, SelectedBitsOperator, Size, Width, extended, rotated, selection,

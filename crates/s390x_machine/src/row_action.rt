@@ -12,7 +12,7 @@ use crate::register_action::{
     compute, count_ones, divide_logical, divide_signed, find_leftmost_one, move_where,
     multiply_logical, multiply_signed, rotate_then,
 };
-use crate::semantics::{Action, RowSemantics};
+use crate::action::Action;
 use crate::storage_action::{
     compare_and_swap, load_and_operate, load_multiple, store, store_byte, store_immediate,
     store_multiple,
@@ -21,7 +21,7 @@ use crate::vector_action::{
     elements, extract_element, insert_element, join_registers, left_to_register, load_left,
     load_vector, move_left, register_to_left, shift_elements, store_left, store_vector,
 };
-use s390x_format::Fields;
+use s390x_format::{Fields, RowSemantics};
 use s390x_operations::{CodeRule, Effect};
 
 /// What a row does, with these fields and the machine's registers, at its place.

@@ -11,8 +11,8 @@ ghost use Rattle.s390x_machine.specs.Sound.{FieldsFit, IsSoundAction, is_free, i
 
 use crate::field_values::{based, indexed_address, performs, value_in, whole_operand};
 use crate::machine::Machine;
-use crate::semantics::{Action, RowSemantics, VectorStorage};
-use s390x_format::Fields;
+use crate::action::Action;
+use s390x_format::{Fields, RowSemantics, VectorStorage};
 use s390x_lanes::{ElementSize, VectorOperation, element, operation, size_from};
 use s390x_operations::{CodeRule, Effect, Operator, Size, VectorLayout, loaded};
 
