@@ -19,6 +19,7 @@ mod row_offsets;
 mod semantics;
 mod signed_formats;
 mod signed_impls;
+mod spelling;
 mod steps;
 mod storage_formats;
 mod storage_impls;
@@ -38,9 +39,10 @@ pub use register_formats::{E, Rr, Rre, RrfAb, RrfCde};
 pub use row::{Allowed, MachineRow, Row, allows};
 pub use semantics::{OperandSource, RowSemantics, SecondOperand, VectorStorage};
 pub use signed_formats::{RiB, RiC, RilB, RilC, Sil};
+pub use spelling::{Form, Spelling, Suffix};
 pub use steps::Steps;
 pub use storage_formats::{Rs, Rsy, Rx, Rxy, Si, Siy};
-pub use table::MACHINE_ROWS;
+pub use table::{MACHINE_ROWS, SPELLINGS};
 pub use vector_formats::{
     VriA, VriB, VriC, VriK, VrrA, VrrB, VrrC, VrrD, VrrE, VrrF, VrsA, VrsB, VrsC, Vrx,
 };

@@ -1,417 +1,448 @@
 //! The machine rows: every opcode that an instruction of the code generator uses, in rising order,
-//! with its format and the masks and immediates that it allows. The comment is the mnemonic of the
-//! Principles of Operation, with those of its element sizes where they are several.
+//! with its format, the masks and immediates that it allows, how it is written, and what it does.
+//! The comment is the mnemonic of the Principles of Operation, with those of its element sizes where
+//! they are several.
 use crate::kind::FormatKind;
 use crate::row::{Allowed, MachineRow};
 use crate::semantics::{
     ACCESS_REGISTER, AMOUNT, AT_0, AT_16, AT_32, AT_48, BYTE_IN_MEMORY, BYTE_REGISTER, DOUBLEWORD_IN_MEMORY, HALFWORD_IMMEDIATE, HALFWORD_IN_MEMORY, HALFWORD_REGISTER, INDEXED_ADDRESS, REGISTER, RELATIVE_ADDRESS, RELATIVE_DOUBLEWORD, RELATIVE_HALFWORD, RELATIVE_WORD, REVERSED_DOUBLEWORD_IN_MEMORY, REVERSED_HALFWORD_IN_MEMORY, REVERSED_REGISTER, REVERSED_WORD_IN_MEMORY, REVERSED_WORD_REGISTER, SIGNED_BYTE_IN_MEMORY, SIGNED_BYTE_REGISTER, SIGNED_HALFWORD_IN_MEMORY, SIGNED_HALFWORD_REGISTER, SIGNED_RELATIVE_HALFWORD, SIGNED_RELATIVE_WORD, SIGNED_WORD_IMMEDIATE, SIGNED_WORD_IN_MEMORY, SIGNED_WORD_REGISTER, THREE_HALFWORD_IMMEDIATE, THREE_REGISTERS, THREE_WORD_REGISTERS, WORD_IMMEDIATE, WORD_IN_MEMORY, WORD_REGISTER, RowSemantics, VectorStorage,
 };
+use crate::spelling::{Form, Spelling, Suffix};
 use s390x_lanes::{ElementSize, ShiftOperator, Signedness};
 use s390x_operations::{BitOperator, CodeRule, LogicalOperator, Operator, SelectedBitsOperator, SignedOperator, Size, Width};
 use s390x_rows::opcodes;
 
-/// The machine rows, in rising order of their opcodes.
+// A constant that is used in definitions has no text in a struct, so a row's spelling stands beside its other columns. Both are
+// made of the same line.
+macro_rules! row {
+    ($format:ident, $opcode:ident, $allowed:expr, ($stem:literal, $suffix:ident, $form:ident), $semantics:expr) => {
+        MachineRow {
+            format: FormatKind::$format,
+            opcode: opcodes::$opcode,
+            allowed: $allowed,
+            semantics: $semantics,
+        }
+    };
+}
+
+macro_rules! spelling {
+    ($format:ident, $opcode:ident, $allowed:expr, ($stem:literal, $suffix:ident, $form:ident), $semantics:expr) => {
+        ($stem, Suffix::$suffix, Form::$form)
+    };
+}
+
+/// The machine rows, in rising order of their opcodes: what is made of each.
 #[rattlefmt::skip]
-pub const MACHINE_ROWS: [MachineRow; 401] = [
-    MachineRow { format: FormatKind::Rr, opcode: opcodes::BCR, allowed: Allowed::Any, semantics: RowSemantics::BranchToRegister }, // bcr
-    MachineRow { format: FormatKind::Rr, opcode: opcodes::BASR, allowed: Allowed::Any, semantics: RowSemantics::BranchAndSaveToRegister }, // basr
-    MachineRow { format: FormatKind::Rr, opcode: opcodes::LPR, allowed: Allowed::Any, semantics: RowSemantics::Compute(Operator::Signed(SignedOperator::Absolute), Size::Word, WORD_REGISTER, CodeRule::Set) }, // lpr
-    MachineRow { format: FormatKind::Rr, opcode: opcodes::LCR, allowed: Allowed::Any, semantics: RowSemantics::Compute(Operator::Signed(SignedOperator::Negate), Size::Word, WORD_REGISTER, CodeRule::Set) }, // lcr
-    MachineRow { format: FormatKind::Rr, opcode: opcodes::NR, allowed: Allowed::Any, semantics: RowSemantics::Compute(Operator::Bit(BitOperator::And), Size::Word, WORD_REGISTER, CodeRule::Set) }, // nr
-    MachineRow { format: FormatKind::Rr, opcode: opcodes::CLR, allowed: Allowed::Any, semantics: RowSemantics::Compare(Signedness::Unsigned, Size::Word, WORD_REGISTER) }, // clr
-    MachineRow { format: FormatKind::Rr, opcode: opcodes::OR, allowed: Allowed::Any, semantics: RowSemantics::Compute(Operator::Bit(BitOperator::Or), Size::Word, WORD_REGISTER, CodeRule::Set) }, // or
-    MachineRow { format: FormatKind::Rr, opcode: opcodes::XR, allowed: Allowed::Any, semantics: RowSemantics::Compute(Operator::Bit(BitOperator::Xor), Size::Word, WORD_REGISTER, CodeRule::Set) }, // xr
-    MachineRow { format: FormatKind::Rr, opcode: opcodes::LR, allowed: Allowed::Any, semantics: RowSemantics::Compute(Operator::Move, Size::Word, WORD_REGISTER, CodeRule::Kept) }, // lr
-    MachineRow { format: FormatKind::Rr, opcode: opcodes::CR, allowed: Allowed::Any, semantics: RowSemantics::Compare(Signedness::Signed, Size::Word, WORD_REGISTER) }, // cr
-    MachineRow { format: FormatKind::Rr, opcode: opcodes::AR, allowed: Allowed::Any, semantics: RowSemantics::Compute(Operator::Signed(SignedOperator::Add), Size::Word, WORD_REGISTER, CodeRule::Set) }, // ar
-    MachineRow { format: FormatKind::Rr, opcode: opcodes::SR, allowed: Allowed::Any, semantics: RowSemantics::Compute(Operator::Signed(SignedOperator::Subtract), Size::Word, WORD_REGISTER, CodeRule::Set) }, // sr
-    MachineRow { format: FormatKind::Rr, opcode: opcodes::ALR, allowed: Allowed::Any, semantics: RowSemantics::Compute(Operator::Logical(LogicalOperator::Add), Size::Word, WORD_REGISTER, CodeRule::Set) }, // alr
-    MachineRow { format: FormatKind::Rr, opcode: opcodes::SLR, allowed: Allowed::Any, semantics: RowSemantics::Compute(Operator::Logical(LogicalOperator::Subtract), Size::Word, WORD_REGISTER, CodeRule::Set) }, // slr
-    MachineRow { format: FormatKind::Rr, opcode: opcodes::LDR, allowed: Allowed::Any, semantics: RowSemantics::MoveLeft(ElementSize::Doubleword) }, // ldr
-    MachineRow { format: FormatKind::Rr, opcode: opcodes::LER, allowed: Allowed::Any, semantics: RowSemantics::MoveLeft(ElementSize::Word) }, // ler
-    MachineRow { format: FormatKind::Rx, opcode: opcodes::STH, allowed: Allowed::Any, semantics: RowSemantics::Store(HALFWORD_IN_MEMORY) }, // sth
-    MachineRow { format: FormatKind::Rx, opcode: opcodes::LA, allowed: Allowed::Any, semantics: RowSemantics::Compute(Operator::Move, Size::Doubleword, INDEXED_ADDRESS, CodeRule::Kept) }, // la
-    MachineRow { format: FormatKind::Rx, opcode: opcodes::STC, allowed: Allowed::Any, semantics: RowSemantics::Store(BYTE_IN_MEMORY) }, // stc
-    MachineRow { format: FormatKind::Rx, opcode: opcodes::LH, allowed: Allowed::Any, semantics: RowSemantics::Compute(Operator::Move, Size::Word, SIGNED_HALFWORD_IN_MEMORY, CodeRule::Kept) }, // lh
-    MachineRow { format: FormatKind::Rx, opcode: opcodes::CH, allowed: Allowed::Any, semantics: RowSemantics::Compare(Signedness::Signed, Size::Word, SIGNED_HALFWORD_IN_MEMORY) }, // ch
-    MachineRow { format: FormatKind::Rx, opcode: opcodes::AH, allowed: Allowed::Any, semantics: RowSemantics::Compute(Operator::Signed(SignedOperator::Add), Size::Word, SIGNED_HALFWORD_IN_MEMORY, CodeRule::Set) }, // ah
-    MachineRow { format: FormatKind::Rx, opcode: opcodes::SH, allowed: Allowed::Any, semantics: RowSemantics::Compute(Operator::Signed(SignedOperator::Subtract), Size::Word, SIGNED_HALFWORD_IN_MEMORY, CodeRule::Set) }, // sh
-    MachineRow { format: FormatKind::Rx, opcode: opcodes::MH, allowed: Allowed::Any, semantics: RowSemantics::Compute(Operator::Signed(SignedOperator::Multiply), Size::Word, SIGNED_HALFWORD_IN_MEMORY, CodeRule::Kept) }, // mh
-    MachineRow { format: FormatKind::Rx, opcode: opcodes::ST, allowed: Allowed::Any, semantics: RowSemantics::Store(WORD_IN_MEMORY) }, // st
-    MachineRow { format: FormatKind::Rx, opcode: opcodes::N, allowed: Allowed::Any, semantics: RowSemantics::Compute(Operator::Bit(BitOperator::And), Size::Word, WORD_IN_MEMORY, CodeRule::Set) }, // n
-    MachineRow { format: FormatKind::Rx, opcode: opcodes::CL, allowed: Allowed::Any, semantics: RowSemantics::Compare(Signedness::Unsigned, Size::Word, WORD_IN_MEMORY) }, // cl
-    MachineRow { format: FormatKind::Rx, opcode: opcodes::O, allowed: Allowed::Any, semantics: RowSemantics::Compute(Operator::Bit(BitOperator::Or), Size::Word, WORD_IN_MEMORY, CodeRule::Set) }, // o
-    MachineRow { format: FormatKind::Rx, opcode: opcodes::X, allowed: Allowed::Any, semantics: RowSemantics::Compute(Operator::Bit(BitOperator::Xor), Size::Word, WORD_IN_MEMORY, CodeRule::Set) }, // x
-    MachineRow { format: FormatKind::Rx, opcode: opcodes::L, allowed: Allowed::Any, semantics: RowSemantics::Compute(Operator::Move, Size::Word, WORD_IN_MEMORY, CodeRule::Kept) }, // l
-    MachineRow { format: FormatKind::Rx, opcode: opcodes::C, allowed: Allowed::Any, semantics: RowSemantics::Compare(Signedness::Signed, Size::Word, WORD_IN_MEMORY) }, // c
-    MachineRow { format: FormatKind::Rx, opcode: opcodes::A, allowed: Allowed::Any, semantics: RowSemantics::Compute(Operator::Signed(SignedOperator::Add), Size::Word, WORD_IN_MEMORY, CodeRule::Set) }, // a
-    MachineRow { format: FormatKind::Rx, opcode: opcodes::S, allowed: Allowed::Any, semantics: RowSemantics::Compute(Operator::Signed(SignedOperator::Subtract), Size::Word, WORD_IN_MEMORY, CodeRule::Set) }, // s
-    MachineRow { format: FormatKind::Rx, opcode: opcodes::AL, allowed: Allowed::Any, semantics: RowSemantics::Compute(Operator::Logical(LogicalOperator::Add), Size::Word, WORD_IN_MEMORY, CodeRule::Set) }, // al
-    MachineRow { format: FormatKind::Rx, opcode: opcodes::SL, allowed: Allowed::Any, semantics: RowSemantics::Compute(Operator::Logical(LogicalOperator::Subtract), Size::Word, WORD_IN_MEMORY, CodeRule::Set) }, // sl
-    MachineRow { format: FormatKind::Rx, opcode: opcodes::STD, allowed: Allowed::Any, semantics: RowSemantics::StoreLeft(ElementSize::Doubleword) }, // std
-    MachineRow { format: FormatKind::Rx, opcode: opcodes::LD, allowed: Allowed::Any, semantics: RowSemantics::LoadLeft(ElementSize::Doubleword) }, // ld
-    MachineRow { format: FormatKind::Rx, opcode: opcodes::STE, allowed: Allowed::Any, semantics: RowSemantics::StoreLeft(ElementSize::Word) }, // ste
-    MachineRow { format: FormatKind::Rx, opcode: opcodes::MS, allowed: Allowed::Any, semantics: RowSemantics::Compute(Operator::Signed(SignedOperator::Multiply), Size::Word, WORD_IN_MEMORY, CodeRule::Kept) }, // ms
-    MachineRow { format: FormatKind::Rx, opcode: opcodes::LE, allowed: Allowed::Any, semantics: RowSemantics::LoadLeft(ElementSize::Word) }, // le
-    MachineRow { format: FormatKind::Si, opcode: opcodes::MVI, allowed: Allowed::Any, semantics: RowSemantics::StoreByte }, // mvi
-    MachineRow { format: FormatKind::Rs, opcode: opcodes::CS, allowed: Allowed::Any, semantics: RowSemantics::CompareAndSwap(Size::Word) }, // cs
-    MachineRow { format: FormatKind::RiA, opcode: opcodes::IIHH, allowed: Allowed::Any, semantics: RowSemantics::Compute(Operator::SelectedBits(SelectedBitsOperator::Insert, 0xffff000000000000), Size::Doubleword, AT_48, CodeRule::Kept) }, // iihh
-    MachineRow { format: FormatKind::RiA, opcode: opcodes::IIHL, allowed: Allowed::Any, semantics: RowSemantics::Compute(Operator::SelectedBits(SelectedBitsOperator::Insert, 0xffff00000000), Size::Doubleword, AT_32, CodeRule::Kept) }, // iihl
-    MachineRow { format: FormatKind::RiA, opcode: opcodes::IILH, allowed: Allowed::Any, semantics: RowSemantics::Compute(Operator::SelectedBits(SelectedBitsOperator::Insert, 0xffff0000), Size::Doubleword, AT_16, CodeRule::Kept) }, // iilh
-    MachineRow { format: FormatKind::RiA, opcode: opcodes::IILL, allowed: Allowed::Any, semantics: RowSemantics::Compute(Operator::SelectedBits(SelectedBitsOperator::Insert, 0xffff), Size::Doubleword, AT_0, CodeRule::Kept) }, // iill
-    MachineRow { format: FormatKind::RiA, opcode: opcodes::NIHH, allowed: Allowed::Any, semantics: RowSemantics::Compute(Operator::SelectedBits(SelectedBitsOperator::And, 0xffff000000000000), Size::Doubleword, AT_48, CodeRule::Set) }, // nihh
-    MachineRow { format: FormatKind::RiA, opcode: opcodes::NIHL, allowed: Allowed::Any, semantics: RowSemantics::Compute(Operator::SelectedBits(SelectedBitsOperator::And, 0xffff00000000), Size::Doubleword, AT_32, CodeRule::Set) }, // nihl
-    MachineRow { format: FormatKind::RiA, opcode: opcodes::NILH, allowed: Allowed::Any, semantics: RowSemantics::Compute(Operator::SelectedBits(SelectedBitsOperator::And, 0xffff0000), Size::Doubleword, AT_16, CodeRule::Set) }, // nilh
-    MachineRow { format: FormatKind::RiA, opcode: opcodes::NILL, allowed: Allowed::Any, semantics: RowSemantics::Compute(Operator::SelectedBits(SelectedBitsOperator::And, 0xffff), Size::Doubleword, AT_0, CodeRule::Set) }, // nill
-    MachineRow { format: FormatKind::RiA, opcode: opcodes::OIHH, allowed: Allowed::Any, semantics: RowSemantics::Compute(Operator::SelectedBits(SelectedBitsOperator::Or, 0xffff000000000000), Size::Doubleword, AT_48, CodeRule::Set) }, // oihh
-    MachineRow { format: FormatKind::RiA, opcode: opcodes::OIHL, allowed: Allowed::Any, semantics: RowSemantics::Compute(Operator::SelectedBits(SelectedBitsOperator::Or, 0xffff00000000), Size::Doubleword, AT_32, CodeRule::Set) }, // oihl
-    MachineRow { format: FormatKind::RiA, opcode: opcodes::OILH, allowed: Allowed::Any, semantics: RowSemantics::Compute(Operator::SelectedBits(SelectedBitsOperator::Or, 0xffff0000), Size::Doubleword, AT_16, CodeRule::Set) }, // oilh
-    MachineRow { format: FormatKind::RiA, opcode: opcodes::OILL, allowed: Allowed::Any, semantics: RowSemantics::Compute(Operator::SelectedBits(SelectedBitsOperator::Or, 0xffff), Size::Doubleword, AT_0, CodeRule::Set) }, // oill
-    MachineRow { format: FormatKind::RiA, opcode: opcodes::LLIHH, allowed: Allowed::Any, semantics: RowSemantics::Compute(Operator::Move, Size::Doubleword, AT_48, CodeRule::Kept) }, // llihh
-    MachineRow { format: FormatKind::RiA, opcode: opcodes::LLIHL, allowed: Allowed::Any, semantics: RowSemantics::Compute(Operator::Move, Size::Doubleword, AT_32, CodeRule::Kept) }, // llihl
-    MachineRow { format: FormatKind::RiA, opcode: opcodes::LLILH, allowed: Allowed::Any, semantics: RowSemantics::Compute(Operator::Move, Size::Doubleword, AT_16, CodeRule::Kept) }, // llilh
-    MachineRow { format: FormatKind::RiA, opcode: opcodes::LLILL, allowed: Allowed::Any, semantics: RowSemantics::Compute(Operator::Move, Size::Doubleword, AT_0, CodeRule::Kept) }, // llill
-    MachineRow { format: FormatKind::RiC, opcode: opcodes::BRC, allowed: Allowed::Any, semantics: RowSemantics::BranchRelative }, // brc
-    MachineRow { format: FormatKind::RiB, opcode: opcodes::BRAS, allowed: Allowed::Any, semantics: RowSemantics::BranchAndSaveRelative }, // bras
-    MachineRow { format: FormatKind::RiA, opcode: opcodes::LHI, allowed: Allowed::Any, semantics: RowSemantics::Compute(Operator::Move, Size::Word, HALFWORD_IMMEDIATE, CodeRule::Kept) }, // lhi
-    MachineRow { format: FormatKind::RiA, opcode: opcodes::LGHI, allowed: Allowed::Any, semantics: RowSemantics::Compute(Operator::Move, Size::Doubleword, HALFWORD_IMMEDIATE, CodeRule::Kept) }, // lghi
-    MachineRow { format: FormatKind::RiA, opcode: opcodes::AHI, allowed: Allowed::Any, semantics: RowSemantics::Compute(Operator::Signed(SignedOperator::Add), Size::Word, HALFWORD_IMMEDIATE, CodeRule::Set) }, // ahi
-    MachineRow { format: FormatKind::RiA, opcode: opcodes::AGHI, allowed: Allowed::Any, semantics: RowSemantics::Compute(Operator::Signed(SignedOperator::Add), Size::Doubleword, HALFWORD_IMMEDIATE, CodeRule::Set) }, // aghi
-    MachineRow { format: FormatKind::RiA, opcode: opcodes::MHI, allowed: Allowed::Any, semantics: RowSemantics::Compute(Operator::Signed(SignedOperator::Multiply), Size::Word, HALFWORD_IMMEDIATE, CodeRule::Kept) }, // mhi
-    MachineRow { format: FormatKind::RiA, opcode: opcodes::MGHI, allowed: Allowed::Any, semantics: RowSemantics::Compute(Operator::Signed(SignedOperator::Multiply), Size::Doubleword, HALFWORD_IMMEDIATE, CodeRule::Kept) }, // mghi
-    MachineRow { format: FormatKind::RiA, opcode: opcodes::CHI, allowed: Allowed::Any, semantics: RowSemantics::Compare(Signedness::Signed, Size::Word, HALFWORD_IMMEDIATE) }, // chi
-    MachineRow { format: FormatKind::RiA, opcode: opcodes::CGHI, allowed: Allowed::Any, semantics: RowSemantics::Compare(Signedness::Signed, Size::Doubleword, HALFWORD_IMMEDIATE) }, // cghi
-    MachineRow { format: FormatKind::RilB, opcode: opcodes::LARL, allowed: Allowed::Any, semantics: RowSemantics::Compute(Operator::Move, Size::Doubleword, RELATIVE_ADDRESS, CodeRule::Kept) }, // larl
-    MachineRow { format: FormatKind::RilA, opcode: opcodes::LGFI, allowed: Allowed::Any, semantics: RowSemantics::Compute(Operator::Move, Size::Doubleword, SIGNED_WORD_IMMEDIATE, CodeRule::Kept) }, // lgfi
-    MachineRow { format: FormatKind::RilC, opcode: opcodes::BRCL, allowed: Allowed::Any, semantics: RowSemantics::BranchRelative }, // brcl
-    MachineRow { format: FormatKind::RilB, opcode: opcodes::BRASL, allowed: Allowed::Any, semantics: RowSemantics::BranchAndSaveRelative }, // brasl
-    MachineRow { format: FormatKind::RilA, opcode: opcodes::XIHF, allowed: Allowed::Any, semantics: RowSemantics::Compute(Operator::SelectedBits(SelectedBitsOperator::Xor, 0xffffffff00000000), Size::Doubleword, AT_32, CodeRule::Set) }, // xihf
-    MachineRow { format: FormatKind::RilA, opcode: opcodes::XILF, allowed: Allowed::Any, semantics: RowSemantics::Compute(Operator::SelectedBits(SelectedBitsOperator::Xor, 0xffffffff), Size::Doubleword, AT_0, CodeRule::Set) }, // xilf
-    MachineRow { format: FormatKind::RilA, opcode: opcodes::IIHF, allowed: Allowed::Any, semantics: RowSemantics::Compute(Operator::SelectedBits(SelectedBitsOperator::Insert, 0xffffffff00000000), Size::Doubleword, AT_32, CodeRule::Kept) }, // iihf
-    MachineRow { format: FormatKind::RilA, opcode: opcodes::IILF, allowed: Allowed::Any, semantics: RowSemantics::Compute(Operator::Move, Size::Word, WORD_IMMEDIATE, CodeRule::Kept) }, // iilf
-    MachineRow { format: FormatKind::RilA, opcode: opcodes::NIHF, allowed: Allowed::Any, semantics: RowSemantics::Compute(Operator::SelectedBits(SelectedBitsOperator::And, 0xffffffff00000000), Size::Doubleword, AT_32, CodeRule::Set) }, // nihf
-    MachineRow { format: FormatKind::RilA, opcode: opcodes::NILF, allowed: Allowed::Any, semantics: RowSemantics::Compute(Operator::SelectedBits(SelectedBitsOperator::And, 0xffffffff), Size::Doubleword, AT_0, CodeRule::Set) }, // nilf
-    MachineRow { format: FormatKind::RilA, opcode: opcodes::OIHF, allowed: Allowed::Any, semantics: RowSemantics::Compute(Operator::SelectedBits(SelectedBitsOperator::Or, 0xffffffff00000000), Size::Doubleword, AT_32, CodeRule::Set) }, // oihf
-    MachineRow { format: FormatKind::RilA, opcode: opcodes::OILF, allowed: Allowed::Any, semantics: RowSemantics::Compute(Operator::SelectedBits(SelectedBitsOperator::Or, 0xffffffff), Size::Doubleword, AT_0, CodeRule::Set) }, // oilf
-    MachineRow { format: FormatKind::RilA, opcode: opcodes::LLIHF, allowed: Allowed::Any, semantics: RowSemantics::Compute(Operator::Move, Size::Doubleword, AT_32, CodeRule::Kept) }, // llihf
-    MachineRow { format: FormatKind::RilA, opcode: opcodes::LLILF, allowed: Allowed::Any, semantics: RowSemantics::Compute(Operator::Move, Size::Doubleword, AT_0, CodeRule::Kept) }, // llilf
-    MachineRow { format: FormatKind::RilA, opcode: opcodes::MSGFI, allowed: Allowed::Any, semantics: RowSemantics::Compute(Operator::Signed(SignedOperator::Multiply), Size::Doubleword, SIGNED_WORD_IMMEDIATE, CodeRule::Kept) }, // msgfi
-    MachineRow { format: FormatKind::RilA, opcode: opcodes::MSFI, allowed: Allowed::Any, semantics: RowSemantics::Compute(Operator::Signed(SignedOperator::Multiply), Size::Word, SIGNED_WORD_IMMEDIATE, CodeRule::Kept) }, // msfi
-    MachineRow { format: FormatKind::RilA, opcode: opcodes::SLGFI, allowed: Allowed::Any, semantics: RowSemantics::Compute(Operator::Logical(LogicalOperator::Subtract), Size::Doubleword, WORD_IMMEDIATE, CodeRule::Set) }, // slgfi
-    MachineRow { format: FormatKind::RilA, opcode: opcodes::SLFI, allowed: Allowed::Any, semantics: RowSemantics::Compute(Operator::Logical(LogicalOperator::Subtract), Size::Word, WORD_IMMEDIATE, CodeRule::Set) }, // slfi
-    MachineRow { format: FormatKind::RilA, opcode: opcodes::AGFI, allowed: Allowed::Any, semantics: RowSemantics::Compute(Operator::Signed(SignedOperator::Add), Size::Doubleword, SIGNED_WORD_IMMEDIATE, CodeRule::Set) }, // agfi
-    MachineRow { format: FormatKind::RilA, opcode: opcodes::AFI, allowed: Allowed::Any, semantics: RowSemantics::Compute(Operator::Signed(SignedOperator::Add), Size::Word, SIGNED_WORD_IMMEDIATE, CodeRule::Set) }, // afi
-    MachineRow { format: FormatKind::RilA, opcode: opcodes::ALGFI, allowed: Allowed::Any, semantics: RowSemantics::Compute(Operator::Logical(LogicalOperator::Add), Size::Doubleword, WORD_IMMEDIATE, CodeRule::Set) }, // algfi
-    MachineRow { format: FormatKind::RilA, opcode: opcodes::ALFI, allowed: Allowed::Any, semantics: RowSemantics::Compute(Operator::Logical(LogicalOperator::Add), Size::Word, WORD_IMMEDIATE, CodeRule::Set) }, // alfi
-    MachineRow { format: FormatKind::RilA, opcode: opcodes::CGFI, allowed: Allowed::Any, semantics: RowSemantics::Compare(Signedness::Signed, Size::Doubleword, SIGNED_WORD_IMMEDIATE) }, // cgfi
-    MachineRow { format: FormatKind::RilA, opcode: opcodes::CFI, allowed: Allowed::Any, semantics: RowSemantics::Compare(Signedness::Signed, Size::Word, SIGNED_WORD_IMMEDIATE) }, // cfi
-    MachineRow { format: FormatKind::RilA, opcode: opcodes::CLGFI, allowed: Allowed::Any, semantics: RowSemantics::Compare(Signedness::Unsigned, Size::Doubleword, WORD_IMMEDIATE) }, // clgfi
-    MachineRow { format: FormatKind::RilA, opcode: opcodes::CLFI, allowed: Allowed::Any, semantics: RowSemantics::Compare(Signedness::Unsigned, Size::Word, WORD_IMMEDIATE) }, // clfi
-    MachineRow { format: FormatKind::RilB, opcode: opcodes::LLHRL, allowed: Allowed::Any, semantics: RowSemantics::Compute(Operator::Move, Size::Word, RELATIVE_HALFWORD, CodeRule::Kept) }, // llhrl
-    MachineRow { format: FormatKind::RilB, opcode: opcodes::LGHRL, allowed: Allowed::Any, semantics: RowSemantics::Compute(Operator::Move, Size::Doubleword, SIGNED_RELATIVE_HALFWORD, CodeRule::Kept) }, // lghrl
-    MachineRow { format: FormatKind::RilB, opcode: opcodes::LHRL, allowed: Allowed::Any, semantics: RowSemantics::Compute(Operator::Move, Size::Word, SIGNED_RELATIVE_HALFWORD, CodeRule::Kept) }, // lhrl
-    MachineRow { format: FormatKind::RilB, opcode: opcodes::LLGHRL, allowed: Allowed::Any, semantics: RowSemantics::Compute(Operator::Move, Size::Doubleword, RELATIVE_HALFWORD, CodeRule::Kept) }, // llghrl
-    MachineRow { format: FormatKind::RilB, opcode: opcodes::STHRL, allowed: Allowed::Any, semantics: RowSemantics::Store(RELATIVE_HALFWORD) }, // sthrl
-    MachineRow { format: FormatKind::RilB, opcode: opcodes::LGRL, allowed: Allowed::Any, semantics: RowSemantics::Compute(Operator::Move, Size::Doubleword, RELATIVE_DOUBLEWORD, CodeRule::Kept) }, // lgrl
-    MachineRow { format: FormatKind::RilB, opcode: opcodes::STGRL, allowed: Allowed::Any, semantics: RowSemantics::Store(RELATIVE_DOUBLEWORD) }, // stgrl
-    MachineRow { format: FormatKind::RilB, opcode: opcodes::LGFRL, allowed: Allowed::Any, semantics: RowSemantics::Compute(Operator::Move, Size::Doubleword, SIGNED_RELATIVE_WORD, CodeRule::Kept) }, // lgfrl
-    MachineRow { format: FormatKind::RilB, opcode: opcodes::LRL, allowed: Allowed::Any, semantics: RowSemantics::Compute(Operator::Move, Size::Word, RELATIVE_WORD, CodeRule::Kept) }, // lrl
-    MachineRow { format: FormatKind::RilB, opcode: opcodes::LLGFRL, allowed: Allowed::Any, semantics: RowSemantics::Compute(Operator::Move, Size::Doubleword, RELATIVE_WORD, CodeRule::Kept) }, // llgfrl
-    MachineRow { format: FormatKind::RilB, opcode: opcodes::STRL, allowed: Allowed::Any, semantics: RowSemantics::Store(RELATIVE_WORD) }, // strl
-    MachineRow { format: FormatKind::RilB, opcode: opcodes::CGHRL, allowed: Allowed::Any, semantics: RowSemantics::Compare(Signedness::Signed, Size::Doubleword, SIGNED_RELATIVE_HALFWORD) }, // cghrl
-    MachineRow { format: FormatKind::RilB, opcode: opcodes::CHRL, allowed: Allowed::Any, semantics: RowSemantics::Compare(Signedness::Signed, Size::Word, SIGNED_RELATIVE_HALFWORD) }, // chrl
-    MachineRow { format: FormatKind::RilB, opcode: opcodes::CLGHRL, allowed: Allowed::Any, semantics: RowSemantics::Compare(Signedness::Unsigned, Size::Doubleword, RELATIVE_HALFWORD) }, // clghrl
-    MachineRow { format: FormatKind::RilB, opcode: opcodes::CLHRL, allowed: Allowed::Any, semantics: RowSemantics::Compare(Signedness::Unsigned, Size::Word, RELATIVE_HALFWORD) }, // clhrl
-    MachineRow { format: FormatKind::RilB, opcode: opcodes::CGRL, allowed: Allowed::Any, semantics: RowSemantics::Compare(Signedness::Signed, Size::Doubleword, RELATIVE_DOUBLEWORD) }, // cgrl
-    MachineRow { format: FormatKind::RilB, opcode: opcodes::CLGRL, allowed: Allowed::Any, semantics: RowSemantics::Compare(Signedness::Unsigned, Size::Doubleword, RELATIVE_DOUBLEWORD) }, // clgrl
-    MachineRow { format: FormatKind::RilB, opcode: opcodes::CGFRL, allowed: Allowed::Any, semantics: RowSemantics::Compare(Signedness::Signed, Size::Doubleword, SIGNED_RELATIVE_WORD) }, // cgfrl
-    MachineRow { format: FormatKind::RilB, opcode: opcodes::CRL, allowed: Allowed::Any, semantics: RowSemantics::Compare(Signedness::Signed, Size::Word, RELATIVE_WORD) }, // crl
-    MachineRow { format: FormatKind::RilB, opcode: opcodes::CLGFRL, allowed: Allowed::Any, semantics: RowSemantics::Compare(Signedness::Unsigned, Size::Doubleword, RELATIVE_WORD) }, // clgfrl
-    MachineRow { format: FormatKind::RilB, opcode: opcodes::CLRL, allowed: Allowed::Any, semantics: RowSemantics::Compare(Signedness::Unsigned, Size::Word, RELATIVE_WORD) }, // clrl
-    MachineRow { format: FormatKind::Rre, opcode: opcodes::EAR, allowed: Allowed::Any, semantics: RowSemantics::Compute(Operator::Move, Size::Word, ACCESS_REGISTER, CodeRule::Kept) }, // ear
-    MachineRow { format: FormatKind::Rre, opcode: opcodes::MSR, allowed: Allowed::Any, semantics: RowSemantics::Compute(Operator::Signed(SignedOperator::Multiply), Size::Word, WORD_REGISTER, CodeRule::Kept) }, // msr
-    MachineRow { format: FormatKind::Rre, opcode: opcodes::LDGR, allowed: Allowed::Any, semantics: RowSemantics::RegisterToLeft }, // ldgr
-    MachineRow { format: FormatKind::Rre, opcode: opcodes::LGDR, allowed: Allowed::Any, semantics: RowSemantics::LeftToRegister }, // lgdr
-    MachineRow { format: FormatKind::Rre, opcode: opcodes::LPGR, allowed: Allowed::Any, semantics: RowSemantics::Compute(Operator::Signed(SignedOperator::Absolute), Size::Doubleword, REGISTER, CodeRule::Set) }, // lpgr
-    MachineRow { format: FormatKind::Rre, opcode: opcodes::LCGR, allowed: Allowed::Any, semantics: RowSemantics::Compute(Operator::Signed(SignedOperator::Negate), Size::Doubleword, REGISTER, CodeRule::Set) }, // lcgr
-    MachineRow { format: FormatKind::Rre, opcode: opcodes::LGR, allowed: Allowed::Any, semantics: RowSemantics::Compute(Operator::Move, Size::Doubleword, REGISTER, CodeRule::Kept) }, // lgr
-    MachineRow { format: FormatKind::Rre, opcode: opcodes::LGBR, allowed: Allowed::Any, semantics: RowSemantics::Compute(Operator::Move, Size::Doubleword, SIGNED_BYTE_REGISTER, CodeRule::Kept) }, // lgbr
-    MachineRow { format: FormatKind::Rre, opcode: opcodes::LGHR, allowed: Allowed::Any, semantics: RowSemantics::Compute(Operator::Move, Size::Doubleword, SIGNED_HALFWORD_REGISTER, CodeRule::Kept) }, // lghr
-    MachineRow { format: FormatKind::Rre, opcode: opcodes::AGR, allowed: Allowed::Any, semantics: RowSemantics::Compute(Operator::Signed(SignedOperator::Add), Size::Doubleword, REGISTER, CodeRule::Set) }, // agr
-    MachineRow { format: FormatKind::Rre, opcode: opcodes::SGR, allowed: Allowed::Any, semantics: RowSemantics::Compute(Operator::Signed(SignedOperator::Subtract), Size::Doubleword, REGISTER, CodeRule::Set) }, // sgr
-    MachineRow { format: FormatKind::Rre, opcode: opcodes::ALGR, allowed: Allowed::Any, semantics: RowSemantics::Compute(Operator::Logical(LogicalOperator::Add), Size::Doubleword, REGISTER, CodeRule::Set) }, // algr
-    MachineRow { format: FormatKind::Rre, opcode: opcodes::SLGR, allowed: Allowed::Any, semantics: RowSemantics::Compute(Operator::Logical(LogicalOperator::Subtract), Size::Doubleword, REGISTER, CodeRule::Set) }, // slgr
-    MachineRow { format: FormatKind::Rre, opcode: opcodes::MSGR, allowed: Allowed::Any, semantics: RowSemantics::Compute(Operator::Signed(SignedOperator::Multiply), Size::Doubleword, REGISTER, CodeRule::Kept) }, // msgr
-    MachineRow { format: FormatKind::Rre, opcode: opcodes::DSGR, allowed: Allowed::Any, semantics: RowSemantics::DivideSigned(Width::Bits64) }, // dsgr
-    MachineRow { format: FormatKind::Rre, opcode: opcodes::LRVGR, allowed: Allowed::Any, semantics: RowSemantics::Compute(Operator::Move, Size::Doubleword, REVERSED_REGISTER, CodeRule::Kept) }, // lrvgr
-    MachineRow { format: FormatKind::Rre, opcode: opcodes::LPGFR, allowed: Allowed::Any, semantics: RowSemantics::Compute(Operator::Signed(SignedOperator::Absolute), Size::Doubleword, SIGNED_WORD_REGISTER, CodeRule::Set) }, // lpgfr
-    MachineRow { format: FormatKind::Rre, opcode: opcodes::LCGFR, allowed: Allowed::Any, semantics: RowSemantics::Compute(Operator::Signed(SignedOperator::Negate), Size::Doubleword, SIGNED_WORD_REGISTER, CodeRule::Set) }, // lcgfr
-    MachineRow { format: FormatKind::Rre, opcode: opcodes::LGFR, allowed: Allowed::Any, semantics: RowSemantics::Compute(Operator::Move, Size::Doubleword, SIGNED_WORD_REGISTER, CodeRule::Kept) }, // lgfr
-    MachineRow { format: FormatKind::Rre, opcode: opcodes::LLGFR, allowed: Allowed::Any, semantics: RowSemantics::Compute(Operator::Move, Size::Doubleword, WORD_REGISTER, CodeRule::Kept) }, // llgfr
-    MachineRow { format: FormatKind::Rre, opcode: opcodes::AGFR, allowed: Allowed::Any, semantics: RowSemantics::Compute(Operator::Signed(SignedOperator::Add), Size::Doubleword, SIGNED_WORD_REGISTER, CodeRule::Set) }, // agfr
-    MachineRow { format: FormatKind::Rre, opcode: opcodes::SGFR, allowed: Allowed::Any, semantics: RowSemantics::Compute(Operator::Signed(SignedOperator::Subtract), Size::Doubleword, SIGNED_WORD_REGISTER, CodeRule::Set) }, // sgfr
-    MachineRow { format: FormatKind::Rre, opcode: opcodes::ALGFR, allowed: Allowed::Any, semantics: RowSemantics::Compute(Operator::Logical(LogicalOperator::Add), Size::Doubleword, WORD_REGISTER, CodeRule::Set) }, // algfr
-    MachineRow { format: FormatKind::Rre, opcode: opcodes::SLGFR, allowed: Allowed::Any, semantics: RowSemantics::Compute(Operator::Logical(LogicalOperator::Subtract), Size::Doubleword, WORD_REGISTER, CodeRule::Set) }, // slgfr
-    MachineRow { format: FormatKind::Rre, opcode: opcodes::MSGFR, allowed: Allowed::Any, semantics: RowSemantics::Compute(Operator::Signed(SignedOperator::Multiply), Size::Doubleword, SIGNED_WORD_REGISTER, CodeRule::Kept) }, // msgfr
-    MachineRow { format: FormatKind::Rre, opcode: opcodes::DSGFR, allowed: Allowed::Any, semantics: RowSemantics::DivideSigned(Width::Bits32) }, // dsgfr
-    MachineRow { format: FormatKind::Rre, opcode: opcodes::LRVR, allowed: Allowed::Any, semantics: RowSemantics::Compute(Operator::Move, Size::Word, REVERSED_WORD_REGISTER, CodeRule::Kept) }, // lrvr
-    MachineRow { format: FormatKind::Rre, opcode: opcodes::CGR, allowed: Allowed::Any, semantics: RowSemantics::Compare(Signedness::Signed, Size::Doubleword, REGISTER) }, // cgr
-    MachineRow { format: FormatKind::Rre, opcode: opcodes::CLGR, allowed: Allowed::Any, semantics: RowSemantics::Compare(Signedness::Unsigned, Size::Doubleword, REGISTER) }, // clgr
-    MachineRow { format: FormatKind::Rre, opcode: opcodes::LBR, allowed: Allowed::Any, semantics: RowSemantics::Compute(Operator::Move, Size::Word, SIGNED_BYTE_REGISTER, CodeRule::Kept) }, // lbr
-    MachineRow { format: FormatKind::Rre, opcode: opcodes::LHR, allowed: Allowed::Any, semantics: RowSemantics::Compute(Operator::Move, Size::Word, SIGNED_HALFWORD_REGISTER, CodeRule::Kept) }, // lhr
-    MachineRow { format: FormatKind::Rre, opcode: opcodes::CGFR, allowed: Allowed::Any, semantics: RowSemantics::Compare(Signedness::Signed, Size::Doubleword, SIGNED_WORD_REGISTER) }, // cgfr
-    MachineRow { format: FormatKind::Rre, opcode: opcodes::CLGFR, allowed: Allowed::Any, semantics: RowSemantics::Compare(Signedness::Unsigned, Size::Doubleword, WORD_REGISTER) }, // clgfr
-    MachineRow { format: FormatKind::RrfCde, opcode: opcodes::CGRT, allowed: Allowed::FirstMask { low: 0, high: 15 }, semantics: RowSemantics::CompareAndTrap(Signedness::Signed, Size::Doubleword) }, // cgrt
-    MachineRow { format: FormatKind::RrfCde, opcode: opcodes::CLGRT, allowed: Allowed::FirstMask { low: 0, high: 15 }, semantics: RowSemantics::CompareAndTrap(Signedness::Unsigned, Size::Doubleword) }, // clgrt
-    MachineRow { format: FormatKind::RrfAb, opcode: opcodes::NNGRK, allowed: Allowed::FirstMask { low: 0, high: 0 }, semantics: RowSemantics::Compute(Operator::Bit(BitOperator::NotAnd), Size::Doubleword, THREE_REGISTERS, CodeRule::Set) }, // nngrk
-    MachineRow { format: FormatKind::RrfAb, opcode: opcodes::OCGRK, allowed: Allowed::FirstMask { low: 0, high: 0 }, semantics: RowSemantics::Compute(Operator::Bit(BitOperator::OrNot), Size::Doubleword, THREE_REGISTERS, CodeRule::Set) }, // ocgrk
-    MachineRow { format: FormatKind::RrfAb, opcode: opcodes::NOGRK, allowed: Allowed::FirstMask { low: 0, high: 0 }, semantics: RowSemantics::Compute(Operator::Bit(BitOperator::NotOr), Size::Doubleword, THREE_REGISTERS, CodeRule::Set) }, // nogrk
-    MachineRow { format: FormatKind::RrfAb, opcode: opcodes::NXGRK, allowed: Allowed::FirstMask { low: 0, high: 0 }, semantics: RowSemantics::Compute(Operator::Bit(BitOperator::NotXor), Size::Doubleword, THREE_REGISTERS, CodeRule::Set) }, // nxgrk
-    MachineRow { format: FormatKind::Rre, opcode: opcodes::CLZG, allowed: Allowed::Any, semantics: RowSemantics::Compute(Operator::LeadingZeros, Size::Doubleword, REGISTER, CodeRule::Unspecified) }, // clzg
-    MachineRow { format: FormatKind::Rre, opcode: opcodes::CTZG, allowed: Allowed::Any, semantics: RowSemantics::Compute(Operator::TrailingZeros, Size::Doubleword, REGISTER, CodeRule::Unspecified) }, // ctzg
-    MachineRow { format: FormatKind::RrfCde, opcode: opcodes::CRT, allowed: Allowed::FirstMask { low: 0, high: 15 }, semantics: RowSemantics::CompareAndTrap(Signedness::Signed, Size::Word) }, // crt
-    MachineRow { format: FormatKind::RrfCde, opcode: opcodes::CLRT, allowed: Allowed::FirstMask { low: 0, high: 15 }, semantics: RowSemantics::CompareAndTrap(Signedness::Unsigned, Size::Word) }, // clrt
-    MachineRow { format: FormatKind::RrfAb, opcode: opcodes::NNRK, allowed: Allowed::FirstMask { low: 0, high: 0 }, semantics: RowSemantics::Compute(Operator::Bit(BitOperator::NotAnd), Size::Word, THREE_WORD_REGISTERS, CodeRule::Set) }, // nnrk
-    MachineRow { format: FormatKind::RrfAb, opcode: opcodes::OCRK, allowed: Allowed::FirstMask { low: 0, high: 0 }, semantics: RowSemantics::Compute(Operator::Bit(BitOperator::OrNot), Size::Word, THREE_WORD_REGISTERS, CodeRule::Set) }, // ocrk
-    MachineRow { format: FormatKind::RrfAb, opcode: opcodes::NORK, allowed: Allowed::FirstMask { low: 0, high: 0 }, semantics: RowSemantics::Compute(Operator::Bit(BitOperator::NotOr), Size::Word, THREE_WORD_REGISTERS, CodeRule::Set) }, // nork
-    MachineRow { format: FormatKind::RrfAb, opcode: opcodes::NXRK, allowed: Allowed::FirstMask { low: 0, high: 0 }, semantics: RowSemantics::Compute(Operator::Bit(BitOperator::NotXor), Size::Word, THREE_WORD_REGISTERS, CodeRule::Set) }, // nxrk
-    MachineRow { format: FormatKind::Rre, opcode: opcodes::NGR, allowed: Allowed::Any, semantics: RowSemantics::Compute(Operator::Bit(BitOperator::And), Size::Doubleword, REGISTER, CodeRule::Set) }, // ngr
-    MachineRow { format: FormatKind::Rre, opcode: opcodes::OGR, allowed: Allowed::Any, semantics: RowSemantics::Compute(Operator::Bit(BitOperator::Or), Size::Doubleword, REGISTER, CodeRule::Set) }, // ogr
-    MachineRow { format: FormatKind::Rre, opcode: opcodes::XGR, allowed: Allowed::Any, semantics: RowSemantics::Compute(Operator::Bit(BitOperator::Xor), Size::Doubleword, REGISTER, CodeRule::Set) }, // xgr
-    MachineRow { format: FormatKind::Rre, opcode: opcodes::FLOGR, allowed: Allowed::Any, semantics: RowSemantics::FindLeftmostOne }, // flogr
-    MachineRow { format: FormatKind::Rre, opcode: opcodes::LLGCR, allowed: Allowed::Any, semantics: RowSemantics::Compute(Operator::Move, Size::Doubleword, BYTE_REGISTER, CodeRule::Kept) }, // llgcr
-    MachineRow { format: FormatKind::Rre, opcode: opcodes::LLGHR, allowed: Allowed::Any, semantics: RowSemantics::Compute(Operator::Move, Size::Doubleword, HALFWORD_REGISTER, CodeRule::Kept) }, // llghr
-    MachineRow { format: FormatKind::Rre, opcode: opcodes::MLGR, allowed: Allowed::Any, semantics: RowSemantics::MultiplyLogical }, // mlgr
-    MachineRow { format: FormatKind::Rre, opcode: opcodes::DLGR, allowed: Allowed::Any, semantics: RowSemantics::DivideLogical(Size::Doubleword) }, // dlgr
-    MachineRow { format: FormatKind::Rre, opcode: opcodes::LLCR, allowed: Allowed::Any, semantics: RowSemantics::Compute(Operator::Move, Size::Word, BYTE_REGISTER, CodeRule::Kept) }, // llcr
-    MachineRow { format: FormatKind::Rre, opcode: opcodes::LLHR, allowed: Allowed::Any, semantics: RowSemantics::Compute(Operator::Move, Size::Word, HALFWORD_REGISTER, CodeRule::Kept) }, // llhr
-    MachineRow { format: FormatKind::Rre, opcode: opcodes::DLR, allowed: Allowed::Any, semantics: RowSemantics::DivideLogical(Size::Word) }, // dlr
-    MachineRow { format: FormatKind::RrfCde, opcode: opcodes::POPCNT, allowed: Allowed::CountMode, semantics: RowSemantics::CountOnes }, // popcnt
-    MachineRow { format: FormatKind::RrfCde, opcode: opcodes::LOCGR, allowed: Allowed::FirstMask { low: 0, high: 15 }, semantics: RowSemantics::MoveWhere(Size::Doubleword, REGISTER) }, // locgr
-    MachineRow { format: FormatKind::RrfAb, opcode: opcodes::NGRK, allowed: Allowed::FirstMask { low: 0, high: 0 }, semantics: RowSemantics::Compute(Operator::Bit(BitOperator::And), Size::Doubleword, THREE_REGISTERS, CodeRule::Set) }, // ngrk
-    MachineRow { format: FormatKind::RrfAb, opcode: opcodes::NCGRK, allowed: Allowed::FirstMask { low: 0, high: 0 }, semantics: RowSemantics::Compute(Operator::Bit(BitOperator::AndNot), Size::Doubleword, THREE_REGISTERS, CodeRule::Set) }, // ncgrk
-    MachineRow { format: FormatKind::RrfAb, opcode: opcodes::OGRK, allowed: Allowed::FirstMask { low: 0, high: 0 }, semantics: RowSemantics::Compute(Operator::Bit(BitOperator::Or), Size::Doubleword, THREE_REGISTERS, CodeRule::Set) }, // ogrk
-    MachineRow { format: FormatKind::RrfAb, opcode: opcodes::XGRK, allowed: Allowed::FirstMask { low: 0, high: 0 }, semantics: RowSemantics::Compute(Operator::Bit(BitOperator::Xor), Size::Doubleword, THREE_REGISTERS, CodeRule::Set) }, // xgrk
-    MachineRow { format: FormatKind::RrfAb, opcode: opcodes::AGRK, allowed: Allowed::FirstMask { low: 0, high: 0 }, semantics: RowSemantics::Compute(Operator::Signed(SignedOperator::Add), Size::Doubleword, THREE_REGISTERS, CodeRule::Set) }, // agrk
-    MachineRow { format: FormatKind::RrfAb, opcode: opcodes::SGRK, allowed: Allowed::FirstMask { low: 0, high: 0 }, semantics: RowSemantics::Compute(Operator::Signed(SignedOperator::Subtract), Size::Doubleword, THREE_REGISTERS, CodeRule::Set) }, // sgrk
-    MachineRow { format: FormatKind::RrfAb, opcode: opcodes::ALGRK, allowed: Allowed::FirstMask { low: 0, high: 0 }, semantics: RowSemantics::Compute(Operator::Logical(LogicalOperator::Add), Size::Doubleword, THREE_REGISTERS, CodeRule::Set) }, // algrk
-    MachineRow { format: FormatKind::RrfAb, opcode: opcodes::SLGRK, allowed: Allowed::FirstMask { low: 0, high: 0 }, semantics: RowSemantics::Compute(Operator::Logical(LogicalOperator::Subtract), Size::Doubleword, THREE_REGISTERS, CodeRule::Set) }, // slgrk
-    MachineRow { format: FormatKind::RrfAb, opcode: opcodes::MGRK, allowed: Allowed::FirstMask { low: 0, high: 0 }, semantics: RowSemantics::MultiplySigned }, // mgrk
-    MachineRow { format: FormatKind::RrfAb, opcode: opcodes::MSGRKC, allowed: Allowed::FirstMask { low: 0, high: 0 }, semantics: RowSemantics::Compute(Operator::Signed(SignedOperator::Multiply), Size::Doubleword, THREE_REGISTERS, CodeRule::Set) }, // msgrkc
-    MachineRow { format: FormatKind::RrfCde, opcode: opcodes::LOCR, allowed: Allowed::FirstMask { low: 0, high: 15 }, semantics: RowSemantics::MoveWhere(Size::Word, WORD_REGISTER) }, // locr
-    MachineRow { format: FormatKind::RrfAb, opcode: opcodes::NRK, allowed: Allowed::FirstMask { low: 0, high: 0 }, semantics: RowSemantics::Compute(Operator::Bit(BitOperator::And), Size::Word, THREE_WORD_REGISTERS, CodeRule::Set) }, // nrk
-    MachineRow { format: FormatKind::RrfAb, opcode: opcodes::NCRK, allowed: Allowed::FirstMask { low: 0, high: 0 }, semantics: RowSemantics::Compute(Operator::Bit(BitOperator::AndNot), Size::Word, THREE_WORD_REGISTERS, CodeRule::Set) }, // ncrk
-    MachineRow { format: FormatKind::RrfAb, opcode: opcodes::ORK, allowed: Allowed::FirstMask { low: 0, high: 0 }, semantics: RowSemantics::Compute(Operator::Bit(BitOperator::Or), Size::Word, THREE_WORD_REGISTERS, CodeRule::Set) }, // ork
-    MachineRow { format: FormatKind::RrfAb, opcode: opcodes::XRK, allowed: Allowed::FirstMask { low: 0, high: 0 }, semantics: RowSemantics::Compute(Operator::Bit(BitOperator::Xor), Size::Word, THREE_WORD_REGISTERS, CodeRule::Set) }, // xrk
-    MachineRow { format: FormatKind::RrfAb, opcode: opcodes::ARK, allowed: Allowed::FirstMask { low: 0, high: 0 }, semantics: RowSemantics::Compute(Operator::Signed(SignedOperator::Add), Size::Word, THREE_WORD_REGISTERS, CodeRule::Set) }, // ark
-    MachineRow { format: FormatKind::RrfAb, opcode: opcodes::SRK, allowed: Allowed::FirstMask { low: 0, high: 0 }, semantics: RowSemantics::Compute(Operator::Signed(SignedOperator::Subtract), Size::Word, THREE_WORD_REGISTERS, CodeRule::Set) }, // srk
-    MachineRow { format: FormatKind::RrfAb, opcode: opcodes::ALRK, allowed: Allowed::FirstMask { low: 0, high: 0 }, semantics: RowSemantics::Compute(Operator::Logical(LogicalOperator::Add), Size::Word, THREE_WORD_REGISTERS, CodeRule::Set) }, // alrk
-    MachineRow { format: FormatKind::RrfAb, opcode: opcodes::SLRK, allowed: Allowed::FirstMask { low: 0, high: 0 }, semantics: RowSemantics::Compute(Operator::Logical(LogicalOperator::Subtract), Size::Word, THREE_WORD_REGISTERS, CodeRule::Set) }, // slrk
-    MachineRow { format: FormatKind::RrfAb, opcode: opcodes::MSRKC, allowed: Allowed::FirstMask { low: 0, high: 0 }, semantics: RowSemantics::Compute(Operator::Signed(SignedOperator::Multiply), Size::Word, THREE_WORD_REGISTERS, CodeRule::Set) }, // msrkc
-    MachineRow { format: FormatKind::Rxy, opcode: opcodes::LG, allowed: Allowed::Any, semantics: RowSemantics::Compute(Operator::Move, Size::Doubleword, DOUBLEWORD_IN_MEMORY, CodeRule::Kept) }, // lg
-    MachineRow { format: FormatKind::Rxy, opcode: opcodes::AG, allowed: Allowed::Any, semantics: RowSemantics::Compute(Operator::Signed(SignedOperator::Add), Size::Doubleword, DOUBLEWORD_IN_MEMORY, CodeRule::Set) }, // ag
-    MachineRow { format: FormatKind::Rxy, opcode: opcodes::SG, allowed: Allowed::Any, semantics: RowSemantics::Compute(Operator::Signed(SignedOperator::Subtract), Size::Doubleword, DOUBLEWORD_IN_MEMORY, CodeRule::Set) }, // sg
-    MachineRow { format: FormatKind::Rxy, opcode: opcodes::ALG, allowed: Allowed::Any, semantics: RowSemantics::Compute(Operator::Logical(LogicalOperator::Add), Size::Doubleword, DOUBLEWORD_IN_MEMORY, CodeRule::Set) }, // alg
-    MachineRow { format: FormatKind::Rxy, opcode: opcodes::SLG, allowed: Allowed::Any, semantics: RowSemantics::Compute(Operator::Logical(LogicalOperator::Subtract), Size::Doubleword, DOUBLEWORD_IN_MEMORY, CodeRule::Set) }, // slg
-    MachineRow { format: FormatKind::Rxy, opcode: opcodes::MSG, allowed: Allowed::Any, semantics: RowSemantics::Compute(Operator::Signed(SignedOperator::Multiply), Size::Doubleword, DOUBLEWORD_IN_MEMORY, CodeRule::Kept) }, // msg
-    MachineRow { format: FormatKind::Rxy, opcode: opcodes::LRVG, allowed: Allowed::Any, semantics: RowSemantics::Compute(Operator::Move, Size::Doubleword, REVERSED_DOUBLEWORD_IN_MEMORY, CodeRule::Kept) }, // lrvg
-    MachineRow { format: FormatKind::Rxy, opcode: opcodes::LGF, allowed: Allowed::Any, semantics: RowSemantics::Compute(Operator::Move, Size::Doubleword, SIGNED_WORD_IN_MEMORY, CodeRule::Kept) }, // lgf
-    MachineRow { format: FormatKind::Rxy, opcode: opcodes::LGH, allowed: Allowed::Any, semantics: RowSemantics::Compute(Operator::Move, Size::Doubleword, SIGNED_HALFWORD_IN_MEMORY, CodeRule::Kept) }, // lgh
-    MachineRow { format: FormatKind::Rxy, opcode: opcodes::LLGF, allowed: Allowed::Any, semantics: RowSemantics::Compute(Operator::Move, Size::Doubleword, WORD_IN_MEMORY, CodeRule::Kept) }, // llgf
-    MachineRow { format: FormatKind::Rxy, opcode: opcodes::AGF, allowed: Allowed::Any, semantics: RowSemantics::Compute(Operator::Signed(SignedOperator::Add), Size::Doubleword, SIGNED_WORD_IN_MEMORY, CodeRule::Set) }, // agf
-    MachineRow { format: FormatKind::Rxy, opcode: opcodes::SGF, allowed: Allowed::Any, semantics: RowSemantics::Compute(Operator::Signed(SignedOperator::Subtract), Size::Doubleword, SIGNED_WORD_IN_MEMORY, CodeRule::Set) }, // sgf
-    MachineRow { format: FormatKind::Rxy, opcode: opcodes::ALGF, allowed: Allowed::Any, semantics: RowSemantics::Compute(Operator::Logical(LogicalOperator::Add), Size::Doubleword, WORD_IN_MEMORY, CodeRule::Set) }, // algf
-    MachineRow { format: FormatKind::Rxy, opcode: opcodes::SLGF, allowed: Allowed::Any, semantics: RowSemantics::Compute(Operator::Logical(LogicalOperator::Subtract), Size::Doubleword, WORD_IN_MEMORY, CodeRule::Set) }, // slgf
-    MachineRow { format: FormatKind::Rxy, opcode: opcodes::MSGF, allowed: Allowed::Any, semantics: RowSemantics::Compute(Operator::Signed(SignedOperator::Multiply), Size::Doubleword, SIGNED_WORD_IN_MEMORY, CodeRule::Kept) }, // msgf
-    MachineRow { format: FormatKind::Rxy, opcode: opcodes::LRV, allowed: Allowed::Any, semantics: RowSemantics::Compute(Operator::Move, Size::Word, REVERSED_WORD_IN_MEMORY, CodeRule::Kept) }, // lrv
-    MachineRow { format: FormatKind::Rxy, opcode: opcodes::LRVH, allowed: Allowed::Any, semantics: RowSemantics::Compute(Operator::Move, Size::Halfword, REVERSED_HALFWORD_IN_MEMORY, CodeRule::Kept) }, // lrvh
-    MachineRow { format: FormatKind::Rxy, opcode: opcodes::CG, allowed: Allowed::Any, semantics: RowSemantics::Compare(Signedness::Signed, Size::Doubleword, DOUBLEWORD_IN_MEMORY) }, // cg
-    MachineRow { format: FormatKind::Rxy, opcode: opcodes::CLG, allowed: Allowed::Any, semantics: RowSemantics::Compare(Signedness::Unsigned, Size::Doubleword, DOUBLEWORD_IN_MEMORY) }, // clg
-    MachineRow { format: FormatKind::Rxy, opcode: opcodes::STG, allowed: Allowed::Any, semantics: RowSemantics::Store(DOUBLEWORD_IN_MEMORY) }, // stg
-    MachineRow { format: FormatKind::Rxy, opcode: opcodes::STRVG, allowed: Allowed::Any, semantics: RowSemantics::Store(REVERSED_DOUBLEWORD_IN_MEMORY) }, // strvg
-    MachineRow { format: FormatKind::Rxy, opcode: opcodes::CGF, allowed: Allowed::Any, semantics: RowSemantics::Compare(Signedness::Signed, Size::Doubleword, SIGNED_WORD_IN_MEMORY) }, // cgf
-    MachineRow { format: FormatKind::Rxy, opcode: opcodes::CLGF, allowed: Allowed::Any, semantics: RowSemantics::Compare(Signedness::Unsigned, Size::Doubleword, WORD_IN_MEMORY) }, // clgf
-    MachineRow { format: FormatKind::Rxy, opcode: opcodes::CGH, allowed: Allowed::Any, semantics: RowSemantics::Compare(Signedness::Signed, Size::Doubleword, SIGNED_HALFWORD_IN_MEMORY) }, // cgh
-    MachineRow { format: FormatKind::Rxy, opcode: opcodes::AGH, allowed: Allowed::Any, semantics: RowSemantics::Compute(Operator::Signed(SignedOperator::Add), Size::Doubleword, SIGNED_HALFWORD_IN_MEMORY, CodeRule::Set) }, // agh
-    MachineRow { format: FormatKind::Rxy, opcode: opcodes::SGH, allowed: Allowed::Any, semantics: RowSemantics::Compute(Operator::Signed(SignedOperator::Subtract), Size::Doubleword, SIGNED_HALFWORD_IN_MEMORY, CodeRule::Set) }, // sgh
-    MachineRow { format: FormatKind::Rxy, opcode: opcodes::MGH, allowed: Allowed::Any, semantics: RowSemantics::Compute(Operator::Signed(SignedOperator::Multiply), Size::Doubleword, SIGNED_HALFWORD_IN_MEMORY, CodeRule::Kept) }, // mgh
-    MachineRow { format: FormatKind::Rxy, opcode: opcodes::STRV, allowed: Allowed::Any, semantics: RowSemantics::Store(REVERSED_WORD_IN_MEMORY) }, // strv
-    MachineRow { format: FormatKind::Rxy, opcode: opcodes::STRVH, allowed: Allowed::Any, semantics: RowSemantics::Store(REVERSED_HALFWORD_IN_MEMORY) }, // strvh
-    MachineRow { format: FormatKind::Rxy, opcode: opcodes::STY, allowed: Allowed::Any, semantics: RowSemantics::Store(WORD_IN_MEMORY) }, // sty
-    MachineRow { format: FormatKind::Rxy, opcode: opcodes::MSY, allowed: Allowed::Any, semantics: RowSemantics::Compute(Operator::Signed(SignedOperator::Multiply), Size::Word, WORD_IN_MEMORY, CodeRule::Kept) }, // msy
-    MachineRow { format: FormatKind::Rxy, opcode: opcodes::NY, allowed: Allowed::Any, semantics: RowSemantics::Compute(Operator::Bit(BitOperator::And), Size::Word, WORD_IN_MEMORY, CodeRule::Set) }, // ny
-    MachineRow { format: FormatKind::Rxy, opcode: opcodes::CLY, allowed: Allowed::Any, semantics: RowSemantics::Compare(Signedness::Unsigned, Size::Word, WORD_IN_MEMORY) }, // cly
-    MachineRow { format: FormatKind::Rxy, opcode: opcodes::OY, allowed: Allowed::Any, semantics: RowSemantics::Compute(Operator::Bit(BitOperator::Or), Size::Word, WORD_IN_MEMORY, CodeRule::Set) }, // oy
-    MachineRow { format: FormatKind::Rxy, opcode: opcodes::XY, allowed: Allowed::Any, semantics: RowSemantics::Compute(Operator::Bit(BitOperator::Xor), Size::Word, WORD_IN_MEMORY, CodeRule::Set) }, // xy
-    MachineRow { format: FormatKind::Rxy, opcode: opcodes::LY, allowed: Allowed::Any, semantics: RowSemantics::Compute(Operator::Move, Size::Word, WORD_IN_MEMORY, CodeRule::Kept) }, // ly
-    MachineRow { format: FormatKind::Rxy, opcode: opcodes::CY, allowed: Allowed::Any, semantics: RowSemantics::Compare(Signedness::Signed, Size::Word, WORD_IN_MEMORY) }, // cy
-    MachineRow { format: FormatKind::Rxy, opcode: opcodes::AY, allowed: Allowed::Any, semantics: RowSemantics::Compute(Operator::Signed(SignedOperator::Add), Size::Word, WORD_IN_MEMORY, CodeRule::Set) }, // ay
-    MachineRow { format: FormatKind::Rxy, opcode: opcodes::SY, allowed: Allowed::Any, semantics: RowSemantics::Compute(Operator::Signed(SignedOperator::Subtract), Size::Word, WORD_IN_MEMORY, CodeRule::Set) }, // sy
-    MachineRow { format: FormatKind::Rxy, opcode: opcodes::ALY, allowed: Allowed::Any, semantics: RowSemantics::Compute(Operator::Logical(LogicalOperator::Add), Size::Word, WORD_IN_MEMORY, CodeRule::Set) }, // aly
-    MachineRow { format: FormatKind::Rxy, opcode: opcodes::SLY, allowed: Allowed::Any, semantics: RowSemantics::Compute(Operator::Logical(LogicalOperator::Subtract), Size::Word, WORD_IN_MEMORY, CodeRule::Set) }, // sly
-    MachineRow { format: FormatKind::Rxy, opcode: opcodes::LXAH, allowed: Allowed::Any, semantics: RowSemantics::Havoc }, // lxah
-    MachineRow { format: FormatKind::Rxy, opcode: opcodes::LLXAH, allowed: Allowed::Any, semantics: RowSemantics::Havoc }, // llxah
-    MachineRow { format: FormatKind::Rxy, opcode: opcodes::LXAF, allowed: Allowed::Any, semantics: RowSemantics::Havoc }, // lxaf
-    MachineRow { format: FormatKind::Rxy, opcode: opcodes::LLXAF, allowed: Allowed::Any, semantics: RowSemantics::Havoc }, // llxaf
-    MachineRow { format: FormatKind::Rxy, opcode: opcodes::LXAG, allowed: Allowed::Any, semantics: RowSemantics::Havoc }, // lxag
-    MachineRow { format: FormatKind::Rxy, opcode: opcodes::LLXAG, allowed: Allowed::Any, semantics: RowSemantics::Havoc }, // llxag
-    MachineRow { format: FormatKind::Rxy, opcode: opcodes::LXAQ, allowed: Allowed::Any, semantics: RowSemantics::Havoc }, // lxaq
-    MachineRow { format: FormatKind::Rxy, opcode: opcodes::LLXAQ, allowed: Allowed::Any, semantics: RowSemantics::Havoc }, // llxaq
-    MachineRow { format: FormatKind::Rxy, opcode: opcodes::STHY, allowed: Allowed::Any, semantics: RowSemantics::Store(HALFWORD_IN_MEMORY) }, // sthy
-    MachineRow { format: FormatKind::Rxy, opcode: opcodes::LAY, allowed: Allowed::Any, semantics: RowSemantics::Compute(Operator::Move, Size::Doubleword, INDEXED_ADDRESS, CodeRule::Kept) }, // lay
-    MachineRow { format: FormatKind::Rxy, opcode: opcodes::STCY, allowed: Allowed::Any, semantics: RowSemantics::Store(BYTE_IN_MEMORY) }, // stcy
-    MachineRow { format: FormatKind::Rxy, opcode: opcodes::LB, allowed: Allowed::Any, semantics: RowSemantics::Compute(Operator::Move, Size::Word, SIGNED_BYTE_IN_MEMORY, CodeRule::Kept) }, // lb
-    MachineRow { format: FormatKind::Rxy, opcode: opcodes::LGB, allowed: Allowed::Any, semantics: RowSemantics::Compute(Operator::Move, Size::Doubleword, SIGNED_BYTE_IN_MEMORY, CodeRule::Kept) }, // lgb
-    MachineRow { format: FormatKind::Rxy, opcode: opcodes::LHY, allowed: Allowed::Any, semantics: RowSemantics::Compute(Operator::Move, Size::Word, SIGNED_HALFWORD_IN_MEMORY, CodeRule::Kept) }, // lhy
-    MachineRow { format: FormatKind::Rxy, opcode: opcodes::CHY, allowed: Allowed::Any, semantics: RowSemantics::Compare(Signedness::Signed, Size::Word, SIGNED_HALFWORD_IN_MEMORY) }, // chy
-    MachineRow { format: FormatKind::Rxy, opcode: opcodes::AHY, allowed: Allowed::Any, semantics: RowSemantics::Compute(Operator::Signed(SignedOperator::Add), Size::Word, SIGNED_HALFWORD_IN_MEMORY, CodeRule::Set) }, // ahy
-    MachineRow { format: FormatKind::Rxy, opcode: opcodes::SHY, allowed: Allowed::Any, semantics: RowSemantics::Compute(Operator::Signed(SignedOperator::Subtract), Size::Word, SIGNED_HALFWORD_IN_MEMORY, CodeRule::Set) }, // shy
-    MachineRow { format: FormatKind::Rxy, opcode: opcodes::MHY, allowed: Allowed::Any, semantics: RowSemantics::Compute(Operator::Signed(SignedOperator::Multiply), Size::Word, SIGNED_HALFWORD_IN_MEMORY, CodeRule::Kept) }, // mhy
-    MachineRow { format: FormatKind::Rxy, opcode: opcodes::NG, allowed: Allowed::Any, semantics: RowSemantics::Compute(Operator::Bit(BitOperator::And), Size::Doubleword, DOUBLEWORD_IN_MEMORY, CodeRule::Set) }, // ng
-    MachineRow { format: FormatKind::Rxy, opcode: opcodes::OG, allowed: Allowed::Any, semantics: RowSemantics::Compute(Operator::Bit(BitOperator::Or), Size::Doubleword, DOUBLEWORD_IN_MEMORY, CodeRule::Set) }, // og
-    MachineRow { format: FormatKind::Rxy, opcode: opcodes::XG, allowed: Allowed::Any, semantics: RowSemantics::Compute(Operator::Bit(BitOperator::Xor), Size::Doubleword, DOUBLEWORD_IN_MEMORY, CodeRule::Set) }, // xg
-    MachineRow { format: FormatKind::Rxy, opcode: opcodes::LLGC, allowed: Allowed::Any, semantics: RowSemantics::Compute(Operator::Move, Size::Doubleword, BYTE_IN_MEMORY, CodeRule::Kept) }, // llgc
-    MachineRow { format: FormatKind::Rxy, opcode: opcodes::LLGH, allowed: Allowed::Any, semantics: RowSemantics::Compute(Operator::Move, Size::Doubleword, HALFWORD_IN_MEMORY, CodeRule::Kept) }, // llgh
-    MachineRow { format: FormatKind::Rxy, opcode: opcodes::LLC, allowed: Allowed::Any, semantics: RowSemantics::Compute(Operator::Move, Size::Word, BYTE_IN_MEMORY, CodeRule::Kept) }, // llc
-    MachineRow { format: FormatKind::Rxy, opcode: opcodes::LLH, allowed: Allowed::Any, semantics: RowSemantics::Compute(Operator::Move, Size::Word, HALFWORD_IN_MEMORY, CodeRule::Kept) }, // llh
-    MachineRow { format: FormatKind::Sil, opcode: opcodes::MVHHI, allowed: Allowed::Any, semantics: RowSemantics::StoreImmediate(Width::Bits16) }, // mvhhi
-    MachineRow { format: FormatKind::Sil, opcode: opcodes::MVGHI, allowed: Allowed::Any, semantics: RowSemantics::StoreImmediate(Width::Bits64) }, // mvghi
-    MachineRow { format: FormatKind::Sil, opcode: opcodes::MVHI, allowed: Allowed::Any, semantics: RowSemantics::StoreImmediate(Width::Bits32) }, // mvhi
-    MachineRow { format: FormatKind::Vrx, opcode: opcodes::VLEBRH, allowed: Allowed::FirstMask { low: 0, high: 7 }, semantics: RowSemantics::LoadVector(VectorStorage::Element(ElementSize::Halfword, true)) }, // vlebrh
-    MachineRow { format: FormatKind::Vrx, opcode: opcodes::VLEBRG, allowed: Allowed::FirstMask { low: 0, high: 1 }, semantics: RowSemantics::LoadVector(VectorStorage::Element(ElementSize::Doubleword, true)) }, // vlebrg
-    MachineRow { format: FormatKind::Vrx, opcode: opcodes::VLEBRF, allowed: Allowed::FirstMask { low: 0, high: 3 }, semantics: RowSemantics::LoadVector(VectorStorage::Element(ElementSize::Word, true)) }, // vlebrf
-    MachineRow { format: FormatKind::Vrx, opcode: opcodes::VLBRREP, allowed: Allowed::FirstMask { low: 1, high: 3 }, semantics: RowSemantics::LoadVector(VectorStorage::Replicated(true)) }, // vlbrreph vlbrrepf vlbrrepg
-    MachineRow { format: FormatKind::Vrx, opcode: opcodes::VLBR, allowed: Allowed::FirstMask { low: 1, high: 4 }, semantics: RowSemantics::LoadVector(VectorStorage::ReversedBytes) }, // vlbrq vlbrh vlbrf vlbrg
-    MachineRow { format: FormatKind::Vrx, opcode: opcodes::VLER, allowed: Allowed::FirstMask { low: 1, high: 3 }, semantics: RowSemantics::LoadVector(VectorStorage::ReversedElements) }, // vlerh vlerf vlerg
-    MachineRow { format: FormatKind::Vrx, opcode: opcodes::VSTEBRH, allowed: Allowed::FirstMask { low: 0, high: 7 }, semantics: RowSemantics::StoreVector(VectorStorage::Element(ElementSize::Halfword, true)) }, // vstebrh
-    MachineRow { format: FormatKind::Vrx, opcode: opcodes::VSTEBRG, allowed: Allowed::FirstMask { low: 0, high: 1 }, semantics: RowSemantics::StoreVector(VectorStorage::Element(ElementSize::Doubleword, true)) }, // vstebrg
-    MachineRow { format: FormatKind::Vrx, opcode: opcodes::VSTEBRF, allowed: Allowed::FirstMask { low: 0, high: 3 }, semantics: RowSemantics::StoreVector(VectorStorage::Element(ElementSize::Word, true)) }, // vstebrf
-    MachineRow { format: FormatKind::Vrx, opcode: opcodes::VSTBR, allowed: Allowed::FirstMask { low: 1, high: 4 }, semantics: RowSemantics::StoreVector(VectorStorage::ReversedBytes) }, // vstbrq vstbrh vstbrf vstbrg
-    MachineRow { format: FormatKind::Vrx, opcode: opcodes::VSTER, allowed: Allowed::FirstMask { low: 1, high: 3 }, semantics: RowSemantics::StoreVector(VectorStorage::ReversedElements) }, // vsterh vsterf vsterg
-    MachineRow { format: FormatKind::Vrx, opcode: opcodes::VLEB, allowed: Allowed::FirstMask { low: 0, high: 15 }, semantics: RowSemantics::LoadVector(VectorStorage::Element(ElementSize::Byte, false)) }, // vleb
-    MachineRow { format: FormatKind::Vrx, opcode: opcodes::VLEH, allowed: Allowed::FirstMask { low: 0, high: 7 }, semantics: RowSemantics::LoadVector(VectorStorage::Element(ElementSize::Halfword, false)) }, // vleh
-    MachineRow { format: FormatKind::Vrx, opcode: opcodes::VLEG, allowed: Allowed::FirstMask { low: 0, high: 1 }, semantics: RowSemantics::LoadVector(VectorStorage::Element(ElementSize::Doubleword, false)) }, // vleg
-    MachineRow { format: FormatKind::Vrx, opcode: opcodes::VLEF, allowed: Allowed::FirstMask { low: 0, high: 3 }, semantics: RowSemantics::LoadVector(VectorStorage::Element(ElementSize::Word, false)) }, // vlef
-    MachineRow { format: FormatKind::Vrx, opcode: opcodes::VLREP, allowed: Allowed::FirstMask { low: 0, high: 3 }, semantics: RowSemantics::LoadVector(VectorStorage::Replicated(false)) }, // vlrepb vlreph vlrepf vlrepg
-    MachineRow { format: FormatKind::Vrx, opcode: opcodes::VL, allowed: Allowed::FirstMask { low: 0, high: 0 }, semantics: RowSemantics::LoadVector(VectorStorage::Whole) }, // vl
-    MachineRow { format: FormatKind::Vrx, opcode: opcodes::VSTEB, allowed: Allowed::FirstMask { low: 0, high: 15 }, semantics: RowSemantics::StoreVector(VectorStorage::Element(ElementSize::Byte, false)) }, // vsteb
-    MachineRow { format: FormatKind::Vrx, opcode: opcodes::VSTEH, allowed: Allowed::FirstMask { low: 0, high: 7 }, semantics: RowSemantics::StoreVector(VectorStorage::Element(ElementSize::Halfword, false)) }, // vsteh
-    MachineRow { format: FormatKind::Vrx, opcode: opcodes::VSTEG, allowed: Allowed::FirstMask { low: 0, high: 1 }, semantics: RowSemantics::StoreVector(VectorStorage::Element(ElementSize::Doubleword, false)) }, // vsteg
-    MachineRow { format: FormatKind::Vrx, opcode: opcodes::VSTEF, allowed: Allowed::FirstMask { low: 0, high: 3 }, semantics: RowSemantics::StoreVector(VectorStorage::Element(ElementSize::Word, false)) }, // vstef
-    MachineRow { format: FormatKind::Vrx, opcode: opcodes::VST, allowed: Allowed::FirstMask { low: 0, high: 0 }, semantics: RowSemantics::StoreVector(VectorStorage::Whole) }, // vst
-    MachineRow { format: FormatKind::VrsC, opcode: opcodes::VLGV, allowed: Allowed::FirstMask { low: 0, high: 3 }, semantics: RowSemantics::ExtractElement }, // vlgvb vlgvh vlgvf vlgvg
-    MachineRow { format: FormatKind::VrsB, opcode: opcodes::VLVG, allowed: Allowed::FirstMask { low: 0, high: 3 }, semantics: RowSemantics::InsertElement }, // vlvgb vlvgh vlvgf vlvgg
-    MachineRow { format: FormatKind::VrsA, opcode: opcodes::VESL, allowed: Allowed::FirstMask { low: 0, high: 3 }, semantics: RowSemantics::ShiftElements(opcodes::VESL) }, // veslb veslh veslf veslg
-    MachineRow { format: FormatKind::VrsA, opcode: opcodes::VERLL, allowed: Allowed::FirstMask { low: 0, high: 3 }, semantics: RowSemantics::ShiftElements(opcodes::VERLL) }, // verllb verllh verllf verllg
-    MachineRow { format: FormatKind::VrsA, opcode: opcodes::VESRL, allowed: Allowed::FirstMask { low: 0, high: 3 }, semantics: RowSemantics::ShiftElements(opcodes::VESRL) }, // vesrlb vesrlh vesrlf vesrlg
-    MachineRow { format: FormatKind::VrsA, opcode: opcodes::VESRA, allowed: Allowed::FirstMask { low: 0, high: 3 }, semantics: RowSemantics::ShiftElements(opcodes::VESRA) }, // vesrab vesrah vesraf vesrag
-    MachineRow { format: FormatKind::VriA, opcode: opcodes::VLEIB, allowed: Allowed::FirstMask { low: 0, high: 15 }, semantics: RowSemantics::Elements(opcodes::VLEIB) }, // vleib
-    MachineRow { format: FormatKind::VriA, opcode: opcodes::VLEIH, allowed: Allowed::FirstMask { low: 0, high: 7 }, semantics: RowSemantics::Elements(opcodes::VLEIH) }, // vleih
-    MachineRow { format: FormatKind::VriA, opcode: opcodes::VLEIG, allowed: Allowed::FirstMask { low: 0, high: 1 }, semantics: RowSemantics::Elements(opcodes::VLEIG) }, // vleig
-    MachineRow { format: FormatKind::VriA, opcode: opcodes::VLEIF, allowed: Allowed::FirstMask { low: 0, high: 3 }, semantics: RowSemantics::Elements(opcodes::VLEIF) }, // vleif
-    MachineRow { format: FormatKind::VriA, opcode: opcodes::VGBM, allowed: Allowed::FirstMask { low: 0, high: 0 }, semantics: RowSemantics::Elements(opcodes::VGBM) }, // vgbm
-    MachineRow { format: FormatKind::VriA, opcode: opcodes::VREPI, allowed: Allowed::FirstMask { low: 0, high: 3 }, semantics: RowSemantics::Elements(opcodes::VREPI) }, // vrepib vrepih vrepif vrepig
-    MachineRow { format: FormatKind::VriB, opcode: opcodes::VGM, allowed: Allowed::BitRange, semantics: RowSemantics::Elements(opcodes::VGM) }, // vgmb vgmh vgmf vgmg
-    MachineRow { format: FormatKind::VriC, opcode: opcodes::VREP, allowed: Allowed::ReplicatedLane, semantics: RowSemantics::Elements(opcodes::VREP) }, // vrepb vreph vrepf vrepg
-    MachineRow { format: FormatKind::VrrA, opcode: opcodes::VPOPCT, allowed: Allowed::FirstMask { low: 0, high: 3 }, semantics: RowSemantics::Elements(opcodes::VPOPCT) }, // vpopctb vpopcth vpopctf vpopctg
-    MachineRow { format: FormatKind::VrrA, opcode: opcodes::VCTZ, allowed: Allowed::FirstMask { low: 0, high: 4 }, semantics: RowSemantics::Elements(opcodes::VCTZ) }, // vctzb vctzh vctzf vctzg vctzq
-    MachineRow { format: FormatKind::VrrA, opcode: opcodes::VCLZ, allowed: Allowed::FirstMask { low: 0, high: 4 }, semantics: RowSemantics::Elements(opcodes::VCLZ) }, // vclzb vclzh vclzf vclzg vclzq
-    MachineRow { format: FormatKind::VrrA, opcode: opcodes::VLR, allowed: Allowed::FirstMask { low: 0, high: 0 }, semantics: RowSemantics::Elements(opcodes::VLR) }, // vlr
-    MachineRow { format: FormatKind::VrrC, opcode: opcodes::VMRL, allowed: Allowed::FirstMask { low: 0, high: 3 }, semantics: RowSemantics::Elements(opcodes::VMRL) }, // vmrlb vmrlh vmrlf vmrlg
-    MachineRow { format: FormatKind::VrrC, opcode: opcodes::VMRH, allowed: Allowed::FirstMask { low: 0, high: 3 }, semantics: RowSemantics::Elements(opcodes::VMRH) }, // vmrhb vmrhh vmrhf vmrhg
-    MachineRow { format: FormatKind::VrrF, opcode: opcodes::VLVGP, allowed: Allowed::Any, semantics: RowSemantics::JoinRegisters }, // vlvgp
-    MachineRow { format: FormatKind::VrrC, opcode: opcodes::VN, allowed: Allowed::FirstMask { low: 0, high: 0 }, semantics: RowSemantics::Elements(opcodes::VN) }, // vn
-    MachineRow { format: FormatKind::VrrC, opcode: opcodes::VNC, allowed: Allowed::FirstMask { low: 0, high: 0 }, semantics: RowSemantics::Elements(opcodes::VNC) }, // vnc
-    MachineRow { format: FormatKind::VrrC, opcode: opcodes::VO, allowed: Allowed::FirstMask { low: 0, high: 0 }, semantics: RowSemantics::Elements(opcodes::VO) }, // vo
-    MachineRow { format: FormatKind::VrrC, opcode: opcodes::VNO, allowed: Allowed::FirstMask { low: 0, high: 0 }, semantics: RowSemantics::Elements(opcodes::VNO) }, // vno
-    MachineRow { format: FormatKind::VrrC, opcode: opcodes::VNX, allowed: Allowed::FirstMask { low: 0, high: 0 }, semantics: RowSemantics::Elements(opcodes::VNX) }, // vnx
-    MachineRow { format: FormatKind::VrrC, opcode: opcodes::VX, allowed: Allowed::FirstMask { low: 0, high: 0 }, semantics: RowSemantics::Elements(opcodes::VX) }, // vx
-    MachineRow { format: FormatKind::VrrC, opcode: opcodes::VNN, allowed: Allowed::FirstMask { low: 0, high: 0 }, semantics: RowSemantics::Elements(opcodes::VNN) }, // vnn
-    MachineRow { format: FormatKind::VrrC, opcode: opcodes::VOC, allowed: Allowed::FirstMask { low: 0, high: 0 }, semantics: RowSemantics::Elements(opcodes::VOC) }, // voc
-    MachineRow { format: FormatKind::VrrC, opcode: opcodes::VSL, allowed: Allowed::FirstMask { low: 0, high: 0 }, semantics: RowSemantics::Elements(opcodes::VSL) }, // vsl
-    MachineRow { format: FormatKind::VrrC, opcode: opcodes::VSLB, allowed: Allowed::FirstMask { low: 0, high: 0 }, semantics: RowSemantics::Elements(opcodes::VSLB) }, // vslb
-    MachineRow { format: FormatKind::VrrC, opcode: opcodes::VSRL, allowed: Allowed::FirstMask { low: 0, high: 0 }, semantics: RowSemantics::Elements(opcodes::VSRL) }, // vsrl
-    MachineRow { format: FormatKind::VrrC, opcode: opcodes::VSRLB, allowed: Allowed::FirstMask { low: 0, high: 0 }, semantics: RowSemantics::Elements(opcodes::VSRLB) }, // vsrlb
-    MachineRow { format: FormatKind::VrrC, opcode: opcodes::VSRA, allowed: Allowed::FirstMask { low: 0, high: 0 }, semantics: RowSemantics::Elements(opcodes::VSRA) }, // vsra
-    MachineRow { format: FormatKind::VrrC, opcode: opcodes::VSRAB, allowed: Allowed::FirstMask { low: 0, high: 0 }, semantics: RowSemantics::Elements(opcodes::VSRAB) }, // vsrab
-    MachineRow { format: FormatKind::VrrC, opcode: opcodes::VPDI, allowed: Allowed::DoublewordPair, semantics: RowSemantics::Elements(opcodes::VPDI) }, // vpdi
-    MachineRow { format: FormatKind::VrrC, opcode: opcodes::VBPERM, allowed: Allowed::FirstMask { low: 0, high: 0 }, semantics: RowSemantics::Elements(opcodes::VBPERM) }, // vbperm
-    MachineRow { format: FormatKind::VriK, opcode: opcodes::VEVAL, allowed: Allowed::Any, semantics: RowSemantics::Elements(opcodes::VEVAL) }, // veval
-    MachineRow { format: FormatKind::VrrD, opcode: opcodes::VBLEND, allowed: Allowed::FirstMask { low: 0, high: 0 }, semantics: RowSemantics::Elements(opcodes::VBLEND) }, // vblend
-    MachineRow { format: FormatKind::VrrE, opcode: opcodes::VPERM, allowed: Allowed::FirstMask { low: 0, high: 0 }, semantics: RowSemantics::Elements(opcodes::VPERM) }, // vperm
-    MachineRow { format: FormatKind::VrrE, opcode: opcodes::VSEL, allowed: Allowed::FirstMask { low: 0, high: 0 }, semantics: RowSemantics::Elements(opcodes::VSEL) }, // vsel
-    MachineRow { format: FormatKind::VrrC, opcode: opcodes::VPK, allowed: Allowed::FirstMask { low: 1, high: 3 }, semantics: RowSemantics::Elements(opcodes::VPK) }, // vpkh vpkf vpkg
-    MachineRow { format: FormatKind::VrrC, opcode: opcodes::VPKLS, allowed: Allowed::FirstMask { low: 1, high: 3 }, semantics: RowSemantics::Elements(opcodes::VPKLS) }, // vpklsh vpklsf vpklsg
-    MachineRow { format: FormatKind::VrrC, opcode: opcodes::VPKS, allowed: Allowed::FirstMask { low: 1, high: 3 }, semantics: RowSemantics::Elements(opcodes::VPKS) }, // vpksh vpksf vpksg
-    MachineRow { format: FormatKind::VrrC, opcode: opcodes::VMLH, allowed: Allowed::FirstMask { low: 0, high: 4 }, semantics: RowSemantics::Elements(opcodes::VMLH) }, // vmlhb vmlhh vmlhf vmlhg vmlhq
-    MachineRow { format: FormatKind::VrrC, opcode: opcodes::VML, allowed: Allowed::FirstMask { low: 0, high: 4 }, semantics: RowSemantics::Elements(opcodes::VML) }, // vmlb vmlhw vmlf vmlg vmlq
-    MachineRow { format: FormatKind::VrrC, opcode: opcodes::VMH, allowed: Allowed::FirstMask { low: 0, high: 4 }, semantics: RowSemantics::Elements(opcodes::VMH) }, // vmhb vmhh vmhf vmhg vmhq
-    MachineRow { format: FormatKind::VrrC, opcode: opcodes::VMLE, allowed: Allowed::FirstMask { low: 0, high: 3 }, semantics: RowSemantics::Elements(opcodes::VMLE) }, // vmleb vmleh vmlef vmleg
-    MachineRow { format: FormatKind::VrrC, opcode: opcodes::VMLO, allowed: Allowed::FirstMask { low: 0, high: 3 }, semantics: RowSemantics::Elements(opcodes::VMLO) }, // vmlob vmloh vmlof vmlog
-    MachineRow { format: FormatKind::VrrC, opcode: opcodes::VME, allowed: Allowed::FirstMask { low: 0, high: 3 }, semantics: RowSemantics::Elements(opcodes::VME) }, // vmeb vmeh vmef vmeg
-    MachineRow { format: FormatKind::VrrC, opcode: opcodes::VMO, allowed: Allowed::FirstMask { low: 0, high: 3 }, semantics: RowSemantics::Elements(opcodes::VMO) }, // vmob vmoh vmof vmog
-    MachineRow { format: FormatKind::VrrC, opcode: opcodes::VDL, allowed: Allowed::FirstMask { low: 2, high: 4 }, semantics: RowSemantics::Elements(opcodes::VDL) }, // vdlf vdlg vdlq
-    MachineRow { format: FormatKind::VrrC, opcode: opcodes::VRL, allowed: Allowed::FirstMask { low: 2, high: 4 }, semantics: RowSemantics::Elements(opcodes::VRL) }, // vrlf vrlg vrlq
-    MachineRow { format: FormatKind::VrrC, opcode: opcodes::VD, allowed: Allowed::FirstMask { low: 2, high: 4 }, semantics: RowSemantics::Elements(opcodes::VD) }, // vdf vdg vdq
-    MachineRow { format: FormatKind::VrrC, opcode: opcodes::VR, allowed: Allowed::FirstMask { low: 2, high: 4 }, semantics: RowSemantics::Elements(opcodes::VR) }, // vrf vrg vrq
-    MachineRow { format: FormatKind::VrrA, opcode: opcodes::VUPLL, allowed: Allowed::FirstMask { low: 0, high: 3 }, semantics: RowSemantics::Elements(opcodes::VUPLL) }, // vupllb vupllh vupllf vupllg
-    MachineRow { format: FormatKind::VrrA, opcode: opcodes::VUPLH, allowed: Allowed::FirstMask { low: 0, high: 3 }, semantics: RowSemantics::Elements(opcodes::VUPLH) }, // vuplhb vuplhh vuplhf vuplhg
-    MachineRow { format: FormatKind::VrrA, opcode: opcodes::VUPL, allowed: Allowed::FirstMask { low: 0, high: 3 }, semantics: RowSemantics::Elements(opcodes::VUPL) }, // vuplb vuplh vuplf vuplg
-    MachineRow { format: FormatKind::VrrA, opcode: opcodes::VUPH, allowed: Allowed::FirstMask { low: 0, high: 3 }, semantics: RowSemantics::Elements(opcodes::VUPH) }, // vuphb vuphh vuphf vuphg
-    MachineRow { format: FormatKind::VrrA, opcode: opcodes::VECL, allowed: Allowed::FirstMask { low: 3, high: 4 }, semantics: RowSemantics::Elements(opcodes::VECL) }, // veclq veclg
-    MachineRow { format: FormatKind::VrrA, opcode: opcodes::VEC, allowed: Allowed::FirstMask { low: 3, high: 4 }, semantics: RowSemantics::Elements(opcodes::VEC) }, // vecq vecg
-    MachineRow { format: FormatKind::VrrA, opcode: opcodes::VLC, allowed: Allowed::FirstMask { low: 0, high: 4 }, semantics: RowSemantics::Elements(opcodes::VLC) }, // vlcb vlch vlcf vlcg vlcq
-    MachineRow { format: FormatKind::VrrA, opcode: opcodes::VLP, allowed: Allowed::FirstMask { low: 0, high: 4 }, semantics: RowSemantics::Elements(opcodes::VLP) }, // vlpb vlph vlpf vlpg vlpq
-    MachineRow { format: FormatKind::VrrC, opcode: opcodes::VAVGL, allowed: Allowed::FirstMask { low: 0, high: 4 }, semantics: RowSemantics::Elements(opcodes::VAVGL) }, // vavglb vavglh vavglf vavglg vavglq
-    MachineRow { format: FormatKind::VrrC, opcode: opcodes::VACCQ, allowed: Allowed::FirstMask { low: 4, high: 4 }, semantics: RowSemantics::Elements(opcodes::VACCQ) }, // vaccq
-    MachineRow { format: FormatKind::VrrC, opcode: opcodes::VAVG, allowed: Allowed::FirstMask { low: 0, high: 4 }, semantics: RowSemantics::Elements(opcodes::VAVG) }, // vavgb vavgh vavgf vavgg vavgq
-    MachineRow { format: FormatKind::VrrC, opcode: opcodes::VA, allowed: Allowed::FirstMask { low: 0, high: 4 }, semantics: RowSemantics::Elements(opcodes::VA) }, // vab vah vaf vag vaq
-    MachineRow { format: FormatKind::VrrC, opcode: opcodes::VSCBIQ, allowed: Allowed::FirstMask { low: 4, high: 4 }, semantics: RowSemantics::Elements(opcodes::VSCBIQ) }, // vscbiq
-    MachineRow { format: FormatKind::VrrC, opcode: opcodes::VS, allowed: Allowed::FirstMask { low: 0, high: 4 }, semantics: RowSemantics::Elements(opcodes::VS) }, // vsb vsh vsf vsg vsq
-    MachineRow { format: FormatKind::VrrB, opcode: opcodes::VCEQ, allowed: Allowed::ComparedLanes, semantics: RowSemantics::Elements(opcodes::VCEQ) }, // vceqb vceqbs vceqh vceqhs vceqf vceqfs vceqg vceqgs vceqq vceqqs
-    MachineRow { format: FormatKind::VrrB, opcode: opcodes::VCHL, allowed: Allowed::ComparedLanes, semantics: RowSemantics::Elements(opcodes::VCHL) }, // vchlb vchlbs vchlh vchlhs vchlf vchlfs vchlg vchlgs vchlq vchlqs
-    MachineRow { format: FormatKind::VrrB, opcode: opcodes::VCH, allowed: Allowed::ComparedLanes, semantics: RowSemantics::Elements(opcodes::VCH) }, // vchb vchbs vchh vchhs vchf vchfs vchg vchgs vchq vchqs
-    MachineRow { format: FormatKind::VrrC, opcode: opcodes::VMNL, allowed: Allowed::FirstMask { low: 0, high: 4 }, semantics: RowSemantics::Elements(opcodes::VMNL) }, // vmnlb vmnlh vmnlf vmnlg vmnlq
-    MachineRow { format: FormatKind::VrrC, opcode: opcodes::VMXL, allowed: Allowed::FirstMask { low: 0, high: 4 }, semantics: RowSemantics::Elements(opcodes::VMXL) }, // vmxlb vmxlh vmxlf vmxlg vmxlq
-    MachineRow { format: FormatKind::VrrC, opcode: opcodes::VMN, allowed: Allowed::FirstMask { low: 0, high: 4 }, semantics: RowSemantics::Elements(opcodes::VMN) }, // vmnb vmnh vmnf vmng vmnq
-    MachineRow { format: FormatKind::VrrC, opcode: opcodes::VMX, allowed: Allowed::FirstMask { low: 0, high: 4 }, semantics: RowSemantics::Elements(opcodes::VMX) }, // vmxb vmxh vmxf vmxg vmxq
-    MachineRow { format: FormatKind::Rsy, opcode: opcodes::LMG, allowed: Allowed::Any, semantics: RowSemantics::LoadMultiple }, // lmg
-    MachineRow { format: FormatKind::Rsy, opcode: opcodes::SRAG, allowed: Allowed::Any, semantics: RowSemantics::Compute(Operator::Shift(ShiftOperator::ShiftRightArithmetic), Size::Doubleword, AMOUNT, CodeRule::Set) }, // srag
-    MachineRow { format: FormatKind::Rsy, opcode: opcodes::SRLG, allowed: Allowed::Any, semantics: RowSemantics::Compute(Operator::Shift(ShiftOperator::ShiftRightLogical), Size::Doubleword, AMOUNT, CodeRule::Kept) }, // srlg
-    MachineRow { format: FormatKind::Rsy, opcode: opcodes::SLLG, allowed: Allowed::Any, semantics: RowSemantics::Compute(Operator::Shift(ShiftOperator::ShiftLeft), Size::Doubleword, AMOUNT, CodeRule::Kept) }, // sllg
-    MachineRow { format: FormatKind::Rsy, opcode: opcodes::CSY, allowed: Allowed::Any, semantics: RowSemantics::CompareAndSwap(Size::Word) }, // csy
-    MachineRow { format: FormatKind::Rsy, opcode: opcodes::RLLG, allowed: Allowed::Any, semantics: RowSemantics::Compute(Operator::Shift(ShiftOperator::RotateLeft), Size::Doubleword, AMOUNT, CodeRule::Kept) }, // rllg
-    MachineRow { format: FormatKind::Rsy, opcode: opcodes::RLL, allowed: Allowed::Any, semantics: RowSemantics::Compute(Operator::Shift(ShiftOperator::RotateLeft), Size::Word, AMOUNT, CodeRule::Kept) }, // rll
-    MachineRow { format: FormatKind::Rsy, opcode: opcodes::STMG, allowed: Allowed::Any, semantics: RowSemantics::StoreMultiple }, // stmg
-    MachineRow { format: FormatKind::Rsy, opcode: opcodes::CSG, allowed: Allowed::Any, semantics: RowSemantics::CompareAndSwap(Size::Doubleword) }, // csg
-    MachineRow { format: FormatKind::Siy, opcode: opcodes::MVIY, allowed: Allowed::Any, semantics: RowSemantics::StoreByte }, // mviy
-    MachineRow { format: FormatKind::Rsy, opcode: opcodes::SRAK, allowed: Allowed::Any, semantics: RowSemantics::Compute(Operator::Shift(ShiftOperator::ShiftRightArithmetic), Size::Word, AMOUNT, CodeRule::Set) }, // srak
-    MachineRow { format: FormatKind::Rsy, opcode: opcodes::SRLK, allowed: Allowed::Any, semantics: RowSemantics::Compute(Operator::Shift(ShiftOperator::ShiftRightLogical), Size::Word, AMOUNT, CodeRule::Kept) }, // srlk
-    MachineRow { format: FormatKind::Rsy, opcode: opcodes::SLLK, allowed: Allowed::Any, semantics: RowSemantics::Compute(Operator::Shift(ShiftOperator::ShiftLeft), Size::Word, AMOUNT, CodeRule::Kept) }, // sllk
-    MachineRow { format: FormatKind::Rsy, opcode: opcodes::LANG, allowed: Allowed::Any, semantics: RowSemantics::LoadAndOperate(Operator::Bit(BitOperator::And), Size::Doubleword) }, // lang
-    MachineRow { format: FormatKind::Rsy, opcode: opcodes::LAOG, allowed: Allowed::Any, semantics: RowSemantics::LoadAndOperate(Operator::Bit(BitOperator::Or), Size::Doubleword) }, // laog
-    MachineRow { format: FormatKind::Rsy, opcode: opcodes::LAXG, allowed: Allowed::Any, semantics: RowSemantics::LoadAndOperate(Operator::Bit(BitOperator::Xor), Size::Doubleword) }, // laxg
-    MachineRow { format: FormatKind::Rsy, opcode: opcodes::LAAG, allowed: Allowed::Any, semantics: RowSemantics::LoadAndOperate(Operator::Signed(SignedOperator::Add), Size::Doubleword) }, // laag
-    MachineRow { format: FormatKind::Rsy, opcode: opcodes::LAALG, allowed: Allowed::Any, semantics: RowSemantics::LoadAndOperate(Operator::Logical(LogicalOperator::Add), Size::Doubleword) }, // laalg
-    MachineRow { format: FormatKind::Rsy, opcode: opcodes::LAN, allowed: Allowed::Any, semantics: RowSemantics::LoadAndOperate(Operator::Bit(BitOperator::And), Size::Word) }, // lan
-    MachineRow { format: FormatKind::Rsy, opcode: opcodes::LAO, allowed: Allowed::Any, semantics: RowSemantics::LoadAndOperate(Operator::Bit(BitOperator::Or), Size::Word) }, // lao
-    MachineRow { format: FormatKind::Rsy, opcode: opcodes::LAX, allowed: Allowed::Any, semantics: RowSemantics::LoadAndOperate(Operator::Bit(BitOperator::Xor), Size::Word) }, // lax
-    MachineRow { format: FormatKind::Rsy, opcode: opcodes::LAA, allowed: Allowed::Any, semantics: RowSemantics::LoadAndOperate(Operator::Signed(SignedOperator::Add), Size::Word) }, // laa
-    MachineRow { format: FormatKind::Rsy, opcode: opcodes::LAAL, allowed: Allowed::Any, semantics: RowSemantics::LoadAndOperate(Operator::Logical(LogicalOperator::Add), Size::Word) }, // laal
-    MachineRow { format: FormatKind::RieG, opcode: opcodes::LOCHI, allowed: Allowed::Any, semantics: RowSemantics::MoveWhere(Size::Word, HALFWORD_IMMEDIATE) }, // lochi
-    MachineRow { format: FormatKind::RieG, opcode: opcodes::LOCGHI, allowed: Allowed::Any, semantics: RowSemantics::MoveWhere(Size::Doubleword, HALFWORD_IMMEDIATE) }, // locghi
-    MachineRow { format: FormatKind::RieF, opcode: opcodes::RNSBG, allowed: Allowed::RotateBitsOrTest, semantics: RowSemantics::RotateThen(SelectedBitsOperator::And, CodeRule::Set) }, // rnsbg
-    MachineRow { format: FormatKind::RieF, opcode: opcodes::ROSBG, allowed: Allowed::RotateBitsOrTest, semantics: RowSemantics::RotateThen(SelectedBitsOperator::Or, CodeRule::Set) }, // rosbg
-    MachineRow { format: FormatKind::RieF, opcode: opcodes::RXSBG, allowed: Allowed::RotateBitsOrTest, semantics: RowSemantics::RotateThen(SelectedBitsOperator::Xor, CodeRule::Set) }, // rxsbg
-    MachineRow { format: FormatKind::RieF, opcode: opcodes::RISBGN, allowed: Allowed::RotateBits, semantics: RowSemantics::RotateThen(SelectedBitsOperator::Insert, CodeRule::Kept) }, // risbgn
-    MachineRow { format: FormatKind::RieA, opcode: opcodes::CGIT, allowed: Allowed::Any, semantics: RowSemantics::CompareImmediateAndTrap(Signedness::Signed, Size::Doubleword) }, // cgit
-    MachineRow { format: FormatKind::RieA, opcode: opcodes::CLGIT, allowed: Allowed::Any, semantics: RowSemantics::CompareImmediateAndTrap(Signedness::Unsigned, Size::Doubleword) }, // clgit
-    MachineRow { format: FormatKind::RieA, opcode: opcodes::CIT, allowed: Allowed::Any, semantics: RowSemantics::CompareImmediateAndTrap(Signedness::Signed, Size::Word) }, // cit
-    MachineRow { format: FormatKind::RieA, opcode: opcodes::CLFIT, allowed: Allowed::Any, semantics: RowSemantics::CompareImmediateAndTrap(Signedness::Unsigned, Size::Word) }, // clfit
-    MachineRow { format: FormatKind::RieD, opcode: opcodes::AHIK, allowed: Allowed::Any, semantics: RowSemantics::Compute(Operator::Signed(SignedOperator::Add), Size::Word, THREE_HALFWORD_IMMEDIATE, CodeRule::Set) }, // ahik
-    MachineRow { format: FormatKind::RieD, opcode: opcodes::AGHIK, allowed: Allowed::Any, semantics: RowSemantics::Compute(Operator::Signed(SignedOperator::Add), Size::Doubleword, THREE_HALFWORD_IMMEDIATE, CodeRule::Set) }, // aghik
-    MachineRow { format: FormatKind::Rxy, opcode: opcodes::LEY, allowed: Allowed::Any, semantics: RowSemantics::LoadLeft(ElementSize::Word) }, // ley
-    MachineRow { format: FormatKind::Rxy, opcode: opcodes::LDY, allowed: Allowed::Any, semantics: RowSemantics::LoadLeft(ElementSize::Doubleword) }, // ldy
-    MachineRow { format: FormatKind::Rxy, opcode: opcodes::STEY, allowed: Allowed::Any, semantics: RowSemantics::StoreLeft(ElementSize::Word) }, // stey
-    MachineRow { format: FormatKind::Rxy, opcode: opcodes::STDY, allowed: Allowed::Any, semantics: RowSemantics::StoreLeft(ElementSize::Doubleword) }, // stdy
-];
+macro_rules! machine_rows {
+    ($each:ident) => {
+        [
+            $each!(Rr, BCR, Allowed::Any, ("", Return, BranchRegister), RowSemantics::BranchToRegister), // bcr
+            $each!(Rr, BASR, Allowed::Any, ("basr", Plain, General2), RowSemantics::BranchAndSaveToRegister), // basr
+            $each!(Rr, LPR, Allowed::Any, ("lpr", Plain, General2), RowSemantics::Compute(Operator::Signed(SignedOperator::Absolute), Size::Word, WORD_REGISTER, CodeRule::Set)), // lpr
+            $each!(Rr, LCR, Allowed::Any, ("lcr", Plain, General2), RowSemantics::Compute(Operator::Signed(SignedOperator::Negate), Size::Word, WORD_REGISTER, CodeRule::Set)), // lcr
+            $each!(Rr, NR, Allowed::Any, ("nr", Plain, General2), RowSemantics::Compute(Operator::Bit(BitOperator::And), Size::Word, WORD_REGISTER, CodeRule::Set)), // nr
+            $each!(Rr, CLR, Allowed::Any, ("clr", Plain, General2), RowSemantics::Compare(Signedness::Unsigned, Size::Word, WORD_REGISTER)), // clr
+            $each!(Rr, OR, Allowed::Any, ("or", Plain, General2), RowSemantics::Compute(Operator::Bit(BitOperator::Or), Size::Word, WORD_REGISTER, CodeRule::Set)), // or
+            $each!(Rr, XR, Allowed::Any, ("xr", Plain, General2), RowSemantics::Compute(Operator::Bit(BitOperator::Xor), Size::Word, WORD_REGISTER, CodeRule::Set)), // xr
+            $each!(Rr, LR, Allowed::Any, ("lr", Plain, General2), RowSemantics::Compute(Operator::Move, Size::Word, WORD_REGISTER, CodeRule::Kept)), // lr
+            $each!(Rr, CR, Allowed::Any, ("cr", Plain, General2), RowSemantics::Compare(Signedness::Signed, Size::Word, WORD_REGISTER)), // cr
+            $each!(Rr, AR, Allowed::Any, ("ar", Plain, General2), RowSemantics::Compute(Operator::Signed(SignedOperator::Add), Size::Word, WORD_REGISTER, CodeRule::Set)), // ar
+            $each!(Rr, SR, Allowed::Any, ("sr", Plain, General2), RowSemantics::Compute(Operator::Signed(SignedOperator::Subtract), Size::Word, WORD_REGISTER, CodeRule::Set)), // sr
+            $each!(Rr, ALR, Allowed::Any, ("alr", Plain, General2), RowSemantics::Compute(Operator::Logical(LogicalOperator::Add), Size::Word, WORD_REGISTER, CodeRule::Set)), // alr
+            $each!(Rr, SLR, Allowed::Any, ("slr", Plain, General2), RowSemantics::Compute(Operator::Logical(LogicalOperator::Subtract), Size::Word, WORD_REGISTER, CodeRule::Set)), // slr
+            $each!(Rr, LDR, Allowed::Any, ("ldr", Plain, Float2), RowSemantics::MoveLeft(ElementSize::Doubleword)), // ldr
+            $each!(Rr, LER, Allowed::Any, ("ler", Plain, Float2), RowSemantics::MoveLeft(ElementSize::Word)), // ler
+            $each!(Rx, STH, Allowed::Any, ("sth", Plain, GeneralIndexed), RowSemantics::Store(HALFWORD_IN_MEMORY)), // sth
+            $each!(Rx, LA, Allowed::Any, ("la", Plain, GeneralIndexed), RowSemantics::Compute(Operator::Move, Size::Doubleword, INDEXED_ADDRESS, CodeRule::Kept)), // la
+            $each!(Rx, STC, Allowed::Any, ("stc", Plain, GeneralIndexed), RowSemantics::Store(BYTE_IN_MEMORY)), // stc
+            $each!(Rx, LH, Allowed::Any, ("lh", Plain, GeneralIndexed), RowSemantics::Compute(Operator::Move, Size::Word, SIGNED_HALFWORD_IN_MEMORY, CodeRule::Kept)), // lh
+            $each!(Rx, CH, Allowed::Any, ("ch", Plain, GeneralIndexed), RowSemantics::Compare(Signedness::Signed, Size::Word, SIGNED_HALFWORD_IN_MEMORY)), // ch
+            $each!(Rx, AH, Allowed::Any, ("ah", Plain, GeneralIndexed), RowSemantics::Compute(Operator::Signed(SignedOperator::Add), Size::Word, SIGNED_HALFWORD_IN_MEMORY, CodeRule::Set)), // ah
+            $each!(Rx, SH, Allowed::Any, ("sh", Plain, GeneralIndexed), RowSemantics::Compute(Operator::Signed(SignedOperator::Subtract), Size::Word, SIGNED_HALFWORD_IN_MEMORY, CodeRule::Set)), // sh
+            $each!(Rx, MH, Allowed::Any, ("mh", Plain, GeneralIndexed), RowSemantics::Compute(Operator::Signed(SignedOperator::Multiply), Size::Word, SIGNED_HALFWORD_IN_MEMORY, CodeRule::Kept)), // mh
+            $each!(Rx, ST, Allowed::Any, ("st", Plain, GeneralIndexed), RowSemantics::Store(WORD_IN_MEMORY)), // st
+            $each!(Rx, N, Allowed::Any, ("n", Plain, GeneralIndexed), RowSemantics::Compute(Operator::Bit(BitOperator::And), Size::Word, WORD_IN_MEMORY, CodeRule::Set)), // n
+            $each!(Rx, CL, Allowed::Any, ("cl", Plain, GeneralIndexed), RowSemantics::Compare(Signedness::Unsigned, Size::Word, WORD_IN_MEMORY)), // cl
+            $each!(Rx, O, Allowed::Any, ("o", Plain, GeneralIndexed), RowSemantics::Compute(Operator::Bit(BitOperator::Or), Size::Word, WORD_IN_MEMORY, CodeRule::Set)), // o
+            $each!(Rx, X, Allowed::Any, ("x", Plain, GeneralIndexed), RowSemantics::Compute(Operator::Bit(BitOperator::Xor), Size::Word, WORD_IN_MEMORY, CodeRule::Set)), // x
+            $each!(Rx, L, Allowed::Any, ("l", Plain, GeneralIndexed), RowSemantics::Compute(Operator::Move, Size::Word, WORD_IN_MEMORY, CodeRule::Kept)), // l
+            $each!(Rx, C, Allowed::Any, ("c", Plain, GeneralIndexed), RowSemantics::Compare(Signedness::Signed, Size::Word, WORD_IN_MEMORY)), // c
+            $each!(Rx, A, Allowed::Any, ("a", Plain, GeneralIndexed), RowSemantics::Compute(Operator::Signed(SignedOperator::Add), Size::Word, WORD_IN_MEMORY, CodeRule::Set)), // a
+            $each!(Rx, S, Allowed::Any, ("s", Plain, GeneralIndexed), RowSemantics::Compute(Operator::Signed(SignedOperator::Subtract), Size::Word, WORD_IN_MEMORY, CodeRule::Set)), // s
+            $each!(Rx, AL, Allowed::Any, ("al", Plain, GeneralIndexed), RowSemantics::Compute(Operator::Logical(LogicalOperator::Add), Size::Word, WORD_IN_MEMORY, CodeRule::Set)), // al
+            $each!(Rx, SL, Allowed::Any, ("sl", Plain, GeneralIndexed), RowSemantics::Compute(Operator::Logical(LogicalOperator::Subtract), Size::Word, WORD_IN_MEMORY, CodeRule::Set)), // sl
+            $each!(Rx, STD, Allowed::Any, ("std", Plain, FloatIndexed), RowSemantics::StoreLeft(ElementSize::Doubleword)), // std
+            $each!(Rx, LD, Allowed::Any, ("ld", Plain, FloatIndexed), RowSemantics::LoadLeft(ElementSize::Doubleword)), // ld
+            $each!(Rx, STE, Allowed::Any, ("ste", Plain, FloatIndexed), RowSemantics::StoreLeft(ElementSize::Word)), // ste
+            $each!(Rx, MS, Allowed::Any, ("ms", Plain, GeneralIndexed), RowSemantics::Compute(Operator::Signed(SignedOperator::Multiply), Size::Word, WORD_IN_MEMORY, CodeRule::Kept)), // ms
+            $each!(Rx, LE, Allowed::Any, ("le", Plain, FloatIndexed), RowSemantics::LoadLeft(ElementSize::Word)), // le
+            $each!(Si, MVI, Allowed::Any, ("mvi", Plain, StorageByte), RowSemantics::StoreByte), // mvi
+            $each!(Rs, CS, Allowed::Any, ("cs", Plain, General2Storage), RowSemantics::CompareAndSwap(Size::Word)), // cs
+            $each!(RiA, IIHH, Allowed::Any, ("iihh", Plain, GeneralUnsigned), RowSemantics::Compute(Operator::SelectedBits(SelectedBitsOperator::Insert, 0xffff000000000000), Size::Doubleword, AT_48, CodeRule::Kept)), // iihh
+            $each!(RiA, IIHL, Allowed::Any, ("iihl", Plain, GeneralUnsigned), RowSemantics::Compute(Operator::SelectedBits(SelectedBitsOperator::Insert, 0xffff00000000), Size::Doubleword, AT_32, CodeRule::Kept)), // iihl
+            $each!(RiA, IILH, Allowed::Any, ("iilh", Plain, GeneralUnsigned), RowSemantics::Compute(Operator::SelectedBits(SelectedBitsOperator::Insert, 0xffff0000), Size::Doubleword, AT_16, CodeRule::Kept)), // iilh
+            $each!(RiA, IILL, Allowed::Any, ("iill", Plain, GeneralUnsigned), RowSemantics::Compute(Operator::SelectedBits(SelectedBitsOperator::Insert, 0xffff), Size::Doubleword, AT_0, CodeRule::Kept)), // iill
+            $each!(RiA, NIHH, Allowed::Any, ("nihh", Plain, GeneralUnsigned), RowSemantics::Compute(Operator::SelectedBits(SelectedBitsOperator::And, 0xffff000000000000), Size::Doubleword, AT_48, CodeRule::Set)), // nihh
+            $each!(RiA, NIHL, Allowed::Any, ("nihl", Plain, GeneralUnsigned), RowSemantics::Compute(Operator::SelectedBits(SelectedBitsOperator::And, 0xffff00000000), Size::Doubleword, AT_32, CodeRule::Set)), // nihl
+            $each!(RiA, NILH, Allowed::Any, ("nilh", Plain, GeneralUnsigned), RowSemantics::Compute(Operator::SelectedBits(SelectedBitsOperator::And, 0xffff0000), Size::Doubleword, AT_16, CodeRule::Set)), // nilh
+            $each!(RiA, NILL, Allowed::Any, ("nill", Plain, GeneralUnsigned), RowSemantics::Compute(Operator::SelectedBits(SelectedBitsOperator::And, 0xffff), Size::Doubleword, AT_0, CodeRule::Set)), // nill
+            $each!(RiA, OIHH, Allowed::Any, ("oihh", Plain, GeneralUnsigned), RowSemantics::Compute(Operator::SelectedBits(SelectedBitsOperator::Or, 0xffff000000000000), Size::Doubleword, AT_48, CodeRule::Set)), // oihh
+            $each!(RiA, OIHL, Allowed::Any, ("oihl", Plain, GeneralUnsigned), RowSemantics::Compute(Operator::SelectedBits(SelectedBitsOperator::Or, 0xffff00000000), Size::Doubleword, AT_32, CodeRule::Set)), // oihl
+            $each!(RiA, OILH, Allowed::Any, ("oilh", Plain, GeneralUnsigned), RowSemantics::Compute(Operator::SelectedBits(SelectedBitsOperator::Or, 0xffff0000), Size::Doubleword, AT_16, CodeRule::Set)), // oilh
+            $each!(RiA, OILL, Allowed::Any, ("oill", Plain, GeneralUnsigned), RowSemantics::Compute(Operator::SelectedBits(SelectedBitsOperator::Or, 0xffff), Size::Doubleword, AT_0, CodeRule::Set)), // oill
+            $each!(RiA, LLIHH, Allowed::Any, ("llihh", Plain, GeneralUnsigned), RowSemantics::Compute(Operator::Move, Size::Doubleword, AT_48, CodeRule::Kept)), // llihh
+            $each!(RiA, LLIHL, Allowed::Any, ("llihl", Plain, GeneralUnsigned), RowSemantics::Compute(Operator::Move, Size::Doubleword, AT_32, CodeRule::Kept)), // llihl
+            $each!(RiA, LLILH, Allowed::Any, ("llilh", Plain, GeneralUnsigned), RowSemantics::Compute(Operator::Move, Size::Doubleword, AT_16, CodeRule::Kept)), // llilh
+            $each!(RiA, LLILL, Allowed::Any, ("llill", Plain, GeneralUnsigned), RowSemantics::Compute(Operator::Move, Size::Doubleword, AT_0, CodeRule::Kept)), // llill
+            $each!(RiC, BRC, Allowed::Any, ("j", Jump, Target), RowSemantics::BranchRelative), // brc
+            $each!(RiB, BRAS, Allowed::Any, ("bras", Plain, GeneralTarget), RowSemantics::BranchAndSaveRelative), // bras
+            $each!(RiA, LHI, Allowed::Any, ("lhi", Plain, GeneralSigned16), RowSemantics::Compute(Operator::Move, Size::Word, HALFWORD_IMMEDIATE, CodeRule::Kept)), // lhi
+            $each!(RiA, LGHI, Allowed::Any, ("lghi", Plain, GeneralSigned16), RowSemantics::Compute(Operator::Move, Size::Doubleword, HALFWORD_IMMEDIATE, CodeRule::Kept)), // lghi
+            $each!(RiA, AHI, Allowed::Any, ("ahi", Plain, GeneralSigned16), RowSemantics::Compute(Operator::Signed(SignedOperator::Add), Size::Word, HALFWORD_IMMEDIATE, CodeRule::Set)), // ahi
+            $each!(RiA, AGHI, Allowed::Any, ("aghi", Plain, GeneralSigned16), RowSemantics::Compute(Operator::Signed(SignedOperator::Add), Size::Doubleword, HALFWORD_IMMEDIATE, CodeRule::Set)), // aghi
+            $each!(RiA, MHI, Allowed::Any, ("mhi", Plain, GeneralSigned16), RowSemantics::Compute(Operator::Signed(SignedOperator::Multiply), Size::Word, HALFWORD_IMMEDIATE, CodeRule::Kept)), // mhi
+            $each!(RiA, MGHI, Allowed::Any, ("mghi", Plain, GeneralSigned16), RowSemantics::Compute(Operator::Signed(SignedOperator::Multiply), Size::Doubleword, HALFWORD_IMMEDIATE, CodeRule::Kept)), // mghi
+            $each!(RiA, CHI, Allowed::Any, ("chi", Plain, GeneralSigned16), RowSemantics::Compare(Signedness::Signed, Size::Word, HALFWORD_IMMEDIATE)), // chi
+            $each!(RiA, CGHI, Allowed::Any, ("cghi", Plain, GeneralSigned16), RowSemantics::Compare(Signedness::Signed, Size::Doubleword, HALFWORD_IMMEDIATE)), // cghi
+            $each!(RilB, LARL, Allowed::Any, ("larl", Plain, GeneralTarget), RowSemantics::Compute(Operator::Move, Size::Doubleword, RELATIVE_ADDRESS, CodeRule::Kept)), // larl
+            $each!(RilA, LGFI, Allowed::Any, ("lgfi", Plain, GeneralSigned32), RowSemantics::Compute(Operator::Move, Size::Doubleword, SIGNED_WORD_IMMEDIATE, CodeRule::Kept)), // lgfi
+            $each!(RilC, BRCL, Allowed::Any, ("jg", Jump, Target), RowSemantics::BranchRelative), // brcl
+            $each!(RilB, BRASL, Allowed::Any, ("brasl", Plain, GeneralTarget), RowSemantics::BranchAndSaveRelative), // brasl
+            $each!(RilA, XIHF, Allowed::Any, ("xihf", Plain, GeneralUnsigned), RowSemantics::Compute(Operator::SelectedBits(SelectedBitsOperator::Xor, 0xffffffff00000000), Size::Doubleword, AT_32, CodeRule::Set)), // xihf
+            $each!(RilA, XILF, Allowed::Any, ("xilf", Plain, GeneralUnsigned), RowSemantics::Compute(Operator::SelectedBits(SelectedBitsOperator::Xor, 0xffffffff), Size::Doubleword, AT_0, CodeRule::Set)), // xilf
+            $each!(RilA, IIHF, Allowed::Any, ("iihf", Plain, GeneralUnsigned), RowSemantics::Compute(Operator::SelectedBits(SelectedBitsOperator::Insert, 0xffffffff00000000), Size::Doubleword, AT_32, CodeRule::Kept)), // iihf
+            $each!(RilA, IILF, Allowed::Any, ("iilf", Plain, GeneralUnsigned), RowSemantics::Compute(Operator::Move, Size::Word, WORD_IMMEDIATE, CodeRule::Kept)), // iilf
+            $each!(RilA, NIHF, Allowed::Any, ("nihf", Plain, GeneralUnsigned), RowSemantics::Compute(Operator::SelectedBits(SelectedBitsOperator::And, 0xffffffff00000000), Size::Doubleword, AT_32, CodeRule::Set)), // nihf
+            $each!(RilA, NILF, Allowed::Any, ("nilf", Plain, GeneralUnsigned), RowSemantics::Compute(Operator::SelectedBits(SelectedBitsOperator::And, 0xffffffff), Size::Doubleword, AT_0, CodeRule::Set)), // nilf
+            $each!(RilA, OIHF, Allowed::Any, ("oihf", Plain, GeneralUnsigned), RowSemantics::Compute(Operator::SelectedBits(SelectedBitsOperator::Or, 0xffffffff00000000), Size::Doubleword, AT_32, CodeRule::Set)), // oihf
+            $each!(RilA, OILF, Allowed::Any, ("oilf", Plain, GeneralUnsigned), RowSemantics::Compute(Operator::SelectedBits(SelectedBitsOperator::Or, 0xffffffff), Size::Doubleword, AT_0, CodeRule::Set)), // oilf
+            $each!(RilA, LLIHF, Allowed::Any, ("llihf", Plain, GeneralUnsigned), RowSemantics::Compute(Operator::Move, Size::Doubleword, AT_32, CodeRule::Kept)), // llihf
+            $each!(RilA, LLILF, Allowed::Any, ("llilf", Plain, GeneralUnsigned), RowSemantics::Compute(Operator::Move, Size::Doubleword, AT_0, CodeRule::Kept)), // llilf
+            $each!(RilA, MSGFI, Allowed::Any, ("msgfi", Plain, GeneralSigned32), RowSemantics::Compute(Operator::Signed(SignedOperator::Multiply), Size::Doubleword, SIGNED_WORD_IMMEDIATE, CodeRule::Kept)), // msgfi
+            $each!(RilA, MSFI, Allowed::Any, ("msfi", Plain, GeneralSigned32), RowSemantics::Compute(Operator::Signed(SignedOperator::Multiply), Size::Word, SIGNED_WORD_IMMEDIATE, CodeRule::Kept)), // msfi
+            $each!(RilA, SLGFI, Allowed::Any, ("slgfi", Plain, GeneralUnsigned), RowSemantics::Compute(Operator::Logical(LogicalOperator::Subtract), Size::Doubleword, WORD_IMMEDIATE, CodeRule::Set)), // slgfi
+            $each!(RilA, SLFI, Allowed::Any, ("slfi", Plain, GeneralUnsigned), RowSemantics::Compute(Operator::Logical(LogicalOperator::Subtract), Size::Word, WORD_IMMEDIATE, CodeRule::Set)), // slfi
+            $each!(RilA, AGFI, Allowed::Any, ("agfi", Plain, GeneralSigned32), RowSemantics::Compute(Operator::Signed(SignedOperator::Add), Size::Doubleword, SIGNED_WORD_IMMEDIATE, CodeRule::Set)), // agfi
+            $each!(RilA, AFI, Allowed::Any, ("afi", Plain, GeneralSigned32), RowSemantics::Compute(Operator::Signed(SignedOperator::Add), Size::Word, SIGNED_WORD_IMMEDIATE, CodeRule::Set)), // afi
+            $each!(RilA, ALGFI, Allowed::Any, ("algfi", Plain, GeneralUnsigned), RowSemantics::Compute(Operator::Logical(LogicalOperator::Add), Size::Doubleword, WORD_IMMEDIATE, CodeRule::Set)), // algfi
+            $each!(RilA, ALFI, Allowed::Any, ("alfi", Plain, GeneralUnsigned), RowSemantics::Compute(Operator::Logical(LogicalOperator::Add), Size::Word, WORD_IMMEDIATE, CodeRule::Set)), // alfi
+            $each!(RilA, CGFI, Allowed::Any, ("cgfi", Plain, GeneralSigned32), RowSemantics::Compare(Signedness::Signed, Size::Doubleword, SIGNED_WORD_IMMEDIATE)), // cgfi
+            $each!(RilA, CFI, Allowed::Any, ("cfi", Plain, GeneralSigned32), RowSemantics::Compare(Signedness::Signed, Size::Word, SIGNED_WORD_IMMEDIATE)), // cfi
+            $each!(RilA, CLGFI, Allowed::Any, ("clgfi", Plain, GeneralUnsigned), RowSemantics::Compare(Signedness::Unsigned, Size::Doubleword, WORD_IMMEDIATE)), // clgfi
+            $each!(RilA, CLFI, Allowed::Any, ("clfi", Plain, GeneralUnsigned), RowSemantics::Compare(Signedness::Unsigned, Size::Word, WORD_IMMEDIATE)), // clfi
+            $each!(RilB, LLHRL, Allowed::Any, ("llhrl", Plain, GeneralTarget), RowSemantics::Compute(Operator::Move, Size::Word, RELATIVE_HALFWORD, CodeRule::Kept)), // llhrl
+            $each!(RilB, LGHRL, Allowed::Any, ("lghrl", Plain, GeneralTarget), RowSemantics::Compute(Operator::Move, Size::Doubleword, SIGNED_RELATIVE_HALFWORD, CodeRule::Kept)), // lghrl
+            $each!(RilB, LHRL, Allowed::Any, ("lhrl", Plain, GeneralTarget), RowSemantics::Compute(Operator::Move, Size::Word, SIGNED_RELATIVE_HALFWORD, CodeRule::Kept)), // lhrl
+            $each!(RilB, LLGHRL, Allowed::Any, ("llghrl", Plain, GeneralTarget), RowSemantics::Compute(Operator::Move, Size::Doubleword, RELATIVE_HALFWORD, CodeRule::Kept)), // llghrl
+            $each!(RilB, STHRL, Allowed::Any, ("sthrl", Plain, GeneralTarget), RowSemantics::Store(RELATIVE_HALFWORD)), // sthrl
+            $each!(RilB, LGRL, Allowed::Any, ("lgrl", Plain, GeneralTarget), RowSemantics::Compute(Operator::Move, Size::Doubleword, RELATIVE_DOUBLEWORD, CodeRule::Kept)), // lgrl
+            $each!(RilB, STGRL, Allowed::Any, ("stgrl", Plain, GeneralTarget), RowSemantics::Store(RELATIVE_DOUBLEWORD)), // stgrl
+            $each!(RilB, LGFRL, Allowed::Any, ("lgfrl", Plain, GeneralTarget), RowSemantics::Compute(Operator::Move, Size::Doubleword, SIGNED_RELATIVE_WORD, CodeRule::Kept)), // lgfrl
+            $each!(RilB, LRL, Allowed::Any, ("lrl", Plain, GeneralTarget), RowSemantics::Compute(Operator::Move, Size::Word, RELATIVE_WORD, CodeRule::Kept)), // lrl
+            $each!(RilB, LLGFRL, Allowed::Any, ("llgfrl", Plain, GeneralTarget), RowSemantics::Compute(Operator::Move, Size::Doubleword, RELATIVE_WORD, CodeRule::Kept)), // llgfrl
+            $each!(RilB, STRL, Allowed::Any, ("strl", Plain, GeneralTarget), RowSemantics::Store(RELATIVE_WORD)), // strl
+            $each!(RilB, CGHRL, Allowed::Any, ("cghrl", Plain, GeneralTarget), RowSemantics::Compare(Signedness::Signed, Size::Doubleword, SIGNED_RELATIVE_HALFWORD)), // cghrl
+            $each!(RilB, CHRL, Allowed::Any, ("chrl", Plain, GeneralTarget), RowSemantics::Compare(Signedness::Signed, Size::Word, SIGNED_RELATIVE_HALFWORD)), // chrl
+            $each!(RilB, CLGHRL, Allowed::Any, ("clghrl", Plain, GeneralTarget), RowSemantics::Compare(Signedness::Unsigned, Size::Doubleword, RELATIVE_HALFWORD)), // clghrl
+            $each!(RilB, CLHRL, Allowed::Any, ("clhrl", Plain, GeneralTarget), RowSemantics::Compare(Signedness::Unsigned, Size::Word, RELATIVE_HALFWORD)), // clhrl
+            $each!(RilB, CGRL, Allowed::Any, ("cgrl", Plain, GeneralTarget), RowSemantics::Compare(Signedness::Signed, Size::Doubleword, RELATIVE_DOUBLEWORD)), // cgrl
+            $each!(RilB, CLGRL, Allowed::Any, ("clgrl", Plain, GeneralTarget), RowSemantics::Compare(Signedness::Unsigned, Size::Doubleword, RELATIVE_DOUBLEWORD)), // clgrl
+            $each!(RilB, CGFRL, Allowed::Any, ("cgfrl", Plain, GeneralTarget), RowSemantics::Compare(Signedness::Signed, Size::Doubleword, SIGNED_RELATIVE_WORD)), // cgfrl
+            $each!(RilB, CRL, Allowed::Any, ("crl", Plain, GeneralTarget), RowSemantics::Compare(Signedness::Signed, Size::Word, RELATIVE_WORD)), // crl
+            $each!(RilB, CLGFRL, Allowed::Any, ("clgfrl", Plain, GeneralTarget), RowSemantics::Compare(Signedness::Unsigned, Size::Doubleword, RELATIVE_WORD)), // clgfrl
+            $each!(RilB, CLRL, Allowed::Any, ("clrl", Plain, GeneralTarget), RowSemantics::Compare(Signedness::Unsigned, Size::Word, RELATIVE_WORD)), // clrl
+            $each!(Rre, EAR, Allowed::Any, ("ear", Plain, GeneralAccess), RowSemantics::Compute(Operator::Move, Size::Word, ACCESS_REGISTER, CodeRule::Kept)), // ear
+            $each!(Rre, MSR, Allowed::Any, ("msr", Plain, General2), RowSemantics::Compute(Operator::Signed(SignedOperator::Multiply), Size::Word, WORD_REGISTER, CodeRule::Kept)), // msr
+            $each!(Rre, LDGR, Allowed::Any, ("ldgr", Plain, FloatGeneral), RowSemantics::RegisterToLeft), // ldgr
+            $each!(Rre, LGDR, Allowed::Any, ("lgdr", Plain, GeneralFloat), RowSemantics::LeftToRegister), // lgdr
+            $each!(Rre, LPGR, Allowed::Any, ("lpgr", Plain, General2), RowSemantics::Compute(Operator::Signed(SignedOperator::Absolute), Size::Doubleword, REGISTER, CodeRule::Set)), // lpgr
+            $each!(Rre, LCGR, Allowed::Any, ("lcgr", Plain, General2), RowSemantics::Compute(Operator::Signed(SignedOperator::Negate), Size::Doubleword, REGISTER, CodeRule::Set)), // lcgr
+            $each!(Rre, LGR, Allowed::Any, ("lgr", Plain, General2), RowSemantics::Compute(Operator::Move, Size::Doubleword, REGISTER, CodeRule::Kept)), // lgr
+            $each!(Rre, LGBR, Allowed::Any, ("lgbr", Plain, General2), RowSemantics::Compute(Operator::Move, Size::Doubleword, SIGNED_BYTE_REGISTER, CodeRule::Kept)), // lgbr
+            $each!(Rre, LGHR, Allowed::Any, ("lghr", Plain, General2), RowSemantics::Compute(Operator::Move, Size::Doubleword, SIGNED_HALFWORD_REGISTER, CodeRule::Kept)), // lghr
+            $each!(Rre, AGR, Allowed::Any, ("agr", Plain, General2), RowSemantics::Compute(Operator::Signed(SignedOperator::Add), Size::Doubleword, REGISTER, CodeRule::Set)), // agr
+            $each!(Rre, SGR, Allowed::Any, ("sgr", Plain, General2), RowSemantics::Compute(Operator::Signed(SignedOperator::Subtract), Size::Doubleword, REGISTER, CodeRule::Set)), // sgr
+            $each!(Rre, ALGR, Allowed::Any, ("algr", Plain, General2), RowSemantics::Compute(Operator::Logical(LogicalOperator::Add), Size::Doubleword, REGISTER, CodeRule::Set)), // algr
+            $each!(Rre, SLGR, Allowed::Any, ("slgr", Plain, General2), RowSemantics::Compute(Operator::Logical(LogicalOperator::Subtract), Size::Doubleword, REGISTER, CodeRule::Set)), // slgr
+            $each!(Rre, MSGR, Allowed::Any, ("msgr", Plain, General2), RowSemantics::Compute(Operator::Signed(SignedOperator::Multiply), Size::Doubleword, REGISTER, CodeRule::Kept)), // msgr
+            $each!(Rre, DSGR, Allowed::Any, ("dsgr", Plain, General2), RowSemantics::DivideSigned(Width::Bits64)), // dsgr
+            $each!(Rre, LRVGR, Allowed::Any, ("lrvgr", Plain, General2), RowSemantics::Compute(Operator::Move, Size::Doubleword, REVERSED_REGISTER, CodeRule::Kept)), // lrvgr
+            $each!(Rre, LPGFR, Allowed::Any, ("lpgfr", Plain, General2), RowSemantics::Compute(Operator::Signed(SignedOperator::Absolute), Size::Doubleword, SIGNED_WORD_REGISTER, CodeRule::Set)), // lpgfr
+            $each!(Rre, LCGFR, Allowed::Any, ("lcgfr", Plain, General2), RowSemantics::Compute(Operator::Signed(SignedOperator::Negate), Size::Doubleword, SIGNED_WORD_REGISTER, CodeRule::Set)), // lcgfr
+            $each!(Rre, LGFR, Allowed::Any, ("lgfr", Plain, General2), RowSemantics::Compute(Operator::Move, Size::Doubleword, SIGNED_WORD_REGISTER, CodeRule::Kept)), // lgfr
+            $each!(Rre, LLGFR, Allowed::Any, ("llgfr", Plain, General2), RowSemantics::Compute(Operator::Move, Size::Doubleword, WORD_REGISTER, CodeRule::Kept)), // llgfr
+            $each!(Rre, AGFR, Allowed::Any, ("agfr", Plain, General2), RowSemantics::Compute(Operator::Signed(SignedOperator::Add), Size::Doubleword, SIGNED_WORD_REGISTER, CodeRule::Set)), // agfr
+            $each!(Rre, SGFR, Allowed::Any, ("sgfr", Plain, General2), RowSemantics::Compute(Operator::Signed(SignedOperator::Subtract), Size::Doubleword, SIGNED_WORD_REGISTER, CodeRule::Set)), // sgfr
+            $each!(Rre, ALGFR, Allowed::Any, ("algfr", Plain, General2), RowSemantics::Compute(Operator::Logical(LogicalOperator::Add), Size::Doubleword, WORD_REGISTER, CodeRule::Set)), // algfr
+            $each!(Rre, SLGFR, Allowed::Any, ("slgfr", Plain, General2), RowSemantics::Compute(Operator::Logical(LogicalOperator::Subtract), Size::Doubleword, WORD_REGISTER, CodeRule::Set)), // slgfr
+            $each!(Rre, MSGFR, Allowed::Any, ("msgfr", Plain, General2), RowSemantics::Compute(Operator::Signed(SignedOperator::Multiply), Size::Doubleword, SIGNED_WORD_REGISTER, CodeRule::Kept)), // msgfr
+            $each!(Rre, DSGFR, Allowed::Any, ("dsgfr", Plain, General2), RowSemantics::DivideSigned(Width::Bits32)), // dsgfr
+            $each!(Rre, LRVR, Allowed::Any, ("lrvr", Plain, General2), RowSemantics::Compute(Operator::Move, Size::Word, REVERSED_WORD_REGISTER, CodeRule::Kept)), // lrvr
+            $each!(Rre, CGR, Allowed::Any, ("cgr", Plain, General2), RowSemantics::Compare(Signedness::Signed, Size::Doubleword, REGISTER)), // cgr
+            $each!(Rre, CLGR, Allowed::Any, ("clgr", Plain, General2), RowSemantics::Compare(Signedness::Unsigned, Size::Doubleword, REGISTER)), // clgr
+            $each!(Rre, LBR, Allowed::Any, ("lbr", Plain, General2), RowSemantics::Compute(Operator::Move, Size::Word, SIGNED_BYTE_REGISTER, CodeRule::Kept)), // lbr
+            $each!(Rre, LHR, Allowed::Any, ("lhr", Plain, General2), RowSemantics::Compute(Operator::Move, Size::Word, SIGNED_HALFWORD_REGISTER, CodeRule::Kept)), // lhr
+            $each!(Rre, CGFR, Allowed::Any, ("cgfr", Plain, General2), RowSemantics::Compare(Signedness::Signed, Size::Doubleword, SIGNED_WORD_REGISTER)), // cgfr
+            $each!(Rre, CLGFR, Allowed::Any, ("clgfr", Plain, General2), RowSemantics::Compare(Signedness::Unsigned, Size::Doubleword, WORD_REGISTER)), // clgfr
+            $each!(RrfCde, CGRT, Allowed::FirstMask { low: 0, high: 15 }, ("cgrt", Trap, General2Mask), RowSemantics::CompareAndTrap(Signedness::Signed, Size::Doubleword)), // cgrt
+            $each!(RrfCde, CLGRT, Allowed::FirstMask { low: 0, high: 15 }, ("clgrt", Trap, General2Mask), RowSemantics::CompareAndTrap(Signedness::Unsigned, Size::Doubleword)), // clgrt
+            $each!(RrfAb, NNGRK, Allowed::FirstMask { low: 0, high: 0 }, ("nngrk", Plain, General3), RowSemantics::Compute(Operator::Bit(BitOperator::NotAnd), Size::Doubleword, THREE_REGISTERS, CodeRule::Set)), // nngrk
+            $each!(RrfAb, OCGRK, Allowed::FirstMask { low: 0, high: 0 }, ("ocgrk", Plain, General3), RowSemantics::Compute(Operator::Bit(BitOperator::OrNot), Size::Doubleword, THREE_REGISTERS, CodeRule::Set)), // ocgrk
+            $each!(RrfAb, NOGRK, Allowed::FirstMask { low: 0, high: 0 }, ("nogrk", Plain, General3), RowSemantics::Compute(Operator::Bit(BitOperator::NotOr), Size::Doubleword, THREE_REGISTERS, CodeRule::Set)), // nogrk
+            $each!(RrfAb, NXGRK, Allowed::FirstMask { low: 0, high: 0 }, ("nxgrk", Plain, General3), RowSemantics::Compute(Operator::Bit(BitOperator::NotXor), Size::Doubleword, THREE_REGISTERS, CodeRule::Set)), // nxgrk
+            $each!(Rre, CLZG, Allowed::Any, ("clzg", Plain, General2), RowSemantics::Compute(Operator::LeadingZeros, Size::Doubleword, REGISTER, CodeRule::Unspecified)), // clzg
+            $each!(Rre, CTZG, Allowed::Any, ("ctzg", Plain, General2), RowSemantics::Compute(Operator::TrailingZeros, Size::Doubleword, REGISTER, CodeRule::Unspecified)), // ctzg
+            $each!(RrfCde, CRT, Allowed::FirstMask { low: 0, high: 15 }, ("crt", Trap, General2Mask), RowSemantics::CompareAndTrap(Signedness::Signed, Size::Word)), // crt
+            $each!(RrfCde, CLRT, Allowed::FirstMask { low: 0, high: 15 }, ("clrt", Trap, General2Mask), RowSemantics::CompareAndTrap(Signedness::Unsigned, Size::Word)), // clrt
+            $each!(RrfAb, NNRK, Allowed::FirstMask { low: 0, high: 0 }, ("nnrk", Plain, General3), RowSemantics::Compute(Operator::Bit(BitOperator::NotAnd), Size::Word, THREE_WORD_REGISTERS, CodeRule::Set)), // nnrk
+            $each!(RrfAb, OCRK, Allowed::FirstMask { low: 0, high: 0 }, ("ocrk", Plain, General3), RowSemantics::Compute(Operator::Bit(BitOperator::OrNot), Size::Word, THREE_WORD_REGISTERS, CodeRule::Set)), // ocrk
+            $each!(RrfAb, NORK, Allowed::FirstMask { low: 0, high: 0 }, ("nork", Plain, General3), RowSemantics::Compute(Operator::Bit(BitOperator::NotOr), Size::Word, THREE_WORD_REGISTERS, CodeRule::Set)), // nork
+            $each!(RrfAb, NXRK, Allowed::FirstMask { low: 0, high: 0 }, ("nxrk", Plain, General3), RowSemantics::Compute(Operator::Bit(BitOperator::NotXor), Size::Word, THREE_WORD_REGISTERS, CodeRule::Set)), // nxrk
+            $each!(Rre, NGR, Allowed::Any, ("ngr", Plain, General2), RowSemantics::Compute(Operator::Bit(BitOperator::And), Size::Doubleword, REGISTER, CodeRule::Set)), // ngr
+            $each!(Rre, OGR, Allowed::Any, ("ogr", Plain, General2), RowSemantics::Compute(Operator::Bit(BitOperator::Or), Size::Doubleword, REGISTER, CodeRule::Set)), // ogr
+            $each!(Rre, XGR, Allowed::Any, ("xgr", Plain, General2), RowSemantics::Compute(Operator::Bit(BitOperator::Xor), Size::Doubleword, REGISTER, CodeRule::Set)), // xgr
+            $each!(Rre, FLOGR, Allowed::Any, ("flogr", Plain, General2), RowSemantics::FindLeftmostOne), // flogr
+            $each!(Rre, LLGCR, Allowed::Any, ("llgcr", Plain, General2), RowSemantics::Compute(Operator::Move, Size::Doubleword, BYTE_REGISTER, CodeRule::Kept)), // llgcr
+            $each!(Rre, LLGHR, Allowed::Any, ("llghr", Plain, General2), RowSemantics::Compute(Operator::Move, Size::Doubleword, HALFWORD_REGISTER, CodeRule::Kept)), // llghr
+            $each!(Rre, MLGR, Allowed::Any, ("mlgr", Plain, General2), RowSemantics::MultiplyLogical), // mlgr
+            $each!(Rre, DLGR, Allowed::Any, ("dlgr", Plain, General2), RowSemantics::DivideLogical(Size::Doubleword)), // dlgr
+            $each!(Rre, LLCR, Allowed::Any, ("llcr", Plain, General2), RowSemantics::Compute(Operator::Move, Size::Word, BYTE_REGISTER, CodeRule::Kept)), // llcr
+            $each!(Rre, LLHR, Allowed::Any, ("llhr", Plain, General2), RowSemantics::Compute(Operator::Move, Size::Word, HALFWORD_REGISTER, CodeRule::Kept)), // llhr
+            $each!(Rre, DLR, Allowed::Any, ("dlr", Plain, General2), RowSemantics::DivideLogical(Size::Word)), // dlr
+            $each!(RrfCde, POPCNT, Allowed::CountMode, ("popcnt", Plain, General2Count), RowSemantics::CountOnes), // popcnt
+            $each!(RrfCde, LOCGR, Allowed::FirstMask { low: 0, high: 15 }, ("locgr", Condition, General2Mask), RowSemantics::MoveWhere(Size::Doubleword, REGISTER)), // locgr
+            $each!(RrfAb, NGRK, Allowed::FirstMask { low: 0, high: 0 }, ("ngrk", Plain, General3), RowSemantics::Compute(Operator::Bit(BitOperator::And), Size::Doubleword, THREE_REGISTERS, CodeRule::Set)), // ngrk
+            $each!(RrfAb, NCGRK, Allowed::FirstMask { low: 0, high: 0 }, ("ncgrk", Plain, General3), RowSemantics::Compute(Operator::Bit(BitOperator::AndNot), Size::Doubleword, THREE_REGISTERS, CodeRule::Set)), // ncgrk
+            $each!(RrfAb, OGRK, Allowed::FirstMask { low: 0, high: 0 }, ("ogrk", Plain, General3), RowSemantics::Compute(Operator::Bit(BitOperator::Or), Size::Doubleword, THREE_REGISTERS, CodeRule::Set)), // ogrk
+            $each!(RrfAb, XGRK, Allowed::FirstMask { low: 0, high: 0 }, ("xgrk", Plain, General3), RowSemantics::Compute(Operator::Bit(BitOperator::Xor), Size::Doubleword, THREE_REGISTERS, CodeRule::Set)), // xgrk
+            $each!(RrfAb, AGRK, Allowed::FirstMask { low: 0, high: 0 }, ("agrk", Plain, General3), RowSemantics::Compute(Operator::Signed(SignedOperator::Add), Size::Doubleword, THREE_REGISTERS, CodeRule::Set)), // agrk
+            $each!(RrfAb, SGRK, Allowed::FirstMask { low: 0, high: 0 }, ("sgrk", Plain, General3), RowSemantics::Compute(Operator::Signed(SignedOperator::Subtract), Size::Doubleword, THREE_REGISTERS, CodeRule::Set)), // sgrk
+            $each!(RrfAb, ALGRK, Allowed::FirstMask { low: 0, high: 0 }, ("algrk", Plain, General3), RowSemantics::Compute(Operator::Logical(LogicalOperator::Add), Size::Doubleword, THREE_REGISTERS, CodeRule::Set)), // algrk
+            $each!(RrfAb, SLGRK, Allowed::FirstMask { low: 0, high: 0 }, ("slgrk", Plain, General3), RowSemantics::Compute(Operator::Logical(LogicalOperator::Subtract), Size::Doubleword, THREE_REGISTERS, CodeRule::Set)), // slgrk
+            $each!(RrfAb, MGRK, Allowed::FirstMask { low: 0, high: 0 }, ("mgrk", Plain, General3), RowSemantics::MultiplySigned), // mgrk
+            $each!(RrfAb, MSGRKC, Allowed::FirstMask { low: 0, high: 0 }, ("msgrkc", Plain, General3), RowSemantics::Compute(Operator::Signed(SignedOperator::Multiply), Size::Doubleword, THREE_REGISTERS, CodeRule::Set)), // msgrkc
+            $each!(RrfCde, LOCR, Allowed::FirstMask { low: 0, high: 15 }, ("locr", Condition, General2Mask), RowSemantics::MoveWhere(Size::Word, WORD_REGISTER)), // locr
+            $each!(RrfAb, NRK, Allowed::FirstMask { low: 0, high: 0 }, ("nrk", Plain, General3), RowSemantics::Compute(Operator::Bit(BitOperator::And), Size::Word, THREE_WORD_REGISTERS, CodeRule::Set)), // nrk
+            $each!(RrfAb, NCRK, Allowed::FirstMask { low: 0, high: 0 }, ("ncrk", Plain, General3), RowSemantics::Compute(Operator::Bit(BitOperator::AndNot), Size::Word, THREE_WORD_REGISTERS, CodeRule::Set)), // ncrk
+            $each!(RrfAb, ORK, Allowed::FirstMask { low: 0, high: 0 }, ("ork", Plain, General3), RowSemantics::Compute(Operator::Bit(BitOperator::Or), Size::Word, THREE_WORD_REGISTERS, CodeRule::Set)), // ork
+            $each!(RrfAb, XRK, Allowed::FirstMask { low: 0, high: 0 }, ("xrk", Plain, General3), RowSemantics::Compute(Operator::Bit(BitOperator::Xor), Size::Word, THREE_WORD_REGISTERS, CodeRule::Set)), // xrk
+            $each!(RrfAb, ARK, Allowed::FirstMask { low: 0, high: 0 }, ("ark", Plain, General3), RowSemantics::Compute(Operator::Signed(SignedOperator::Add), Size::Word, THREE_WORD_REGISTERS, CodeRule::Set)), // ark
+            $each!(RrfAb, SRK, Allowed::FirstMask { low: 0, high: 0 }, ("srk", Plain, General3), RowSemantics::Compute(Operator::Signed(SignedOperator::Subtract), Size::Word, THREE_WORD_REGISTERS, CodeRule::Set)), // srk
+            $each!(RrfAb, ALRK, Allowed::FirstMask { low: 0, high: 0 }, ("alrk", Plain, General3), RowSemantics::Compute(Operator::Logical(LogicalOperator::Add), Size::Word, THREE_WORD_REGISTERS, CodeRule::Set)), // alrk
+            $each!(RrfAb, SLRK, Allowed::FirstMask { low: 0, high: 0 }, ("slrk", Plain, General3), RowSemantics::Compute(Operator::Logical(LogicalOperator::Subtract), Size::Word, THREE_WORD_REGISTERS, CodeRule::Set)), // slrk
+            $each!(RrfAb, MSRKC, Allowed::FirstMask { low: 0, high: 0 }, ("msrkc", Plain, General3), RowSemantics::Compute(Operator::Signed(SignedOperator::Multiply), Size::Word, THREE_WORD_REGISTERS, CodeRule::Set)), // msrkc
+            $each!(Rxy, LG, Allowed::Any, ("lg", Plain, GeneralIndexed), RowSemantics::Compute(Operator::Move, Size::Doubleword, DOUBLEWORD_IN_MEMORY, CodeRule::Kept)), // lg
+            $each!(Rxy, AG, Allowed::Any, ("ag", Plain, GeneralIndexed), RowSemantics::Compute(Operator::Signed(SignedOperator::Add), Size::Doubleword, DOUBLEWORD_IN_MEMORY, CodeRule::Set)), // ag
+            $each!(Rxy, SG, Allowed::Any, ("sg", Plain, GeneralIndexed), RowSemantics::Compute(Operator::Signed(SignedOperator::Subtract), Size::Doubleword, DOUBLEWORD_IN_MEMORY, CodeRule::Set)), // sg
+            $each!(Rxy, ALG, Allowed::Any, ("alg", Plain, GeneralIndexed), RowSemantics::Compute(Operator::Logical(LogicalOperator::Add), Size::Doubleword, DOUBLEWORD_IN_MEMORY, CodeRule::Set)), // alg
+            $each!(Rxy, SLG, Allowed::Any, ("slg", Plain, GeneralIndexed), RowSemantics::Compute(Operator::Logical(LogicalOperator::Subtract), Size::Doubleword, DOUBLEWORD_IN_MEMORY, CodeRule::Set)), // slg
+            $each!(Rxy, MSG, Allowed::Any, ("msg", Plain, GeneralIndexed), RowSemantics::Compute(Operator::Signed(SignedOperator::Multiply), Size::Doubleword, DOUBLEWORD_IN_MEMORY, CodeRule::Kept)), // msg
+            $each!(Rxy, LRVG, Allowed::Any, ("lrvg", Plain, GeneralIndexed), RowSemantics::Compute(Operator::Move, Size::Doubleword, REVERSED_DOUBLEWORD_IN_MEMORY, CodeRule::Kept)), // lrvg
+            $each!(Rxy, LGF, Allowed::Any, ("lgf", Plain, GeneralIndexed), RowSemantics::Compute(Operator::Move, Size::Doubleword, SIGNED_WORD_IN_MEMORY, CodeRule::Kept)), // lgf
+            $each!(Rxy, LGH, Allowed::Any, ("lgh", Plain, GeneralIndexed), RowSemantics::Compute(Operator::Move, Size::Doubleword, SIGNED_HALFWORD_IN_MEMORY, CodeRule::Kept)), // lgh
+            $each!(Rxy, LLGF, Allowed::Any, ("llgf", Plain, GeneralIndexed), RowSemantics::Compute(Operator::Move, Size::Doubleword, WORD_IN_MEMORY, CodeRule::Kept)), // llgf
+            $each!(Rxy, AGF, Allowed::Any, ("agf", Plain, GeneralIndexed), RowSemantics::Compute(Operator::Signed(SignedOperator::Add), Size::Doubleword, SIGNED_WORD_IN_MEMORY, CodeRule::Set)), // agf
+            $each!(Rxy, SGF, Allowed::Any, ("sgf", Plain, GeneralIndexed), RowSemantics::Compute(Operator::Signed(SignedOperator::Subtract), Size::Doubleword, SIGNED_WORD_IN_MEMORY, CodeRule::Set)), // sgf
+            $each!(Rxy, ALGF, Allowed::Any, ("algf", Plain, GeneralIndexed), RowSemantics::Compute(Operator::Logical(LogicalOperator::Add), Size::Doubleword, WORD_IN_MEMORY, CodeRule::Set)), // algf
+            $each!(Rxy, SLGF, Allowed::Any, ("slgf", Plain, GeneralIndexed), RowSemantics::Compute(Operator::Logical(LogicalOperator::Subtract), Size::Doubleword, WORD_IN_MEMORY, CodeRule::Set)), // slgf
+            $each!(Rxy, MSGF, Allowed::Any, ("msgf", Plain, GeneralIndexed), RowSemantics::Compute(Operator::Signed(SignedOperator::Multiply), Size::Doubleword, SIGNED_WORD_IN_MEMORY, CodeRule::Kept)), // msgf
+            $each!(Rxy, LRV, Allowed::Any, ("lrv", Plain, GeneralIndexed), RowSemantics::Compute(Operator::Move, Size::Word, REVERSED_WORD_IN_MEMORY, CodeRule::Kept)), // lrv
+            $each!(Rxy, LRVH, Allowed::Any, ("lrvh", Plain, GeneralIndexed), RowSemantics::Compute(Operator::Move, Size::Halfword, REVERSED_HALFWORD_IN_MEMORY, CodeRule::Kept)), // lrvh
+            $each!(Rxy, CG, Allowed::Any, ("cg", Plain, GeneralIndexed), RowSemantics::Compare(Signedness::Signed, Size::Doubleword, DOUBLEWORD_IN_MEMORY)), // cg
+            $each!(Rxy, CLG, Allowed::Any, ("clg", Plain, GeneralIndexed), RowSemantics::Compare(Signedness::Unsigned, Size::Doubleword, DOUBLEWORD_IN_MEMORY)), // clg
+            $each!(Rxy, STG, Allowed::Any, ("stg", Plain, GeneralIndexed), RowSemantics::Store(DOUBLEWORD_IN_MEMORY)), // stg
+            $each!(Rxy, STRVG, Allowed::Any, ("strvg", Plain, GeneralIndexed), RowSemantics::Store(REVERSED_DOUBLEWORD_IN_MEMORY)), // strvg
+            $each!(Rxy, CGF, Allowed::Any, ("cgf", Plain, GeneralIndexed), RowSemantics::Compare(Signedness::Signed, Size::Doubleword, SIGNED_WORD_IN_MEMORY)), // cgf
+            $each!(Rxy, CLGF, Allowed::Any, ("clgf", Plain, GeneralIndexed), RowSemantics::Compare(Signedness::Unsigned, Size::Doubleword, WORD_IN_MEMORY)), // clgf
+            $each!(Rxy, CGH, Allowed::Any, ("cgh", Plain, GeneralIndexed), RowSemantics::Compare(Signedness::Signed, Size::Doubleword, SIGNED_HALFWORD_IN_MEMORY)), // cgh
+            $each!(Rxy, AGH, Allowed::Any, ("agh", Plain, GeneralIndexed), RowSemantics::Compute(Operator::Signed(SignedOperator::Add), Size::Doubleword, SIGNED_HALFWORD_IN_MEMORY, CodeRule::Set)), // agh
+            $each!(Rxy, SGH, Allowed::Any, ("sgh", Plain, GeneralIndexed), RowSemantics::Compute(Operator::Signed(SignedOperator::Subtract), Size::Doubleword, SIGNED_HALFWORD_IN_MEMORY, CodeRule::Set)), // sgh
+            $each!(Rxy, MGH, Allowed::Any, ("mgh", Plain, GeneralIndexed), RowSemantics::Compute(Operator::Signed(SignedOperator::Multiply), Size::Doubleword, SIGNED_HALFWORD_IN_MEMORY, CodeRule::Kept)), // mgh
+            $each!(Rxy, STRV, Allowed::Any, ("strv", Plain, GeneralIndexed), RowSemantics::Store(REVERSED_WORD_IN_MEMORY)), // strv
+            $each!(Rxy, STRVH, Allowed::Any, ("strvh", Plain, GeneralIndexed), RowSemantics::Store(REVERSED_HALFWORD_IN_MEMORY)), // strvh
+            $each!(Rxy, STY, Allowed::Any, ("sty", Plain, GeneralIndexed), RowSemantics::Store(WORD_IN_MEMORY)), // sty
+            $each!(Rxy, MSY, Allowed::Any, ("msy", Plain, GeneralIndexed), RowSemantics::Compute(Operator::Signed(SignedOperator::Multiply), Size::Word, WORD_IN_MEMORY, CodeRule::Kept)), // msy
+            $each!(Rxy, NY, Allowed::Any, ("ny", Plain, GeneralIndexed), RowSemantics::Compute(Operator::Bit(BitOperator::And), Size::Word, WORD_IN_MEMORY, CodeRule::Set)), // ny
+            $each!(Rxy, CLY, Allowed::Any, ("cly", Plain, GeneralIndexed), RowSemantics::Compare(Signedness::Unsigned, Size::Word, WORD_IN_MEMORY)), // cly
+            $each!(Rxy, OY, Allowed::Any, ("oy", Plain, GeneralIndexed), RowSemantics::Compute(Operator::Bit(BitOperator::Or), Size::Word, WORD_IN_MEMORY, CodeRule::Set)), // oy
+            $each!(Rxy, XY, Allowed::Any, ("xy", Plain, GeneralIndexed), RowSemantics::Compute(Operator::Bit(BitOperator::Xor), Size::Word, WORD_IN_MEMORY, CodeRule::Set)), // xy
+            $each!(Rxy, LY, Allowed::Any, ("ly", Plain, GeneralIndexed), RowSemantics::Compute(Operator::Move, Size::Word, WORD_IN_MEMORY, CodeRule::Kept)), // ly
+            $each!(Rxy, CY, Allowed::Any, ("cy", Plain, GeneralIndexed), RowSemantics::Compare(Signedness::Signed, Size::Word, WORD_IN_MEMORY)), // cy
+            $each!(Rxy, AY, Allowed::Any, ("ay", Plain, GeneralIndexed), RowSemantics::Compute(Operator::Signed(SignedOperator::Add), Size::Word, WORD_IN_MEMORY, CodeRule::Set)), // ay
+            $each!(Rxy, SY, Allowed::Any, ("sy", Plain, GeneralIndexed), RowSemantics::Compute(Operator::Signed(SignedOperator::Subtract), Size::Word, WORD_IN_MEMORY, CodeRule::Set)), // sy
+            $each!(Rxy, ALY, Allowed::Any, ("aly", Plain, GeneralIndexed), RowSemantics::Compute(Operator::Logical(LogicalOperator::Add), Size::Word, WORD_IN_MEMORY, CodeRule::Set)), // aly
+            $each!(Rxy, SLY, Allowed::Any, ("sly", Plain, GeneralIndexed), RowSemantics::Compute(Operator::Logical(LogicalOperator::Subtract), Size::Word, WORD_IN_MEMORY, CodeRule::Set)), // sly
+            $each!(Rxy, LXAH, Allowed::Any, ("lxah", Plain, GeneralIndexed), RowSemantics::Havoc), // lxah
+            $each!(Rxy, LLXAH, Allowed::Any, ("llxah", Plain, GeneralIndexed), RowSemantics::Havoc), // llxah
+            $each!(Rxy, LXAF, Allowed::Any, ("lxaf", Plain, GeneralIndexed), RowSemantics::Havoc), // lxaf
+            $each!(Rxy, LLXAF, Allowed::Any, ("llxaf", Plain, GeneralIndexed), RowSemantics::Havoc), // llxaf
+            $each!(Rxy, LXAG, Allowed::Any, ("lxag", Plain, GeneralIndexed), RowSemantics::Havoc), // lxag
+            $each!(Rxy, LLXAG, Allowed::Any, ("llxag", Plain, GeneralIndexed), RowSemantics::Havoc), // llxag
+            $each!(Rxy, LXAQ, Allowed::Any, ("lxaq", Plain, GeneralIndexed), RowSemantics::Havoc), // lxaq
+            $each!(Rxy, LLXAQ, Allowed::Any, ("llxaq", Plain, GeneralIndexed), RowSemantics::Havoc), // llxaq
+            $each!(Rxy, STHY, Allowed::Any, ("sthy", Plain, GeneralIndexed), RowSemantics::Store(HALFWORD_IN_MEMORY)), // sthy
+            $each!(Rxy, LAY, Allowed::Any, ("lay", Plain, GeneralIndexed), RowSemantics::Compute(Operator::Move, Size::Doubleword, INDEXED_ADDRESS, CodeRule::Kept)), // lay
+            $each!(Rxy, STCY, Allowed::Any, ("stcy", Plain, GeneralIndexed), RowSemantics::Store(BYTE_IN_MEMORY)), // stcy
+            $each!(Rxy, LB, Allowed::Any, ("lb", Plain, GeneralIndexed), RowSemantics::Compute(Operator::Move, Size::Word, SIGNED_BYTE_IN_MEMORY, CodeRule::Kept)), // lb
+            $each!(Rxy, LGB, Allowed::Any, ("lgb", Plain, GeneralIndexed), RowSemantics::Compute(Operator::Move, Size::Doubleword, SIGNED_BYTE_IN_MEMORY, CodeRule::Kept)), // lgb
+            $each!(Rxy, LHY, Allowed::Any, ("lhy", Plain, GeneralIndexed), RowSemantics::Compute(Operator::Move, Size::Word, SIGNED_HALFWORD_IN_MEMORY, CodeRule::Kept)), // lhy
+            $each!(Rxy, CHY, Allowed::Any, ("chy", Plain, GeneralIndexed), RowSemantics::Compare(Signedness::Signed, Size::Word, SIGNED_HALFWORD_IN_MEMORY)), // chy
+            $each!(Rxy, AHY, Allowed::Any, ("ahy", Plain, GeneralIndexed), RowSemantics::Compute(Operator::Signed(SignedOperator::Add), Size::Word, SIGNED_HALFWORD_IN_MEMORY, CodeRule::Set)), // ahy
+            $each!(Rxy, SHY, Allowed::Any, ("shy", Plain, GeneralIndexed), RowSemantics::Compute(Operator::Signed(SignedOperator::Subtract), Size::Word, SIGNED_HALFWORD_IN_MEMORY, CodeRule::Set)), // shy
+            $each!(Rxy, MHY, Allowed::Any, ("mhy", Plain, GeneralIndexed), RowSemantics::Compute(Operator::Signed(SignedOperator::Multiply), Size::Word, SIGNED_HALFWORD_IN_MEMORY, CodeRule::Kept)), // mhy
+            $each!(Rxy, NG, Allowed::Any, ("ng", Plain, GeneralIndexed), RowSemantics::Compute(Operator::Bit(BitOperator::And), Size::Doubleword, DOUBLEWORD_IN_MEMORY, CodeRule::Set)), // ng
+            $each!(Rxy, OG, Allowed::Any, ("og", Plain, GeneralIndexed), RowSemantics::Compute(Operator::Bit(BitOperator::Or), Size::Doubleword, DOUBLEWORD_IN_MEMORY, CodeRule::Set)), // og
+            $each!(Rxy, XG, Allowed::Any, ("xg", Plain, GeneralIndexed), RowSemantics::Compute(Operator::Bit(BitOperator::Xor), Size::Doubleword, DOUBLEWORD_IN_MEMORY, CodeRule::Set)), // xg
+            $each!(Rxy, LLGC, Allowed::Any, ("llgc", Plain, GeneralIndexed), RowSemantics::Compute(Operator::Move, Size::Doubleword, BYTE_IN_MEMORY, CodeRule::Kept)), // llgc
+            $each!(Rxy, LLGH, Allowed::Any, ("llgh", Plain, GeneralIndexed), RowSemantics::Compute(Operator::Move, Size::Doubleword, HALFWORD_IN_MEMORY, CodeRule::Kept)), // llgh
+            $each!(Rxy, LLC, Allowed::Any, ("llc", Plain, GeneralIndexed), RowSemantics::Compute(Operator::Move, Size::Word, BYTE_IN_MEMORY, CodeRule::Kept)), // llc
+            $each!(Rxy, LLH, Allowed::Any, ("llh", Plain, GeneralIndexed), RowSemantics::Compute(Operator::Move, Size::Word, HALFWORD_IN_MEMORY, CodeRule::Kept)), // llh
+            $each!(Sil, MVHHI, Allowed::Any, ("mvhhi", Plain, StorageSigned), RowSemantics::StoreImmediate(Width::Bits16)), // mvhhi
+            $each!(Sil, MVGHI, Allowed::Any, ("mvghi", Plain, StorageSigned), RowSemantics::StoreImmediate(Width::Bits64)), // mvghi
+            $each!(Sil, MVHI, Allowed::Any, ("mvhi", Plain, StorageSigned), RowSemantics::StoreImmediate(Width::Bits32)), // mvhi
+            $each!(Vrx, VLEBRH, Allowed::FirstMask { low: 0, high: 7 }, ("vlebrh", Plain, VectorIndexedLane), RowSemantics::LoadVector(VectorStorage::Element(ElementSize::Halfword, true))), // vlebrh
+            $each!(Vrx, VLEBRG, Allowed::FirstMask { low: 0, high: 1 }, ("vlebrg", Plain, VectorIndexedLane), RowSemantics::LoadVector(VectorStorage::Element(ElementSize::Doubleword, true))), // vlebrg
+            $each!(Vrx, VLEBRF, Allowed::FirstMask { low: 0, high: 3 }, ("vlebrf", Plain, VectorIndexedLane), RowSemantics::LoadVector(VectorStorage::Element(ElementSize::Word, true))), // vlebrf
+            $each!(Vrx, VLBRREP, Allowed::FirstMask { low: 1, high: 3 }, ("vlbrrep", Size, VectorIndexed), RowSemantics::LoadVector(VectorStorage::Replicated(true))), // vlbrreph vlbrrepf vlbrrepg
+            $each!(Vrx, VLBR, Allowed::FirstMask { low: 1, high: 4 }, ("vlbr", Size, VectorIndexed), RowSemantics::LoadVector(VectorStorage::ReversedBytes)), // vlbrq vlbrh vlbrf vlbrg
+            $each!(Vrx, VLER, Allowed::FirstMask { low: 1, high: 3 }, ("vler", Size, VectorIndexed), RowSemantics::LoadVector(VectorStorage::ReversedElements)), // vlerh vlerf vlerg
+            $each!(Vrx, VSTEBRH, Allowed::FirstMask { low: 0, high: 7 }, ("vstebrh", Plain, VectorIndexedLane), RowSemantics::StoreVector(VectorStorage::Element(ElementSize::Halfword, true))), // vstebrh
+            $each!(Vrx, VSTEBRG, Allowed::FirstMask { low: 0, high: 1 }, ("vstebrg", Plain, VectorIndexedLane), RowSemantics::StoreVector(VectorStorage::Element(ElementSize::Doubleword, true))), // vstebrg
+            $each!(Vrx, VSTEBRF, Allowed::FirstMask { low: 0, high: 3 }, ("vstebrf", Plain, VectorIndexedLane), RowSemantics::StoreVector(VectorStorage::Element(ElementSize::Word, true))), // vstebrf
+            $each!(Vrx, VSTBR, Allowed::FirstMask { low: 1, high: 4 }, ("vstbr", Size, VectorIndexed), RowSemantics::StoreVector(VectorStorage::ReversedBytes)), // vstbrq vstbrh vstbrf vstbrg
+            $each!(Vrx, VSTER, Allowed::FirstMask { low: 1, high: 3 }, ("vster", Size, VectorIndexed), RowSemantics::StoreVector(VectorStorage::ReversedElements)), // vsterh vsterf vsterg
+            $each!(Vrx, VLEB, Allowed::FirstMask { low: 0, high: 15 }, ("vleb", Plain, VectorIndexedLane), RowSemantics::LoadVector(VectorStorage::Element(ElementSize::Byte, false))), // vleb
+            $each!(Vrx, VLEH, Allowed::FirstMask { low: 0, high: 7 }, ("vleh", Plain, VectorIndexedLane), RowSemantics::LoadVector(VectorStorage::Element(ElementSize::Halfword, false))), // vleh
+            $each!(Vrx, VLEG, Allowed::FirstMask { low: 0, high: 1 }, ("vleg", Plain, VectorIndexedLane), RowSemantics::LoadVector(VectorStorage::Element(ElementSize::Doubleword, false))), // vleg
+            $each!(Vrx, VLEF, Allowed::FirstMask { low: 0, high: 3 }, ("vlef", Plain, VectorIndexedLane), RowSemantics::LoadVector(VectorStorage::Element(ElementSize::Word, false))), // vlef
+            $each!(Vrx, VLREP, Allowed::FirstMask { low: 0, high: 3 }, ("vlrep", Size, VectorIndexed), RowSemantics::LoadVector(VectorStorage::Replicated(false))), // vlrepb vlreph vlrepf vlrepg
+            $each!(Vrx, VL, Allowed::FirstMask { low: 0, high: 0 }, ("vl", Plain, VectorIndexed), RowSemantics::LoadVector(VectorStorage::Whole)), // vl
+            $each!(Vrx, VSTEB, Allowed::FirstMask { low: 0, high: 15 }, ("vsteb", Plain, VectorIndexedLane), RowSemantics::StoreVector(VectorStorage::Element(ElementSize::Byte, false))), // vsteb
+            $each!(Vrx, VSTEH, Allowed::FirstMask { low: 0, high: 7 }, ("vsteh", Plain, VectorIndexedLane), RowSemantics::StoreVector(VectorStorage::Element(ElementSize::Halfword, false))), // vsteh
+            $each!(Vrx, VSTEG, Allowed::FirstMask { low: 0, high: 1 }, ("vsteg", Plain, VectorIndexedLane), RowSemantics::StoreVector(VectorStorage::Element(ElementSize::Doubleword, false))), // vsteg
+            $each!(Vrx, VSTEF, Allowed::FirstMask { low: 0, high: 3 }, ("vstef", Plain, VectorIndexedLane), RowSemantics::StoreVector(VectorStorage::Element(ElementSize::Word, false))), // vstef
+            $each!(Vrx, VST, Allowed::FirstMask { low: 0, high: 0 }, ("vst", Plain, VectorIndexed), RowSemantics::StoreVector(VectorStorage::Whole)), // vst
+            $each!(VrsC, VLGV, Allowed::FirstMask { low: 0, high: 3 }, ("vlgv", Size, GeneralVectorStorage), RowSemantics::ExtractElement), // vlgvb vlgvh vlgvf vlgvg
+            $each!(VrsB, VLVG, Allowed::FirstMask { low: 0, high: 3 }, ("vlvg", Size, VectorGeneralStorage), RowSemantics::InsertElement), // vlvgb vlvgh vlvgf vlvgg
+            $each!(VrsA, VESL, Allowed::FirstMask { low: 0, high: 3 }, ("vesl", Size, Vector2Storage), RowSemantics::ShiftElements(opcodes::VESL)), // veslb veslh veslf veslg
+            $each!(VrsA, VERLL, Allowed::FirstMask { low: 0, high: 3 }, ("verll", Size, Vector2Storage), RowSemantics::ShiftElements(opcodes::VERLL)), // verllb verllh verllf verllg
+            $each!(VrsA, VESRL, Allowed::FirstMask { low: 0, high: 3 }, ("vesrl", Size, Vector2Storage), RowSemantics::ShiftElements(opcodes::VESRL)), // vesrlb vesrlh vesrlf vesrlg
+            $each!(VrsA, VESRA, Allowed::FirstMask { low: 0, high: 3 }, ("vesra", Size, Vector2Storage), RowSemantics::ShiftElements(opcodes::VESRA)), // vesrab vesrah vesraf vesrag
+            $each!(VriA, VLEIB, Allowed::FirstMask { low: 0, high: 15 }, ("vleib", Plain, VectorSignedLane), RowSemantics::Elements(opcodes::VLEIB)), // vleib
+            $each!(VriA, VLEIH, Allowed::FirstMask { low: 0, high: 7 }, ("vleih", Plain, VectorSignedLane), RowSemantics::Elements(opcodes::VLEIH)), // vleih
+            $each!(VriA, VLEIG, Allowed::FirstMask { low: 0, high: 1 }, ("vleig", Plain, VectorSignedLane), RowSemantics::Elements(opcodes::VLEIG)), // vleig
+            $each!(VriA, VLEIF, Allowed::FirstMask { low: 0, high: 3 }, ("vleif", Plain, VectorSignedLane), RowSemantics::Elements(opcodes::VLEIF)), // vleif
+            $each!(VriA, VGBM, Allowed::FirstMask { low: 0, high: 0 }, ("vgbm", Plain, VectorUnsigned), RowSemantics::Elements(opcodes::VGBM)), // vgbm
+            $each!(VriA, VREPI, Allowed::FirstMask { low: 0, high: 3 }, ("vrepi", Size, VectorSigned), RowSemantics::Elements(opcodes::VREPI)), // vrepib vrepih vrepif vrepig
+            $each!(VriB, VGM, Allowed::BitRange, ("vgm", ThirdSize, VectorBits), RowSemantics::Elements(opcodes::VGM)), // vgmb vgmh vgmf vgmg
+            $each!(VriC, VREP, Allowed::ReplicatedLane, ("vrep", Size, Vector2Lane), RowSemantics::Elements(opcodes::VREP)), // vrepb vreph vrepf vrepg
+            $each!(VrrA, VPOPCT, Allowed::FirstMask { low: 0, high: 3 }, ("vpopct", Size, Vector2), RowSemantics::Elements(opcodes::VPOPCT)), // vpopctb vpopcth vpopctf vpopctg
+            $each!(VrrA, VCTZ, Allowed::FirstMask { low: 0, high: 4 }, ("vctz", Size, Vector2), RowSemantics::Elements(opcodes::VCTZ)), // vctzb vctzh vctzf vctzg vctzq
+            $each!(VrrA, VCLZ, Allowed::FirstMask { low: 0, high: 4 }, ("vclz", Size, Vector2), RowSemantics::Elements(opcodes::VCLZ)), // vclzb vclzh vclzf vclzg vclzq
+            $each!(VrrA, VLR, Allowed::FirstMask { low: 0, high: 0 }, ("vlr", Plain, Vector2), RowSemantics::Elements(opcodes::VLR)), // vlr
+            $each!(VrrC, VMRL, Allowed::FirstMask { low: 0, high: 3 }, ("vmrl", Size, Vector3), RowSemantics::Elements(opcodes::VMRL)), // vmrlb vmrlh vmrlf vmrlg
+            $each!(VrrC, VMRH, Allowed::FirstMask { low: 0, high: 3 }, ("vmrh", Size, Vector3), RowSemantics::Elements(opcodes::VMRH)), // vmrhb vmrhh vmrhf vmrhg
+            $each!(VrrF, VLVGP, Allowed::Any, ("vlvgp", Plain, VectorGeneral2), RowSemantics::JoinRegisters), // vlvgp
+            $each!(VrrC, VN, Allowed::FirstMask { low: 0, high: 0 }, ("vn", Plain, Vector3), RowSemantics::Elements(opcodes::VN)), // vn
+            $each!(VrrC, VNC, Allowed::FirstMask { low: 0, high: 0 }, ("vnc", Plain, Vector3), RowSemantics::Elements(opcodes::VNC)), // vnc
+            $each!(VrrC, VO, Allowed::FirstMask { low: 0, high: 0 }, ("vo", Plain, Vector3), RowSemantics::Elements(opcodes::VO)), // vo
+            $each!(VrrC, VNO, Allowed::FirstMask { low: 0, high: 0 }, ("vno", Plain, Vector3), RowSemantics::Elements(opcodes::VNO)), // vno
+            $each!(VrrC, VNX, Allowed::FirstMask { low: 0, high: 0 }, ("vnx", Plain, Vector3), RowSemantics::Elements(opcodes::VNX)), // vnx
+            $each!(VrrC, VX, Allowed::FirstMask { low: 0, high: 0 }, ("vx", Plain, Vector3), RowSemantics::Elements(opcodes::VX)), // vx
+            $each!(VrrC, VNN, Allowed::FirstMask { low: 0, high: 0 }, ("vnn", Plain, Vector3), RowSemantics::Elements(opcodes::VNN)), // vnn
+            $each!(VrrC, VOC, Allowed::FirstMask { low: 0, high: 0 }, ("voc", Plain, Vector3), RowSemantics::Elements(opcodes::VOC)), // voc
+            $each!(VrrC, VSL, Allowed::FirstMask { low: 0, high: 0 }, ("vsl", Plain, Vector3), RowSemantics::Elements(opcodes::VSL)), // vsl
+            $each!(VrrC, VSLB, Allowed::FirstMask { low: 0, high: 0 }, ("vslb", Plain, Vector3), RowSemantics::Elements(opcodes::VSLB)), // vslb
+            $each!(VrrC, VSRL, Allowed::FirstMask { low: 0, high: 0 }, ("vsrl", Plain, Vector3), RowSemantics::Elements(opcodes::VSRL)), // vsrl
+            $each!(VrrC, VSRLB, Allowed::FirstMask { low: 0, high: 0 }, ("vsrlb", Plain, Vector3), RowSemantics::Elements(opcodes::VSRLB)), // vsrlb
+            $each!(VrrC, VSRA, Allowed::FirstMask { low: 0, high: 0 }, ("vsra", Plain, Vector3), RowSemantics::Elements(opcodes::VSRA)), // vsra
+            $each!(VrrC, VSRAB, Allowed::FirstMask { low: 0, high: 0 }, ("vsrab", Plain, Vector3), RowSemantics::Elements(opcodes::VSRAB)), // vsrab
+            $each!(VrrC, VPDI, Allowed::DoublewordPair, ("vpdi", Plain, Vector3Mask), RowSemantics::Elements(opcodes::VPDI)), // vpdi
+            $each!(VrrC, VBPERM, Allowed::FirstMask { low: 0, high: 0 }, ("vbperm", Plain, Vector3), RowSemantics::Elements(opcodes::VBPERM)), // vbperm
+            $each!(VriK, VEVAL, Allowed::Any, ("veval", Plain, Vector4Byte), RowSemantics::Elements(opcodes::VEVAL)), // veval
+            $each!(VrrD, VBLEND, Allowed::FirstMask { low: 0, high: 0 }, ("vblend", Size, Vector4), RowSemantics::Elements(opcodes::VBLEND)), // vblend
+            $each!(VrrE, VPERM, Allowed::FirstMask { low: 0, high: 0 }, ("vperm", Plain, Vector4), RowSemantics::Elements(opcodes::VPERM)), // vperm
+            $each!(VrrE, VSEL, Allowed::FirstMask { low: 0, high: 0 }, ("vsel", Plain, Vector4), RowSemantics::Elements(opcodes::VSEL)), // vsel
+            $each!(VrrC, VPK, Allowed::FirstMask { low: 1, high: 3 }, ("vpk", Size, Vector3), RowSemantics::Elements(opcodes::VPK)), // vpkh vpkf vpkg
+            $each!(VrrC, VPKLS, Allowed::FirstMask { low: 1, high: 3 }, ("vpkls", Size, Vector3), RowSemantics::Elements(opcodes::VPKLS)), // vpklsh vpklsf vpklsg
+            $each!(VrrC, VPKS, Allowed::FirstMask { low: 1, high: 3 }, ("vpks", Size, Vector3), RowSemantics::Elements(opcodes::VPKS)), // vpksh vpksf vpksg
+            $each!(VrrC, VMLH, Allowed::FirstMask { low: 0, high: 4 }, ("vmlh", Size, Vector3), RowSemantics::Elements(opcodes::VMLH)), // vmlhb vmlhh vmlhf vmlhg vmlhq
+            $each!(VrrC, VML, Allowed::FirstMask { low: 0, high: 4 }, ("vml", HalfwordSize, Vector3), RowSemantics::Elements(opcodes::VML)), // vmlb vmlhw vmlf vmlg vmlq
+            $each!(VrrC, VMH, Allowed::FirstMask { low: 0, high: 4 }, ("vmh", Size, Vector3), RowSemantics::Elements(opcodes::VMH)), // vmhb vmhh vmhf vmhg vmhq
+            $each!(VrrC, VMLE, Allowed::FirstMask { low: 0, high: 3 }, ("vmle", Size, Vector3), RowSemantics::Elements(opcodes::VMLE)), // vmleb vmleh vmlef vmleg
+            $each!(VrrC, VMLO, Allowed::FirstMask { low: 0, high: 3 }, ("vmlo", Size, Vector3), RowSemantics::Elements(opcodes::VMLO)), // vmlob vmloh vmlof vmlog
+            $each!(VrrC, VME, Allowed::FirstMask { low: 0, high: 3 }, ("vme", Size, Vector3), RowSemantics::Elements(opcodes::VME)), // vmeb vmeh vmef vmeg
+            $each!(VrrC, VMO, Allowed::FirstMask { low: 0, high: 3 }, ("vmo", Size, Vector3), RowSemantics::Elements(opcodes::VMO)), // vmob vmoh vmof vmog
+            $each!(VrrC, VDL, Allowed::FirstMask { low: 2, high: 4 }, ("vdl", Size, Vector3Control), RowSemantics::Elements(opcodes::VDL)), // vdlf vdlg vdlq
+            $each!(VrrC, VRL, Allowed::FirstMask { low: 2, high: 4 }, ("vrl", Size, Vector3Control), RowSemantics::Elements(opcodes::VRL)), // vrlf vrlg vrlq
+            $each!(VrrC, VD, Allowed::FirstMask { low: 2, high: 4 }, ("vd", Size, Vector3Control), RowSemantics::Elements(opcodes::VD)), // vdf vdg vdq
+            $each!(VrrC, VR, Allowed::FirstMask { low: 2, high: 4 }, ("vr", Size, Vector3Control), RowSemantics::Elements(opcodes::VR)), // vrf vrg vrq
+            $each!(VrrA, VUPLL, Allowed::FirstMask { low: 0, high: 3 }, ("vupll", Size, Vector2), RowSemantics::Elements(opcodes::VUPLL)), // vupllb vupllh vupllf vupllg
+            $each!(VrrA, VUPLH, Allowed::FirstMask { low: 0, high: 3 }, ("vuplh", Size, Vector2), RowSemantics::Elements(opcodes::VUPLH)), // vuplhb vuplhh vuplhf vuplhg
+            $each!(VrrA, VUPL, Allowed::FirstMask { low: 0, high: 3 }, ("vupl", HalfwordSize, Vector2), RowSemantics::Elements(opcodes::VUPL)), // vuplb vuplh vuplf vuplg
+            $each!(VrrA, VUPH, Allowed::FirstMask { low: 0, high: 3 }, ("vuph", Size, Vector2), RowSemantics::Elements(opcodes::VUPH)), // vuphb vuphh vuphf vuphg
+            $each!(VrrA, VECL, Allowed::FirstMask { low: 3, high: 4 }, ("vecl", Size, Vector2), RowSemantics::Elements(opcodes::VECL)), // veclq veclg
+            $each!(VrrA, VEC, Allowed::FirstMask { low: 3, high: 4 }, ("vec", Size, Vector2), RowSemantics::Elements(opcodes::VEC)), // vecq vecg
+            $each!(VrrA, VLC, Allowed::FirstMask { low: 0, high: 4 }, ("vlc", Size, Vector2), RowSemantics::Elements(opcodes::VLC)), // vlcb vlch vlcf vlcg vlcq
+            $each!(VrrA, VLP, Allowed::FirstMask { low: 0, high: 4 }, ("vlp", Size, Vector2), RowSemantics::Elements(opcodes::VLP)), // vlpb vlph vlpf vlpg vlpq
+            $each!(VrrC, VAVGL, Allowed::FirstMask { low: 0, high: 4 }, ("vavgl", Size, Vector3), RowSemantics::Elements(opcodes::VAVGL)), // vavglb vavglh vavglf vavglg vavglq
+            $each!(VrrC, VACCQ, Allowed::FirstMask { low: 4, high: 4 }, ("vaccq", Plain, Vector3), RowSemantics::Elements(opcodes::VACCQ)), // vaccq
+            $each!(VrrC, VAVG, Allowed::FirstMask { low: 0, high: 4 }, ("vavg", Size, Vector3), RowSemantics::Elements(opcodes::VAVG)), // vavgb vavgh vavgf vavgg vavgq
+            $each!(VrrC, VA, Allowed::FirstMask { low: 0, high: 4 }, ("va", Size, Vector3), RowSemantics::Elements(opcodes::VA)), // vab vah vaf vag vaq
+            $each!(VrrC, VSCBIQ, Allowed::FirstMask { low: 4, high: 4 }, ("vscbiq", Plain, Vector3), RowSemantics::Elements(opcodes::VSCBIQ)), // vscbiq
+            $each!(VrrC, VS, Allowed::FirstMask { low: 0, high: 4 }, ("vs", Size, Vector3), RowSemantics::Elements(opcodes::VS)), // vsb vsh vsf vsg vsq
+            $each!(VrrB, VCEQ, Allowed::ComparedLanes, ("vceq", SizeAndCode, Vector3), RowSemantics::Elements(opcodes::VCEQ)), // vceqb vceqbs vceqh vceqhs vceqf vceqfs vceqg vceqgs vceqq vceqqs
+            $each!(VrrB, VCHL, Allowed::ComparedLanes, ("vchl", SizeAndCode, Vector3), RowSemantics::Elements(opcodes::VCHL)), // vchlb vchlbs vchlh vchlhs vchlf vchlfs vchlg vchlgs vchlq vchlqs
+            $each!(VrrB, VCH, Allowed::ComparedLanes, ("vch", SizeAndCode, Vector3), RowSemantics::Elements(opcodes::VCH)), // vchb vchbs vchh vchhs vchf vchfs vchg vchgs vchq vchqs
+            $each!(VrrC, VMNL, Allowed::FirstMask { low: 0, high: 4 }, ("vmnl", Size, Vector3), RowSemantics::Elements(opcodes::VMNL)), // vmnlb vmnlh vmnlf vmnlg vmnlq
+            $each!(VrrC, VMXL, Allowed::FirstMask { low: 0, high: 4 }, ("vmxl", Size, Vector3), RowSemantics::Elements(opcodes::VMXL)), // vmxlb vmxlh vmxlf vmxlg vmxlq
+            $each!(VrrC, VMN, Allowed::FirstMask { low: 0, high: 4 }, ("vmn", Size, Vector3), RowSemantics::Elements(opcodes::VMN)), // vmnb vmnh vmnf vmng vmnq
+            $each!(VrrC, VMX, Allowed::FirstMask { low: 0, high: 4 }, ("vmx", Size, Vector3), RowSemantics::Elements(opcodes::VMX)), // vmxb vmxh vmxf vmxg vmxq
+            $each!(Rsy, LMG, Allowed::Any, ("lmg", Plain, General2Storage), RowSemantics::LoadMultiple), // lmg
+            $each!(Rsy, SRAG, Allowed::Any, ("srag", Plain, General2Storage), RowSemantics::Compute(Operator::Shift(ShiftOperator::ShiftRightArithmetic), Size::Doubleword, AMOUNT, CodeRule::Set)), // srag
+            $each!(Rsy, SRLG, Allowed::Any, ("srlg", Plain, General2Storage), RowSemantics::Compute(Operator::Shift(ShiftOperator::ShiftRightLogical), Size::Doubleword, AMOUNT, CodeRule::Kept)), // srlg
+            $each!(Rsy, SLLG, Allowed::Any, ("sllg", Plain, General2Storage), RowSemantics::Compute(Operator::Shift(ShiftOperator::ShiftLeft), Size::Doubleword, AMOUNT, CodeRule::Kept)), // sllg
+            $each!(Rsy, CSY, Allowed::Any, ("csy", Plain, General2Storage), RowSemantics::CompareAndSwap(Size::Word)), // csy
+            $each!(Rsy, RLLG, Allowed::Any, ("rllg", Plain, General2Storage), RowSemantics::Compute(Operator::Shift(ShiftOperator::RotateLeft), Size::Doubleword, AMOUNT, CodeRule::Kept)), // rllg
+            $each!(Rsy, RLL, Allowed::Any, ("rll", Plain, General2Storage), RowSemantics::Compute(Operator::Shift(ShiftOperator::RotateLeft), Size::Word, AMOUNT, CodeRule::Kept)), // rll
+            $each!(Rsy, STMG, Allowed::Any, ("stmg", Plain, General2Storage), RowSemantics::StoreMultiple), // stmg
+            $each!(Rsy, CSG, Allowed::Any, ("csg", Plain, General2Storage), RowSemantics::CompareAndSwap(Size::Doubleword)), // csg
+            $each!(Siy, MVIY, Allowed::Any, ("mviy", Plain, StorageByte), RowSemantics::StoreByte), // mviy
+            $each!(Rsy, SRAK, Allowed::Any, ("srak", Plain, General2Storage), RowSemantics::Compute(Operator::Shift(ShiftOperator::ShiftRightArithmetic), Size::Word, AMOUNT, CodeRule::Set)), // srak
+            $each!(Rsy, SRLK, Allowed::Any, ("srlk", Plain, General2Storage), RowSemantics::Compute(Operator::Shift(ShiftOperator::ShiftRightLogical), Size::Word, AMOUNT, CodeRule::Kept)), // srlk
+            $each!(Rsy, SLLK, Allowed::Any, ("sllk", Plain, General2Storage), RowSemantics::Compute(Operator::Shift(ShiftOperator::ShiftLeft), Size::Word, AMOUNT, CodeRule::Kept)), // sllk
+            $each!(Rsy, LANG, Allowed::Any, ("lang", Plain, General2Storage), RowSemantics::LoadAndOperate(Operator::Bit(BitOperator::And), Size::Doubleword)), // lang
+            $each!(Rsy, LAOG, Allowed::Any, ("laog", Plain, General2Storage), RowSemantics::LoadAndOperate(Operator::Bit(BitOperator::Or), Size::Doubleword)), // laog
+            $each!(Rsy, LAXG, Allowed::Any, ("laxg", Plain, General2Storage), RowSemantics::LoadAndOperate(Operator::Bit(BitOperator::Xor), Size::Doubleword)), // laxg
+            $each!(Rsy, LAAG, Allowed::Any, ("laag", Plain, General2Storage), RowSemantics::LoadAndOperate(Operator::Signed(SignedOperator::Add), Size::Doubleword)), // laag
+            $each!(Rsy, LAALG, Allowed::Any, ("laalg", Plain, General2Storage), RowSemantics::LoadAndOperate(Operator::Logical(LogicalOperator::Add), Size::Doubleword)), // laalg
+            $each!(Rsy, LAN, Allowed::Any, ("lan", Plain, General2Storage), RowSemantics::LoadAndOperate(Operator::Bit(BitOperator::And), Size::Word)), // lan
+            $each!(Rsy, LAO, Allowed::Any, ("lao", Plain, General2Storage), RowSemantics::LoadAndOperate(Operator::Bit(BitOperator::Or), Size::Word)), // lao
+            $each!(Rsy, LAX, Allowed::Any, ("lax", Plain, General2Storage), RowSemantics::LoadAndOperate(Operator::Bit(BitOperator::Xor), Size::Word)), // lax
+            $each!(Rsy, LAA, Allowed::Any, ("laa", Plain, General2Storage), RowSemantics::LoadAndOperate(Operator::Signed(SignedOperator::Add), Size::Word)), // laa
+            $each!(Rsy, LAAL, Allowed::Any, ("laal", Plain, General2Storage), RowSemantics::LoadAndOperate(Operator::Logical(LogicalOperator::Add), Size::Word)), // laal
+            $each!(RieG, LOCHI, Allowed::Any, ("lochi", Condition, GeneralSignedMask), RowSemantics::MoveWhere(Size::Word, HALFWORD_IMMEDIATE)), // lochi
+            $each!(RieG, LOCGHI, Allowed::Any, ("locghi", Condition, GeneralSignedMask), RowSemantics::MoveWhere(Size::Doubleword, HALFWORD_IMMEDIATE)), // locghi
+            $each!(RieF, RNSBG, Allowed::RotateBitsOrTest, ("rnsbg", Plain, General2Bits), RowSemantics::RotateThen(SelectedBitsOperator::And, CodeRule::Set)), // rnsbg
+            $each!(RieF, ROSBG, Allowed::RotateBitsOrTest, ("rosbg", Plain, General2Bits), RowSemantics::RotateThen(SelectedBitsOperator::Or, CodeRule::Set)), // rosbg
+            $each!(RieF, RXSBG, Allowed::RotateBitsOrTest, ("rxsbg", Plain, General2Bits), RowSemantics::RotateThen(SelectedBitsOperator::Xor, CodeRule::Set)), // rxsbg
+            $each!(RieF, RISBGN, Allowed::RotateBits, ("risbgn", Plain, General2Bits), RowSemantics::RotateThen(SelectedBitsOperator::Insert, CodeRule::Kept)), // risbgn
+            $each!(RieA, CGIT, Allowed::Any, ("cgit", Trap, GeneralSignedMask), RowSemantics::CompareImmediateAndTrap(Signedness::Signed, Size::Doubleword)), // cgit
+            $each!(RieA, CLGIT, Allowed::Any, ("clgit", Trap, GeneralUnsignedMask), RowSemantics::CompareImmediateAndTrap(Signedness::Unsigned, Size::Doubleword)), // clgit
+            $each!(RieA, CIT, Allowed::Any, ("cit", Trap, GeneralSignedMask), RowSemantics::CompareImmediateAndTrap(Signedness::Signed, Size::Word)), // cit
+            $each!(RieA, CLFIT, Allowed::Any, ("clfit", Trap, GeneralUnsignedMask), RowSemantics::CompareImmediateAndTrap(Signedness::Unsigned, Size::Word)), // clfit
+            $each!(RieD, AHIK, Allowed::Any, ("ahik", Plain, General2Signed), RowSemantics::Compute(Operator::Signed(SignedOperator::Add), Size::Word, THREE_HALFWORD_IMMEDIATE, CodeRule::Set)), // ahik
+            $each!(RieD, AGHIK, Allowed::Any, ("aghik", Plain, General2Signed), RowSemantics::Compute(Operator::Signed(SignedOperator::Add), Size::Doubleword, THREE_HALFWORD_IMMEDIATE, CodeRule::Set)), // aghik
+            $each!(Rxy, LEY, Allowed::Any, ("ley", Plain, FloatIndexed), RowSemantics::LoadLeft(ElementSize::Word)), // ley
+            $each!(Rxy, LDY, Allowed::Any, ("ldy", Plain, FloatIndexed), RowSemantics::LoadLeft(ElementSize::Doubleword)), // ldy
+            $each!(Rxy, STEY, Allowed::Any, ("stey", Plain, FloatIndexed), RowSemantics::StoreLeft(ElementSize::Word)), // stey
+            $each!(Rxy, STDY, Allowed::Any, ("stdy", Plain, FloatIndexed), RowSemantics::StoreLeft(ElementSize::Doubleword)), // stdy
+        ]
+    };
+}
+
+/// The machine rows, in rising order of their opcodes.
+pub const MACHINE_ROWS: [MachineRow; 401] = machine_rows!(row);
+
+/// The spellings of the machine rows, in the same order: GNU's assembler's, and for the rows that it lacks LLVM's.
+pub const SPELLINGS: [Spelling; 401] = machine_rows!(spelling);
