@@ -111,7 +111,7 @@ at_slot row values k slot e h = subst (λ (i : ℕ). IsPinnedAt row values i) (s
 
 -- a row that allows other values
 abbrev with_allowed : MachineRow → Allowed → MachineRow
-with_allowed row al = record { format = row.format; opcode = row.opcode; allowed = al; semantics = row.semantics }
+with_allowed row al = record { format = row.format; opcode = row.opcode; allowed = al; facility = row.facility; semantics = row.semantics }
 
 pinned : (row : MachineRow) (al : Allowed) (values : List ℕ) (k : ℕ) → is_allowed al values ≡ true → is_pinned al k ≡ true → IsPinnedAt (with_allowed row al) values k
 pinned from (FirstMask low high) values k h e =

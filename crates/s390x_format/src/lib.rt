@@ -2,6 +2,7 @@
 #![tactic(auto)]
 
 mod decoder;
+mod facility;
 mod fields;
 mod first_bytes;
 mod format;
@@ -28,6 +29,7 @@ mod vector_formats;
 mod vector_impls;
 
 pub use decoder::{Decoded, Located, decode, decode_counted, locate};
+pub use facility::{Facility, FacilityRule, facility_needed};
 pub use fields::{Fields, Imm, imm_class};
 pub use format::Format;
 pub use immediate_formats::{RiA, RieA, RieD, RieF, RieG, RilA};
