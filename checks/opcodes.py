@@ -4,15 +4,23 @@
     checks/opcodes.py
 
 An opcode of three digits or more is looked for in all crates but those of tests. It ends with 1 where there is one.
-Other scripts that read the sources take `plain` from it, which puts the numbers in the constants' place.
+Other scripts that read the sources take `plain` from it, which puts the numbers in the constants' place, and `machine_rows`, the
+lines of the table of machine rows.
 """
+import collections
 import os
 import re
 import sys
 
 CRATES = os.path.join(os.path.dirname(os.path.abspath(__file__)), "..", "crates")
 CONSTANTS = os.path.join(CRATES, "s390x_rows", "src", "opcodes.rt")
+TABLE = os.path.join(CRATES, "s390x_format", "src", "table.rt")
 TESTS = ("s390x_buffer_tests", "s390x_instruction_tests")
+LINE = re.compile(r'^ *\$each!\((\w+), (\w+), Allowed::(\w+)(?: \{ low: (\d+), high: (\d+) \})?, \("(\w*)", (\w+), (\w+)\), FacilityRule::(.*?), RowSemantics::(.*)\), // (.+)$', re.M)
+
+# A machine row: the number and the name of its opcode; what its first mask may be; what its mnemonics begin with, end with and stand before;
+# the rule of its facility, what it does, as the table writes them; and its mnemonics.
+MachineRow = collections.namedtuple("MachineRow", "format opcode name allowed low high stem suffix form facility semantics mnemonics")
 
 
 def constants():
@@ -25,6 +33,15 @@ def plain(text):
     """A source with the numbers in place of the opcodes' names."""
     known = constants()
     return re.sub(r"\bopcodes(?:::|\.)([A-Z][A-Z0-9]*)\b( as u8\b)?", lambda name: known[name[1]], text)
+
+
+def machine_rows(path=TABLE):
+    """The lines of the table of machine rows, in its order."""
+    known = constants()
+    with open(path) as file:
+        lines = LINE.findall(file.read())
+    return [MachineRow(kind, int(known[name], 16), name, allowed, int(low or 0), int(high or 0), *columns, mnemonics.split())
+            for kind, name, allowed, low, high, *columns, mnemonics in lines]
 
 
 def sources():

@@ -1,5 +1,5 @@
 #!/usr/bin/env python3
-"""Changes lines of the machine's table ROW_SEMANTICS, one at a time, each to another meaning of its kind, and tells which of the changes the known
+"""Changes lines of the table of machine rows, one at a time, each to another meaning of its kind, and tells which of the changes the known
 steps of `crates/s390x_step_vectors` report; run by hand, from anywhere: checks/wrong_rows.py [COUNT [SEED]].
 
 The table is read by the machine and by its definition alike, so that no proof refuses a line that is wrong there. Each change is tried on an unproved
@@ -14,8 +14,8 @@ import sys
 import tempfile
 
 ROOT = pathlib.Path(__file__).resolve().parent.parent
-TABLE = "crates/s390x_machine/src/semantics.rt"
-LINE = re.compile(r"^    OpcodeSemantics \{ opcode: (opcodes::\w+), semantics: (.*) \}, // (\S+)$")
+TABLE = "crates/s390x_format/src/table.rt"
+LINE = re.compile(r"^ *\$each!\(\w+, (\w+), .*, (RowSemantics::.*)\), // (\S+)")
 
 # What a word is changed into: another of its kind.
 WORDS = {
@@ -56,8 +56,9 @@ WORDS = {
 
 
 def operands(text):
-    """The names of second operands that the file has, in capitals."""
-    return sorted(set(re.findall(r"^pub const ([A-Z_0-9]+): SecondOperand", text, re.M)))
+    """The names of second operands that the file reads, in capitals."""
+    used = re.search(r"use crate::semantics::\{(.*?)\}", text, re.S)[1]
+    return sorted(set(re.findall(r"\b[A-Z][A-Z_0-9]+\b", used)))
 
 
 def changes(semantics, names, opcodes):

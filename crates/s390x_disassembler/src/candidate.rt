@@ -12,7 +12,8 @@ use crate::scan::{begins, behind, head, hex_bytes, word};
 use crate::spelling::letter_table;
 use arrayvec::ArrayVec;
 use s390x_format::{
-    Allowed, FormatKind, MACHINE_ROWS, MachineRow, SPELLINGS, Spelling, Suffix, layout, length, pack,
+    Allowed, FormatKind, MACHINE_ROWS, MachineRow, SPELLINGS, Spelling, Suffix, layout, length,
+    pack,
 };
 use std::alloc::{AllocError, Global};
 

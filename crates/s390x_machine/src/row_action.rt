@@ -5,6 +5,7 @@ ghost use Rattle.s390x_machine.specs.Semantics.{action};
 ghost use Rattle.s390x_machine.specs.State.{registers_of};
 ghost use Rattle.s390x_machine.specs.Sound.{FieldsFit, IsSoundAction, is_free};
 
+use crate::action::Action;
 use crate::field_values::{performs, relative_address};
 use crate::machine::Machine;
 use crate::register_action::{
@@ -12,7 +13,6 @@ use crate::register_action::{
     compute, count_ones, divide_logical, divide_signed, find_leftmost_one, move_where,
     multiply_logical, multiply_signed, rotate_then,
 };
-use crate::action::Action;
 use crate::storage_action::{
     compare_and_swap, load_and_operate, load_multiple, store, store_byte, store_immediate,
     store_multiple,

@@ -10,13 +10,13 @@ ghost use Rattle.s390x_machine.specs.State.{memory_of, registers_of, state_of};
 ghost use Rattle.s390x_machine.specs.Sound.{HasRegisters, IsSoundAction, is_free, is_uncomputed};
 ghost use Rattle.s390x_machine.specs.Step.{Executes, Steps};
 
+use crate::action::Action;
 use crate::field_values::{relative_address, source};
 use crate::instruction_fetch::{FetchedRow, fetch_row};
 use crate::machine::Machine;
 use crate::memory::Memory;
 use crate::perform::{is_selected, perform};
 use crate::row_action::action;
-use crate::action::Action;
 use crate::value_step::value_step;
 use crate::vector_action::shift_amount;
 use s390x_format::{Decoded, Fields, Located, MACHINE_ROWS, MachineRow, RowSemantics, length};
