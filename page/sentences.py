@@ -11,7 +11,7 @@ import sys
 
 TOP = os.path.dirname(os.path.dirname(os.path.abspath(__file__)))
 sys.path.insert(0, os.path.join(TOP, "checks"))
-from opcodes import constants, machine_rows, plain  # noqa: E402
+from opcodes import constants, machine_rows  # noqa: E402
 
 CRATES = os.path.join(TOP, "crates")
 
@@ -41,7 +41,7 @@ def fields_upper(text):
 
 def read(*path):
     with open(os.path.join(CRATES, *path)) as file:
-        return plain(file.read())
+        return file.read()
 
 
 def upper(text):
@@ -160,7 +160,7 @@ def storage(kind):
     }[name]
 
 
-def sentence(semantics, second, kinds):
+def sentence(semantics, second):
     """What a row with these semantics does."""
     name, _, inner = semantics.partition("(")
     inner = inner[:-1] if inner else ""
@@ -218,7 +218,7 @@ def sentence(semantics, second, kinds):
         count = {"Word": "The 4 bytes", "Doubleword": "The 8 bytes"}[short[0]]
         return "%s at %s become r2 if they are r1; else r1 gets them." % (count, PLACE) + SET
     if name in ("Elements", "ShiftElements"):
-        return on_elements(kinds[int(parts[0], 16)])
+        return on_elements(re.search(r"RowKind::(.*), least", semantics)[1])
     if name == "LoadVector":
         return "Vector register r1 gets %s from storage at %s." % (storage(short[0]), ADDRESS)
     if name == "StoreVector":
@@ -235,9 +235,8 @@ def sentence(semantics, second, kinds):
 def sentences():
     """The opcode, the mnemonic and the sentence of each row."""
     second = operands()
-    kinds = {int(opcode, 16): kind for opcode, kind in re.findall(r"OpcodeRow \{ opcode: (0x\w+), kind: RowKind::(.*?), least", read("s390x_lanes", "src", "opcodes.rt"))}
     numbers = constants()
-    return [(numbers[row.name], row.mnemonics[0], fields_upper(sentence(plain(row.semantics), second, kinds))) for row in machine_rows()]
+    return [(numbers[row.name], row.mnemonics[0], fields_upper(sentence(row.semantics, second))) for row in machine_rows()]
 
 
 def main():

@@ -1,7 +1,7 @@
 //! What a machine row does with its fields (Principles of Operation, chapter 7, "General
 //! instructions", and chapters 21 and 22 on vectors).
 
-use s390x_lanes::{ElementSize, Signedness};
+use s390x_lanes::{ElementSize, Signedness, VectorRow};
 use s390x_operations::{CodeRule, Operator, SelectedBitsOperator, Size, Width};
 
 /// Where a row's second operand stands. The first one is register r1, but r2 in `ThreeRegisters`, `ThreeImmediate` and `Amount`.
@@ -109,10 +109,10 @@ pub enum RowSemantics {
     BranchAndSaveToRegister,
     /// The same with a branch to a distance from the instruction.
     BranchAndSaveRelative,
-    /// Vector register r1 gets what the row of this opcode makes of the vector registers that it names, under its masks and its immediate.
-    Elements(u16),
+    /// Vector register r1 gets what the row makes of the vector registers that it names, under its masks and its immediate.
+    Elements(VectorRow),
     /// The same of vector register r3, by the amount at base r2 plus a displacement.
-    ShiftElements(u16),
+    ShiftElements(VectorRow),
     /// Vector register r1 gets what is in memory at base r2 plus index r3 plus a displacement.
     LoadVector(VectorStorage),
     /// What is in vector register r1 goes to memory at base r2 plus index r3 plus a displacement.

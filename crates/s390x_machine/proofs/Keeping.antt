@@ -5,7 +5,7 @@ use Rattle.std.proofs.lemmas.Nat.{mod_below}
 use Rattle.s390x_format.specs.Formats.{length_of}
 use Rattle.s390x_format.specs.declared.fields.Fields.{Fields}
 use Rattle.s390x_lanes.specs.Size.{lane_count}
-use Rattle.s390x_lanes.specs.Opcodes.{operation_of}
+use Rattle.s390x_lanes.specs.Rows.{operation_of}
 use Rattle.s390x_lanes.specs.declared.operators.VectorOperation.{VectorOperation}
 use Rattle.s390x_operations.specs.Numbers.{whole}
 use Rattle.s390x_operations.specs.State.{State, Core, Memory, IsState, Registers, CodeImage, Write, MayWrite, written, wrapping_add64}
@@ -103,9 +103,9 @@ row_fits LeftToRegister f r address regs meant even fit = (fit.general (register
 row_fits ExtractElement f r address regs meant even fit =
     either_fits (nat_lt (based r (register_field f 1) f.disp) (lane_count (element_size f))) _ _ (fit.general (register_field f 0) (regs 0), full_width) tt
 row_fits InsertElement f r address regs meant even fit = either_fits (nat_lt (based r (register_field f 1) f.disp) (lane_count (element_size f))) _ _ tt tt
-row_fits (Elements opcode) f r address regs meant even fit =
-    elements_fit (operation_of opcode f.masks f.imm) (register_field f 0) (vector_field f r 0) (vector_field f r 1) (vector_field f r 2) (vector_field f r 3)
-row_fits (ShiftElements opcode) f r address regs meant even fit = elements_fit (operation_of opcode f.masks _) (register_field f 0) (vector_field f r 0) (vector_field f r 2) 0 0
+row_fits (Elements row) f r address regs meant even fit =
+    elements_fit (operation_of row f.masks f.imm) (register_field f 0) (vector_field f r 0) (vector_field f r 1) (vector_field f r 2) (vector_field f r 3)
+row_fits (ShiftElements row) f r address regs meant even fit = elements_fit (operation_of row f.masks _) (register_field f 0) (vector_field f r 0) (vector_field f r 2) 0 0
 row_fits (Compare sign size s) f r address regs meant even fit = tt
 row_fits (DivideSigned width) f r address regs meant even fit = tt
 row_fits (CompareAndTrap sign size) f r address regs meant even fit = tt

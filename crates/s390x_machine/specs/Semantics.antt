@@ -3,7 +3,7 @@ use Rattle.std.specs.Prelude.{ℕ, ◌+◌, ◌-◌, ◌*◌, ◌^◌, ◌%◌, 
 use Rattle.s390x_format.specs.declared.fields.Fields.{Fields}
 use Rattle.s390x_lanes.specs.Size.{element_bits, lane_count, size_of_code}
 use Rattle.s390x_lanes.specs.Lanes.{lane}
-use Rattle.s390x_lanes.specs.Opcodes.{operation_of}
+use Rattle.s390x_lanes.specs.Rows.{operation_of}
 use Rattle.s390x_lanes.specs.declared.operators.VectorOperation.{VectorOperation}
 use Rattle.s390x_lanes.specs.declared.size.ElementSize.{ElementSize}
 use Rattle.s390x_operations.specs.Numbers.{low}
@@ -185,10 +185,10 @@ action (CompareAndSwap size) f r address =
     performs Set (Effect.CompareAndSwap size (register_field f 0) (value_in size r (register_field f 0)) (value_in size r (register_field f 1)) (based r (register_field f 2) f.disp))
 action BranchAndSaveToRegister f r address = BranchAndSave (register_field f 0) (if register_field f 1 == 0 then wrapping_add64 address 2 else r.general (register_field f 1))
 action BranchAndSaveRelative f r address = BranchAndSave (register_field f 0) (relative_address f address)
-action (Elements opcode) f r address =
-    on_elements (operation_of opcode f.masks f.imm) (register_field f 0) (vector_field f r 0) (vector_field f r 1) (vector_field f r 2) (vector_field f r 3)
-action (ShiftElements opcode) f r address =
-    on_elements (operation_of opcode f.masks (pos (based r (register_field f 1) f.disp % 64))) (register_field f 0) (vector_field f r 0) (vector_field f r 2) 0 0
+action (Elements row) f r address =
+    on_elements (operation_of row f.masks f.imm) (register_field f 0) (vector_field f r 0) (vector_field f r 1) (vector_field f r 2) (vector_field f r 3)
+action (ShiftElements row) f r address =
+    on_elements (operation_of row f.masks (pos (based r (register_field f 1) f.disp % 64))) (register_field f 0) (vector_field f r 0) (vector_field f r 2) 0 0
 action (LoadVector storage) f r address =
     performs Kept (Effect.LoadVector (vector_layout_of storage f) (register_field f 0) (vector_field f r 0) all_bits (indexed_address f r))
 action (StoreVector storage) f r address = performs Kept (Effect.StoreVector (vector_layout_of storage f) (vector_field f r 0) (indexed_address f r))

@@ -88,13 +88,9 @@ fn is_free(machine: &Machine, semantics: RowSemantics, fields: &Fields) -> bool
 {
     match semantics {
         RowSemantics::Havoc => true,
-        RowSemantics::Elements(opcode) => is_uncomputed(operation(
-            opcode,
-            fields.masks,
-            fields.imm,
-        )),
-        RowSemantics::ShiftElements(opcode) => {
-            is_uncomputed(operation(opcode, fields.masks, shift_amount(machine, fields)))
+        RowSemantics::Elements(row) => is_uncomputed(operation(row, fields.masks, fields.imm)),
+        RowSemantics::ShiftElements(row) => {
+            is_uncomputed(operation(row, fields.masks, shift_amount(machine, fields)))
         }
         _ => false,
     }
