@@ -17,28 +17,36 @@ SLOTS = 512
 MULTIPLIER = 5
 CRATES = pathlib.Path(__file__).parent.parent / "crates"
 SOURCES = CRATES / "s390x_job_lines/src"
-LOADS = CRATES / "s390x_inst/src/load.rt"
+VIEWS = CRATES / "s390x_inst/src"
+# The tables of s390x_job_lines/src/access_names.rt: the enum in whose order each is, and how ALL_NAMES writes a name of it.
+TABLES = {
+    "LOAD_NAMES": ("load.rt", "LoadOp", "Load({})"),
+    "STORE_NAMES": ("store.rt", "StoreOp", "Store({})"),
+    "WHOLE_LOAD_NAMES": ("whole.rt", "WholeLayout", "Whole(Direction::Load, {})"),
+    "WHOLE_STORE_NAMES": ("whole.rt", "WholeLayout", "Whole(Direction::Store, {})"),
+}
 
 
-def load_operators():
-    source = LOADS.read_text()
-    table = source[source.index("pub enum LoadOp {"):]
-    return [f"LoadOp::{name}" for name in re.findall(r"\n    (\w+),", table[:table.index("}")])]
+def operators(file, enum):
+    source = (VIEWS / file).read_text()
+    table = source[source.index(f"pub enum {enum} {{"):]
+    return re.findall(r"\n    (\w+),", table[:table.index("}")])
 
 
 def written_names():
     """Each name's text, with how ALL_NAMES writes it."""
     source = (SOURCES / "inst_name.rt").read_text() + (SOURCES / "name.rt").read_text()
-    names = dict(re.findall(r'(\w+Name::\w+) => "(\w+)"', source))
-    # the names of loads stand in the order of `LoadOp`
-    loads = re.findall(r'    "(\w+)",', (SOURCES / "load_names.rt").read_text())
-    names |= dict(zip(load_operators(), loads, strict=True))
-    return {text: written(name) for name, text in names.items()}
+    names = {text: written(name) for name, text in re.findall(r'(\w+Name::\w+) => "(\w+)"', source)}
+    accesses = (SOURCES / "access_names.rt").read_text()
+    for table, (file, enum, form) in TABLES.items():
+        texts = re.findall(r'    "(\w+)",', re.search(rf"const {table}: .*?\];", accesses, re.S)[0])
+        names |= {text: form.format(name) for name, text in zip(operators(file, enum), texts, strict=True)}
+    return names
 
 
 def written(name):
     group, item = name.split("::")
-    return item if group == "LineName" else f"{re.sub('Name$|Op$', '', group)}({item})"
+    return item if group == "LineName" else f"{group.removesuffix('Name')}({item})"
 
 
 def mix(name):

@@ -40,8 +40,10 @@ class JobLists:
         self.kinds = {}
         for name in ("integer_kinds", "memory_kinds", "control_kinds", "vector_kinds", "kinds"):
             self.kinds |= {re.findall(r"\w+", patterns)[-1]: body for patterns, body in clauses[name]}
-        load = dict(clauses["kinds"])["(N.Load op)"]
-        self.kinds |= dict.fromkeys(found.loads.names, load)
+        kinds = dict(clauses["kinds"])
+        self.kinds |= dict.fromkeys(found.loads.names, kinds["(N.Load op)"])
+        self.kinds |= dict.fromkeys(found.stores.names, kinds["(N.Store op)"])
+        self.kinds |= dict.fromkeys(found.wholes.told, kinds["(N.Whole direction layout)"])
         self.said = {}
         for path in ("inst", "vec_inst"):
             source = coverage.text(f"s390x_inst/src/{path}.rt")

@@ -2,14 +2,11 @@
 use Rattle.std.proofs.Common.{◌≡◌, List, [], ◌∷◌, Option, Some, None, Result, Ok, Err, IfOk, refl, sym, ap, ◌∙◌}
 use Rattle.s390x_base.specs.declared.regs.Reg.{Reg}
 use Rattle.s390x_inst.specs.declared.inst.Inst.{Inst}
-use Rattle.s390x_inst.specs.declared.inst.Inst.TheVariants.{Loop', IndirectBr, JTSequence, Call, ReturnCall, Args, Rets, Fence, Vector}
-use Rattle.s390x_inst.specs.declared.vec_inst.VecInst.{VecInst}
-use Rattle.s390x_inst.specs.declared.vec_inst.VecInst.TheVariants.{VecMov}
-use Rattle.s390x_inst.specs.Portions.{Portion, closing, plain, first_portion, portions}
-use Rattle.s390x_described.specs.Instructions.{described, described_vector}
-use Rattle.s390x_described.specs.Roles.{described_again, again_or_none}
-use Rattle.s390x_assign.specs.Assignments.{portion_by, portion_at, assigned_vector, IsPortion}
-use Rattle.s390x_assign.specs.Roles.{assigned_role, as_it_is}
+use Rattle.s390x_inst.specs.declared.inst.Inst.TheVariants.{Loop', IndirectBr, JTSequence, Call, ReturnCall, Args, Rets, Fence}
+use Rattle.s390x_inst.specs.Portions.{Portion, closing, first_portion, portions}
+use Rattle.s390x_described.specs.Instructions.{described}
+use Rattle.s390x_described.specs.Roles.{again_or_none}
+use Rattle.s390x_assign.specs.Assignments.{assigned_role, as_it_is, portion_by, portion_at, IsPortion}
 
 -- an answer by one definition is one by another
 pub carried : {E : Type 0} (p q : Portion × List Reg) (r : Result Inst E) (t : List Reg) → ◌≡◌ {A = Portion × List Reg} p q → IfOk r (λ j. IsPortion q j t) → IfOk r (λ j. IsPortion p j t)
@@ -28,12 +25,7 @@ abbrev by_lists : Inst → List Reg → Portion × List Reg
 by_lists i t = portion_by as_it_is (first_portion i) t
 
 -- one clause stands for every instruction
-vector_again : (v : VecInst) (s : List Reg) → ◌≡◌ {A = VecInst × List Reg} (assigned_vector v s) (described_again assigned_role (described_vector v) s)
-vector_again (VecMov rd rn) s = refl
-vector_again v s = refl
-
 portion_is : (i : Inst) (s : List Reg) → ◌≡◌ {A = Portion × List Reg} (portion_at (first_portion i) s) (portion_again (again i s).0 (again i s).1 (by_lists i))
-portion_is (Vector v) s = ap (λ p. (plain (Vector p.0), p.1)) (vector_again v s)
 portion_is Fence s = refl
 portion_is i s = refl
 

@@ -1,2 +1,1 @@
 pub mod Assignments
-pub mod Roles

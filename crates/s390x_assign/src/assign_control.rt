@@ -1,8 +1,7 @@
 //! An instruction with the registers of an allocator: by its description, where it has one.
 ghost use Rattle.std.specs.Prelude.{IfOk};
 ghost use Rattle.s390x_inst.specs.Portions.{first_portion};
-ghost use Rattle.s390x_assign.specs.Assignments.{IsPortion, portion_by, portion_at};
-ghost use Rattle.s390x_assign.specs.Roles.{as_it_is};
+ghost use Rattle.s390x_assign.specs.Assignments.{IsPortion, as_it_is, portion_by, portion_at};
 
 use crate::assign_calls::{assign_call, assign_list, assign_return_call};
 use crate::assigned_registers::AssignedRegisters;

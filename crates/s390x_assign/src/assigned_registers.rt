@@ -1,8 +1,7 @@
 //! The registers that an allocator assigned, as they are taken one by one.
 ghost use Rattle.std.specs.Prelude.{◌≡◌, List, drop};
 ghost use Rattle.s390x_base.specs.declared.regs.Reg.{Reg};
-ghost use Rattle.s390x_assign.specs.Assignments.{operand_at, placed_at, after_placed, result_at, destination_at};
-ghost use Rattle.s390x_assign.specs.Roles.{assigned_role};
+ghost use Rattle.s390x_assign.specs.Assignments.{operand_at, assigned_role, placed_at, after_placed, result_at, destination_at};
 
 use s390x_base::{Reg, RegPair, Writable, WritableRegPair};
 use s390x_described::Replacer;

@@ -5,65 +5,65 @@ use Rattle.s390x_inst.specs.declared.inst.Inst.{Inst}
 use Rattle.s390x_inst.specs.declared.inst.Inst.TheVariants as I
 use Rattle.s390x_inst.specs.declared.vec_inst.VecInst.{VecInst}
 use Rattle.s390x_inst.specs.declared.vec_inst.VecInst.TheVariants as V
+use Rattle.s390x_inst.specs.declared.whole.WholeAccess.{WholeAccess}
 use Rattle.s390x_inst.specs.Loads.{as_load, by_load, load_instruction}
-use Rattle.s390x_described.specs.Roles.{Written, Tied, Read, WrittenPair, LowRead, ReadPair, register, written_pair, read_pair, first, second, third, Described, of_one, of_two, of_three, of_four, of_memory, of_one_and_memory, of_two_and_memory, of_three_and_memory}
+use Rattle.s390x_inst.specs.Stores.{as_store, by_store, store_instruction}
+use Rattle.s390x_inst.specs.Wholes.{as_whole, by_whole, by_direction, whole_instruction}
+use Rattle.s390x_described.specs.Roles.{Written, Tied, Read, WrittenPair, LowRead, ReadPair, register, written_pair, read_pair, first, second, third, Described, of_none, of_one, of_two, of_three, of_four, of_memory, of_one_and_memory, of_two_and_memory, of_three_and_memory}
 
--- an instruction on vector or float registers
+-- an instruction on vector or float registers and immediates
+abbrev pub described_register_vector : VecInst → Described VecInst
+described_register_vector (V.VecRRR op rd rn rm) = of_three (V.VecRRR op) (Written rd) (Read rn) (Read rm)
+described_register_vector (V.VecRR op rd rn) = of_two (V.VecRR op) (Written rd) (Read rn)
+described_register_vector (V.VecShiftRR shift_op rd rn shift_imm shift_reg) = of_three (λ rd rn shift_reg. V.VecShiftRR shift_op rd rn shift_imm shift_reg) (Written rd) (Read rn) (Read shift_reg)
+described_register_vector (V.VecSelect rd rn rm ra) = of_four V.VecSelect (Written rd) (Read rn) (Read rm) (Read ra)
+described_register_vector (V.VecPermute rd rn rm ra) = of_four V.VecPermute (Written rd) (Read rn) (Read rm) (Read ra)
+described_register_vector (V.VecBlend rd rn rm ra) = of_four V.VecBlend (Written rd) (Read rn) (Read rm) (Read ra)
+described_register_vector (V.VecEvaluate imm rd rn rm ra) = of_four (V.VecEvaluate imm) (Written rd) (Read rn) (Read rm) (Read ra)
+described_register_vector (V.VecPermuteDWImm rd rn rm idx1 idx2) = of_three (λ rd rn rm. V.VecPermuteDWImm rd rn rm idx1 idx2) (Written rd) (Read rn) (Read rm)
+described_register_vector (V.VecIntCmp op rd rn rm) = of_three (V.VecIntCmp op) (Written rd) (Read rn) (Read rm)
+described_register_vector (V.VecIntCmpS op rd rn rm) = of_three (V.VecIntCmpS op) (Written rd) (Read rn) (Read rm)
+described_register_vector (V.VecIntEltCmp op rn rm) = of_two (V.VecIntEltCmp op) (Read rn) (Read rm)
+described_register_vector (V.VecInt128SCmpHi tmp rn rm) = of_three V.VecInt128SCmpHi (Written tmp) (Read rn) (Read rm)
+described_register_vector (V.VecInt128UCmpHi tmp rn rm) = of_three V.VecInt128UCmpHi (Written tmp) (Read rn) (Read rm)
+described_register_vector (V.VecMov rd rn) = of_two V.VecMov (Written rd) (Read rn)
+described_register_vector (V.FpuMove32 rd rn) = of_two V.FpuMove32 (Written rd) (Read rn)
+described_register_vector (V.FpuMove64 rd rn) = of_two V.FpuMove64 (Written rd) (Read rn)
+described_register_vector (V.FpuCMov32 rd cond ri rm) = of_three (λ rd ri rm. V.FpuCMov32 rd cond ri rm) (Tied rd) (Read ri) (Read rm)
+described_register_vector (V.FpuCMov64 rd cond ri rm) = of_three (λ rd ri rm. V.FpuCMov64 rd cond ri rm) (Tied rd) (Read ri) (Read rm)
+described_register_vector (V.VecCMov rd cond ri rm) = of_three (λ rd ri rm. V.VecCMov rd cond ri rm) (Tied rd) (Read ri) (Read rm)
+described_register_vector (V.MovToVec128 rd rn rm) = of_three V.MovToVec128 (Written rd) (Read rn) (Read rm)
+described_register_vector (V.VecImmByteMask rd mask) = of_one (λ rd. V.VecImmByteMask rd mask) (Written rd)
+described_register_vector (V.VecImmBitMask size rd start_bit end_bit) = of_one (λ rd. V.VecImmBitMask size rd start_bit end_bit) (Written rd)
+described_register_vector (V.VecImmReplicate size rd imm) = of_one (λ rd. V.VecImmReplicate size rd imm) (Written rd)
+described_register_vector (V.VecInsertLane size rd ri rn lane_imm lane_reg) = of_four (λ rd ri rn lane_reg. V.VecInsertLane size rd ri rn lane_imm lane_reg) (Tied rd) (Read ri) (Read rn) (Read lane_reg)
+described_register_vector (V.VecInsertLaneUndef size rd rn lane_imm lane_reg) = of_three (λ rd rn lane_reg. V.VecInsertLaneUndef size rd rn lane_imm lane_reg) (Written rd) (Read rn) (Read lane_reg)
+described_register_vector (V.VecExtractLane size rd rn lane_imm lane_reg) = of_three (λ rd rn lane_reg. V.VecExtractLane size rd rn lane_imm lane_reg) (Written rd) (Read rn) (Read lane_reg)
+described_register_vector (V.VecInsertLaneImm size rd ri imm lane_imm) = of_two (λ rd ri. V.VecInsertLaneImm size rd ri imm lane_imm) (Tied rd) (Read ri)
+described_register_vector (V.VecInsertLaneImmUndef size rd imm lane_imm) = of_one (λ rd. V.VecInsertLaneImmUndef size rd imm lane_imm) (Written rd)
+described_register_vector (V.VecReplicateLane size rd rn lane_imm) = of_two (λ rd rn. V.VecReplicateLane size rd rn lane_imm) (Written rd) (Read rn)
+described_register_vector (V.VecEltRev lane_count rd rn) = of_two (V.VecEltRev lane_count) (Written rd) (Read rn)
+described_register_vector v = of_none v
+
+-- the same of loads and stores of elements
+abbrev pub described_part : VecInst → Described VecInst
+described_part (V.VecLoadReplicate size rd mem) = of_one_and_memory (V.VecLoadReplicate size) (Written rd) mem
+described_part (V.VecLoadReplicateRev size rd mem) = of_one_and_memory (V.VecLoadReplicateRev size) (Written rd) mem
+described_part (V.VecLoadLane size rd ri mem lane_imm) = of_two_and_memory (λ rd ri mem. V.VecLoadLane size rd ri mem lane_imm) (Tied rd) (Read ri) mem
+described_part (V.VecLoadLaneRev size rd ri mem lane_imm) = of_two_and_memory (λ rd ri mem. V.VecLoadLaneRev size rd ri mem lane_imm) (Tied rd) (Read ri) mem
+described_part (V.VecLoadLaneUndef size rd mem lane_imm) = of_one_and_memory (λ rd mem. V.VecLoadLaneUndef size rd mem lane_imm) (Written rd) mem
+described_part (V.VecLoadLaneRevUndef size rd mem lane_imm) = of_one_and_memory (λ rd mem. V.VecLoadLaneRevUndef size rd mem lane_imm) (Written rd) mem
+described_part (V.VecStoreLane size rd mem lane_imm) = of_one_and_memory (λ rd mem. V.VecStoreLane size rd mem lane_imm) (Read rd) mem
+described_part (V.VecStoreLaneRev size rd mem lane_imm) = of_one_and_memory (λ rd mem. V.VecStoreLaneRev size rd mem lane_imm) (Read rd) mem
+described_part v = described_register_vector v
+
+-- a load or a store of a whole vector register
+abbrev pub described_whole : WholeAccess → Described VecInst
+described_whole w = of_one_and_memory (whole_instruction w.direction w.layout) (by_direction w.direction (Written w.rd) (Read w.rd)) w.mem
+
+-- the same of loads and stores of whole registers
 abbrev pub described_vector : VecInst → Described VecInst
-described_vector (V.VecRRR op rd rn rm) = of_three (V.VecRRR op) (Written rd) (Read rn) (Read rm)
-described_vector (V.VecRR op rd rn) = of_two (V.VecRR op) (Written rd) (Read rn)
-described_vector (V.VecShiftRR shift_op rd rn shift_imm shift_reg) = of_three (λ rd rn shift_reg. V.VecShiftRR shift_op rd rn shift_imm shift_reg) (Written rd) (Read rn) (Read shift_reg)
-described_vector (V.VecSelect rd rn rm ra) = of_four V.VecSelect (Written rd) (Read rn) (Read rm) (Read ra)
-described_vector (V.VecPermute rd rn rm ra) = of_four V.VecPermute (Written rd) (Read rn) (Read rm) (Read ra)
-described_vector (V.VecBlend rd rn rm ra) = of_four V.VecBlend (Written rd) (Read rn) (Read rm) (Read ra)
-described_vector (V.VecEvaluate imm rd rn rm ra) = of_four (V.VecEvaluate imm) (Written rd) (Read rn) (Read rm) (Read ra)
-described_vector (V.VecPermuteDWImm rd rn rm idx1 idx2) = of_three (λ rd rn rm. V.VecPermuteDWImm rd rn rm idx1 idx2) (Written rd) (Read rn) (Read rm)
-described_vector (V.VecIntCmp op rd rn rm) = of_three (V.VecIntCmp op) (Written rd) (Read rn) (Read rm)
-described_vector (V.VecIntCmpS op rd rn rm) = of_three (V.VecIntCmpS op) (Written rd) (Read rn) (Read rm)
-described_vector (V.VecIntEltCmp op rn rm) = of_two (V.VecIntEltCmp op) (Read rn) (Read rm)
-described_vector (V.VecInt128SCmpHi tmp rn rm) = of_three V.VecInt128SCmpHi (Written tmp) (Read rn) (Read rm)
-described_vector (V.VecInt128UCmpHi tmp rn rm) = of_three V.VecInt128UCmpHi (Written tmp) (Read rn) (Read rm)
-described_vector (V.VecLoad rd mem) = of_one_and_memory V.VecLoad (Written rd) mem
-described_vector (V.VecLoadRev rd mem) = of_one_and_memory V.VecLoadRev (Written rd) mem
-described_vector (V.VecLoadByte16Rev rd mem) = of_one_and_memory V.VecLoadByte16Rev (Written rd) mem
-described_vector (V.VecLoadByte32Rev rd mem) = of_one_and_memory V.VecLoadByte32Rev (Written rd) mem
-described_vector (V.VecLoadByte64Rev rd mem) = of_one_and_memory V.VecLoadByte64Rev (Written rd) mem
-described_vector (V.VecLoadElt16Rev rd mem) = of_one_and_memory V.VecLoadElt16Rev (Written rd) mem
-described_vector (V.VecLoadElt32Rev rd mem) = of_one_and_memory V.VecLoadElt32Rev (Written rd) mem
-described_vector (V.VecLoadElt64Rev rd mem) = of_one_and_memory V.VecLoadElt64Rev (Written rd) mem
-described_vector (V.VecStore rd mem) = of_one_and_memory V.VecStore (Read rd) mem
-described_vector (V.VecStoreRev rd mem) = of_one_and_memory V.VecStoreRev (Read rd) mem
-described_vector (V.VecStoreByte16Rev rd mem) = of_one_and_memory V.VecStoreByte16Rev (Read rd) mem
-described_vector (V.VecStoreByte32Rev rd mem) = of_one_and_memory V.VecStoreByte32Rev (Read rd) mem
-described_vector (V.VecStoreByte64Rev rd mem) = of_one_and_memory V.VecStoreByte64Rev (Read rd) mem
-described_vector (V.VecStoreElt16Rev rd mem) = of_one_and_memory V.VecStoreElt16Rev (Read rd) mem
-described_vector (V.VecStoreElt32Rev rd mem) = of_one_and_memory V.VecStoreElt32Rev (Read rd) mem
-described_vector (V.VecStoreElt64Rev rd mem) = of_one_and_memory V.VecStoreElt64Rev (Read rd) mem
-described_vector (V.VecLoadReplicate size rd mem) = of_one_and_memory (V.VecLoadReplicate size) (Written rd) mem
-described_vector (V.VecLoadReplicateRev size rd mem) = of_one_and_memory (V.VecLoadReplicateRev size) (Written rd) mem
-described_vector (V.VecLoadLane size rd ri mem lane_imm) = of_two_and_memory (λ rd ri mem. V.VecLoadLane size rd ri mem lane_imm) (Tied rd) (Read ri) mem
-described_vector (V.VecLoadLaneRev size rd ri mem lane_imm) = of_two_and_memory (λ rd ri mem. V.VecLoadLaneRev size rd ri mem lane_imm) (Tied rd) (Read ri) mem
-described_vector (V.VecLoadLaneUndef size rd mem lane_imm) = of_one_and_memory (λ rd mem. V.VecLoadLaneUndef size rd mem lane_imm) (Written rd) mem
-described_vector (V.VecLoadLaneRevUndef size rd mem lane_imm) = of_one_and_memory (λ rd mem. V.VecLoadLaneRevUndef size rd mem lane_imm) (Written rd) mem
-described_vector (V.VecStoreLane size rd mem lane_imm) = of_one_and_memory (λ rd mem. V.VecStoreLane size rd mem lane_imm) (Read rd) mem
-described_vector (V.VecStoreLaneRev size rd mem lane_imm) = of_one_and_memory (λ rd mem. V.VecStoreLaneRev size rd mem lane_imm) (Read rd) mem
-described_vector (V.VecMov rd rn) = of_two V.VecMov (Written rd) (Read rn)
-described_vector (V.FpuMove32 rd rn) = of_two V.FpuMove32 (Written rd) (Read rn)
-described_vector (V.FpuMove64 rd rn) = of_two V.FpuMove64 (Written rd) (Read rn)
-described_vector (V.FpuCMov32 rd cond ri rm) = of_three (λ rd ri rm. V.FpuCMov32 rd cond ri rm) (Tied rd) (Read ri) (Read rm)
-described_vector (V.FpuCMov64 rd cond ri rm) = of_three (λ rd ri rm. V.FpuCMov64 rd cond ri rm) (Tied rd) (Read ri) (Read rm)
-described_vector (V.VecCMov rd cond ri rm) = of_three (λ rd ri rm. V.VecCMov rd cond ri rm) (Tied rd) (Read ri) (Read rm)
-described_vector (V.MovToVec128 rd rn rm) = of_three V.MovToVec128 (Written rd) (Read rn) (Read rm)
-described_vector (V.VecImmByteMask rd mask) = of_one (λ rd. V.VecImmByteMask rd mask) (Written rd)
-described_vector (V.VecImmBitMask size rd start_bit end_bit) = of_one (λ rd. V.VecImmBitMask size rd start_bit end_bit) (Written rd)
-described_vector (V.VecImmReplicate size rd imm) = of_one (λ rd. V.VecImmReplicate size rd imm) (Written rd)
-described_vector (V.VecInsertLane size rd ri rn lane_imm lane_reg) = of_four (λ rd ri rn lane_reg. V.VecInsertLane size rd ri rn lane_imm lane_reg) (Tied rd) (Read ri) (Read rn) (Read lane_reg)
-described_vector (V.VecInsertLaneUndef size rd rn lane_imm lane_reg) = of_three (λ rd rn lane_reg. V.VecInsertLaneUndef size rd rn lane_imm lane_reg) (Written rd) (Read rn) (Read lane_reg)
-described_vector (V.VecExtractLane size rd rn lane_imm lane_reg) = of_three (λ rd rn lane_reg. V.VecExtractLane size rd rn lane_imm lane_reg) (Written rd) (Read rn) (Read lane_reg)
-described_vector (V.VecInsertLaneImm size rd ri imm lane_imm) = of_two (λ rd ri. V.VecInsertLaneImm size rd ri imm lane_imm) (Tied rd) (Read ri)
-described_vector (V.VecInsertLaneImmUndef size rd imm lane_imm) = of_one (λ rd. V.VecInsertLaneImmUndef size rd imm lane_imm) (Written rd)
-described_vector (V.VecReplicateLane size rd rn lane_imm) = of_two (λ rd rn. V.VecReplicateLane size rd rn lane_imm) (Written rd) (Read rn)
-described_vector (V.VecEltRev lane_count rd rn) = of_two (V.VecEltRev lane_count) (Written rd) (Read rn)
+described_vector v = by_whole described_whole (described_part v) (as_whole v)
 
 -- the same as an instruction
 abbrev pub as_vector : Described VecInst → Described Inst
@@ -74,31 +74,32 @@ abbrev pub described_wide : Inst → Option (Described Inst)
 described_wide (I.Vector v) = Some (as_vector (described_vector v))
 described_wide i = None
 
--- stores, multiples, addresses and atomic instructions
+-- addresses that the linker fills in or that are labels, and a use that has no code
+abbrev pub described_control : Inst → Option (Described Inst)
+described_control (I.LoadSymbolReloc rd symbol_reloc) = Some (of_one (λ rd. I.LoadSymbolReloc rd symbol_reloc) (Written rd))
+described_control (I.LabelAddress dst label) = Some (of_one (λ dst. I.LabelAddress dst label) (Written dst))
+described_control (I.DummyUse reg) = Some (of_one I.DummyUse (Read reg))
+described_control i = described_wide i
+
+-- stores of numbers, multiples, addresses and atomic instructions
+abbrev pub described_rest : Inst → Option (Described Inst)
+described_rest (I.StoreImm8 imm mem) = Some (of_memory (I.StoreImm8 imm) mem)
+described_rest (I.StoreImm16 imm mem) = Some (of_memory (I.StoreImm16 imm) mem)
+described_rest (I.StoreImm32SExt16 imm mem) = Some (of_memory (I.StoreImm32SExt16 imm) mem)
+described_rest (I.StoreImm64SExt16 imm mem) = Some (of_memory (I.StoreImm64SExt16 imm) mem)
+described_rest (I.LoadMultiple64 rt rt2 mem) = Some (of_memory (I.LoadMultiple64 rt rt2) mem)
+described_rest (I.StoreMultiple64 rt rt2 mem) = Some (of_memory (I.StoreMultiple64 rt rt2) mem)
+described_rest (I.LoadAddr rd mem) = Some (of_one_and_memory I.LoadAddr (Written rd) mem)
+described_rest (I.LoadIndexedAddr rd base index offset size) = Some (of_three (λ rd base index. I.LoadIndexedAddr rd base index offset size) (Written rd) (Read base) (Read index))
+described_rest (I.LoadLogicalIndexedAddr rd base index offset size) = Some (of_three (λ rd base index. I.LoadLogicalIndexedAddr rd base index offset size) (Written rd) (Read base) (Read index))
+described_rest (I.AtomicRmw alu_op rd rn mem) = Some (of_two_and_memory (I.AtomicRmw alu_op) (Written rd) (Read rn) mem)
+described_rest (I.AtomicCas32 rd ri rn mem) = Some (of_three_and_memory I.AtomicCas32 (Tied rd) (Read ri) (Read rn) mem)
+described_rest (I.AtomicCas64 rd ri rn mem) = Some (of_three_and_memory I.AtomicCas64 (Tied rd) (Read ri) (Read rn) mem)
+described_rest i = described_control i
+
+-- stores of one register
 abbrev pub described_store : Inst → Option (Described Inst)
-described_store (I.Store8 rd mem) = Some (of_one_and_memory I.Store8 (Read rd) mem)
-described_store (I.Store16 rd mem) = Some (of_one_and_memory I.Store16 (Read rd) mem)
-described_store (I.Store32 rd mem) = Some (of_one_and_memory I.Store32 (Read rd) mem)
-described_store (I.Store64 rd mem) = Some (of_one_and_memory I.Store64 (Read rd) mem)
-described_store (I.StoreRev16 rd mem) = Some (of_one_and_memory I.StoreRev16 (Read rd) mem)
-described_store (I.StoreRev32 rd mem) = Some (of_one_and_memory I.StoreRev32 (Read rd) mem)
-described_store (I.StoreRev64 rd mem) = Some (of_one_and_memory I.StoreRev64 (Read rd) mem)
-described_store (I.StoreImm8 imm mem) = Some (of_memory (I.StoreImm8 imm) mem)
-described_store (I.StoreImm16 imm mem) = Some (of_memory (I.StoreImm16 imm) mem)
-described_store (I.StoreImm32SExt16 imm mem) = Some (of_memory (I.StoreImm32SExt16 imm) mem)
-described_store (I.StoreImm64SExt16 imm mem) = Some (of_memory (I.StoreImm64SExt16 imm) mem)
-described_store (I.LoadMultiple64 rt rt2 mem) = Some (of_memory (I.LoadMultiple64 rt rt2) mem)
-described_store (I.StoreMultiple64 rt rt2 mem) = Some (of_memory (I.StoreMultiple64 rt rt2) mem)
-described_store (I.LoadAddr rd mem) = Some (of_one_and_memory I.LoadAddr (Written rd) mem)
-described_store (I.LoadIndexedAddr rd base index offset size) = Some (of_three (λ rd base index. I.LoadIndexedAddr rd base index offset size) (Written rd) (Read base) (Read index))
-described_store (I.LoadLogicalIndexedAddr rd base index offset size) = Some (of_three (λ rd base index. I.LoadLogicalIndexedAddr rd base index offset size) (Written rd) (Read base) (Read index))
-described_store (I.AtomicRmw alu_op rd rn mem) = Some (of_two_and_memory (I.AtomicRmw alu_op) (Written rd) (Read rn) mem)
-described_store (I.AtomicCas32 rd ri rn mem) = Some (of_three_and_memory I.AtomicCas32 (Tied rd) (Read ri) (Read rn) mem)
-described_store (I.AtomicCas64 rd ri rn mem) = Some (of_three_and_memory I.AtomicCas64 (Tied rd) (Read ri) (Read rn) mem)
-described_store (I.LoadSymbolReloc rd symbol_reloc) = Some (of_one (λ rd. I.LoadSymbolReloc rd symbol_reloc) (Written rd))
-described_store (I.LabelAddress dst label) = Some (of_one (λ dst. I.LabelAddress dst label) (Written dst))
-described_store (I.DummyUse reg) = Some (of_one I.DummyUse (Read reg))
-described_store i = described_wide i
+described_store i = by_store (λ t. Some (of_one_and_memory (store_instruction t.op) (Read t.rd) t.mem)) (described_rest i) (as_store i)
 
 -- loads of one register
 abbrev pub described_storage : Inst → Option (Described Inst)

@@ -1,13 +1,57 @@
 //! An instruction with other registers.
 ghost use Rattle.std.specs.Prelude.{◌≡◌};
 ghost use Rattle.s390x_described.specs.Roles.{again_or_none, described_again};
-ghost use Rattle.s390x_described.specs.Instructions.{described, described_move, described_storage, described_store, described_wide, described_vector};
+ghost use Rattle.s390x_described.specs.Instructions.{described, described_move, described_storage, described_store, described_rest, described_control, described_wide, described_vector, described_whole, described_part, described_register_vector};
 
 use crate::replacer::Replacer;
 use crate::table::{
-    again, in_role, move_table, operator_table, store_table, vector_again, vector_table,
+    again, control_table, in_role, move_table, operator_table, part_table, register_vector_table,
+    rest_table, vector_again,
 };
-use s390x_inst::{Inst, VecInst};
+use crate::transfers::{store_of, whole_load_of, whole_store_of};
+use s390x_base::Writable;
+use s390x_inst::{Direction, Inst, VecInst, WholeAccess};
+
+// One on vector or float registers and immediates.
+fn replace_register_vector<R: Replacer>(inst: &VecInst, r: &mut R) -> VecInst
+    ensures value { result
+        ≡ (described_again R.role_at (described_register_vector inst.now) (R.state r.old)).0 }
+    ensures after { R.state r.new
+        ≡ (described_again R.role_at (described_register_vector inst.now) (R.state r.old)).1 }
+{
+    register_vector_table!(vector_again, inst, r, *inst)
+}
+
+// One on vector or float registers that is no load or store of a whole one.
+fn replace_part<R: Replacer>(inst: &VecInst, r: &mut R) -> VecInst
+    ensures value { result
+        ≡ (described_again R.role_at (described_part inst.now) (R.state r.old)).0 }
+    ensures after { R.state r.new
+        ≡ (described_again R.role_at (described_part inst.now) (R.state r.old)).1 }
+{
+    part_table!(vector_again, inst, r, replace_register_vector(inst, r))
+}
+
+// A load or a store of a whole vector register.
+fn replace_whole<R: Replacer>(whole: &WholeAccess, r: &mut R) -> VecInst
+    ensures value { result
+        ≡ (described_again R.role_at (described_whole whole.now) (R.state r.old)).0 }
+    ensures after { R.state r.new
+        ≡ (described_again R.role_at (described_whole whole.now) (R.state r.old)).1 }
+{
+    match whole.direction {
+        Direction::Load => {
+            let rd = r.output(Writable::from_reg(whole.rd));
+            let mem = r.memory(whole.mem);
+            whole_load_of(whole.layout, rd, mem)
+        }
+        Direction::Store => {
+            let rd = r.input(whole.rd);
+            let mem = r.memory(whole.mem);
+            whole_store_of(whole.layout, rd, mem)
+        }
+    }
+}
 
 // One on vector or float registers.
 fn replace_vector<R: Replacer>(inst: &VecInst, r: &mut R) -> VecInst
@@ -16,7 +60,10 @@ fn replace_vector<R: Replacer>(inst: &VecInst, r: &mut R) -> VecInst
     ensures after { R.state r.new
         ≡ (described_again R.role_at (described_vector inst.now) (R.state r.old)).1 }
 {
-    vector_table!(vector_again, inst, r)
+    match inst.as_whole() {
+        Some(whole) => replace_whole(&whole, r),
+        None => replace_part(inst, r),
+    }
 }
 
 // The same as an instruction.
@@ -32,6 +79,26 @@ fn replace_wide<R: Replacer>(inst: &Inst, r: &mut R) -> Option<Inst>
     }
 }
 
+// One that has no operand in memory, and is no operator and no move.
+fn replace_control<R: Replacer>(inst: &Inst, r: &mut R) -> Option<Inst>
+    ensures value { result
+        ≡ (again_or_none R.role_at (described_control inst.now) (R.state r.old)).0 }
+    ensures after { R.state r.new
+        ≡ (again_or_none R.role_at (described_control inst.now) (R.state r.old)).1 }
+{
+    control_table!(again, inst, r, replace_wide(inst, r))
+}
+
+// One that is no operator, no move, and no load or store of one register.
+fn replace_rest<R: Replacer>(inst: &Inst, r: &mut R) -> Option<Inst>
+    ensures value { result
+        ≡ (again_or_none R.role_at (described_rest inst.now) (R.state r.old)).0 }
+    ensures after { R.state r.new
+        ≡ (again_or_none R.role_at (described_rest inst.now) (R.state r.old)).1 }
+{
+    rest_table!(again, inst, r, replace_control(inst, r))
+}
+
 // One that is no operator, no move and no load of one register.
 fn replace_store<R: Replacer>(inst: &Inst, r: &mut R) -> Option<Inst>
     ensures value { result
@@ -39,7 +106,14 @@ fn replace_store<R: Replacer>(inst: &Inst, r: &mut R) -> Option<Inst>
     ensures after { R.state r.new
         ≡ (again_or_none R.role_at (described_store inst.now) (R.state r.old)).1 }
 {
-    store_table!(again, inst, r, replace_wide(inst, r))
+    match inst.as_store() {
+        Some(store) => {
+            let rd = r.input(store.rd);
+            let mem = r.memory(store.mem);
+            Some(store_of(store.op, rd, mem))
+        }
+        None => replace_rest(inst, r),
+    }
 }
 
 // One that is neither an operator nor a move.

@@ -62,17 +62,10 @@ macro_rules! move_table {
     };
 }
 
-/// Stores, multiples, addresses, atomic instructions, and a use that has no code.
-macro_rules! store_table {
+/// Stores of numbers, multiples, addresses and atomic instructions.
+macro_rules! rest_table {
     ($walk:ident, $($with:tt)*) => {
         $walk! { ($($with)*)
-            Store8 { rd: input, mem: memory }
-            Store16 { rd: input, mem: memory }
-            Store32 { rd: input, mem: memory }
-            Store64 { rd: input, mem: memory }
-            StoreRev16 { rd: input, mem: memory }
-            StoreRev32 { rd: input, mem: memory }
-            StoreRev64 { rd: input, mem: memory }
             StoreImm8 { imm: plain, mem: memory }
             StoreImm16 { imm: plain, mem: memory }
             StoreImm32SExt16 { imm: plain, mem: memory }
@@ -85,6 +78,14 @@ macro_rules! store_table {
             AtomicRmw { alu_op: plain, rd: output, rn: input, mem: memory }
             AtomicCas32 { rd: reused, ri: input, rn: input, mem: memory }
             AtomicCas64 { rd: reused, ri: input, rn: input, mem: memory }
+        }
+    };
+}
+
+/// Addresses that the linker fills in or that are labels, and a use that has no code.
+macro_rules! control_table {
+    ($walk:ident, $($with:tt)*) => {
+        $walk! { ($($with)*)
             LoadSymbolReloc { rd: output, symbol_reloc: plain }
             LabelAddress { dst: output, label: plain }
             DummyUse { reg: input }
@@ -92,8 +93,24 @@ macro_rules! store_table {
     };
 }
 
-/// Instructions on vector or float registers.
-macro_rules! vector_table {
+/// Loads and stores of elements of a vector register.
+macro_rules! part_table {
+    ($walk:ident, $($with:tt)*) => {
+        $walk! { ($($with)*)
+            VecLoadReplicate { size: plain, rd: output, mem: memory }
+            VecLoadReplicateRev { size: plain, rd: output, mem: memory }
+            VecLoadLane { size: plain, rd: reused, ri: input, mem: memory, lane_imm: plain }
+            VecLoadLaneRev { size: plain, rd: reused, ri: input, mem: memory, lane_imm: plain }
+            VecLoadLaneUndef { size: plain, rd: output, mem: memory, lane_imm: plain }
+            VecLoadLaneRevUndef { size: plain, rd: output, mem: memory, lane_imm: plain }
+            VecStoreLane { size: plain, rd: input, mem: memory, lane_imm: plain }
+            VecStoreLaneRev { size: plain, rd: input, mem: memory, lane_imm: plain }
+        }
+    };
+}
+
+/// Instructions on vector or float registers and immediates.
+macro_rules! register_vector_table {
     ($walk:ident, $($with:tt)*) => {
         $walk! { ($($with)*)
             VecRRR { op: plain, rd: output, rn: input, rm: input }
@@ -109,30 +126,6 @@ macro_rules! vector_table {
             VecIntEltCmp { op: plain, rn: input, rm: input }
             VecInt128SCmpHi { tmp: output, rn: input, rm: input }
             VecInt128UCmpHi { tmp: output, rn: input, rm: input }
-            VecLoad { rd: output, mem: memory }
-            VecLoadRev { rd: output, mem: memory }
-            VecLoadByte16Rev { rd: output, mem: memory }
-            VecLoadByte32Rev { rd: output, mem: memory }
-            VecLoadByte64Rev { rd: output, mem: memory }
-            VecLoadElt16Rev { rd: output, mem: memory }
-            VecLoadElt32Rev { rd: output, mem: memory }
-            VecLoadElt64Rev { rd: output, mem: memory }
-            VecStore { rd: input, mem: memory }
-            VecStoreRev { rd: input, mem: memory }
-            VecStoreByte16Rev { rd: input, mem: memory }
-            VecStoreByte32Rev { rd: input, mem: memory }
-            VecStoreByte64Rev { rd: input, mem: memory }
-            VecStoreElt16Rev { rd: input, mem: memory }
-            VecStoreElt32Rev { rd: input, mem: memory }
-            VecStoreElt64Rev { rd: input, mem: memory }
-            VecLoadReplicate { size: plain, rd: output, mem: memory }
-            VecLoadReplicateRev { size: plain, rd: output, mem: memory }
-            VecLoadLane { size: plain, rd: reused, ri: input, mem: memory, lane_imm: plain }
-            VecLoadLaneRev { size: plain, rd: reused, ri: input, mem: memory, lane_imm: plain }
-            VecLoadLaneUndef { size: plain, rd: output, mem: memory, lane_imm: plain }
-            VecLoadLaneRevUndef { size: plain, rd: output, mem: memory, lane_imm: plain }
-            VecStoreLane { size: plain, rd: input, mem: memory, lane_imm: plain }
-            VecStoreLaneRev { size: plain, rd: input, mem: memory, lane_imm: plain }
             VecMov { rd: output, rn: input }
             FpuMove32 { rd: output, rn: input }
             FpuMove64 { rd: output, rn: input }
@@ -166,9 +159,10 @@ macro_rules! again {
 
 /// The same of an instruction on vector or float registers.
 macro_rules! vector_again {
-    (($inst:expr, $r:expr) $($n:ident { $($f:ident : $m:ident),* })*) => {
+    (($inst:expr, $r:expr, $other:expr) $($n:ident { $($f:ident : $m:ident),* })*) => {
         match $inst {
             $(VecInst::$n { $($f),* } => VecInst::$n { $($f: in_role!($r, $f, $m)),* },)*
+            _ => $other,
         }
     };
 }
@@ -180,9 +174,11 @@ macro_rules! in_role {
 }
 
 pub(crate) use again;
+pub(crate) use control_table;
 pub(crate) use in_role;
 pub(crate) use move_table;
 pub(crate) use operator_table;
-pub(crate) use store_table;
+pub(crate) use part_table;
+pub(crate) use register_vector_table;
+pub(crate) use rest_table;
 pub(crate) use vector_again;
-pub(crate) use vector_table;

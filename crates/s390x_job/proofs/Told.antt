@@ -36,9 +36,11 @@ reads_instruction b old progress x w e t h =
 single_name : (n : LineName) (fs : List Field) → IsSingle n → line_class n fs ≡ Instruction
 single_name (N.Integer n) fs h = refl
 single_name (N.Load op) fs h = refl
+single_name (N.Store op) fs h = refl
 single_name (N.Memory n) fs h = refl
 single_name (N.Control n) fs h = refl
 single_name (N.Vector n) fs h = refl
+single_name (N.Whole direction layout) fs h = refl
 single_name n fs h = absurd h
 
 -- the line of one instruction

@@ -71,7 +71,7 @@ impl Completes for JobText {
     }
 }
 
-/// As `read_line`, for every line.
+/// Reads one more line, of whatever kind: what is read is printed, and compared with it. Answers as `read_line` does.
 fn read_part(
     alloc: Global,
     b: &mut Body,

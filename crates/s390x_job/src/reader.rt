@@ -37,6 +37,7 @@ fn parse(alloc: Global, w: &[u8]) -> Result<Item, AllocError>
 }
 
 /// The instruction whose line this is, where it stands in a block and is a frequent one; none says nothing.
+/// No instruction has a name that begins with `b`, as the line `block` does.
 #[tactic(auto, using(crate::proofs::Told::single))]
 #[inline(always)]
 pub fn instruction(alloc: Global, progress: Progress, w: &[u8]) -> Option<Inst>
@@ -45,7 +46,10 @@ pub fn instruction(alloc: Global, progress: Progress, w: &[u8]) -> Option<Inst>
     ensures place { IfSome result (λ _. progress ≡ Progress.Inside) }
 {
     match progress {
-        Progress::Inside => exact_line(alloc, w),
+        Progress::Inside => match w {
+            [b'b', ..] => None,
+            _ => exact_line(alloc, w),
+        },
         _ => None,
     }
 }

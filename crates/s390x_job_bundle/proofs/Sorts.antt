@@ -5,9 +5,15 @@ use Rattle.std.specs.Str.{bytes_eq}
 use Rattle.s390x_job_fields.specs.Fields.{Field, FName, FNatural, FBytes, FStart, FFlags}
 use Rattle.s390x_job_lines.specs.Kinds.{kinds}
 use Rattle.s390x_job_lines.specs.Line.{Line, IsLine, kinds_of, line_text, spelled}
-use Rattle.s390x_job_lines.specs.Names.{control_text, integer_text, load_name_text, memory_name_text, name_text, vector_name_text}
+use Rattle.s390x_job_lines.specs.Names.{control_text, integer_text, load_name_text, memory_name_text, name_text, store_name_text, vector_name_text, whole_name_text}
 use Rattle.s390x_inst.specs.declared.load.LoadOp.{LoadOp}
 use Rattle.s390x_inst.specs.declared.load.LoadOp.TheVariants as LoadOps
+use Rattle.s390x_inst.specs.declared.store.StoreOp.{StoreOp}
+use Rattle.s390x_inst.specs.declared.store.StoreOp.TheVariants as StoreOps
+use Rattle.s390x_inst.specs.declared.whole.Direction.{Direction}
+use Rattle.s390x_inst.specs.declared.whole.Direction.TheVariants as Directions
+use Rattle.s390x_inst.specs.declared.whole.WholeLayout.{WholeLayout}
+use Rattle.s390x_inst.specs.declared.whole.WholeLayout.TheVariants as Layouts
 use Rattle.s390x_job_lines.specs.declared.inst_name.IntegerName.{IntegerName}
 use Rattle.s390x_job_lines.specs.declared.inst_name.IntegerName.TheVariants as IntegerIs
 use Rattle.s390x_job_lines.specs.declared.inst_name.MemoryName.{MemoryName}
@@ -71,8 +77,12 @@ opens_load : (op : LoadOp) (fs : List Field) → bytes_eq (take 5 (load_name_tex
 opens_load LoadOps.Load32 fs = refl
 opens_load op fs = refl
 
+opens_store : (op : StoreOp) (fs : List Field) → bytes_eq (take 5 (store_name_text op ++ spelled fs)) (codes "Loop ") ≡ false
+opens_store StoreOps.Store64 fs = refl
+opens_store op fs = refl
+
 opens_memory : (n : MemoryName) (fs : List Field) → bytes_eq (take 5 (memory_name_text n ++ spelled fs)) (codes "Loop ") ≡ false
-opens_memory MemoryIs.Store8 fs = refl
+opens_memory MemoryIs.LoadAddr fs = refl
 opens_memory n fs = refl
 
 opens_control : (n : ControlName) (fs : List Field) → bytes_eq (take 5 (control_text n ++ spelled fs)) (codes "Loop ") ≡ false
@@ -83,13 +93,21 @@ opens_vector : (n : VectorName) (fs : List Field) → bytes_eq (take 5 (vector_n
 opens_vector VectorIs.VecRRR fs = refl
 opens_vector n fs = refl
 
+opens_whole : (direction : Direction) (layout : WholeLayout) (fs : List Field) → bytes_eq (take 5 (whole_name_text direction layout ++ spelled fs)) (codes "Loop ") ≡ false
+opens_whole Directions.Load Layouts.Straight fs = refl
+opens_whole Directions.Load layout fs = refl
+opens_whole Directions.Store Layouts.Straight fs = refl
+opens_whole Directions.Store layout fs = refl
+
 opens_named : (n : LineName) (fs : List Field) → kinds n ≡ kinds_of fs → bytes_eq (take 5 (name_text n ++ spelled fs)) (codes "Loop ") ≡ is_opening (named n)
 opens_named N.Loop fs h = loop_text fs h
 opens_named (N.Integer n) fs h = opens_integer n fs
 opens_named (N.Load op) fs h = opens_load op fs
+opens_named (N.Store op) fs h = opens_store op fs
 opens_named (N.Memory n) fs h = opens_memory n fs
 opens_named (N.Control n) fs h = opens_control n fs
 opens_named (N.Vector n) fs h = opens_vector n fs
+opens_named (N.Whole direction layout) fs h = opens_whole direction layout fs
 opens_named n fs h = refl
 
 closes_integer : (n : IntegerName) (fs : List Field) → bytes_eq (integer_text n ++ spelled fs) (codes "endloop") ≡ false
@@ -100,8 +118,12 @@ closes_load : (op : LoadOp) (fs : List Field) → bytes_eq (load_name_text op ++
 closes_load LoadOps.Load32 fs = refl
 closes_load op fs = refl
 
+closes_store : (op : StoreOp) (fs : List Field) → bytes_eq (store_name_text op ++ spelled fs) (codes "endloop") ≡ false
+closes_store StoreOps.Store64 fs = refl
+closes_store op fs = refl
+
 closes_memory : (n : MemoryName) (fs : List Field) → bytes_eq (memory_name_text n ++ spelled fs) (codes "endloop") ≡ false
-closes_memory MemoryIs.Store8 fs = refl
+closes_memory MemoryIs.LoadAddr fs = refl
 closes_memory n fs = refl
 
 closes_control : (n : ControlName) (fs : List Field) → bytes_eq (control_text n ++ spelled fs) (codes "endloop") ≡ false
@@ -112,14 +134,22 @@ closes_vector : (n : VectorName) (fs : List Field) → bytes_eq (vector_name_tex
 closes_vector VectorIs.VecRRR fs = refl
 closes_vector n fs = refl
 
+closes_whole : (direction : Direction) (layout : WholeLayout) (fs : List Field) → bytes_eq (whole_name_text direction layout ++ spelled fs) (codes "endloop") ≡ false
+closes_whole Directions.Load Layouts.Straight fs = refl
+closes_whole Directions.Load layout fs = refl
+closes_whole Directions.Store Layouts.Straight fs = refl
+closes_whole Directions.Store layout fs = refl
+
 closes_named : (n : LineName) (fs : List Field) → kinds n ≡ kinds_of fs → bytes_eq (name_text n ++ spelled fs) (codes "endloop") ≡ is_closing (named n)
 closes_named N.EndLoopLine fs h = ap (λ gs. bytes_eq (name_text N.EndLoopLine ++ spelled gs) (codes "endloop")) (no_fields fs h)
 closes_named N.EndLine fs h = ap (λ gs. bytes_eq (name_text N.EndLine ++ spelled gs) (codes "endloop")) (no_fields fs h)
 closes_named (N.Integer n) fs h = closes_integer n fs
 closes_named (N.Load op) fs h = closes_load op fs
+closes_named (N.Store op) fs h = closes_store op fs
 closes_named (N.Memory n) fs h = closes_memory n fs
 closes_named (N.Control n) fs h = closes_control n fs
 closes_named (N.Vector n) fs h = closes_vector n fs
+closes_named (N.Whole direction layout) fs h = closes_whole direction layout fs
 closes_named n fs h = refl
 
 ends_integer : (n : IntegerName) (fs : List Field) → bytes_eq (integer_text n ++ spelled fs) (codes "end") ≡ false
@@ -130,8 +160,12 @@ ends_load : (op : LoadOp) (fs : List Field) → bytes_eq (load_name_text op ++ s
 ends_load LoadOps.Load32 fs = refl
 ends_load op fs = refl
 
+ends_store : (op : StoreOp) (fs : List Field) → bytes_eq (store_name_text op ++ spelled fs) (codes "end") ≡ false
+ends_store StoreOps.Store64 fs = refl
+ends_store op fs = refl
+
 ends_memory : (n : MemoryName) (fs : List Field) → bytes_eq (memory_name_text n ++ spelled fs) (codes "end") ≡ false
-ends_memory MemoryIs.Store8 fs = refl
+ends_memory MemoryIs.LoadAddr fs = refl
 ends_memory n fs = refl
 
 ends_control : (n : ControlName) (fs : List Field) → bytes_eq (control_text n ++ spelled fs) (codes "end") ≡ false
@@ -142,13 +176,21 @@ ends_vector : (n : VectorName) (fs : List Field) → bytes_eq (vector_name_text 
 ends_vector VectorIs.VecRRR fs = refl
 ends_vector n fs = refl
 
+ends_whole : (direction : Direction) (layout : WholeLayout) (fs : List Field) → bytes_eq (whole_name_text direction layout ++ spelled fs) (codes "end") ≡ false
+ends_whole Directions.Load Layouts.Straight fs = refl
+ends_whole Directions.Load layout fs = refl
+ends_whole Directions.Store Layouts.Straight fs = refl
+ends_whole Directions.Store layout fs = refl
+
 ends_named : (n : LineName) (fs : List Field) → kinds n ≡ kinds_of fs → bytes_eq (name_text n ++ spelled fs) (codes "end") ≡ is_ending (named n)
 ends_named N.EndLine fs h = ap (λ gs. bytes_eq (name_text N.EndLine ++ spelled gs) (codes "end")) (no_fields fs h)
 ends_named (N.Integer n) fs h = ends_integer n fs
 ends_named (N.Load op) fs h = ends_load op fs
+ends_named (N.Store op) fs h = ends_store op fs
 ends_named (N.Memory n) fs h = ends_memory n fs
 ends_named (N.Control n) fs h = ends_control n fs
 ends_named (N.Vector n) fs h = ends_vector n fs
+ends_named (N.Whole direction layout) fs h = ends_whole direction layout fs
 ends_named n fs h = refl
 
 -- ---- by its class

@@ -1,7 +1,7 @@
 -- Lists, element by element.
 use Rattle.std.proofs.Common.{◌≡◌, ℕ, ◌<◌, List, [], ◌∷◌, ◌++◌, length, refl, sym, ap, ◌∙◌, arith, append_assoc}
 use Rattle.std.proofs.lemmas.List.{append-nil, length-append}
-use Rattle.s390x_job_fields.specs.Lists.{AllItems, list_text, more_text, open_text}
+use Rattle.s390x_job_fields.specs.Lists.{AllItems, more_text, open_text}
 use Rattle.s390x_job_exact.specs.Exact.{TakesElement, TakesElements, TakesList}
 
 module _ {A : Type 0} (spelling : A → List ℕ) (IsIn : A → Type 0) where

@@ -33,26 +33,22 @@ pub record TakesList {A : Type 0} (spelling : A → List ℕ) (IsIn : A → Type
   pub in_range : AllItems IsIn xs
   pub taken : s ≡ 32 ∷ (list_text spelling xs ++ t)
 
--- s begins with the fields of this line, which has this name, and t follows them
-pub record TakesFields (n : LineName) (l : Line) (s t : List ℕ) : Type 0 where
+-- s is the fields of this line, which has this name
+pub record AreFields (n : LineName) (l : Line) (s : List ℕ) : Type 0 where
   pub name : l.name ≡ n
   pub line : IsLine l
-  pub taken : s ≡ spelled l.fields ++ t
+  pub text : s ≡ spelled l.fields
 
 -- the name of an instruction's line, which no other lines belong to
 abbrev pub IsSingle : LineName → Type 0
 IsSingle (N.Integer n) = Unit {0}
 IsSingle (N.Load op) = Unit {0}
+IsSingle (N.Store op) = Unit {0}
 IsSingle (N.Memory n) = Unit {0}
 IsSingle (N.Control n) = Unit {0}
 IsSingle (N.Vector n) = Unit {0}
+IsSingle (N.Whole direction layout) = Unit {0}
 IsSingle n = ⊥
-
--- s begins with this line, which is that of one instruction, and t follows it
-pub record TakesLine (l : Line) (s t : List ℕ) : Type 0 where
-  pub line : IsLine l
-  pub single : IsSingle l.name
-  pub taken : s ≡ line_text l ++ t
 
 -- the line of this text, which is that of one instruction
 pub record IsInstructionText (l : Line) (w : List ℕ) : Type 0 where

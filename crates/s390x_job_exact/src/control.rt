@@ -6,7 +6,7 @@ ghost use Rattle.s390x_job_fields.specs.Numbers.{W32};
 ghost use Rattle.s390x_job_fields.specs.Sets.{members_of};
 ghost use Rattle.s390x_job_fields.specs.Fields.{FBool, FConvention, FDefs, FNatural, FOption, FReg, FSet, FTarget, FTry, FUses};
 ghost use Rattle.s390x_job_lines.specs.Instructions.{inst_line};
-ghost use Rattle.s390x_job_exact.specs.Exact.{TakesAll, TakesFields};
+ghost use Rattle.s390x_job_exact.specs.Exact.{AreFields, TakesAll};
 
 use crate::cursor::ExactCursor;
 use s390x_base::{PRegSet, Reg, Writable};
@@ -20,9 +20,9 @@ use std::alloc::Global;
 #[tactic(auto, using(crate::proofs::Lines::zero))]
 #[inline(never)]
 fn bare(name: ControlName, cursor: &mut ExactCursor) -> Option<Inst>
-    ensures { IfSome result
-        (λ x. TakesFields (LineName.Control name) (inst_line x) cursor.old cursor.new) }
+    ensures { IfSome result (λ x. AreFields (LineName.Control name) (inst_line x) cursor.old) }
 {
+    cursor.end()?;
     match name {
         ControlName::Fence => Some(Inst::Fence),
         ControlName::Nop0 => Some(Inst::Nop0),
@@ -37,32 +37,37 @@ fn bare(name: ControlName, cursor: &mut ExactCursor) -> Option<Inst>
 #[tactic(auto, using(crate::proofs::Lines::one))]
 #[inline(never)]
 fn simple(name: ControlName, cursor: &mut ExactCursor) -> Option<Inst>
-    ensures { IfSome result
-        (λ x. TakesFields (LineName.Control name) (inst_line x) cursor.old cursor.new) }
+    ensures { IfSome result (λ x. AreFields (LineName.Control name) (inst_line x) cursor.old) }
 {
     match name {
         ControlName::Jump => {
             let dest = cursor.label()?;
+            cursor.end()?;
             Some(Inst::Jump { dest })
         }
         ControlName::Ret => {
             let link = cursor.reg()?;
+            cursor.end()?;
             Some(Inst::Ret { link })
         }
         ControlName::Trap => {
             let trap_code = cursor.trap_code()?;
+            cursor.end()?;
             Some(Inst::Trap { trap_code })
         }
         ControlName::CondBreak => {
             let cond = cursor.cond()?;
+            cursor.end()?;
             Some(Inst::CondBreak { cond })
         }
         ControlName::AllocateArgs => {
             let size = cursor.u32()?;
+            cursor.end()?;
             Some(Inst::AllocateArgs { size })
         }
         ControlName::DummyUse => {
             let reg = cursor.reg()?;
+            cursor.end()?;
             Some(Inst::DummyUse { reg })
         }
         _ => None,
@@ -73,11 +78,11 @@ fn simple(name: ControlName, cursor: &mut ExactCursor) -> Option<Inst>
 #[inline(never)]
 fn trap_if(cursor: &mut ExactCursor) -> Option<Inst>
     ensures { IfSome result
-        (λ x. TakesFields (LineName.Control ControlName.TrapIf) (inst_line x) cursor.old
-        cursor.new) }
+        (λ x. AreFields (LineName.Control ControlName.TrapIf) (inst_line x) cursor.old) }
 {
     let cond = cursor.cond()?;
     let trap_code = cursor.trap_code()?;
+    cursor.end()?;
     Some(Inst::TrapIf { cond, trap_code })
 }
 
@@ -85,12 +90,12 @@ fn trap_if(cursor: &mut ExactCursor) -> Option<Inst>
 #[inline(never)]
 fn branch(cursor: &mut ExactCursor) -> Option<Inst>
     ensures { IfSome result
-        (λ x. TakesFields (LineName.Control ControlName.CondBr) (inst_line x) cursor.old
-        cursor.new) }
+        (λ x. AreFields (LineName.Control ControlName.CondBr) (inst_line x) cursor.old) }
 {
     let taken = cursor.label()?;
     let not_taken = cursor.label()?;
     let cond = cursor.cond()?;
+    cursor.end()?;
     Some(Inst::CondBr {
         taken,
         not_taken,
@@ -102,13 +107,13 @@ fn branch(cursor: &mut ExactCursor) -> Option<Inst>
 #[tactic(auto, using(crate::proofs::Lines::two))]
 #[inline(never)]
 fn address(name: ControlName, cursor: &mut ExactCursor) -> Option<Inst>
-    ensures { IfSome result
-        (λ x. TakesFields (LineName.Control name) (inst_line x) cursor.old cursor.new) }
+    ensures { IfSome result (λ x. AreFields (LineName.Control name) (inst_line x) cursor.old) }
 {
     let reg = cursor.written()?;
     match name {
         ControlName::LoadSymbolReloc => {
             let symbol_reloc = cursor.reloc()?;
+            cursor.end()?;
             Some(Inst::LoadSymbolReloc {
                 rd: reg,
                 symbol_reloc,
@@ -116,6 +121,7 @@ fn address(name: ControlName, cursor: &mut ExactCursor) -> Option<Inst>
         }
         ControlName::LabelAddress => {
             let label = cursor.label()?;
+            cursor.end()?;
             Some(Inst::LabelAddress { dst: reg, label })
         }
         _ => None,
@@ -194,10 +200,11 @@ fn call_back(cursor: &mut ExactCursor) -> Option<CallEnd>
 #[inline(never)]
 fn call(alloc: Global, cursor: &mut ExactCursor) -> Option<Inst>
     ensures { IfSome result
-        (λ x. TakesFields (LineName.Control ControlName.Call) (inst_line x) cursor.old cursor.new) }
+        (λ x. AreFields (LineName.Control ControlName.Call) (inst_line x) cursor.old) }
 {
     let first = call_front(alloc, cursor)?;
     let last = call_back(cursor)?;
+    cursor.end()?;
     Some(Inst::Call {
         link: first.link,
         info: CallInfo {
@@ -219,12 +226,12 @@ fn call(alloc: Global, cursor: &mut ExactCursor) -> Option<Inst>
 #[inline(never)]
 fn return_call(alloc: Global, cursor: &mut ExactCursor) -> Option<Inst>
     ensures { IfSome result
-        (λ x. TakesFields (LineName.Control ControlName.ReturnCall) (inst_line x) cursor.old
-        cursor.new) }
+        (λ x. AreFields (LineName.Control ControlName.ReturnCall) (inst_line x) cursor.old) }
 {
     let dest = cursor.target()?;
     let uses = cursor.uses(alloc)?;
     let callee_pop_size = cursor.u32()?;
+    cursor.end()?;
     Some(Inst::ReturnCall {
         info: ReturnCallInfo {
             dest,
@@ -237,8 +244,7 @@ fn return_call(alloc: Global, cursor: &mut ExactCursor) -> Option<Inst>
 /// Takes the fields of an instruction of this name.
 #[inline(always)]
 pub fn control(alloc: Global, name: ControlName, cursor: &mut ExactCursor) -> Option<Inst>
-    ensures { IfSome result
-        (λ x. TakesFields (LineName.Control name) (inst_line x) cursor.old cursor.new) }
+    ensures { IfSome result (λ x. AreFields (LineName.Control name) (inst_line x) cursor.old) }
 {
     match name {
         ControlName::CondBr => branch(cursor),

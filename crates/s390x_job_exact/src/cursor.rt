@@ -1,5 +1,5 @@
 //! A cursor in a line, whose fields are taken only as they are printed.
-ghost use Rattle.std.specs.Prelude.{◌≡◌, ◌++◌, ◌∷◌, [], ◌<◌, ◌^◌, IfSome, IsTrue};
+ghost use Rattle.std.specs.Prelude.{◌≡◌, ◌++◌, ◌∷◌, [], ◌<◌, ◌^◌, IfSome};
 ghost use Rattle.std.specs.Fmt.{decimal, signed_decimal};
 ghost use Rattle.s390x_job_fields.specs.Numbers.{IsBelow};
 
@@ -28,11 +28,12 @@ impl<'a> ExactCursor<'a> {
         ExactCursor { left }
     }
 
-    /// Whether nothing is left.
-    pub fn is_end(&self) -> bool
-        ensures { IsTrue result → self.now ≡ [] }
+    /// That nothing is left.
+    #[inline(always)]
+    pub fn end(&self) -> Option<()>
+        ensures { IfSome result (λ _. self.now ≡ []) }
     {
-        self.left.is_empty()
+        if self.left.is_empty() { Some(()) } else { None }
     }
 
     /// What is left.

@@ -15,6 +15,8 @@ use Rattle.s390x_job_lines.specs.Line.{Line}
 use Rattle.s390x_job_lines.specs.Instructions.{inst_line, vector_line}
 use Rattle.s390x_job_lines.specs.Contents.{Contents, Whole, Branches, Table, LoopOf, Calls, TailCalls, Arguments, Results, contents}
 use Rattle.s390x_inst.specs.Loads.{load_instruction}
+use Rattle.s390x_inst.specs.Stores.{store_instruction}
+use Rattle.s390x_inst.specs.Wholes.{whole_instruction}
 use Rattle.s390x_job_lines.specs.declared.inst_name.IntegerName.TheVariants as IntegerIs
 use Rattle.s390x_job_lines.specs.declared.inst_name.ControlName.TheVariants as ControlIs
 use Rattle.s390x_job_lines.specs.declared.inst_name.MemoryName.TheVariants as MemoryIs
@@ -111,22 +113,6 @@ read (N.Vector VectorIs.VecIntCmpS) (FVecCompare op ∷ FReg rd ∷ FReg rn ∷ 
 read (N.Vector VectorIs.VecIntEltCmp) (FVecElementCompare op ∷ FReg rn ∷ FReg rm ∷ []) = Whole (I.Vector (V.VecIntEltCmp op rn rm))
 read (N.Vector VectorIs.VecInt128SCmpHi) (FReg tmp ∷ FReg rn ∷ FReg rm ∷ []) = Whole (I.Vector (V.VecInt128SCmpHi tmp rn rm))
 read (N.Vector VectorIs.VecInt128UCmpHi) (FReg tmp ∷ FReg rn ∷ FReg rm ∷ []) = Whole (I.Vector (V.VecInt128UCmpHi tmp rn rm))
-read (N.Vector VectorIs.VecLoad) (FReg rd ∷ FMemory mem ∷ []) = Whole (I.Vector (V.VecLoad rd mem))
-read (N.Vector VectorIs.VecLoadRev) (FReg rd ∷ FMemory mem ∷ []) = Whole (I.Vector (V.VecLoadRev rd mem))
-read (N.Vector VectorIs.VecLoadByte16Rev) (FReg rd ∷ FMemory mem ∷ []) = Whole (I.Vector (V.VecLoadByte16Rev rd mem))
-read (N.Vector VectorIs.VecLoadByte32Rev) (FReg rd ∷ FMemory mem ∷ []) = Whole (I.Vector (V.VecLoadByte32Rev rd mem))
-read (N.Vector VectorIs.VecLoadByte64Rev) (FReg rd ∷ FMemory mem ∷ []) = Whole (I.Vector (V.VecLoadByte64Rev rd mem))
-read (N.Vector VectorIs.VecLoadElt16Rev) (FReg rd ∷ FMemory mem ∷ []) = Whole (I.Vector (V.VecLoadElt16Rev rd mem))
-read (N.Vector VectorIs.VecLoadElt32Rev) (FReg rd ∷ FMemory mem ∷ []) = Whole (I.Vector (V.VecLoadElt32Rev rd mem))
-read (N.Vector VectorIs.VecLoadElt64Rev) (FReg rd ∷ FMemory mem ∷ []) = Whole (I.Vector (V.VecLoadElt64Rev rd mem))
-read (N.Vector VectorIs.VecStore) (FReg rd ∷ FMemory mem ∷ []) = Whole (I.Vector (V.VecStore rd mem))
-read (N.Vector VectorIs.VecStoreRev) (FReg rd ∷ FMemory mem ∷ []) = Whole (I.Vector (V.VecStoreRev rd mem))
-read (N.Vector VectorIs.VecStoreByte16Rev) (FReg rd ∷ FMemory mem ∷ []) = Whole (I.Vector (V.VecStoreByte16Rev rd mem))
-read (N.Vector VectorIs.VecStoreByte32Rev) (FReg rd ∷ FMemory mem ∷ []) = Whole (I.Vector (V.VecStoreByte32Rev rd mem))
-read (N.Vector VectorIs.VecStoreByte64Rev) (FReg rd ∷ FMemory mem ∷ []) = Whole (I.Vector (V.VecStoreByte64Rev rd mem))
-read (N.Vector VectorIs.VecStoreElt16Rev) (FReg rd ∷ FMemory mem ∷ []) = Whole (I.Vector (V.VecStoreElt16Rev rd mem))
-read (N.Vector VectorIs.VecStoreElt32Rev) (FReg rd ∷ FMemory mem ∷ []) = Whole (I.Vector (V.VecStoreElt32Rev rd mem))
-read (N.Vector VectorIs.VecStoreElt64Rev) (FReg rd ∷ FMemory mem ∷ []) = Whole (I.Vector (V.VecStoreElt64Rev rd mem))
 read (N.Vector VectorIs.VecLoadReplicate) (FNatural w0 size ∷ FReg rd ∷ FMemory mem ∷ []) = Whole (I.Vector (V.VecLoadReplicate size rd mem))
 read (N.Vector VectorIs.VecLoadReplicateRev) (FNatural w0 size ∷ FReg rd ∷ FMemory mem ∷ []) = Whole (I.Vector (V.VecLoadReplicateRev size rd mem))
 read (N.Vector VectorIs.VecLoadLane) (FNatural w0 size ∷ FReg rd ∷ FReg ri ∷ FMemory mem ∷ FNatural w1 lane_imm ∷ []) = Whole (I.Vector (V.VecLoadLane size rd ri mem lane_imm))
@@ -157,13 +143,8 @@ read (N.Memory MemoryIs.LoadLogicalIndexedAddr) (FReg rd ∷ FReg base ∷ FReg 
 read (N.Integer IntegerIs.AluRX) (FAlu op ∷ FReg rd ∷ FReg ri ∷ FMemory mem ∷ []) = Whole (I.AluRX op rd ri mem)
 read (N.Integer IntegerIs.CmpRX) (FCmp op ∷ FReg rn ∷ FMemory mem ∷ []) = Whole (I.CmpRX op rn mem)
 read (N.Load op) (FReg rd ∷ FMemory mem ∷ []) = Whole (load_instruction op rd mem)
-read (N.Memory MemoryIs.Store8) (FReg rd ∷ FMemory mem ∷ []) = Whole (I.Store8 rd mem)
-read (N.Memory MemoryIs.Store16) (FReg rd ∷ FMemory mem ∷ []) = Whole (I.Store16 rd mem)
-read (N.Memory MemoryIs.Store32) (FReg rd ∷ FMemory mem ∷ []) = Whole (I.Store32 rd mem)
-read (N.Memory MemoryIs.Store64) (FReg rd ∷ FMemory mem ∷ []) = Whole (I.Store64 rd mem)
-read (N.Memory MemoryIs.StoreRev16) (FReg rd ∷ FMemory mem ∷ []) = Whole (I.StoreRev16 rd mem)
-read (N.Memory MemoryIs.StoreRev32) (FReg rd ∷ FMemory mem ∷ []) = Whole (I.StoreRev32 rd mem)
-read (N.Memory MemoryIs.StoreRev64) (FReg rd ∷ FMemory mem ∷ []) = Whole (I.StoreRev64 rd mem)
+read (N.Store op) (FReg rd ∷ FMemory mem ∷ []) = Whole (store_instruction op rd mem)
+read (N.Whole direction layout) (FReg rd ∷ FMemory mem ∷ []) = Whole (I.Vector (whole_instruction direction layout rd mem))
 read (N.Memory MemoryIs.LoadAddr) (FReg rd ∷ FMemory mem ∷ []) = Whole (I.LoadAddr rd mem)
 read (N.Memory MemoryIs.StoreImm8) (FNatural w imm ∷ FMemory mem ∷ []) = Whole (I.StoreImm8 imm mem)
 read (N.Memory MemoryIs.StoreImm16) (FInteger w imm ∷ FMemory mem ∷ []) = Whole (I.StoreImm16 imm mem)

@@ -1,4 +1,4 @@
-pub mod LoadLines
+pub mod AccessLines
 pub mod RoundTrip
 pub mod Frees
 pub mod Contents

@@ -2,7 +2,7 @@
 use Rattle.std.proofs.Common.{◌≡◌, ℕ, Bool, true, false, List, [], ◌∷◌, ◌++◌, refl, sym, ap, ◌∙◌, subst, append_assoc}
 use Rattle.std.specs.Prelude.{codes, if◌then◌else◌}
 use Rattle.s390x_job_fields.specs.Marks.{before_mark, from_mark}
-use Rattle.s390x_job_lines.specs.Names.{integer_text, load_name_text, memory_name_text, control_text, vector_name_text, line_name_of, name_text}
+use Rattle.s390x_job_lines.specs.Names.{integer_text, load_name_text, store_name_text, memory_name_text, control_text, vector_name_text, whole_name_text, line_name_of, name_text}
 use Rattle.s390x_inst.specs.declared.state.IsaFlags.{IsaFlags}
 use Rattle.s390x_job_fields.specs.Bytes.{facility_text, facilities_text}
 use Rattle.s390x_job_lines.specs.Kinds.{integer_kinds, memory_kinds, control_kinds, vector_kinds, kinds}
@@ -12,6 +12,12 @@ use Rattle.s390x_job_lines.specs.declared.inst_name.IntegerName.{IntegerName}
 use Rattle.s390x_job_lines.specs.declared.inst_name.IntegerName.TheVariants as IntegerIs
 use Rattle.s390x_inst.specs.declared.load.LoadOp.{LoadOp}
 use Rattle.s390x_inst.specs.declared.load.LoadOp.TheVariants as LoadOps
+use Rattle.s390x_inst.specs.declared.store.StoreOp.{StoreOp}
+use Rattle.s390x_inst.specs.declared.store.StoreOp.TheVariants as StoreOps
+use Rattle.s390x_inst.specs.declared.whole.Direction.{Direction}
+use Rattle.s390x_inst.specs.declared.whole.Direction.TheVariants as Directions
+use Rattle.s390x_inst.specs.declared.whole.WholeLayout.{WholeLayout}
+use Rattle.s390x_inst.specs.declared.whole.WholeLayout.TheVariants as Layouts
 use Rattle.s390x_job_lines.specs.declared.inst_name.MemoryName.{MemoryName}
 use Rattle.s390x_job_lines.specs.declared.inst_name.MemoryName.TheVariants as MemoryIs
 use Rattle.s390x_job_lines.specs.declared.inst_name.ControlName.{ControlName}
@@ -33,8 +39,12 @@ load-one_word : (op : LoadOp) → IsOneWord (load_name_text op)
 load-one_word LoadOps.Load32 = Avoids-test marks (load_name_text LoadOps.Load32) refl
 load-one_word op = Avoids-test marks (load_name_text op) refl
 
+store-one_word : (op : StoreOp) → IsOneWord (store_name_text op)
+store-one_word StoreOps.Store64 = Avoids-test marks (store_name_text StoreOps.Store64) refl
+store-one_word op = Avoids-test marks (store_name_text op) refl
+
 memory-one_word : (n : MemoryName) → IsOneWord (memory_name_text n)
-memory-one_word MemoryIs.Store8 = Avoids-test marks (memory_name_text MemoryIs.Store8) refl
+memory-one_word MemoryIs.LoadAddr = Avoids-test marks (memory_name_text MemoryIs.LoadAddr) refl
 memory-one_word n = Avoids-test marks (memory_name_text n) refl
 
 control-one_word : (n : ControlName) → IsOneWord (control_text n)
@@ -45,13 +55,21 @@ vector-one_word : (n : VectorName) → IsOneWord (vector_name_text n)
 vector-one_word VectorIs.VecRRR = Avoids-test marks (vector_name_text VectorIs.VecRRR) refl
 vector-one_word n = Avoids-test marks (vector_name_text n) refl
 
+whole-one_word : (direction : Direction) (layout : WholeLayout) → IsOneWord (whole_name_text direction layout)
+whole-one_word Directions.Load Layouts.Straight = Avoids-test marks (whole_name_text Directions.Load Layouts.Straight) refl
+whole-one_word Directions.Load layout = Avoids-test marks (whole_name_text Directions.Load layout) refl
+whole-one_word Directions.Store Layouts.Straight = Avoids-test marks (whole_name_text Directions.Store Layouts.Straight) refl
+whole-one_word Directions.Store layout = Avoids-test marks (whole_name_text Directions.Store layout) refl
+
 name-one_word : (n : LineName) → IsOneWord (name_text n)
 name-one_word N.EndLine = Avoids-test marks (name_text N.EndLine) refl
 name-one_word (N.Integer n) = integer-one_word n
 name-one_word (N.Load op) = load-one_word op
+name-one_word (N.Store op) = store-one_word op
 name-one_word (N.Memory n) = memory-one_word n
 name-one_word (N.Control n) = control-one_word n
 name-one_word (N.Vector n) = vector-one_word n
+name-one_word (N.Whole direction layout) = whole-one_word direction layout
 name-one_word n = Avoids-test marks (name_text n) refl
 
 -- facilities stand last
@@ -69,7 +87,7 @@ integer_proper IntegerIs.AluRRR = refl
 integer_proper n = refl
 
 memory_proper : (n : MemoryName) → proper (memory_kinds n) ≡ true
-memory_proper MemoryIs.Store8 = refl
+memory_proper MemoryIs.LoadAddr = refl
 memory_proper n = refl
 
 control_proper : (n : ControlName) → proper (control_kinds n) ≡ true

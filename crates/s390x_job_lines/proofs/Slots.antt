@@ -6,12 +6,18 @@ use Rattle.std.proofs.lemmas.Slice.Eq.{bytes_eq-Decides}
 use Rattle.std.proofs.lemmas.Bool.{false≢true}
 use Rattle.s390x_job_fields.specs.Found.{found_by_name}
 use Rattle.s390x_job_fields.proofs.Members.{either}
-use Rattle.s390x_job_lines.specs.Names.{integer_text, load_name_text, memory_name_text, control_text, vector_name_text, line_name_of, name_text, with_texts}
+use Rattle.s390x_job_lines.specs.Names.{integer_text, load_name_text, store_name_text, memory_name_text, control_text, vector_name_text, whole_name_text, line_name_of, name_text, with_texts}
 use Rattle.s390x_job_lines.specs.Slots.{slot_of}
 use Rattle.s390x_job_lines.specs.declared.inst_name.IntegerName.{IntegerName}
 use Rattle.s390x_job_lines.specs.declared.inst_name.IntegerName.TheVariants as IntegerIs
 use Rattle.s390x_inst.specs.declared.load.LoadOp.{LoadOp}
 use Rattle.s390x_inst.specs.declared.load.LoadOp.TheVariants as LoadOps
+use Rattle.s390x_inst.specs.declared.store.StoreOp.{StoreOp}
+use Rattle.s390x_inst.specs.declared.store.StoreOp.TheVariants as StoreOps
+use Rattle.s390x_inst.specs.declared.whole.Direction.{Direction}
+use Rattle.s390x_inst.specs.declared.whole.Direction.TheVariants as Directions
+use Rattle.s390x_inst.specs.declared.whole.WholeLayout.{WholeLayout}
+use Rattle.s390x_inst.specs.declared.whole.WholeLayout.TheVariants as Layouts
 use Rattle.s390x_job_lines.specs.declared.inst_name.MemoryName.{MemoryName}
 use Rattle.s390x_job_lines.specs.declared.inst_name.MemoryName.TheVariants as MemoryIs
 use Rattle.s390x_job_lines.specs.declared.inst_name.ControlName.{ControlName}
@@ -36,9 +42,14 @@ unfolding slot_of
 load-slot LoadOps.Load32 = refl
 load-slot op = refl
 
+store-slot : (op : StoreOp) → name_at (store_name_text op) ≡ N.Store op
+unfolding slot_of
+store-slot StoreOps.Store64 = refl
+store-slot op = refl
+
 memory-slot : (n : MemoryName) → name_at (memory_name_text n) ≡ N.Memory n
 unfolding slot_of
-memory-slot MemoryIs.Store8 = refl
+memory-slot MemoryIs.LoadAddr = refl
 memory-slot n = refl
 
 control-slot : (n : ControlName) → name_at (control_text n) ≡ N.Control n
@@ -51,14 +62,23 @@ unfolding slot_of
 vector-slot VectorIs.VecRRR = refl
 vector-slot n = refl
 
+whole-slot : (direction : Direction) (layout : WholeLayout) → name_at (whole_name_text direction layout) ≡ N.Whole direction layout
+unfolding slot_of
+whole-slot Directions.Load Layouts.Straight = refl
+whole-slot Directions.Load layout = refl
+whole-slot Directions.Store Layouts.Straight = refl
+whole-slot Directions.Store layout = refl
+
 pub name-slot : (n : LineName) → name_at (name_text n) ≡ n
 unfolding slot_of
 name-slot N.EndLine = refl
 name-slot (N.Integer n) = integer-slot n
 name-slot (N.Load op) = load-slot op
+name-slot (N.Store op) = store-slot op
 name-slot (N.Memory n) = memory-slot n
 name-slot (N.Control n) = control-slot n
 name-slot (N.Vector n) = vector-slot n
+name-slot (N.Whole direction layout) = whole-slot direction layout
 name-slot n = refl
 
 -- what is found has the spelling, or it is the other one

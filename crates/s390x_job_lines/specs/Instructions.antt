@@ -1,5 +1,6 @@
 -- The lines of instructions: the variant's name, and its fields in the order of their declaration.
-use Rattle.std.specs.Prelude.{[], ◌∷◌, Option, Some, None}
+use Rattle.std.specs.Prelude.{[], ◌∷◌, Option}
+use Rattle.s390x_base.specs.declared.regs.Reg.{Reg}
 use Rattle.s390x_base.specs.Sets.{has}
 use Rattle.s390x_job_fields.specs.Numbers.{W8, W16, W32, W64, S8, S16, S20, S32}
 use Rattle.s390x_job_fields.specs.Calls.{try_part}
@@ -11,12 +12,40 @@ use Rattle.s390x_job_lines.specs.declared.inst_name.MemoryName.TheVariants as Me
 use Rattle.s390x_job_lines.specs.declared.inst_name.ControlName.TheVariants as ControlIs
 use Rattle.s390x_job_lines.specs.declared.inst_name.VectorName.TheVariants as VectorIs
 use Rattle.s390x_job_lines.specs.declared.name.LineName.TheVariants as N
+use Rattle.s390x_job_lines.specs.declared.name.LineName.{LineName}
+use Rattle.s390x_inst.specs.declared.args.MemArg.{MemArg}
 use Rattle.s390x_inst.specs.declared.load.Load.{Load}
-use Rattle.s390x_inst.specs.Loads.{as_load}
+use Rattle.s390x_inst.specs.declared.store.Store.{Store}
+use Rattle.s390x_inst.specs.declared.whole.WholeAccess.{WholeAccess}
+use Rattle.s390x_inst.specs.Loads.{as_load, by_load}
+use Rattle.s390x_inst.specs.Stores.{as_store, by_store}
+use Rattle.s390x_inst.specs.Wholes.{as_whole, by_whole}
 use Rattle.s390x_inst.specs.declared.inst.Inst.{Inst}
 use Rattle.s390x_inst.specs.declared.inst.Inst.TheVariants as I
 use Rattle.s390x_inst.specs.declared.vec_inst.VecInst.{VecInst}
 use Rattle.s390x_inst.specs.declared.vec_inst.VecInst.TheVariants as V
+
+-- the line of a load or a store: a register and an operand
+abbrev pub access_line : LineName → Reg → MemArg → Line
+access_line name rd mem = record { name = name; fields = FReg rd ∷ FMemory mem ∷ [] }
+
+-- where there is no such access; the other instructions have lines of their own
+abbrev pub no_access_line : Line
+no_access_line = record { name = N.EndLine; fields = [] }
+
+abbrev pub load_line : Load → Line
+load_line l = access_line (N.Load l.op) l.rd l.mem
+
+abbrev pub store_line : Store → Line
+store_line s = access_line (N.Store s.op) s.rd s.mem
+
+-- the line of a load or a store of one general register
+abbrev pub transfer_line : Inst → Line
+transfer_line i = by_load load_line (by_store store_line no_access_line (as_store i)) (as_load i)
+
+-- the line of a load or a store of a whole vector register
+abbrev pub whole_line : Option WholeAccess → Line
+whole_line o = by_whole (λ w. access_line (N.Whole w.direction w.layout) w.rd w.mem) no_access_line o
 
 -- the line of an instruction on vector or float registers
 abbrev pub vector_line : VecInst → Line
@@ -33,22 +62,6 @@ vector_line (V.VecIntCmpS op rd rn rm) = record { name = N.Vector VectorIs.VecIn
 vector_line (V.VecIntEltCmp op rn rm) = record { name = N.Vector VectorIs.VecIntEltCmp; fields = FVecElementCompare op ∷ FReg rn ∷ FReg rm ∷ [] }
 vector_line (V.VecInt128SCmpHi tmp rn rm) = record { name = N.Vector VectorIs.VecInt128SCmpHi; fields = FReg tmp ∷ FReg rn ∷ FReg rm ∷ [] }
 vector_line (V.VecInt128UCmpHi tmp rn rm) = record { name = N.Vector VectorIs.VecInt128UCmpHi; fields = FReg tmp ∷ FReg rn ∷ FReg rm ∷ [] }
-vector_line (V.VecLoad rd mem) = record { name = N.Vector VectorIs.VecLoad; fields = FReg rd ∷ FMemory mem ∷ [] }
-vector_line (V.VecLoadRev rd mem) = record { name = N.Vector VectorIs.VecLoadRev; fields = FReg rd ∷ FMemory mem ∷ [] }
-vector_line (V.VecLoadByte16Rev rd mem) = record { name = N.Vector VectorIs.VecLoadByte16Rev; fields = FReg rd ∷ FMemory mem ∷ [] }
-vector_line (V.VecLoadByte32Rev rd mem) = record { name = N.Vector VectorIs.VecLoadByte32Rev; fields = FReg rd ∷ FMemory mem ∷ [] }
-vector_line (V.VecLoadByte64Rev rd mem) = record { name = N.Vector VectorIs.VecLoadByte64Rev; fields = FReg rd ∷ FMemory mem ∷ [] }
-vector_line (V.VecLoadElt16Rev rd mem) = record { name = N.Vector VectorIs.VecLoadElt16Rev; fields = FReg rd ∷ FMemory mem ∷ [] }
-vector_line (V.VecLoadElt32Rev rd mem) = record { name = N.Vector VectorIs.VecLoadElt32Rev; fields = FReg rd ∷ FMemory mem ∷ [] }
-vector_line (V.VecLoadElt64Rev rd mem) = record { name = N.Vector VectorIs.VecLoadElt64Rev; fields = FReg rd ∷ FMemory mem ∷ [] }
-vector_line (V.VecStore rd mem) = record { name = N.Vector VectorIs.VecStore; fields = FReg rd ∷ FMemory mem ∷ [] }
-vector_line (V.VecStoreRev rd mem) = record { name = N.Vector VectorIs.VecStoreRev; fields = FReg rd ∷ FMemory mem ∷ [] }
-vector_line (V.VecStoreByte16Rev rd mem) = record { name = N.Vector VectorIs.VecStoreByte16Rev; fields = FReg rd ∷ FMemory mem ∷ [] }
-vector_line (V.VecStoreByte32Rev rd mem) = record { name = N.Vector VectorIs.VecStoreByte32Rev; fields = FReg rd ∷ FMemory mem ∷ [] }
-vector_line (V.VecStoreByte64Rev rd mem) = record { name = N.Vector VectorIs.VecStoreByte64Rev; fields = FReg rd ∷ FMemory mem ∷ [] }
-vector_line (V.VecStoreElt16Rev rd mem) = record { name = N.Vector VectorIs.VecStoreElt16Rev; fields = FReg rd ∷ FMemory mem ∷ [] }
-vector_line (V.VecStoreElt32Rev rd mem) = record { name = N.Vector VectorIs.VecStoreElt32Rev; fields = FReg rd ∷ FMemory mem ∷ [] }
-vector_line (V.VecStoreElt64Rev rd mem) = record { name = N.Vector VectorIs.VecStoreElt64Rev; fields = FReg rd ∷ FMemory mem ∷ [] }
 vector_line (V.VecLoadReplicate size rd mem) = record { name = N.Vector VectorIs.VecLoadReplicate; fields = FNatural W32 size ∷ FReg rd ∷ FMemory mem ∷ [] }
 vector_line (V.VecLoadReplicateRev size rd mem) = record { name = N.Vector VectorIs.VecLoadReplicateRev; fields = FNatural W32 size ∷ FReg rd ∷ FMemory mem ∷ [] }
 vector_line (V.VecLoadLane size rd ri mem lane_imm) = record { name = N.Vector VectorIs.VecLoadLane; fields = FNatural W32 size ∷ FReg rd ∷ FReg ri ∷ FMemory mem ∷ FNatural W8 lane_imm ∷ [] }
@@ -74,11 +87,7 @@ vector_line (V.VecInsertLaneImm size rd ri imm lane_imm) = record { name = N.Vec
 vector_line (V.VecInsertLaneImmUndef size rd imm lane_imm) = record { name = N.Vector VectorIs.VecInsertLaneImmUndef; fields = FNatural W32 size ∷ FReg rd ∷ FInteger S16 imm ∷ FNatural W8 lane_imm ∷ [] }
 vector_line (V.VecReplicateLane size rd rn lane_imm) = record { name = N.Vector VectorIs.VecReplicateLane; fields = FNatural W32 size ∷ FReg rd ∷ FReg rn ∷ FNatural W8 lane_imm ∷ [] }
 vector_line (V.VecEltRev lane_count rd rn) = record { name = N.Vector VectorIs.VecEltRev; fields = FNatural W64 lane_count ∷ FReg rd ∷ FReg rn ∷ [] }
-
--- the line of a load of one register; the other instructions have lines of their own
-abbrev pub load_line : Option Load → Line
-load_line (Some l) = record { name = N.Load l.op; fields = FReg l.rd ∷ FMemory l.mem ∷ [] }
-load_line None = record { name = N.EndLine; fields = [] }
+vector_line v = whole_line (as_whole v)
 
 -- the line of an instruction; a loop's has its mask alone
 abbrev pub inst_line : Inst → Line
@@ -128,13 +137,6 @@ inst_line (I.CMov64SImm16 rd cond ri imm) = record { name = N.Integer IntegerIs.
 inst_line (I.Extend rd rn signed from_bits to_bits) = record { name = N.Integer IntegerIs.Extend; fields = FReg rd ∷ FReg rn ∷ FBool signed ∷ FNatural W8 from_bits ∷ FNatural W8 to_bits ∷ [] }
 inst_line (I.LoadAR rd ar) = record { name = N.Integer IntegerIs.LoadAR; fields = FReg rd ∷ FNatural W8 ar ∷ [] }
 inst_line (I.InsertAR rd ri ar) = record { name = N.Integer IntegerIs.InsertAR; fields = FReg rd ∷ FReg ri ∷ FNatural W8 ar ∷ [] }
-inst_line (I.Store8 rd mem) = record { name = N.Memory MemoryIs.Store8; fields = FReg rd ∷ FMemory mem ∷ [] }
-inst_line (I.Store16 rd mem) = record { name = N.Memory MemoryIs.Store16; fields = FReg rd ∷ FMemory mem ∷ [] }
-inst_line (I.Store32 rd mem) = record { name = N.Memory MemoryIs.Store32; fields = FReg rd ∷ FMemory mem ∷ [] }
-inst_line (I.Store64 rd mem) = record { name = N.Memory MemoryIs.Store64; fields = FReg rd ∷ FMemory mem ∷ [] }
-inst_line (I.StoreRev16 rd mem) = record { name = N.Memory MemoryIs.StoreRev16; fields = FReg rd ∷ FMemory mem ∷ [] }
-inst_line (I.StoreRev32 rd mem) = record { name = N.Memory MemoryIs.StoreRev32; fields = FReg rd ∷ FMemory mem ∷ [] }
-inst_line (I.StoreRev64 rd mem) = record { name = N.Memory MemoryIs.StoreRev64; fields = FReg rd ∷ FMemory mem ∷ [] }
 inst_line (I.StoreImm8 imm mem) = record { name = N.Memory MemoryIs.StoreImm8; fields = FNatural W8 imm ∷ FMemory mem ∷ [] }
 inst_line (I.StoreImm16 imm mem) = record { name = N.Memory MemoryIs.StoreImm16; fields = FInteger S16 imm ∷ FMemory mem ∷ [] }
 inst_line (I.StoreImm32SExt16 imm mem) = record { name = N.Memory MemoryIs.StoreImm32SExt16; fields = FInteger S16 imm ∷ FMemory mem ∷ [] }
@@ -173,4 +175,4 @@ inst_line (I.Rets rets) = record { name = N.Control ControlIs.Rets; fields = FRe
 inst_line (I.DummyUse reg) = record { name = N.Control ControlIs.DummyUse; fields = FReg reg ∷ [] }
 inst_line I.SequencePoint = record { name = N.Control ControlIs.SequencePoint; fields = [] }
 inst_line (I.Vector v) = vector_line v
-inst_line i = load_line (as_load i)
+inst_line i = transfer_line i

@@ -2,8 +2,13 @@
 use Rattle.std.specs.Prelude.{ℕ, List, [], map, get_or, codes}
 use Rattle.s390x_inst.specs.declared.load.LoadOp.{LoadOp}
 use Rattle.s390x_inst.specs.Loads.{load_place}
+use Rattle.s390x_inst.specs.declared.store.StoreOp.{StoreOp}
+use Rattle.s390x_inst.specs.Stores.{store_place}
+use Rattle.s390x_inst.specs.declared.whole.Direction.{Direction}
+use Rattle.s390x_inst.specs.declared.whole.WholeLayout.{WholeLayout}
+use Rattle.s390x_inst.specs.Wholes.{by_direction, layout_place}
 use Rattle.s390x_job_fields.specs.Found.{found_by_name}
-use Rattle.s390x_job_lines.specs.declared.load_names.TheConstants.{LOAD_NAMES}
+use Rattle.s390x_job_lines.specs.declared.access_names.TheConstants.{LOAD_NAMES, STORE_NAMES, WHOLE_LOAD_NAMES, WHOLE_STORE_NAMES}
 use Rattle.s390x_job_lines.specs.declared.inst_name.IntegerName.{IntegerName}
 use Rattle.s390x_job_lines.specs.declared.inst_name.IntegerName.TheVariants as IntegerIs
 use Rattle.s390x_job_lines.specs.declared.inst_name.MemoryName.{MemoryName}
@@ -73,15 +78,17 @@ name_in names at = get_or names at []
 abbrev pub load_name_text : LoadOp → List ℕ
 load_name_text op = name_in (map (λ name. name.now) LOAD_NAMES) (load_place op)
 
--- of multiple loads, stores, addresses and atomic instructions
+-- of stores of one register
+abbrev pub store_name_text : StoreOp → List ℕ
+store_name_text op = name_in (map (λ name. name.now) STORE_NAMES) (store_place op)
+
+-- of loads and stores of a whole vector register
+abbrev pub whole_name_text : Direction → WholeLayout → List ℕ
+whole_name_text direction layout =
+    name_in (map (λ name. name.now) (by_direction direction WHOLE_LOAD_NAMES WHOLE_STORE_NAMES)) (layout_place layout)
+
+-- of multiple loads and stores, stores of numbers, addresses and atomic instructions
 abbrev pub memory_name_text : MemoryName → List ℕ
-memory_name_text MemoryIs.Store8 = codes "Store8"
-memory_name_text MemoryIs.Store16 = codes "Store16"
-memory_name_text MemoryIs.Store32 = codes "Store32"
-memory_name_text MemoryIs.Store64 = codes "Store64"
-memory_name_text MemoryIs.StoreRev16 = codes "StoreRev16"
-memory_name_text MemoryIs.StoreRev32 = codes "StoreRev32"
-memory_name_text MemoryIs.StoreRev64 = codes "StoreRev64"
 memory_name_text MemoryIs.StoreImm8 = codes "StoreImm8"
 memory_name_text MemoryIs.StoreImm16 = codes "StoreImm16"
 memory_name_text MemoryIs.StoreImm32SExt16 = codes "StoreImm32SExt16"
@@ -119,7 +126,7 @@ control_text ControlIs.Rets = codes "Rets"
 control_text ControlIs.DummyUse = codes "DummyUse"
 control_text ControlIs.SequencePoint = codes "SequencePoint"
 
--- of the instructions on vector or float registers
+-- of the other instructions on vector or float registers
 abbrev pub vector_name_text : VectorName → List ℕ
 vector_name_text VectorIs.VecRRR = codes "VecRRR"
 vector_name_text VectorIs.VecRR = codes "VecRR"
@@ -134,22 +141,6 @@ vector_name_text VectorIs.VecIntCmpS = codes "VecIntCmpS"
 vector_name_text VectorIs.VecIntEltCmp = codes "VecIntEltCmp"
 vector_name_text VectorIs.VecInt128SCmpHi = codes "VecInt128SCmpHi"
 vector_name_text VectorIs.VecInt128UCmpHi = codes "VecInt128UCmpHi"
-vector_name_text VectorIs.VecLoad = codes "VecLoad"
-vector_name_text VectorIs.VecLoadRev = codes "VecLoadRev"
-vector_name_text VectorIs.VecLoadByte16Rev = codes "VecLoadByte16Rev"
-vector_name_text VectorIs.VecLoadByte32Rev = codes "VecLoadByte32Rev"
-vector_name_text VectorIs.VecLoadByte64Rev = codes "VecLoadByte64Rev"
-vector_name_text VectorIs.VecLoadElt16Rev = codes "VecLoadElt16Rev"
-vector_name_text VectorIs.VecLoadElt32Rev = codes "VecLoadElt32Rev"
-vector_name_text VectorIs.VecLoadElt64Rev = codes "VecLoadElt64Rev"
-vector_name_text VectorIs.VecStore = codes "VecStore"
-vector_name_text VectorIs.VecStoreRev = codes "VecStoreRev"
-vector_name_text VectorIs.VecStoreByte16Rev = codes "VecStoreByte16Rev"
-vector_name_text VectorIs.VecStoreByte32Rev = codes "VecStoreByte32Rev"
-vector_name_text VectorIs.VecStoreByte64Rev = codes "VecStoreByte64Rev"
-vector_name_text VectorIs.VecStoreElt16Rev = codes "VecStoreElt16Rev"
-vector_name_text VectorIs.VecStoreElt32Rev = codes "VecStoreElt32Rev"
-vector_name_text VectorIs.VecStoreElt64Rev = codes "VecStoreElt64Rev"
 vector_name_text VectorIs.VecLoadReplicate = codes "VecLoadReplicate"
 vector_name_text VectorIs.VecLoadReplicateRev = codes "VecLoadReplicateRev"
 vector_name_text VectorIs.VecLoadLane = codes "VecLoadLane"
@@ -190,9 +181,11 @@ name_text N.EndLine = codes "end"
 name_text N.Loop = codes "Loop"
 name_text (N.Integer n) = integer_text n
 name_text (N.Load op) = load_name_text op
+name_text (N.Store op) = store_name_text op
 name_text (N.Memory n) = memory_name_text n
 name_text (N.Control n) = control_text n
 name_text (N.Vector n) = vector_name_text n
+name_text (N.Whole direction layout) = whole_name_text direction layout
 
 -- names, each with its text
 abbrev pub with_texts : List LineName → List (LineName × List ℕ)

@@ -54,16 +54,9 @@ pub enum IntegerName {
     InsertAR,
 }
 
-/// Multiple loads, stores, addresses and atomic instructions.
+/// Multiple loads and stores, stores of numbers, addresses and atomic instructions.
 #[derive(Clone, Copy)]
 pub enum MemoryName {
-    Store8,
-    Store16,
-    Store32,
-    Store64,
-    StoreRev16,
-    StoreRev32,
-    StoreRev64,
     StoreImm8,
     StoreImm16,
     StoreImm32SExt16,
@@ -104,7 +97,7 @@ pub enum ControlName {
     SequencePoint,
 }
 
-/// Instructions on vector or float registers.
+/// Instructions on vector or float registers, but for loads and stores of a whole one.
 #[derive(Clone, Copy)]
 pub enum VectorName {
     VecRRR,
@@ -120,22 +113,6 @@ pub enum VectorName {
     VecIntEltCmp,
     VecInt128SCmpHi,
     VecInt128UCmpHi,
-    VecLoad,
-    VecLoadRev,
-    VecLoadByte16Rev,
-    VecLoadByte32Rev,
-    VecLoadByte64Rev,
-    VecLoadElt16Rev,
-    VecLoadElt32Rev,
-    VecLoadElt64Rev,
-    VecStore,
-    VecStoreRev,
-    VecStoreByte16Rev,
-    VecStoreByte32Rev,
-    VecStoreByte64Rev,
-    VecStoreElt16Rev,
-    VecStoreElt32Rev,
-    VecStoreElt64Rev,
     VecLoadReplicate,
     VecLoadReplicateRev,
     VecLoadLane,
@@ -223,13 +200,6 @@ impl Word for MemoryName {
 
     fn text(self) -> &'static str {
         match self {
-            MemoryName::Store8 => "Store8",
-            MemoryName::Store16 => "Store16",
-            MemoryName::Store32 => "Store32",
-            MemoryName::Store64 => "Store64",
-            MemoryName::StoreRev16 => "StoreRev16",
-            MemoryName::StoreRev32 => "StoreRev32",
-            MemoryName::StoreRev64 => "StoreRev64",
             MemoryName::StoreImm8 => "StoreImm8",
             MemoryName::StoreImm16 => "StoreImm16",
             MemoryName::StoreImm32SExt16 => "StoreImm32SExt16",
@@ -294,22 +264,6 @@ impl Word for VectorName {
             VectorName::VecIntEltCmp => "VecIntEltCmp",
             VectorName::VecInt128SCmpHi => "VecInt128SCmpHi",
             VectorName::VecInt128UCmpHi => "VecInt128UCmpHi",
-            VectorName::VecLoad => "VecLoad",
-            VectorName::VecLoadRev => "VecLoadRev",
-            VectorName::VecLoadByte16Rev => "VecLoadByte16Rev",
-            VectorName::VecLoadByte32Rev => "VecLoadByte32Rev",
-            VectorName::VecLoadByte64Rev => "VecLoadByte64Rev",
-            VectorName::VecLoadElt16Rev => "VecLoadElt16Rev",
-            VectorName::VecLoadElt32Rev => "VecLoadElt32Rev",
-            VectorName::VecLoadElt64Rev => "VecLoadElt64Rev",
-            VectorName::VecStore => "VecStore",
-            VectorName::VecStoreRev => "VecStoreRev",
-            VectorName::VecStoreByte16Rev => "VecStoreByte16Rev",
-            VectorName::VecStoreByte32Rev => "VecStoreByte32Rev",
-            VectorName::VecStoreByte64Rev => "VecStoreByte64Rev",
-            VectorName::VecStoreElt16Rev => "VecStoreElt16Rev",
-            VectorName::VecStoreElt32Rev => "VecStoreElt32Rev",
-            VectorName::VecStoreElt64Rev => "VecStoreElt64Rev",
             VectorName::VecLoadReplicate => "VecLoadReplicate",
             VectorName::VecLoadReplicateRev => "VecLoadReplicateRev",
             VectorName::VecLoadLane => "VecLoadLane",

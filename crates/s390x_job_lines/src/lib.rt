@@ -1,10 +1,11 @@
 //! The lines of instructions: their names, their printer and their reader.
 #![tactic(auto)]
 
+mod access;
+mod access_names;
 mod all_names;
 mod inst_name;
 mod law;
-mod load_names;
 mod name;
 mod print;
 mod print_call;
@@ -15,13 +16,14 @@ mod read_integer;
 mod read_memory;
 mod read_vector;
 
+pub use access::{store_instruction, whole_instruction};
+pub use access_names::{LOAD_NAMES, STORE_NAMES, WHOLE_LOAD_NAMES, WHOLE_STORE_NAMES};
 pub use inst_name::{ControlName, IntegerName, MemoryName, VectorName};
 pub use law::lines_tell_instructions;
-pub use load_names::LOAD_NAMES;
-pub use name::{LineName, find_name};
+pub use name::{LineName, candidate, find_name};
 pub use print::put_inst;
 pub use put_line::{line0, line1, line2};
 pub use read_control::control;
 pub use read_integer::integer;
-pub use read_memory::{load, memory};
-pub use read_vector::vector;
+pub use read_memory::{load, memory, store};
+pub use read_vector::{vector, whole};

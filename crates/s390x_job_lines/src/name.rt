@@ -4,10 +4,10 @@ ghost use Rattle.s390x_job_lines.specs.Names.{line_name_of, name_text};
 ghost use Rattle.s390x_job_lines.specs.Slots.{mix, slot_of};
 ghost use Rattle.s390x_job_lines.specs.declared.name.LineName.{LineName};
 
+use crate::access_names::{load_name, store_name, whole_name};
 use crate::all_names::ALL_NAMES;
 use crate::inst_name::{ControlName, IntegerName, MemoryName, VectorName};
-use crate::load_names::load_name;
-use s390x_inst::LoadOp;
+use s390x_inst::{Direction, LoadOp, StoreOp, WholeLayout};
 use s390x_job_fields::word::Word;
 
 /// The name of a line. Instructions stand in groups, a loop by itself, since lines of its members follow.
@@ -36,9 +36,13 @@ pub enum LineName {
     Integer(IntegerName),
     /// A load of one register.
     Load(LoadOp),
+    /// A store of one register.
+    Store(StoreOp),
     Memory(MemoryName),
     Control(ControlName),
     Vector(VectorName),
+    /// A load or a store of a whole vector register.
+    Whole(Direction, WholeLayout),
 }
 
 /// What each number of letters adds to `mix`, so that no two names have one slot.
@@ -70,8 +74,8 @@ fn slot(word: &[u8]) -> usize
     (usize::from(offsets[word.len() % 32]) + mix(word)) % 512
 }
 
-/// The one name that this word may spell.
-fn candidate(word: &[u8]) -> LineName
+/// The one name that this word may spell; any name for a word that spells none.
+pub fn candidate(word: &[u8]) -> LineName
     ensures { (name : LineName) → name_text name ≡ word.now → result ≡ name }
 {
     let names: &[LineName] = &ALL_NAMES;
@@ -107,9 +111,11 @@ impl Word for LineName {
             LineName::Loop => "Loop",
             LineName::Integer(name) => name.text(),
             LineName::Load(op) => load_name(op),
+            LineName::Store(op) => store_name(op),
             LineName::Memory(name) => name.text(),
             LineName::Control(name) => name.text(),
             LineName::Vector(name) => name.text(),
+            LineName::Whole(direction, layout) => whole_name(direction, layout),
         }
     }
 }

@@ -1,20 +1,33 @@
 //! Printing the lines of instructions.
 ghost use Rattle.std.specs.Prelude.{◌≡◌, ◌++◌, OnOk, string_bytes};
 ghost use Rattle.s390x_job_lines.specs.Line.{line_text};
-ghost use Rattle.s390x_job_lines.specs.Instructions.{inst_line};
+ghost use Rattle.s390x_job_lines.specs.Instructions.{inst_line, transfer_line};
 
 use crate::inst_name::ControlName::*;
 use crate::inst_name::IntegerName::*;
 use crate::inst_name::MemoryName::*;
 use crate::name::LineName;
-use crate::name::LineName::{Control, Integer, Load, Memory};
+use crate::name::LineName::{Control, Integer, Memory};
 use crate::print_call::{put_call, put_return_call};
 use crate::print_vector::put_vector;
 use crate::put_line::{line0, line1, line2, line3, line4, line5, line6, line7};
 use s390x_inst::Inst;
-use s390x_inst::LoadOp::*;
 use s390x_job_fields::Part;
 use std::alloc::{AllocError, Global};
+
+// Appends the line of a load or a store of one register.
+fn put_transfer(alloc: Global, out: &mut String, i: &Inst) -> Result<(), AllocError>
+    ensures { OnOk result
+        (string_bytes out.new ≡ string_bytes out.old ++ line_text (transfer_line i.now)) }
+{
+    match i.as_load() {
+        Some(load) => line2(alloc, out, LineName::Load(load.op), &load.rd, &load.mem),
+        None => match i.as_store() {
+            Some(store) => line2(alloc, out, LineName::Store(store.op), &store.rd, &store.mem),
+            None => line0(out, LineName::EndLine),
+        },
+    }
+}
 
 /// Appends an instruction's own line, without the line feed.
 #[rattlefmt::skip]
@@ -69,28 +82,6 @@ pub fn put_inst(alloc: Global, out: &mut String, i: &Inst) -> Result<(), AllocEr
         Inst::Extend { rd, rn, signed, from_bits, to_bits } => line5(alloc, out, Integer(Extend), rd, rn, signed, from_bits, to_bits),
         Inst::LoadAR { rd, ar } => line2(alloc, out, Integer(LoadAR), rd, ar),
         Inst::InsertAR { rd, ri, ar } => line3(alloc, out, Integer(InsertAR), rd, ri, ar),
-        Inst::Load32 { rd, mem } => line2(alloc, out, Load(Load32), rd, mem),
-        Inst::Load32ZExt8 { rd, mem } => line2(alloc, out, Load(Load32ZExt8), rd, mem),
-        Inst::Load32SExt8 { rd, mem } => line2(alloc, out, Load(Load32SExt8), rd, mem),
-        Inst::Load32ZExt16 { rd, mem } => line2(alloc, out, Load(Load32ZExt16), rd, mem),
-        Inst::Load32SExt16 { rd, mem } => line2(alloc, out, Load(Load32SExt16), rd, mem),
-        Inst::Load64 { rd, mem } => line2(alloc, out, Load(Load64), rd, mem),
-        Inst::Load64ZExt8 { rd, mem } => line2(alloc, out, Load(Load64ZExt8), rd, mem),
-        Inst::Load64SExt8 { rd, mem } => line2(alloc, out, Load(Load64SExt8), rd, mem),
-        Inst::Load64ZExt16 { rd, mem } => line2(alloc, out, Load(Load64ZExt16), rd, mem),
-        Inst::Load64SExt16 { rd, mem } => line2(alloc, out, Load(Load64SExt16), rd, mem),
-        Inst::Load64ZExt32 { rd, mem } => line2(alloc, out, Load(Load64ZExt32), rd, mem),
-        Inst::Load64SExt32 { rd, mem } => line2(alloc, out, Load(Load64SExt32), rd, mem),
-        Inst::LoadRev16 { rd, mem } => line2(alloc, out, Load(LoadRev16), rd, mem),
-        Inst::LoadRev32 { rd, mem } => line2(alloc, out, Load(LoadRev32), rd, mem),
-        Inst::LoadRev64 { rd, mem } => line2(alloc, out, Load(LoadRev64), rd, mem),
-        Inst::Store8 { rd, mem } => line2(alloc, out, Memory(Store8), rd, mem),
-        Inst::Store16 { rd, mem } => line2(alloc, out, Memory(Store16), rd, mem),
-        Inst::Store32 { rd, mem } => line2(alloc, out, Memory(Store32), rd, mem),
-        Inst::Store64 { rd, mem } => line2(alloc, out, Memory(Store64), rd, mem),
-        Inst::StoreRev16 { rd, mem } => line2(alloc, out, Memory(StoreRev16), rd, mem),
-        Inst::StoreRev32 { rd, mem } => line2(alloc, out, Memory(StoreRev32), rd, mem),
-        Inst::StoreRev64 { rd, mem } => line2(alloc, out, Memory(StoreRev64), rd, mem),
         Inst::StoreImm8 { imm, mem } => line2(alloc, out, Memory(StoreImm8), imm, mem),
         Inst::StoreImm16 { imm, mem } => line2(alloc, out, Memory(StoreImm16), imm, mem),
         Inst::StoreImm32SExt16 { imm, mem } => line2(alloc, out, Memory(StoreImm32SExt16), imm, mem),
@@ -126,5 +117,6 @@ pub fn put_inst(alloc: Global, out: &mut String, i: &Inst) -> Result<(), AllocEr
         Inst::DummyUse { reg } => line1(alloc, out, Control(DummyUse), reg),
         Inst::SequencePoint => line0(out, Control(SequencePoint)),
         Inst::Vector(v) => put_vector(alloc, out, v),
+        _ => put_transfer(alloc, out, i),
     }
 }

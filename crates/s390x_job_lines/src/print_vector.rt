@@ -1,13 +1,29 @@
 //! Printing the lines of vector and float instructions.
 ghost use Rattle.std.specs.Prelude.{◌≡◌, ◌++◌, OnOk, string_bytes};
+ghost use Rattle.s390x_inst.specs.Wholes.{as_whole};
 ghost use Rattle.s390x_job_lines.specs.Line.{line_text};
-ghost use Rattle.s390x_job_lines.specs.Instructions.{vector_line};
+ghost use Rattle.s390x_job_lines.specs.Instructions.{vector_line, whole_line};
 
 use crate::inst_name::VectorName;
+use crate::name::LineName;
 use crate::name::LineName::Vector;
-use crate::put_line::{line2, line3, line4, line5, line6};
+use crate::put_line::{line0, line2, line3, line4, line5, line6};
 use s390x_inst::VecInst;
 use std::alloc::{AllocError, Global};
+
+// Appends the line of a load or a store of a whole vector register.
+fn put_whole(alloc: Global, out: &mut String, v: &VecInst) -> Result<(), AllocError>
+    ensures { OnOk result
+        (string_bytes out.new ≡ string_bytes out.old ++ line_text (whole_line (as_whole v.now))) }
+{
+    match v.as_whole() {
+        Some(whole) => {
+            let name = LineName::Whole(whole.direction, whole.layout);
+            line2(alloc, out, name, &whole.rd, &whole.mem)
+        }
+        None => line0(out, LineName::EndLine),
+    }
+}
 
 /// Appends the line of an instruction on vector or float registers, without the line feed.
 #[rattlefmt::skip]
@@ -29,22 +45,6 @@ pub fn put_vector(alloc: Global, out: &mut String, v: &VecInst) -> Result<(), Al
         VecInst::VecIntEltCmp { op, rn, rm } => line3(alloc, out, Vector(VectorName::VecIntEltCmp), op, rn, rm),
         VecInst::VecInt128SCmpHi { tmp, rn, rm } => line3(alloc, out, Vector(VectorName::VecInt128SCmpHi), tmp, rn, rm),
         VecInst::VecInt128UCmpHi { tmp, rn, rm } => line3(alloc, out, Vector(VectorName::VecInt128UCmpHi), tmp, rn, rm),
-        VecInst::VecLoad { rd, mem } => line2(alloc, out, Vector(VectorName::VecLoad), rd, mem),
-        VecInst::VecLoadRev { rd, mem } => line2(alloc, out, Vector(VectorName::VecLoadRev), rd, mem),
-        VecInst::VecLoadByte16Rev { rd, mem } => line2(alloc, out, Vector(VectorName::VecLoadByte16Rev), rd, mem),
-        VecInst::VecLoadByte32Rev { rd, mem } => line2(alloc, out, Vector(VectorName::VecLoadByte32Rev), rd, mem),
-        VecInst::VecLoadByte64Rev { rd, mem } => line2(alloc, out, Vector(VectorName::VecLoadByte64Rev), rd, mem),
-        VecInst::VecLoadElt16Rev { rd, mem } => line2(alloc, out, Vector(VectorName::VecLoadElt16Rev), rd, mem),
-        VecInst::VecLoadElt32Rev { rd, mem } => line2(alloc, out, Vector(VectorName::VecLoadElt32Rev), rd, mem),
-        VecInst::VecLoadElt64Rev { rd, mem } => line2(alloc, out, Vector(VectorName::VecLoadElt64Rev), rd, mem),
-        VecInst::VecStore { rd, mem } => line2(alloc, out, Vector(VectorName::VecStore), rd, mem),
-        VecInst::VecStoreRev { rd, mem } => line2(alloc, out, Vector(VectorName::VecStoreRev), rd, mem),
-        VecInst::VecStoreByte16Rev { rd, mem } => line2(alloc, out, Vector(VectorName::VecStoreByte16Rev), rd, mem),
-        VecInst::VecStoreByte32Rev { rd, mem } => line2(alloc, out, Vector(VectorName::VecStoreByte32Rev), rd, mem),
-        VecInst::VecStoreByte64Rev { rd, mem } => line2(alloc, out, Vector(VectorName::VecStoreByte64Rev), rd, mem),
-        VecInst::VecStoreElt16Rev { rd, mem } => line2(alloc, out, Vector(VectorName::VecStoreElt16Rev), rd, mem),
-        VecInst::VecStoreElt32Rev { rd, mem } => line2(alloc, out, Vector(VectorName::VecStoreElt32Rev), rd, mem),
-        VecInst::VecStoreElt64Rev { rd, mem } => line2(alloc, out, Vector(VectorName::VecStoreElt64Rev), rd, mem),
         VecInst::VecLoadReplicate { size, rd, mem } => line3(alloc, out, Vector(VectorName::VecLoadReplicate), size, rd, mem),
         VecInst::VecLoadReplicateRev { size, rd, mem } => line3(alloc, out, Vector(VectorName::VecLoadReplicateRev), size, rd, mem),
         VecInst::VecLoadLane { size, rd, ri, mem, lane_imm } => line5(alloc, out, Vector(VectorName::VecLoadLane), size, rd, ri, mem, lane_imm),
@@ -70,5 +70,6 @@ pub fn put_vector(alloc: Global, out: &mut String, v: &VecInst) -> Result<(), Al
         VecInst::VecInsertLaneImmUndef { size, rd, imm, lane_imm } => line4(alloc, out, Vector(VectorName::VecInsertLaneImmUndef), size, rd, imm, lane_imm),
         VecInst::VecReplicateLane { size, rd, rn, lane_imm } => line4(alloc, out, Vector(VectorName::VecReplicateLane), size, rd, rn, lane_imm),
         VecInst::VecEltRev { lane_count, rd, rn } => line3(alloc, out, Vector(VectorName::VecEltRev), lane_count, rd, rn),
+        _ => put_whole(alloc, out, v),
     }
 }

@@ -3,9 +3,10 @@ ghost use Rattle.std.specs.Prelude.{◌≡◌};
 ghost use Rattle.s390x_job_lines.specs.Line.{line_with};
 ghost use Rattle.s390x_job_lines.specs.Instructions.{inst_line};
 
+use crate::access::store_instruction;
 use crate::inst_name::MemoryName;
 use crate::name::LineName;
-use s390x_inst::{Inst, LoadOp};
+use s390x_inst::{Inst, LoadOp, StoreOp};
 use s390x_job_fields::Cursor;
 
 /// The instruction of this name, whose fields come next.
@@ -14,13 +15,6 @@ pub fn memory(name: MemoryName, c: &mut Cursor) -> Inst
     ensures { inst_line result ≡ line_with (LineName.Memory name) c.old }
 {
     match name {
-        MemoryName::Store8 => Inst::Store8 { rd: c.reg(), mem: c.memory() },
-        MemoryName::Store16 => Inst::Store16 { rd: c.reg(), mem: c.memory() },
-        MemoryName::Store32 => Inst::Store32 { rd: c.reg(), mem: c.memory() },
-        MemoryName::Store64 => Inst::Store64 { rd: c.reg(), mem: c.memory() },
-        MemoryName::StoreRev16 => Inst::StoreRev16 { rd: c.reg(), mem: c.memory() },
-        MemoryName::StoreRev32 => Inst::StoreRev32 { rd: c.reg(), mem: c.memory() },
-        MemoryName::StoreRev64 => Inst::StoreRev64 { rd: c.reg(), mem: c.memory() },
         MemoryName::StoreImm8 => Inst::StoreImm8 { imm: c.u8(), mem: c.memory() },
         MemoryName::StoreImm16 => Inst::StoreImm16 { imm: c.i16(), mem: c.memory() },
         MemoryName::StoreImm32SExt16 => Inst::StoreImm32SExt16 { imm: c.i16(), mem: c.memory() },
@@ -37,11 +31,21 @@ pub fn memory(name: MemoryName, c: &mut Cursor) -> Inst
 }
 
 /// The load, whose fields come next.
-#[tactic(auto, using(crate::proofs::LoadLines::is_load_line))]
+#[tactic(auto, using(crate::proofs::AccessLines::is_load_line))]
 pub fn load(op: LoadOp, c: &mut Cursor) -> Inst
     ensures { inst_line result ≡ line_with (LineName.Load op) c.old }
 {
     let rd = c.written();
     let mem = c.memory();
     op.instruction(rd, mem)
+}
+
+/// The store, whose fields come next.
+#[tactic(auto, using(crate::proofs::AccessLines::is_store_line))]
+pub fn store(op: StoreOp, c: &mut Cursor) -> Inst
+    ensures { inst_line result ≡ line_with (LineName.Store op) c.old }
+{
+    let rd = c.reg();
+    let mem = c.memory();
+    store_instruction(op, rd, mem)
 }

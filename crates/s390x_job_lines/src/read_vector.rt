@@ -3,9 +3,10 @@ ghost use Rattle.std.specs.Prelude.{◌≡◌};
 ghost use Rattle.s390x_job_lines.specs.Line.{line_with};
 ghost use Rattle.s390x_job_lines.specs.Instructions.{vector_line};
 
+use crate::access::whole_instruction;
 use crate::inst_name::VectorName;
 use crate::name::LineName;
-use s390x_inst::VecInst;
+use s390x_inst::{Direction, VecInst, WholeLayout};
 use s390x_job_fields::Cursor;
 
 /// The instruction of this name, whose fields come next.
@@ -27,22 +28,6 @@ pub fn vector(name: VectorName, c: &mut Cursor) -> VecInst
         VectorName::VecIntEltCmp => VecInst::VecIntEltCmp { op: c.vec_element_compare(), rn: c.reg(), rm: c.reg() },
         VectorName::VecInt128SCmpHi => VecInst::VecInt128SCmpHi { tmp: c.written(), rn: c.reg(), rm: c.reg() },
         VectorName::VecInt128UCmpHi => VecInst::VecInt128UCmpHi { tmp: c.written(), rn: c.reg(), rm: c.reg() },
-        VectorName::VecLoad => VecInst::VecLoad { rd: c.written(), mem: c.memory() },
-        VectorName::VecLoadRev => VecInst::VecLoadRev { rd: c.written(), mem: c.memory() },
-        VectorName::VecLoadByte16Rev => VecInst::VecLoadByte16Rev { rd: c.written(), mem: c.memory() },
-        VectorName::VecLoadByte32Rev => VecInst::VecLoadByte32Rev { rd: c.written(), mem: c.memory() },
-        VectorName::VecLoadByte64Rev => VecInst::VecLoadByte64Rev { rd: c.written(), mem: c.memory() },
-        VectorName::VecLoadElt16Rev => VecInst::VecLoadElt16Rev { rd: c.written(), mem: c.memory() },
-        VectorName::VecLoadElt32Rev => VecInst::VecLoadElt32Rev { rd: c.written(), mem: c.memory() },
-        VectorName::VecLoadElt64Rev => VecInst::VecLoadElt64Rev { rd: c.written(), mem: c.memory() },
-        VectorName::VecStore => VecInst::VecStore { rd: c.reg(), mem: c.memory() },
-        VectorName::VecStoreRev => VecInst::VecStoreRev { rd: c.reg(), mem: c.memory() },
-        VectorName::VecStoreByte16Rev => VecInst::VecStoreByte16Rev { rd: c.reg(), mem: c.memory() },
-        VectorName::VecStoreByte32Rev => VecInst::VecStoreByte32Rev { rd: c.reg(), mem: c.memory() },
-        VectorName::VecStoreByte64Rev => VecInst::VecStoreByte64Rev { rd: c.reg(), mem: c.memory() },
-        VectorName::VecStoreElt16Rev => VecInst::VecStoreElt16Rev { rd: c.reg(), mem: c.memory() },
-        VectorName::VecStoreElt32Rev => VecInst::VecStoreElt32Rev { rd: c.reg(), mem: c.memory() },
-        VectorName::VecStoreElt64Rev => VecInst::VecStoreElt64Rev { rd: c.reg(), mem: c.memory() },
         VectorName::VecLoadReplicate => VecInst::VecLoadReplicate { size: c.u32(), rd: c.written(), mem: c.memory() },
         VectorName::VecLoadReplicateRev => VecInst::VecLoadReplicateRev { size: c.u32(), rd: c.written(), mem: c.memory() },
         VectorName::VecLoadLane => VecInst::VecLoadLane { size: c.u32(), rd: c.written(), ri: c.reg(), mem: c.memory(), lane_imm: c.u8() },
@@ -69,4 +54,14 @@ pub fn vector(name: VectorName, c: &mut Cursor) -> VecInst
         VectorName::VecReplicateLane => VecInst::VecReplicateLane { size: c.u32(), rd: c.written(), rn: c.reg(), lane_imm: c.u8() },
         VectorName::VecEltRev => VecInst::VecEltRev { lane_count: c.u64(), rd: c.written(), rn: c.reg() },
     }
+}
+
+/// The load or the store of a whole vector register, whose fields come next.
+#[tactic(auto, using(crate::proofs::AccessLines::is_whole_line))]
+pub fn whole(direction: Direction, layout: WholeLayout, c: &mut Cursor) -> VecInst
+    ensures { vector_line result ≡ line_with (LineName.Whole direction layout) c.old }
+{
+    let rd = c.reg();
+    let mem = c.memory();
+    whole_instruction(direction, layout, rd, mem)
 }

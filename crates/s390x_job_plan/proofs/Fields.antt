@@ -10,6 +10,16 @@ use Rattle.s390x_inst.specs.declared.load.Load.{Load}
 use Rattle.s390x_inst.specs.declared.load.LoadOp.{LoadOp}
 use Rattle.s390x_inst.specs.declared.load.LoadOp.TheVariants as LoadOps
 use Rattle.s390x_inst.specs.Loads.{as_load, by_load, load_instruction}
+use Rattle.s390x_inst.specs.declared.store.Store.{Store}
+use Rattle.s390x_inst.specs.declared.store.StoreOp.{StoreOp}
+use Rattle.s390x_inst.specs.declared.store.StoreOp.TheVariants as StoreOps
+use Rattle.s390x_inst.specs.Stores.{as_store, by_store, store_instruction}
+use Rattle.s390x_inst.specs.declared.whole.Direction.{Direction}
+use Rattle.s390x_inst.specs.declared.whole.Direction.TheVariants as Directions
+use Rattle.s390x_inst.specs.declared.whole.WholeAccess.{WholeAccess}
+use Rattle.s390x_inst.specs.declared.whole.WholeLayout.{WholeLayout}
+use Rattle.s390x_inst.specs.declared.whole.WholeLayout.TheVariants as Layouts
+use Rattle.s390x_inst.specs.Wholes.{as_whole, by_whole, whole_instruction}
 use Rattle.s390x_inst.specs.declared.inst.Inst.{Inst}
 use Rattle.s390x_inst.specs.declared.inst.Inst.TheVariants as I
 use Rattle.s390x_inst.specs.declared.vec_inst.VecInst.{VecInst}
@@ -94,23 +104,21 @@ register_vector_fields (V.VecReplicateLane size rd rn lane_imm) s h k = ((h.0, (
 register_vector_fields (V.VecEltRev lane_count rd rn) s h k = ((h.0, (at rd s h.1.0 k, (at rn (after rd s) h.1.1.0 (left rd s k), tt))), left rn (after rd s) (left rd s k))
 register_vector_fields v s h k = (h, k)
 
+-- a load or a store of a whole register: the clauses without `Straight` are a copy for each other layout
+whole_fields : (direction : Direction) (layout : WholeLayout) (rd : Reg) (mem : MemArg) (s : List Reg) → AllFields (vector_line (whole_instruction direction layout rd mem)).fields → Regs s →
+    AllFields (vector_line (assigned_vector (whole_instruction direction layout rd mem) s).0).fields × Regs (assigned_vector (whole_instruction direction layout rd mem) s).1
+whole_fields Directions.Load Layouts.Straight rd mem s h k = ((at rd s h.0 k, (memory mem (after rd s) h.1.0 (left rd s k), tt)), memory_left mem (after rd s) (left rd s k))
+whole_fields Directions.Load layout rd mem s h k = ((at rd s h.0 k, (memory mem (after rd s) h.1.0 (left rd s k), tt)), memory_left mem (after rd s) (left rd s k))
+whole_fields Directions.Store Layouts.Straight rd mem s h k = ((at rd s h.0 k, (memory mem (after rd s) h.1.0 (left rd s k), tt)), memory_left mem (after rd s) (left rd s k))
+whole_fields Directions.Store layout rd mem s h k = ((at rd s h.0 k, (memory mem (after rd s) h.1.0 (left rd s k), tt)), memory_left mem (after rd s) (left rd s k))
+
+whole_or_register : (v : VecInst) (s : List Reg) (o : Option WholeAccess) → AllFields (vector_line (by_whole (λ w. whole_instruction w.direction w.layout w.rd w.mem) v o)).fields → Regs s →
+    AllFields (vector_line (by_whole (λ w. assigned_vector (whole_instruction w.direction w.layout w.rd w.mem) s) (assigned_register_vector v s) o).0).fields × Regs (by_whole (λ w. assigned_vector (whole_instruction w.direction w.layout w.rd w.mem) s) (assigned_register_vector v s) o).1
+whole_or_register v s None h k = register_vector_fields v s h k
+whole_or_register v s (Some w) h k = whole_fields w.direction w.layout w.rd w.mem s h k
+
+-- the last clause is a copy for each other instruction
 vector_fields : (v : VecInst) (s : List Reg) → AllFields (vector_line v).fields → Regs s → AllFields (vector_line (assigned_vector v s).0).fields × Regs (assigned_vector v s).1
-vector_fields (V.VecLoad rd mem) s h k = ((at rd s h.0 k, (memory mem (after rd s) h.1.0 (left rd s k), tt)), memory_left mem (after rd s) (left rd s k))
-vector_fields (V.VecLoadRev rd mem) s h k = ((at rd s h.0 k, (memory mem (after rd s) h.1.0 (left rd s k), tt)), memory_left mem (after rd s) (left rd s k))
-vector_fields (V.VecLoadByte16Rev rd mem) s h k = ((at rd s h.0 k, (memory mem (after rd s) h.1.0 (left rd s k), tt)), memory_left mem (after rd s) (left rd s k))
-vector_fields (V.VecLoadByte32Rev rd mem) s h k = ((at rd s h.0 k, (memory mem (after rd s) h.1.0 (left rd s k), tt)), memory_left mem (after rd s) (left rd s k))
-vector_fields (V.VecLoadByte64Rev rd mem) s h k = ((at rd s h.0 k, (memory mem (after rd s) h.1.0 (left rd s k), tt)), memory_left mem (after rd s) (left rd s k))
-vector_fields (V.VecLoadElt16Rev rd mem) s h k = ((at rd s h.0 k, (memory mem (after rd s) h.1.0 (left rd s k), tt)), memory_left mem (after rd s) (left rd s k))
-vector_fields (V.VecLoadElt32Rev rd mem) s h k = ((at rd s h.0 k, (memory mem (after rd s) h.1.0 (left rd s k), tt)), memory_left mem (after rd s) (left rd s k))
-vector_fields (V.VecLoadElt64Rev rd mem) s h k = ((at rd s h.0 k, (memory mem (after rd s) h.1.0 (left rd s k), tt)), memory_left mem (after rd s) (left rd s k))
-vector_fields (V.VecStore rd mem) s h k = ((at rd s h.0 k, (memory mem (after rd s) h.1.0 (left rd s k), tt)), memory_left mem (after rd s) (left rd s k))
-vector_fields (V.VecStoreRev rd mem) s h k = ((at rd s h.0 k, (memory mem (after rd s) h.1.0 (left rd s k), tt)), memory_left mem (after rd s) (left rd s k))
-vector_fields (V.VecStoreByte16Rev rd mem) s h k = ((at rd s h.0 k, (memory mem (after rd s) h.1.0 (left rd s k), tt)), memory_left mem (after rd s) (left rd s k))
-vector_fields (V.VecStoreByte32Rev rd mem) s h k = ((at rd s h.0 k, (memory mem (after rd s) h.1.0 (left rd s k), tt)), memory_left mem (after rd s) (left rd s k))
-vector_fields (V.VecStoreByte64Rev rd mem) s h k = ((at rd s h.0 k, (memory mem (after rd s) h.1.0 (left rd s k), tt)), memory_left mem (after rd s) (left rd s k))
-vector_fields (V.VecStoreElt16Rev rd mem) s h k = ((at rd s h.0 k, (memory mem (after rd s) h.1.0 (left rd s k), tt)), memory_left mem (after rd s) (left rd s k))
-vector_fields (V.VecStoreElt32Rev rd mem) s h k = ((at rd s h.0 k, (memory mem (after rd s) h.1.0 (left rd s k), tt)), memory_left mem (after rd s) (left rd s k))
-vector_fields (V.VecStoreElt64Rev rd mem) s h k = ((at rd s h.0 k, (memory mem (after rd s) h.1.0 (left rd s k), tt)), memory_left mem (after rd s) (left rd s k))
 vector_fields (V.VecLoadReplicate size rd mem) s h k = ((h.0, (at rd s h.1.0 k, (memory mem (after rd s) h.1.1.0 (left rd s k), tt))), memory_left mem (after rd s) (left rd s k))
 vector_fields (V.VecLoadReplicateRev size rd mem) s h k = ((h.0, (at rd s h.1.0 k, (memory mem (after rd s) h.1.1.0 (left rd s k), tt))), memory_left mem (after rd s) (left rd s k))
 vector_fields (V.VecLoadLane size rd ri mem lane_imm) s h k = ((h.0, (at rd s h.1.0 k, (at ri (after rd s) h.1.1.0 (left rd s k), (memory mem (after ri (after rd s)) h.1.1.1.0 (left ri (after rd s) (left rd s k)), (h.1.1.1.1.0, tt))))), memory_left mem (after ri (after rd s)) (left ri (after rd s) (left rd s k)))
@@ -119,7 +127,7 @@ vector_fields (V.VecLoadLaneUndef size rd mem lane_imm) s h k = ((h.0, (at rd s 
 vector_fields (V.VecLoadLaneRevUndef size rd mem lane_imm) s h k = ((h.0, (at rd s h.1.0 k, (memory mem (after rd s) h.1.1.0 (left rd s k), (h.1.1.1.0, tt)))), memory_left mem (after rd s) (left rd s k))
 vector_fields (V.VecStoreLane size rd mem lane_imm) s h k = ((h.0, (at rd s h.1.0 k, (memory mem (after rd s) h.1.1.0 (left rd s k), (h.1.1.1.0, tt)))), memory_left mem (after rd s) (left rd s k))
 vector_fields (V.VecStoreLaneRev size rd mem lane_imm) s h k = ((h.0, (at rd s h.1.0 k, (memory mem (after rd s) h.1.1.0 (left rd s k), (h.1.1.1.0, tt)))), memory_left mem (after rd s) (left rd s k))
-vector_fields v s h k = register_vector_fields v s h k
+vector_fields v s h k = whole_or_register v s (as_whole v) h k
 
 control_fields : (i : Inst) (s : List Reg) → AllFields (inst_line i).fields → Regs s → AllFields (inst_line (assigned_control i s).0).fields × Regs (assigned_control i s).1
 control_fields (I.LoadSymbolReloc rd symbol_reloc) s h k = ((at rd s h.0 k, (h.1.0, tt)), left rd s k)
@@ -128,14 +136,19 @@ control_fields (I.DummyUse reg) s h k = ((at reg s h.0 k, tt), left reg s k)
 control_fields (I.Vector v) s h k = vector_fields v s h k
 control_fields i s h k = (h, k)
 
+-- a store: the last clause is a copy for each
+one_store_fields : (op : StoreOp) (rd : Reg) (mem : MemArg) (s : List Reg) → AllFields (inst_line (store_instruction op rd mem)).fields → Regs s →
+    AllFields (inst_line (assigned_store (store_instruction op rd mem) s).0).fields × Regs (assigned_store (store_instruction op rd mem) s).1
+one_store_fields StoreOps.Store64 rd mem s h k = ((at rd s h.0 k, (memory mem (after rd s) h.1.0 (left rd s k), tt)), memory_left mem (after rd s) (left rd s k))
+one_store_fields op rd mem s h k = ((at rd s h.0 k, (memory mem (after rd s) h.1.0 (left rd s k), tt)), memory_left mem (after rd s) (left rd s k))
+
+store_or_control : (i : Inst) (s : List Reg) (o : Option Store) → AllFields (inst_line (by_store (λ x. store_instruction x.op x.rd x.mem) i o)).fields → Regs s →
+    AllFields (inst_line (by_store (λ x. assigned_store (store_instruction x.op x.rd x.mem) s) (assigned_control i s) o).0).fields × Regs (by_store (λ x. assigned_store (store_instruction x.op x.rd x.mem) s) (assigned_control i s) o).1
+store_or_control i s None h k = control_fields i s h k
+store_or_control i s (Some x) h k = one_store_fields x.op x.rd x.mem s h k
+
+-- the last clause is a copy for each other instruction
 store_fields : (i : Inst) (s : List Reg) → AllFields (inst_line i).fields → Regs s → AllFields (inst_line (assigned_store i s).0).fields × Regs (assigned_store i s).1
-store_fields (I.Store8 rd mem) s h k = ((at rd s h.0 k, (memory mem (after rd s) h.1.0 (left rd s k), tt)), memory_left mem (after rd s) (left rd s k))
-store_fields (I.Store16 rd mem) s h k = ((at rd s h.0 k, (memory mem (after rd s) h.1.0 (left rd s k), tt)), memory_left mem (after rd s) (left rd s k))
-store_fields (I.Store32 rd mem) s h k = ((at rd s h.0 k, (memory mem (after rd s) h.1.0 (left rd s k), tt)), memory_left mem (after rd s) (left rd s k))
-store_fields (I.Store64 rd mem) s h k = ((at rd s h.0 k, (memory mem (after rd s) h.1.0 (left rd s k), tt)), memory_left mem (after rd s) (left rd s k))
-store_fields (I.StoreRev16 rd mem) s h k = ((at rd s h.0 k, (memory mem (after rd s) h.1.0 (left rd s k), tt)), memory_left mem (after rd s) (left rd s k))
-store_fields (I.StoreRev32 rd mem) s h k = ((at rd s h.0 k, (memory mem (after rd s) h.1.0 (left rd s k), tt)), memory_left mem (after rd s) (left rd s k))
-store_fields (I.StoreRev64 rd mem) s h k = ((at rd s h.0 k, (memory mem (after rd s) h.1.0 (left rd s k), tt)), memory_left mem (after rd s) (left rd s k))
 store_fields (I.StoreImm8 imm mem) s h k = ((h.0, (memory mem s h.1.0 k, tt)), memory_left mem s k)
 store_fields (I.StoreImm16 imm mem) s h k = ((h.0, (memory mem s h.1.0 k, tt)), memory_left mem s k)
 store_fields (I.StoreImm32SExt16 imm mem) s h k = ((h.0, (memory mem s h.1.0 k, tt)), memory_left mem s k)
@@ -148,7 +161,7 @@ store_fields (I.LoadLogicalIndexedAddr rd base index offset size) s h k = ((at r
 store_fields (I.AtomicRmw alu_op rd rn mem) s h k = ((h.0, (at rd s h.1.0 k, (at rn (after rd s) h.1.1.0 (left rd s k), (memory mem (after rn (after rd s)) h.1.1.1.0 (left rn (after rd s) (left rd s k)), tt)))), memory_left mem (after rn (after rd s)) (left rn (after rd s) (left rd s k)))
 store_fields (I.AtomicCas32 rd ri rn mem) s h k = ((at rd s h.0 k, (at ri (after rd s) h.1.0 (left rd s k), (at rn (after ri (after rd s)) h.1.1.0 (left ri (after rd s) (left rd s k)), (memory mem (after rn (after ri (after rd s))) h.1.1.1.0 (left rn (after ri (after rd s)) (left ri (after rd s) (left rd s k))), tt)))), memory_left mem (after rn (after ri (after rd s))) (left rn (after ri (after rd s)) (left ri (after rd s) (left rd s k))))
 store_fields (I.AtomicCas64 rd ri rn mem) s h k = ((at rd s h.0 k, (at ri (after rd s) h.1.0 (left rd s k), (at rn (after ri (after rd s)) h.1.1.0 (left ri (after rd s) (left rd s k)), (memory mem (after rn (after ri (after rd s))) h.1.1.1.0 (left rn (after ri (after rd s)) (left ri (after rd s) (left rd s k))), tt)))), memory_left mem (after rn (after ri (after rd s))) (left rn (after ri (after rd s)) (left ri (after rd s) (left rd s k))))
-store_fields i s h k = control_fields i s h k
+store_fields i s h k = store_or_control i s (as_store i) h k
 
 -- a load: the last clause is a copy for each
 load_fields : (op : LoadOp) (rd : Reg) (mem : MemArg) (s : List Reg) → AllFields (inst_line (load_instruction op rd mem)).fields → Regs s →

@@ -2,4 +2,5 @@ pub mod Reporting
 pub mod Looping
 pub mod Members
 pub mod Public
+pub mod Turns
 pub mod Witnesses

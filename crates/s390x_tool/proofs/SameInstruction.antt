@@ -11,12 +11,13 @@ use Rattle.s390x_base.specs.declared.imms.UImm32Shifted.{UImm32Shifted}
 use Rattle.s390x_base.specs.declared.error.EmitError.{EmitError}
 use Rattle.s390x_base.specs.declared.error.EmitError.TheVariants.{BadOperator, BadRegister}
 use Rattle.s390x_inst.specs.Loads.{load_instruction}
+use Rattle.s390x_inst.specs.Stores.{store_instruction}
+use Rattle.s390x_inst.specs.Wholes.{whole_instruction}
 use Rattle.s390x_inst.specs.declared.inst.Inst.{Inst}
 use Rattle.s390x_inst.specs.declared.inst.Inst.TheVariants.{AluRRR, AluRR, AluRRSImm16, AluRSImm16, AluRSImm32, AluRUImm32, UnaryRR, CmpRR, CmpRSImm16, CmpRSImm32, CmpRUImm32, Mov64, MovPReg, Mov32, Mov32Imm, Mov32SImm16, Mov64SImm16, Mov64SImm32, AluRUImm16Shifted, AluRUImm32Shifted, ShiftRR, RxSBG}
 use Rattle.s390x_inst.specs.declared.inst.Inst.TheVariants.{RxSBGTest, Mov64UImm16Shifted, Mov64UImm32Shifted, Insert64UImm16Shifted, Insert64UImm32Shifted, CMov32, CMov64, CMov32SImm16, CMov64SImm16, Extend, LoadAR, InsertAR, SMulWide, UMulWide, Flogr, Fence, Nop0, Nop2, LoadIndexedAddr}
 use Rattle.s390x_inst.specs.declared.inst.Inst.TheVariants.{LoadLogicalIndexedAddr, Jump, CondBr, Ret, CondBreak, Vector, LabelAddress, LoadSymbolReloc, SDivMod32, SDivMod64, UDivMod32, UDivMod64, CmpTrapRR, CmpTrapRSImm16, CmpTrapRUImm16, Trap, TrapIf, Debugtrap, AluRX, CmpRX}
-use Rattle.s390x_inst.specs.declared.inst.Inst.TheVariants.{Store8, Store16, Store32, Store64, StoreRev16, StoreRev32, StoreRev64, LoadAddr}
-use Rattle.s390x_inst.specs.declared.inst.Inst.TheVariants.{StoreImm8, StoreImm16, StoreImm32SExt16, StoreImm64SExt16, LoadMultiple64, StoreMultiple64, AtomicRmw, AtomicCas32, AtomicCas64, AllocateArgs, DummyUse, SequencePoint}
+use Rattle.s390x_inst.specs.declared.inst.Inst.TheVariants.{LoadAddr, StoreImm8, StoreImm16, StoreImm32SExt16, StoreImm64SExt16, LoadMultiple64, StoreMultiple64, AtomicRmw, AtomicCas32, AtomicCas64, AllocateArgs, DummyUse, SequencePoint}
 use Rattle.s390x_inst.specs.declared.vec_inst.VecInst.{VecInst}
 use Rattle.s390x_inst.specs.declared.vec_inst.VecInst.TheVariants as V
 use Rattle.s390x_rows.specs.declared.opcodes.TheConstants as opcodes
@@ -143,22 +144,6 @@ reading (N.Vector VectorIs.VecIntCmpS) (FVecCompare op ∷ FReg rd ∷ FReg rn �
 reading (N.Vector VectorIs.VecIntEltCmp) (FVecElementCompare op ∷ FReg rn ∷ FReg rm ∷ []) = Whole (Vector (V.VecIntEltCmp op rn rm))
 reading (N.Vector VectorIs.VecInt128SCmpHi) (FReg tmp ∷ FReg rn ∷ FReg rm ∷ []) = Whole (Vector (V.VecInt128SCmpHi tmp rn rm))
 reading (N.Vector VectorIs.VecInt128UCmpHi) (FReg tmp ∷ FReg rn ∷ FReg rm ∷ []) = Whole (Vector (V.VecInt128UCmpHi tmp rn rm))
-reading (N.Vector VectorIs.VecLoad) (FReg rd ∷ FMemory mem ∷ []) = Whole (Vector (V.VecLoad rd mem))
-reading (N.Vector VectorIs.VecLoadRev) (FReg rd ∷ FMemory mem ∷ []) = Whole (Vector (V.VecLoadRev rd mem))
-reading (N.Vector VectorIs.VecLoadByte16Rev) (FReg rd ∷ FMemory mem ∷ []) = Whole (Vector (V.VecLoadByte16Rev rd mem))
-reading (N.Vector VectorIs.VecLoadByte32Rev) (FReg rd ∷ FMemory mem ∷ []) = Whole (Vector (V.VecLoadByte32Rev rd mem))
-reading (N.Vector VectorIs.VecLoadByte64Rev) (FReg rd ∷ FMemory mem ∷ []) = Whole (Vector (V.VecLoadByte64Rev rd mem))
-reading (N.Vector VectorIs.VecLoadElt16Rev) (FReg rd ∷ FMemory mem ∷ []) = Whole (Vector (V.VecLoadElt16Rev rd mem))
-reading (N.Vector VectorIs.VecLoadElt32Rev) (FReg rd ∷ FMemory mem ∷ []) = Whole (Vector (V.VecLoadElt32Rev rd mem))
-reading (N.Vector VectorIs.VecLoadElt64Rev) (FReg rd ∷ FMemory mem ∷ []) = Whole (Vector (V.VecLoadElt64Rev rd mem))
-reading (N.Vector VectorIs.VecStore) (FReg rd ∷ FMemory mem ∷ []) = Whole (Vector (V.VecStore rd mem))
-reading (N.Vector VectorIs.VecStoreRev) (FReg rd ∷ FMemory mem ∷ []) = Whole (Vector (V.VecStoreRev rd mem))
-reading (N.Vector VectorIs.VecStoreByte16Rev) (FReg rd ∷ FMemory mem ∷ []) = Whole (Vector (V.VecStoreByte16Rev rd mem))
-reading (N.Vector VectorIs.VecStoreByte32Rev) (FReg rd ∷ FMemory mem ∷ []) = Whole (Vector (V.VecStoreByte32Rev rd mem))
-reading (N.Vector VectorIs.VecStoreByte64Rev) (FReg rd ∷ FMemory mem ∷ []) = Whole (Vector (V.VecStoreByte64Rev rd mem))
-reading (N.Vector VectorIs.VecStoreElt16Rev) (FReg rd ∷ FMemory mem ∷ []) = Whole (Vector (V.VecStoreElt16Rev rd mem))
-reading (N.Vector VectorIs.VecStoreElt32Rev) (FReg rd ∷ FMemory mem ∷ []) = Whole (Vector (V.VecStoreElt32Rev rd mem))
-reading (N.Vector VectorIs.VecStoreElt64Rev) (FReg rd ∷ FMemory mem ∷ []) = Whole (Vector (V.VecStoreElt64Rev rd mem))
 reading (N.Vector VectorIs.VecLoadReplicate) (FNatural w0 size ∷ FReg rd ∷ FMemory mem ∷ []) = Whole (Vector (V.VecLoadReplicate size rd mem))
 reading (N.Vector VectorIs.VecLoadReplicateRev) (FNatural w0 size ∷ FReg rd ∷ FMemory mem ∷ []) = Whole (Vector (V.VecLoadReplicateRev size rd mem))
 reading (N.Vector VectorIs.VecLoadLane) (FNatural w0 size ∷ FReg rd ∷ FReg ri ∷ FMemory mem ∷ FNatural w1 lane_imm ∷ []) = Whole (Vector (V.VecLoadLane size rd ri mem lane_imm))
@@ -189,13 +174,8 @@ reading (N.Memory MemoryIs.LoadLogicalIndexedAddr) (FReg rd ∷ FReg base ∷ FR
 reading (N.Integer IntegerIs.AluRX) (FAlu op ∷ FReg rd ∷ FReg ri ∷ FMemory mem ∷ []) = Whole (AluRX op rd ri mem)
 reading (N.Integer IntegerIs.CmpRX) (FCmp op ∷ FReg rn ∷ FMemory mem ∷ []) = Whole (CmpRX op rn mem)
 reading (N.Load op) (FReg rd ∷ FMemory mem ∷ []) = Whole (load_instruction op rd mem)
-reading (N.Memory MemoryIs.Store8) (FReg rd ∷ FMemory mem ∷ []) = Whole (Store8 rd mem)
-reading (N.Memory MemoryIs.Store16) (FReg rd ∷ FMemory mem ∷ []) = Whole (Store16 rd mem)
-reading (N.Memory MemoryIs.Store32) (FReg rd ∷ FMemory mem ∷ []) = Whole (Store32 rd mem)
-reading (N.Memory MemoryIs.Store64) (FReg rd ∷ FMemory mem ∷ []) = Whole (Store64 rd mem)
-reading (N.Memory MemoryIs.StoreRev16) (FReg rd ∷ FMemory mem ∷ []) = Whole (StoreRev16 rd mem)
-reading (N.Memory MemoryIs.StoreRev32) (FReg rd ∷ FMemory mem ∷ []) = Whole (StoreRev32 rd mem)
-reading (N.Memory MemoryIs.StoreRev64) (FReg rd ∷ FMemory mem ∷ []) = Whole (StoreRev64 rd mem)
+reading (N.Store op) (FReg rd ∷ FMemory mem ∷ []) = Whole (store_instruction op rd mem)
+reading (N.Whole direction layout) (FReg rd ∷ FMemory mem ∷ []) = Whole (Vector (whole_instruction direction layout rd mem))
 reading (N.Memory MemoryIs.LoadAddr) (FReg rd ∷ FMemory mem ∷ []) = Whole (LoadAddr rd mem)
 reading (N.Memory MemoryIs.StoreImm8) (FNatural w imm ∷ FMemory mem ∷ []) = Whole (StoreImm8 imm mem)
 reading (N.Memory MemoryIs.StoreImm16) (FInteger w imm ∷ FMemory mem ∷ []) = Whole (StoreImm16 imm mem)

@@ -24,11 +24,11 @@ pub struct WholeRows {
 /// The rows by load (cranelift-codegen, `emit.rs`).
 #[rattlefmt::skip]
 pub const LOAD_ROWS: [RegisterRows; LOAD_COUNT] = [
-    RegisterRows { rx: Some(opcodes::L), rxy: Some(opcodes::LY), ril: Some(opcodes::LRL) }, // Load32
+    RegisterRows { rx: Some(opcodes::L as u8), rxy: Some(opcodes::LY), ril: Some(opcodes::LRL) }, // Load32
     RegisterRows { rx: None, rxy: Some(opcodes::LLC), ril: None }, // Load32ZExt8
     RegisterRows { rx: None, rxy: Some(opcodes::LB), ril: None }, // Load32SExt8
     RegisterRows { rx: None, rxy: Some(opcodes::LLH), ril: Some(opcodes::LLHRL) }, // Load32ZExt16
-    RegisterRows { rx: Some(opcodes::LH), rxy: Some(opcodes::LHY), ril: Some(opcodes::LHRL) }, // Load32SExt16
+    RegisterRows { rx: Some(opcodes::LH as u8), rxy: Some(opcodes::LHY), ril: Some(opcodes::LHRL) }, // Load32SExt16
     RegisterRows { rx: None, rxy: Some(opcodes::LG), ril: Some(opcodes::LGRL) }, // Load64
     RegisterRows { rx: None, rxy: Some(opcodes::LLGC), ril: None }, // Load64ZExt8
     RegisterRows { rx: None, rxy: Some(opcodes::LGB), ril: None }, // Load64SExt8
@@ -44,9 +44,9 @@ pub const LOAD_ROWS: [RegisterRows; LOAD_COUNT] = [
 /// The rows by store (the same).
 #[rattlefmt::skip]
 pub const STORE_ROWS: [RegisterRows; STORE_COUNT] = [
-    RegisterRows { rx: Some(opcodes::STC), rxy: Some(opcodes::STCY), ril: None }, // Store8
-    RegisterRows { rx: Some(opcodes::STH), rxy: Some(opcodes::STHY), ril: Some(opcodes::STHRL) }, // Store16
-    RegisterRows { rx: Some(opcodes::ST), rxy: Some(opcodes::STY), ril: Some(opcodes::STRL) }, // Store32
+    RegisterRows { rx: Some(opcodes::STC as u8), rxy: Some(opcodes::STCY), ril: None }, // Store8
+    RegisterRows { rx: Some(opcodes::STH as u8), rxy: Some(opcodes::STHY), ril: Some(opcodes::STHRL) }, // Store16
+    RegisterRows { rx: Some(opcodes::ST as u8), rxy: Some(opcodes::STY), ril: Some(opcodes::STRL) }, // Store32
     RegisterRows { rx: None, rxy: Some(opcodes::STG), ril: Some(opcodes::STGRL) }, // Store64
     RegisterRows { rx: None, rxy: Some(opcodes::STRVH), ril: None }, // StoreRev16
     RegisterRows { rx: None, rxy: Some(opcodes::STRV), ril: None }, // StoreRev32
