@@ -1,5 +1,5 @@
 -- The roles of registers in instructions, and what is made of them.
-use Rattle.std.specs.Prelude.{List, [], ◌∷◌, ◌++◌, length, nat_lt, cond, Option, Some, None}
+use Rattle.std.specs.Prelude.{List, [], ◌∷◌, Option, Some, None}
 use Rattle.s390x_base.specs.Registers.{general}
 use Rattle.s390x_base.specs.declared.regs.Reg.{Reg}
 use Rattle.s390x_base.specs.declared.regs.Reg.TheVariants.{Real}
@@ -7,8 +7,17 @@ use Rattle.s390x_base.specs.declared.regs.RegPair.{RegPair}
 use Rattle.s390x_base.specs.declared.regs.WritableRegPair.{WritableRegPair}
 use Rattle.s390x_inst.specs.declared.args.MemArg.{MemArg}
 use Rattle.s390x_inst.specs.declared.args.MemArg.TheVariants.{Label}
-pub use Rattle.s390x_described.specs.declared.role.Role.{Role}
-pub use Rattle.s390x_described.specs.declared.role.Role.TheVariants.{Written, Tied, Read, WrittenPair, LowRead, ReadPair, InMemory}
+
+-- a register that is written, one that is written and has to be that of the input `ri`, and one that is read; a pair that is written, the input that
+-- has to be its low half, and one that has to be the pair; a place in memory
+pub data Role : Type 0 where
+  Written : Reg → Role
+  Tied : Reg → Role
+  Read : Reg → Role
+  WrittenPair : WritableRegPair → Role
+  LowRead : Reg → Role
+  ReadPair : RegPair → Role
+  InMemory : MemArg → Role
 
 -- what stands in a role; something else where it is of another kind
 abbrev pub register : Role → Reg
@@ -95,15 +104,3 @@ described_again f d s = (d.again (each_role f d.roles s).0, (each_role f d.roles
 abbrev pub again_or_none : {T St : Type 0} → (Role → St → Role × St) → Option (Described T) → St → Option T × St
 again_or_none f None s = (None, s)
 again_or_none f (Some d) s = (Some (described_again f d s).0, (described_again f d s).1)
-
--- the roles that stand in a description
-abbrev pub roles_of : {T : Type 0} → Option (Described T) → List Role
-roles_of None = []
-roles_of (Some d) = d.roles
-
--- a list of at most four roles with one more, and what one says who replaces nothing and keeps roles in it
-abbrev pub with_role : List Role → Role → List Role
-with_role xs x = cond (nat_lt (length xs) 4) (xs ++ x ∷ []) xs
-
-abbrev pub collected : Role → List Role → Role × List Role
-collected x xs = (x, with_role xs x)

@@ -4,13 +4,9 @@
 mod law;
 mod replacer;
 mod replacing;
-mod role;
-mod roles;
 mod table;
 mod transfers;
 
 pub use law::descriptions_give_instructions;
 pub use replacer::Replacer;
 pub use replacing::replace;
-pub use role::Role;
-pub use roles::roles_of;

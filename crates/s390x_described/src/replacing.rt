@@ -1,16 +1,26 @@
 //! An instruction with other registers.
 ghost use Rattle.std.specs.Prelude.{◌≡◌};
 ghost use Rattle.s390x_described.specs.Roles.{again_or_none, described_again};
-ghost use Rattle.s390x_described.specs.Instructions.{described, described_move, described_storage, described_store, described_rest, described_control, described_wide, described_vector, described_whole, described_part, described_register_vector};
+ghost use Rattle.s390x_described.specs.Instructions.{described, described_move, described_storage, described_store, described_rest, described_control, described_wide, described_vector, described_whole, described_part, described_register_vector, described_vector_move};
 
 use crate::replacer::Replacer;
 use crate::table::{
     again, control_table, in_role, move_table, operator_table, part_table, register_vector_table,
-    rest_table, vector_again,
+    rest_table, vector_again, vector_move_table,
 };
 use crate::transfers::{store_of, whole_load_of, whole_store_of};
 use s390x_base::Writable;
 use s390x_inst::{Direction, Inst, VecInst, WholeAccess};
+
+// A move, an immediate or an element of vector or float registers.
+fn replace_vector_move<R: Replacer>(inst: &VecInst, r: &mut R) -> VecInst
+    ensures value { result
+        ≡ (described_again R.role_at (described_vector_move inst.now) (R.state r.old)).0 }
+    ensures after { R.state r.new
+        ≡ (described_again R.role_at (described_vector_move inst.now) (R.state r.old)).1 }
+{
+    vector_move_table!(vector_again, inst, r, *inst)
+}
 
 // One on vector or float registers and immediates.
 fn replace_register_vector<R: Replacer>(inst: &VecInst, r: &mut R) -> VecInst
@@ -19,7 +29,7 @@ fn replace_register_vector<R: Replacer>(inst: &VecInst, r: &mut R) -> VecInst
     ensures after { R.state r.new
         ≡ (described_again R.role_at (described_register_vector inst.now) (R.state r.old)).1 }
 {
-    register_vector_table!(vector_again, inst, r, *inst)
+    register_vector_table!(vector_again, inst, r, replace_vector_move(inst, r))
 }
 
 // One on vector or float registers that is no load or store of a whole one.

@@ -109,7 +109,7 @@ macro_rules! part_table {
     };
 }
 
-/// Instructions on vector or float registers and immediates.
+/// Arithmetic, permutations and comparisons on vector registers.
 macro_rules! register_vector_table {
     ($walk:ident, $($with:tt)*) => {
         $walk! { ($($with)*)
@@ -126,6 +126,14 @@ macro_rules! register_vector_table {
             VecIntEltCmp { op: plain, rn: input, rm: input }
             VecInt128SCmpHi { tmp: output, rn: input, rm: input }
             VecInt128UCmpHi { tmp: output, rn: input, rm: input }
+        }
+    };
+}
+
+/// Moves, immediates and elements of vector or float registers.
+macro_rules! vector_move_table {
+    ($walk:ident, $($with:tt)*) => {
+        $walk! { ($($with)*)
             VecMov { rd: output, rn: input }
             FpuMove32 { rd: output, rn: input }
             FpuMove64 { rd: output, rn: input }
@@ -182,3 +190,4 @@ pub(crate) use part_table;
 pub(crate) use register_vector_table;
 pub(crate) use rest_table;
 pub(crate) use vector_again;
+pub(crate) use vector_move_table;

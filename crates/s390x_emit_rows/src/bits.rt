@@ -3,11 +3,11 @@ ghost use Rattle.std.specs.Prelude.{◌≡◌, ◌+◌, ◌<◌, ◌&&◌, true,
 ghost use Rattle.std.specs.Option.{option_map};
 ghost use Rattle.s390x_base.specs.Regs.{number_of};
 ghost use Rattle.s390x_rows.specs.declared.opcodes.TheConstants as opcodes;
-ghost use Rattle.s390x_typed_steps.specs.General.{is_general, is_even_pair, reuses, rotation, low_byte};
-ghost use Rattle.s390x_typed_steps.specs.MachineInstruction.{rrf_ab, rsy};
+ghost use Rattle.s390x_typed_steps.specs.General.{is_general, is_even_pair, reuses, rotation};
+ghost use Rattle.s390x_typed_steps.specs.MachineInstruction.{rrf_ab};
 ghost use Rattle.s390x_typed_steps.specs.Opcodes.{of_one, alu_part, alu_half, shift_opcode, rotate_then, rotate_then_test};
 ghost use Rattle.s390x_typed_steps.specs.SingleCode.{code_where, single_code};
-ghost use Rattle.s390x_typed_steps.specs.SingleInstruction.{single_with, two_operands, rotated_row};
+ghost use Rattle.s390x_typed_steps.specs.SingleInstruction.{single_instruction, single_with, two_operands, rotated_row};
 ghost use Rattle.s390x_emit_rows.specs.SingleInstruction.{opcode_of, takes_general};
 
 use crate::codes::{selected, shifted, short, three_operands, two_operands};
@@ -16,7 +16,7 @@ use crate::opcode::ShortOpcode;
 use crate::registers::{is_even_pair, is_reused, three_general, two_general};
 use s390x_address::general;
 use s390x_base::{Code, EmitError, Reg, Writable, WritableRegPair};
-use s390x_inst::{ALUOp, RxSBGOp, ShiftOp};
+use s390x_inst::{ALUOp, Inst, RxSBGOp, ShiftOp};
 use s390x_rows::opcodes;
 use s390x_typed_steps::low_byte;
 
@@ -178,7 +178,7 @@ pub fn tested_row(
 /// A shift by a number plus a register. None where there is no row; `BadRegister` comes where a register is not
 /// general, or an input that has to be the output isn't it.
 #[tactic(auto, using(crate::proofs::Encoding::itself))]
-pub fn shift_row(
+fn shift_row(
     op: ShiftOp,
     rd: &Writable<Reg>,
     rn: &Reg,
@@ -187,10 +187,7 @@ pub fn shift_row(
 ) -> Option<Result<Code, EmitError>>
     ensures { result
         ≡ single_code
-        (single_with (is_general rd.now && is_general rn.now && is_general register.now)
-        (Some
-        (rsy (shift_opcode op) (number_of rd.now) (number_of rn.now)
-        (number_of register.now) (low_byte amount)))) }
+        (single_instruction (Inst.ShiftRR op rd.now rn.now amount register.now)) }
 {
     let output = rd.to_reg();
     Some(shifted(
@@ -201,6 +198,20 @@ pub fn shift_row(
         *register,
         low_byte(amount),
     ))
+}
+
+/// The code of an instruction that is this shift. `BadRegister` comes where a register is not general.
+pub fn shift(
+    op: ShiftOp,
+    rd: &Writable<Reg>,
+    rn: &Reg,
+    amount: u8,
+    register: &Reg,
+) -> Option<Result<Code, EmitError>>
+    ensures { (i : _) → i ≡ Inst.ShiftRR op rd.now rn.now amount register.now
+        → result ≡ single_code (single_instruction i) }
+{
+    shift_row(op, rd, rn, amount, register)
 }
 
 /// The signed product of two registers, into a pair. None where there is no row; `BadRegister` comes where a register

@@ -7,16 +7,18 @@ ghost use Rattle.s390x_typed_steps.specs.General.{is_general, is_access, reuses,
 ghost use Rattle.s390x_typed_steps.specs.MachineInstruction.{rr, rrf_cde, rie_g};
 ghost use Rattle.s390x_typed_steps.specs.Opcodes.{of_two, of_four, extend_to_word, extend_to_doubleword, extend_two, indexed_opcode, logical_indexed_opcode};
 ghost use Rattle.s390x_typed_steps.specs.SingleCode.{code_where, single_code};
-ghost use Rattle.s390x_typed_steps.specs.SingleInstruction.{single_with, two_operands, indexed_row};
+ghost use Rattle.s390x_typed_steps.specs.SingleInstruction.{single_instruction, single_with, two_operands, indexed_row};
 ghost use Rattle.s390x_emit_rows.specs.SingleInstruction.{opcode_of, takes_general, implies};
 
-use crate::codes::{conditional_halfword, indexed, masked, short, two_operands};
+use crate::codes::{always, conditional_halfword, indexed, masked, short, two_operands};
 use crate::opcode::ShortOpcode;
 use crate::registers::{is_access, is_reused, three_general};
+use crate::shapes::{into_signed_halfword_row, into_signed_word_row, into_word_row};
 use s390x_address::general;
 use s390x_base::{Code, Cond, EmitError, Reg, SImm20, Writable, gpr};
+use s390x_inst::Inst;
 use s390x_rows::opcodes;
-use s390x_typed_steps::bits_of_halfword;
+use s390x_typed_steps::{bits_of_halfword, bits_of_unsigned};
 
 /// One of two opcodes by its number.
 pub fn of_two(zeroth: u16, first: u16, n: u8) -> Option<ShortOpcode>
@@ -190,7 +192,7 @@ pub fn conditional_row(
 /// A load of an immediate under a condition, into a register that is read too. None where there is no row;
 /// `BadRegister` comes where a register is not general, or an input that has to be the output isn't it.
 #[tactic(auto, using(crate::proofs::Encoding::reused_general))]
-pub fn conditional_immediate_row(
+fn conditional_immediate_row(
     opcode: u16,
     rd: &Writable<Reg>,
     ri: &Reg,
@@ -210,6 +212,66 @@ pub fn conditional_immediate_row(
         bits_of_halfword(*imm),
         cond.bits(),
     ))
+}
+
+/// A move of an immediate into a word under a condition. `BadRegister` comes where the input that has to be the output
+/// isn't it.
+pub fn conditional_word(
+    rd: &Writable<Reg>,
+    cond: Cond,
+    ri: &Reg,
+    imm: &i16,
+) -> Option<Result<Code, EmitError>>
+    ensures { (i : _) → i ≡ Inst.CMov32SImm16 rd.now cond ri.now imm.now
+        → result ≡ single_code (single_instruction i) }
+{
+    conditional_immediate_row(opcodes::LOCHI, rd, ri, imm, cond)
+}
+
+/// A move of an immediate into a doubleword under a condition. `BadRegister` comes where the input that has to be the
+/// output isn't it.
+pub fn conditional_doubleword(
+    rd: &Writable<Reg>,
+    cond: Cond,
+    ri: &Reg,
+    imm: &i16,
+) -> Option<Result<Code, EmitError>>
+    ensures { (i : _) → i ≡ Inst.CMov64SImm16 rd.now cond ri.now imm.now
+        → result ≡ single_code (single_instruction i) }
+{
+    conditional_immediate_row(opcodes::LOCGHI, rd, ri, imm, cond)
+}
+
+/// An immediate becomes a word. `BadRegister` comes where the register is not general.
+pub fn set_word(rd: &Writable<Reg>, imm: u32) -> Option<Result<Code, EmitError>>
+    ensures { (i : _) → i ≡ Inst.Mov32Imm rd.now imm
+        → result ≡ single_code (single_instruction i) }
+{
+    into_word_row(always(opcodes::IILF), rd, bits_of_unsigned(imm))
+}
+
+/// A signed immediate of 16 bits becomes a word. `BadRegister` comes where the register is not general.
+pub fn set_short_word(rd: &Writable<Reg>, imm: &i16) -> Option<Result<Code, EmitError>>
+    ensures { (i : _) → i ≡ Inst.Mov32SImm16 rd.now imm.now
+        → result ≡ single_code (single_instruction i) }
+{
+    into_signed_halfword_row(always(opcodes::LHI), rd, imm)
+}
+
+/// A signed immediate of 16 bits becomes a doubleword. `BadRegister` comes where the register is not general.
+pub fn set_short_doubleword(rd: &Writable<Reg>, imm: &i16) -> Option<Result<Code, EmitError>>
+    ensures { (i : _) → i ≡ Inst.Mov64SImm16 rd.now imm.now
+        → result ≡ single_code (single_instruction i) }
+{
+    into_signed_halfword_row(always(opcodes::LGHI), rd, imm)
+}
+
+/// A signed immediate of 32 bits becomes a doubleword. `BadRegister` comes where the register is not general.
+pub fn set_doubleword(rd: &Writable<Reg>, imm: &i32) -> Option<Result<Code, EmitError>>
+    ensures { (i : _) → i ≡ Inst.Mov64SImm32 rd.now imm.now
+        → result ≡ single_code (single_instruction i) }
+{
+    into_signed_word_row(always(opcodes::LGFI), rd, imm)
 }
 
 /// An indexed address, where there is a row. None where there is no row; `BadRegister` comes where a register is not

@@ -11,17 +11,16 @@ use crate::arithmetic::{
     three_row, two_opcode, unary_row, unsigned_word_opcode,
 };
 use crate::bits::{
-    half_opcode, pair_row, part_opcode, product_row, reused_low_row, rotated_row, shift_row,
-    tested_row,
+    half_opcode, pair_row, part_opcode, product_row, reused_low_row, rotated_row, shift, tested_row,
 };
-use crate::codes::always;
 use crate::moves::{
-    branch_nowhere, conditional_immediate_row, conditional_row, extend_opcode, indexed_opcode,
-    indexed_row, insert_access_row, load_access_row, logical_indexed_opcode, of_four, of_two,
+    branch_nowhere, conditional_doubleword, conditional_row, conditional_word, extend_opcode,
+    indexed_opcode, indexed_row, insert_access_row, load_access_row, logical_indexed_opcode,
+    of_four, of_two, set_doubleword, set_short_doubleword, set_short_word, set_word,
 };
 use crate::shapes::{
-    halfword_row, into_halfword_row, into_row, into_signed_halfword_row, into_signed_word_row,
-    into_word_row, reused_halfword_row, reused_row, reused_word_row, two_row, word_row,
+    halfword_row, into_halfword_row, into_row, into_word_row, reused_halfword_row, reused_row,
+    reused_word_row, two_row, word_row,
 };
 use crate::stops::{
     compare_opcode as trap_opcode, compare_signed_opcode as trap_signed_opcode,
@@ -121,7 +120,7 @@ pub fn find_single_instruction(inst: &Inst) -> Option<Result<Code, EmitError>>
             rn,
             shift_imm,
             shift_reg,
-        } => shift_row(*shift_op, rd, rn, *shift_imm, shift_reg),
+        } => shift(*shift_op, rd, rn, *shift_imm, shift_reg),
         Inst::RxSBG {
             op,
             rd,
@@ -145,14 +144,10 @@ pub fn find_single_instruction(inst: &Inst) -> Option<Result<Code, EmitError>>
         Inst::Mov64 { rd, rm } => into_row(Some(opcodes::LGR), rd, rm),
         Inst::MovPReg { rd, rm } => into_row(Some(opcodes::LGR), rd, &Reg::Real(*rm)),
         Inst::Mov32 { rd, rm } => into_row(Some(opcodes::LR), rd, rm),
-        Inst::Mov32Imm { rd, imm } => into_word_row(
-            always(opcodes::IILF),
-            rd,
-            bits_of_unsigned(*imm),
-        ),
-        Inst::Mov32SImm16 { rd, imm } => into_signed_halfword_row(always(opcodes::LHI), rd, imm),
-        Inst::Mov64SImm16 { rd, imm } => into_signed_halfword_row(always(opcodes::LGHI), rd, imm),
-        Inst::Mov64SImm32 { rd, imm } => into_signed_word_row(always(opcodes::LGFI), rd, imm),
+        Inst::Mov32Imm { rd, imm } => set_word(rd, *imm),
+        Inst::Mov32SImm16 { rd, imm } => set_short_word(rd, imm),
+        Inst::Mov64SImm16 { rd, imm } => set_short_doubleword(rd, imm),
+        Inst::Mov64SImm32 { rd, imm } => set_doubleword(rd, imm),
         Inst::Mov64UImm16Shifted { rd, imm } => into_halfword_row(
             of_four(
                 opcodes::LLILL,
@@ -189,20 +184,8 @@ pub fn find_single_instruction(inst: &Inst) -> Option<Result<Code, EmitError>>
         ),
         Inst::CMov32 { rd, cond, ri, rm } => conditional_row(opcodes::LOCR, rd, ri, rm, *cond),
         Inst::CMov64 { rd, cond, ri, rm } => conditional_row(opcodes::LOCGR, rd, ri, rm, *cond),
-        Inst::CMov32SImm16 { rd, cond, ri, imm } => conditional_immediate_row(
-            opcodes::LOCHI,
-            rd,
-            ri,
-            imm,
-            *cond,
-        ),
-        Inst::CMov64SImm16 { rd, cond, ri, imm } => conditional_immediate_row(
-            opcodes::LOCGHI,
-            rd,
-            ri,
-            imm,
-            *cond,
-        ),
+        Inst::CMov32SImm16 { rd, cond, ri, imm } => conditional_word(rd, *cond, ri, imm),
+        Inst::CMov64SImm16 { rd, cond, ri, imm } => conditional_doubleword(rd, *cond, ri, imm),
         Inst::Extend {
             rd,
             rn,

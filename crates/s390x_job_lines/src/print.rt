@@ -117,6 +117,11 @@ pub fn put_inst(alloc: Global, out: &mut String, i: &Inst) -> Result<(), AllocEr
         Inst::DummyUse { reg } => line1(alloc, out, Control(DummyUse), reg),
         Inst::SequencePoint => line0(out, Control(SequencePoint)),
         Inst::Vector(v) => put_vector(alloc, out, v),
-        _ => put_transfer(alloc, out, i),
+        Inst::Load32 { .. } | Inst::Load32ZExt8 { .. } | Inst::Load32SExt8 { .. } | Inst::Load32ZExt16 { .. }
+        | Inst::Load32SExt16 { .. } | Inst::Load64 { .. } | Inst::Load64ZExt8 { .. } | Inst::Load64SExt8 { .. }
+        | Inst::Load64ZExt16 { .. } | Inst::Load64SExt16 { .. } | Inst::Load64ZExt32 { .. } | Inst::Load64SExt32 { .. }
+        | Inst::LoadRev16 { .. } | Inst::LoadRev32 { .. } | Inst::LoadRev64 { .. } | Inst::Store8 { .. }
+        | Inst::Store16 { .. } | Inst::Store32 { .. } | Inst::Store64 { .. } | Inst::StoreRev16 { .. }
+        | Inst::StoreRev32 { .. } | Inst::StoreRev64 { .. } => put_transfer(alloc, out, i),
     }
 }

@@ -70,6 +70,9 @@ pub fn put_vector(alloc: Global, out: &mut String, v: &VecInst) -> Result<(), Al
         VecInst::VecInsertLaneImmUndef { size, rd, imm, lane_imm } => line4(alloc, out, Vector(VectorName::VecInsertLaneImmUndef), size, rd, imm, lane_imm),
         VecInst::VecReplicateLane { size, rd, rn, lane_imm } => line4(alloc, out, Vector(VectorName::VecReplicateLane), size, rd, rn, lane_imm),
         VecInst::VecEltRev { lane_count, rd, rn } => line3(alloc, out, Vector(VectorName::VecEltRev), lane_count, rd, rn),
-        _ => put_whole(alloc, out, v),
+        VecInst::VecLoad { .. } | VecInst::VecLoadRev { .. } | VecInst::VecLoadByte16Rev { .. } | VecInst::VecLoadByte32Rev { .. }
+        | VecInst::VecLoadByte64Rev { .. } | VecInst::VecLoadElt16Rev { .. } | VecInst::VecLoadElt32Rev { .. } | VecInst::VecLoadElt64Rev { .. }
+        | VecInst::VecStore { .. } | VecInst::VecStoreRev { .. } | VecInst::VecStoreByte16Rev { .. } | VecInst::VecStoreByte32Rev { .. }
+        | VecInst::VecStoreByte64Rev { .. } | VecInst::VecStoreElt16Rev { .. } | VecInst::VecStoreElt32Rev { .. } | VecInst::VecStoreElt64Rev { .. } => put_whole(alloc, out, v),
     }
 }

@@ -2,5 +2,4 @@ pub mod Reporting
 pub mod Looping
 pub mod Members
 pub mod Public
-pub mod Turns
 pub mod Witnesses
