@@ -21,7 +21,28 @@ use Rattle.s390x_operands.specs.declared.constraint.Reported.TheVariants.{Fixed}
 use Rattle.s390x_operands.specs.Requests.{items_of, cause_of, used, defined, reused, fixed_use, fixed_def, scratch_request, memory_requests, range_requests}
 use Rattle.s390x_operands.specs.Calls.{call_requests, return_call_requests, incoming, outgoing}
 
--- what is reported of vector instructions on registers and immediates
+-- what is reported of moves, immediates and elements of vector registers
+abbrev pub vector_move_requests : VecInst → List (Option Reported)
+vector_move_requests (VecMov rd rn) = defined rd ∷ used rn ∷ []
+vector_move_requests (FpuMove32 rd rn) = defined rd ∷ used rn ∷ []
+vector_move_requests (FpuMove64 rd rn) = defined rd ∷ used rn ∷ []
+vector_move_requests (FpuCMov32 rd cond ri rm) = reused rd ∷ used ri ∷ used rm ∷ []
+vector_move_requests (FpuCMov64 rd cond ri rm) = reused rd ∷ used ri ∷ used rm ∷ []
+vector_move_requests (VecCMov rd cond ri rm) = reused rd ∷ used ri ∷ used rm ∷ []
+vector_move_requests (MovToVec128 rd rn rm) = defined rd ∷ used rn ∷ used rm ∷ []
+vector_move_requests (VecImmByteMask rd mask) = defined rd ∷ []
+vector_move_requests (VecImmBitMask size rd start_bit end_bit) = defined rd ∷ []
+vector_move_requests (VecImmReplicate size rd imm) = defined rd ∷ []
+vector_move_requests (VecInsertLane size rd ri rn lane_imm lane_reg) = reused rd ∷ used ri ∷ used rn ∷ used lane_reg ∷ []
+vector_move_requests (VecInsertLaneUndef size rd rn lane_imm lane_reg) = defined rd ∷ used rn ∷ used lane_reg ∷ []
+vector_move_requests (VecExtractLane size rd rn lane_imm lane_reg) = defined rd ∷ used rn ∷ used lane_reg ∷ []
+vector_move_requests (VecInsertLaneImm size rd ri imm lane_imm) = reused rd ∷ used ri ∷ []
+vector_move_requests (VecInsertLaneImmUndef size rd imm lane_imm) = defined rd ∷ []
+vector_move_requests (VecReplicateLane size rd rn lane_imm) = defined rd ∷ used rn ∷ []
+vector_move_requests (VecEltRev lane_count rd rn) = defined rd ∷ used rn ∷ []
+vector_move_requests _ = []
+
+-- what is reported of vector instructions without memory
 abbrev pub register_vector_requests : VecInst → List (Option Reported)
 register_vector_requests (VecRRR op rd rn rm) = defined rd ∷ used rn ∷ used rm ∷ []
 register_vector_requests (VecRR op rd rn) = defined rd ∷ used rn ∷ []
@@ -36,24 +57,7 @@ register_vector_requests (VecIntCmpS op rd rn rm) = defined rd ∷ used rn ∷ u
 register_vector_requests (VecIntEltCmp op rn rm) = used rn ∷ used rm ∷ []
 register_vector_requests (VecInt128SCmpHi tmp rn rm) = defined tmp ∷ used rn ∷ used rm ∷ []
 register_vector_requests (VecInt128UCmpHi tmp rn rm) = defined tmp ∷ used rn ∷ used rm ∷ []
-register_vector_requests (VecMov rd rn) = defined rd ∷ used rn ∷ []
-register_vector_requests (FpuMove32 rd rn) = defined rd ∷ used rn ∷ []
-register_vector_requests (FpuMove64 rd rn) = defined rd ∷ used rn ∷ []
-register_vector_requests (FpuCMov32 rd cond ri rm) = reused rd ∷ used ri ∷ used rm ∷ []
-register_vector_requests (FpuCMov64 rd cond ri rm) = reused rd ∷ used ri ∷ used rm ∷ []
-register_vector_requests (VecCMov rd cond ri rm) = reused rd ∷ used ri ∷ used rm ∷ []
-register_vector_requests (MovToVec128 rd rn rm) = defined rd ∷ used rn ∷ used rm ∷ []
-register_vector_requests (VecImmByteMask rd mask) = defined rd ∷ []
-register_vector_requests (VecImmBitMask size rd start_bit end_bit) = defined rd ∷ []
-register_vector_requests (VecImmReplicate size rd imm) = defined rd ∷ []
-register_vector_requests (VecInsertLane size rd ri rn lane_imm lane_reg) = reused rd ∷ used ri ∷ used rn ∷ used lane_reg ∷ []
-register_vector_requests (VecInsertLaneUndef size rd rn lane_imm lane_reg) = defined rd ∷ used rn ∷ used lane_reg ∷ []
-register_vector_requests (VecExtractLane size rd rn lane_imm lane_reg) = defined rd ∷ used rn ∷ used lane_reg ∷ []
-register_vector_requests (VecInsertLaneImm size rd ri imm lane_imm) = reused rd ∷ used ri ∷ []
-register_vector_requests (VecInsertLaneImmUndef size rd imm lane_imm) = defined rd ∷ []
-register_vector_requests (VecReplicateLane size rd rn lane_imm) = defined rd ∷ used rn ∷ []
-register_vector_requests (VecEltRev lane_count rd rn) = defined rd ∷ used rn ∷ []
-register_vector_requests _ = []
+register_vector_requests v = vector_move_requests v
 
 -- what is reported of loads and stores of elements, and of instructions on registers
 abbrev pub part_requests : VecInst → List (Option Reported)

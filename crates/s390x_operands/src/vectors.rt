@@ -1,6 +1,6 @@
 //! Reporting the operands of vector instructions.
 ghost use Rattle.s390x_operands.specs.Requests.{Reports};
-ghost use Rattle.s390x_operands.specs.Operands.{register_vector_requests, part_requests, whole_requests, vector_requests};
+ghost use Rattle.s390x_operands.specs.Operands.{register_vector_requests, vector_move_requests, part_requests, whole_requests, vector_requests};
 
 use crate::constraint::OperandError;
 use crate::report::{
@@ -70,8 +70,8 @@ fn report_part<V: OperandVisitor>(
     }
 }
 
-/// Reports the operands of a vector instruction without memory.
-pub fn report_register_vector<V: OperandVisitor>(
+// Reports the operands of a vector instruction without memory.
+fn report_register_vector<V: OperandVisitor>(
     v: &mut V,
     denied: bool,
     inst: &VecInst,
@@ -83,14 +83,8 @@ pub fn report_register_vector<V: OperandVisitor>(
         VecInst::VecRRR { rd, rn, rm, .. }
         | VecInst::VecPermuteDWImm { rd, rn, rm, .. }
         | VecInst::VecIntCmp { rd, rn, rm, .. }
-        | VecInst::VecIntCmpS { rd, rn, rm, .. }
-        | VecInst::MovToVec128 { rd, rn, rm } => { report_output(v, denied, rd, &[*rn, *rm]) }
-        VecInst::VecRR { rd, rn, .. }
-        | VecInst::VecMov { rd, rn }
-        | VecInst::FpuMove32 { rd, rn }
-        | VecInst::FpuMove64 { rd, rn }
-        | VecInst::VecReplicateLane { rd, rn, .. }
-        | VecInst::VecEltRev { rd, rn, .. } => { report_output(v, denied, rd, &[*rn]) }
+        | VecInst::VecIntCmpS { rd, rn, rm, .. } => { report_output(v, denied, rd, &[*rn, *rm]) }
+        VecInst::VecRR { rd, rn, .. } => report_output(v, denied, rd, &[*rn]),
         VecInst::VecShiftRR {
             rd,
             rn,
@@ -107,6 +101,26 @@ pub fn report_register_vector<V: OperandVisitor>(
         VecInst::VecInt128SCmpHi { tmp, rn, rm } | VecInst::VecInt128UCmpHi { tmp, rn, rm } => {
             report_output(v, denied, tmp, &[*rn, *rm])
         }
+        _ => report_vector_move(v, denied, inst),
+    }
+}
+
+// Reports the operands of a move, an immediate or an element of vector registers.
+fn report_vector_move<V: OperandVisitor>(
+    v: &mut V,
+    denied: bool,
+    inst: &VecInst,
+) -> Result<(), OperandError>
+    ensures { Reports denied (vector_move_requests inst.now) (V.items v.old) (V.items v.new)
+        (V.denies v.old) (V.denies v.new) result }
+{
+    match inst {
+        VecInst::VecMov { rd, rn }
+        | VecInst::FpuMove32 { rd, rn }
+        | VecInst::FpuMove64 { rd, rn }
+        | VecInst::VecReplicateLane { rd, rn, .. }
+        | VecInst::VecEltRev { rd, rn, .. } => { report_output(v, denied, rd, &[*rn]) }
+        VecInst::MovToVec128 { rd, rn, rm } => report_output(v, denied, rd, &[*rn, *rm]),
         VecInst::FpuCMov32 { rd, ri, rm, .. }
         | VecInst::FpuCMov64 { rd, ri, rm, .. }
         | VecInst::VecCMov { rd, ri, rm, .. } => { report_reused(v, denied, rd, &[*ri, *rm]) }
