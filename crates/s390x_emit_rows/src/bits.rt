@@ -18,7 +18,7 @@ use s390x_address::general;
 use s390x_base::{Code, EmitError, Reg, Writable, WritableRegPair};
 use s390x_inst::{ALUOp, Inst, RxSBGOp, ShiftOp};
 use s390x_rows::opcodes;
-use s390x_typed_steps::low_byte;
+use s390x_typed_steps::{low_byte, row_of_shift, rows_of_rotate};
 
 fn of_one(zeroth: u16, n: u8) -> Option<ShortOpcode>
     requires { zeroth < 4096 }
@@ -72,38 +72,19 @@ pub fn half_opcode(op: ALUOp, shift: u8) -> Option<ShortOpcode>
 fn shift_opcode(op: ShiftOp) -> u16
     ensures { result ≡ shift_opcode op }
 {
-    match op {
-        ShiftOp::RotL32 => opcodes::RLL,
-        ShiftOp::RotL64 => opcodes::RLLG,
-        ShiftOp::LShL32 => opcodes::SLLK,
-        ShiftOp::LShL64 => opcodes::SLLG,
-        ShiftOp::LShR32 => opcodes::SRLK,
-        ShiftOp::LShR64 => opcodes::SRLG,
-        ShiftOp::AShR32 => opcodes::SRAK,
-        ShiftOp::AShR64 => opcodes::SRAG,
-    }
+    row_of_shift(op)
 }
 
 fn rotate_opcode(op: RxSBGOp) -> u16
     ensures { result ≡ rotate_then op }
 {
-    match op {
-        RxSBGOp::Insert => opcodes::RISBGN,
-        RxSBGOp::And => opcodes::RNSBG,
-        RxSBGOp::Or => opcodes::ROSBG,
-        RxSBGOp::Xor => opcodes::RXSBG,
-    }
+    rows_of_rotate(op).change
 }
 
 fn test_opcode(op: RxSBGOp) -> Option<u16>
     ensures { result ≡ rotate_then_test op }
 {
-    match op {
-        RxSBGOp::Insert => None,
-        RxSBGOp::And => Some(opcodes::RNSBG),
-        RxSBGOp::Or => Some(opcodes::ROSBG),
-        RxSBGOp::Xor => Some(opcodes::RXSBG),
-    }
+    rows_of_rotate(op).test
 }
 
 // An amount to the right counts as one to the left.

@@ -5,7 +5,9 @@ mod access_rows;
 mod immediates;
 mod law;
 mod mem_inst_type;
+mod operator_rows;
 mod vector_opcode;
+mod vector_rows;
 
 pub use access_rows::{
     LOAD_ROWS, RegisterRows, STORE_ROWS, WHOLE_ROWS, WholeRows, rows_of_layout, rows_of_load,
@@ -20,4 +22,13 @@ pub use law::{
     relative_machines_keep_trees,
 };
 pub use mem_inst_type::MemInstType;
+pub use operator_rows::{
+    ALU_ROWS, AluRows, CMP_ROWS, CmpRows, ROTATE_ROWS, RotateRows, SHIFT_ROWS, UNARY_ROWS,
+    row_of_shift, row_of_unary, rows_of_alu, rows_of_cmp, rows_of_rotate,
+};
 pub use vector_opcode::VectorOpcode;
+pub use vector_rows::{
+    VEC_BINARY_ROWS, VEC_COMPARISON_ROWS, VEC_ELEMENT_COMPARISON_ROWS, VEC_SHIFT_ROWS,
+    VEC_UNARY_ROWS, row_of_vec_binary, row_of_vec_comparison, row_of_vec_element_comparison,
+    row_of_vec_shift, row_of_vec_unary,
+};
