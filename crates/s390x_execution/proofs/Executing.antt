@@ -10,8 +10,8 @@ use Rattle.s390x_machine.specs.Machine.{Executed, Interrupted, ActionStep, OddPa
 use Rattle.s390x_machine.specs.Semantics.{action, is_odd_pair, semantics_of}
 use Rattle.s390x_machine.specs.Step.{Steps}
 use Rattle.s390x_format.specs.declared.semantics.RowSemantics.{RowSemantics}
-use Rattle.s390x_machine.specs.declared.action.Action.{Action}
-use Rattle.s390x_machine.specs.declared.action.Action.TheVariants.{Perform, Branch, BranchAndSave}
+use Rattle.s390x_machine.specs.declared.action_type.Action.{Action}
+use Rattle.s390x_machine.specs.declared.action_type.Action.TheVariants.{Perform, Branch, BranchAndSave}
 use Rattle.s390x_machine.specs.declared.step.StepEnd.TheVariants.{Went, Stopped as Stops, NoRow as HasNoRow}
 use Rattle.s390x_execution.specs.Execution.{Walks, Ends, IsExecution, IsStepped}
 use Rattle.s390x_execution.specs.declared.execution.End.{End}

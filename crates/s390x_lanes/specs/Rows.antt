@@ -1,6 +1,6 @@
 -- Which operation a row, masks and an immediate are. The masks are the masks and 8-bit immediates of the row's format in
 -- the order of its operands, and the immediate is its 16-bit one, or the amount of an element shift; what a format lacks is 0.
-use Rattle.std.specs.Prelude.{ℕ, ◌/◌, ◌%◌, ◌^◌, Bool, true, false, nat_lt, nat_le, ◌==◌, ◌&&◌, List, [], ◌∷◌, slice_index, Option, None, Some, ℤ, pos, negsuc, if◌then◌else◌}
+use Rattle.std.specs.Prelude.{ℕ, ◌/◌, ◌%◌, ◌^◌, Bool, true, false, nat_lt, nat_le, ◌==◌, ◌&&◌, List, slice_index, Option, None, Some, ℤ, pos, negsuc, if◌then◌else◌}
 use Rattle.s390x_lanes.specs.Size.{element_bits, lane_count, size_of_code, narrower_of_code}
 use Rattle.s390x_lanes.specs.declared.size.ElementSize.TheVariants.{Quadword}
 use Rattle.s390x_lanes.specs.declared.operators.VectorOperation.{VectorOperation}

@@ -22,8 +22,8 @@ use Rattle.s390x_operations.specs.declared.effect.Operation.{Operation}
 use Rattle.s390x_operations.specs.declared.effect.CodeRule.{CodeRule}
 use Rattle.s390x_operations.specs.declared.stop.StopKind.{StopKind}
 use Rattle.s390x_format.specs.declared.semantics.RowSemantics.{RowSemantics}
-use Rattle.s390x_machine.specs.declared.action.Action.{Action}
-use Rattle.s390x_machine.specs.declared.action.Action.TheVariants.{Perform}
+use Rattle.s390x_machine.specs.declared.action_type.Action.{Action}
+use Rattle.s390x_machine.specs.declared.action_type.Action.TheVariants.{Perform}
 use Rattle.s390x_machine.specs.Computations.{Computation, Comparison, computes, compares, computes_immediate, compares_immediate}
 use Rattle.s390x_machine.specs.StepKinds.{StepKind, Performs, no_code}
 use Rattle.s390x_machine.specs.Layout.{Layout, step_address}

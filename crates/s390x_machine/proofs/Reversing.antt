@@ -28,8 +28,8 @@ use Rattle.s390x_typed_steps.specs.Parts.{row_parts, step_parts}
 use Rattle.s390x_typed_steps.specs.Steps.{Step}
 use Rattle.s390x_typed_steps.specs.VectorComposite.{exchanges_doublewords, exchanges_halves, reversing_rows, rows_cause, rows_or_none}
 use Rattle.s390x_typed_steps.specs.VectorOpcodes.{shift_row}
-use Rattle.s390x_machine.specs.declared.action.Action.{Action}
-use Rattle.s390x_machine.specs.declared.action.Action.TheVariants.{Perform}
+use Rattle.s390x_machine.specs.declared.action_type.Action.{Action}
+use Rattle.s390x_machine.specs.declared.action_type.Action.TheVariants.{Perform}
 use Rattle.s390x_format.specs.declared.semantics.RowSemantics.TheVariants as Row
 use Rattle.s390x_machine.specs.CodeAt.{ImageAt}
 use Rattle.s390x_machine.specs.Layout.{Layout, InStep, step_address}

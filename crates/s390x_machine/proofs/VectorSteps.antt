@@ -50,7 +50,7 @@ use Rattle.s390x_typed_steps.specs.VectorInstruction.{is_vector, element_code, d
 use Rattle.s390x_typed_steps.specs.VectorOpcodes.{binary_row, unary_row, shift_row, comparison_row, element_comparison_row, is_division}
 use Rattle.s390x_format.specs.declared.semantics.RowSemantics.TheVariants.{Elements, JoinRegisters, MoveLeft}
 use Rattle.s390x_format.specs.declared.semantics.RowSemantics.TheVariants as Row
-use Rattle.s390x_machine.specs.declared.action.Action.TheVariants.{Perform}
+use Rattle.s390x_machine.specs.declared.action_type.Action.TheVariants.{Perform}
 use Rattle.s390x_machine.specs.CodeAt.{ImageAt, OperandsValidOr}
 use Rattle.s390x_machine.specs.Computations.{with_rule}
 use Rattle.s390x_machine.specs.Layout.{Layout, step_address}

@@ -1,5 +1,5 @@
 -- What a machine row does with its fields (Principles of Operation, chapter 7, "General instructions"). This is the only place that knows their order.
-use Rattle.std.specs.Prelude.{ℕ, ◌+◌, ◌-◌, ◌*◌, ◌^◌, ◌%◌, ◌==◌, nat_le, nat_lt, Bool, true, false, ◌&&◌, if◌then◌else◌, pos, ◌+ℤ◌, List, [], ◌∷◌, Option, Some, None, slice_index}
+use Rattle.std.specs.Prelude.{ℕ, ◌+◌, ◌-◌, ◌*◌, ◌^◌, ◌%◌, ◌==◌, nat_lt, Bool, true, false, ◌&&◌, if◌then◌else◌, pos, ◌+ℤ◌, List, [], ◌∷◌, Option, Some, None, slice_index}
 use Rattle.s390x_format.specs.declared.fields.Fields.{Fields}
 use Rattle.s390x_lanes.specs.Size.{element_bits, lane_count, size_of_code}
 use Rattle.s390x_lanes.specs.Lanes.{lane}
@@ -37,8 +37,8 @@ use Rattle.s390x_format.specs.declared.row.MachineRow.{MachineRow}
 use Rattle.s390x_format.specs.declared.table.TheConstants.{MACHINE_ROWS}
 use Rattle.s390x_format.specs.declared.semantics.VectorStorage.{VectorStorage}
 use Rattle.s390x_format.specs.declared.semantics.VectorStorage.TheVariants.{Whole, ReversedBytes, ReversedElements, Replicated, Element}
-use Rattle.s390x_machine.specs.declared.action.Action.{Action}
-use Rattle.s390x_machine.specs.declared.action.Action.TheVariants.{Perform, Branch, BranchAndSave}
+use Rattle.s390x_machine.specs.declared.action_type.Action.{Action}
+use Rattle.s390x_machine.specs.declared.action_type.Action.TheVariants.{Perform, Branch, BranchAndSave}
 
 -- a register field's number
 abbrev pub register_field : Fields → ℕ → ℕ

@@ -31,8 +31,8 @@ use Rattle.s390x_format.specs.declared.semantics.OperandSource.TheVariants.{Shif
 use Rattle.s390x_format.specs.declared.semantics.SecondOperand.{SecondOperand}
 use Rattle.s390x_format.specs.declared.semantics.RowSemantics.{RowSemantics}
 use Rattle.s390x_format.specs.declared.semantics.RowSemantics.TheVariants as Row
-use Rattle.s390x_machine.specs.declared.action.Action.{Action}
-use Rattle.s390x_machine.specs.declared.action.Action.TheVariants.{Perform, Branch, BranchAndSave}
+use Rattle.s390x_machine.specs.declared.action_type.Action.{Action}
+use Rattle.s390x_machine.specs.declared.action_type.Action.TheVariants.{Perform, Branch, BranchAndSave}
 
 -- the bytes of an access are accessible
 abbrev pub is_reached : Access → (ℕ → Bool) → Bool

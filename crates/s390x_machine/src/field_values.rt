@@ -7,7 +7,7 @@ ghost use Rattle.s390x_machine.specs.Semantics.{register_field, indexed_address,
 ghost use Rattle.s390x_machine.specs.State.{registers_of};
 ghost use Rattle.s390x_machine.specs.Sound.{AreGeneral, ShiftFits};
 
-use crate::action::Action;
+use crate::action_type::Action;
 use crate::machine::Machine;
 use s390x_format::{Fields, OperandSource, SecondOperand};
 use s390x_lanes::Signedness;

@@ -2,7 +2,7 @@
 #![tactic(auto)]
 
 mod access;
-mod action;
+mod action_type;
 mod codes;
 mod field_values;
 mod flat;

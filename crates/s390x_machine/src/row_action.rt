@@ -5,7 +5,7 @@ ghost use Rattle.s390x_machine.specs.Semantics.{action};
 ghost use Rattle.s390x_machine.specs.State.{registers_of};
 ghost use Rattle.s390x_machine.specs.Sound.{FieldsFit, IsSoundAction, is_free};
 
-use crate::action::Action;
+use crate::action_type::Action;
 use crate::field_values::{performs, relative_address};
 use crate::machine::Machine;
 use crate::register_action::{

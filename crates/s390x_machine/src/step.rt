@@ -10,7 +10,7 @@ ghost use Rattle.s390x_machine.specs.State.{memory_of, registers_of, state_of};
 ghost use Rattle.s390x_machine.specs.Sound.{HasRegisters, IsSoundAction, is_free, is_uncomputed};
 ghost use Rattle.s390x_machine.specs.Step.{Executes, Steps};
 
-use crate::action::Action;
+use crate::action_type::Action;
 use crate::field_values::{relative_address, source};
 use crate::instruction_fetch::{FetchedRow, fetch_row};
 use crate::machine::Machine;

@@ -6,7 +6,7 @@ ghost use Rattle.s390x_machine.specs.Semantics.{registers_between, action};
 ghost use Rattle.s390x_machine.specs.State.{registers_of};
 ghost use Rattle.s390x_machine.specs.Sound.{FieldsFit, IsSoundAction};
 
-use crate::action::Action;
+use crate::action_type::Action;
 use crate::field_values::{based, immediate, performs, source, value_in};
 use crate::machine::Machine;
 use s390x_format::{Fields, RowSemantics, SecondOperand};

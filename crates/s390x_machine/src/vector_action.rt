@@ -9,7 +9,7 @@ ghost use Rattle.s390x_machine.specs.Semantics.{register_field, performs, elemen
 ghost use Rattle.s390x_machine.specs.State.{registers_of};
 ghost use Rattle.s390x_machine.specs.Sound.{FieldsFit, IsSoundAction, is_free, is_uncomputed, shift_amount};
 
-use crate::action::Action;
+use crate::action_type::Action;
 use crate::field_values::{based, indexed_address, performs, value_in, whole_operand};
 use crate::machine::Machine;
 use s390x_format::{Fields, RowSemantics, VectorStorage};

@@ -1,6 +1,6 @@
 -- The machine row of each operator on vectors: its opcode and the code of its elements' size (cranelift-codegen, `emit.rs`). Rows of three vector
 -- registers are VRR-C, of two VRR-A; shifts by an amount are VRS-A, comparisons VRR-B, those of one element VRR-A.
-use Rattle.std.specs.Prelude.{ℕ, Bool, true, false, get_or}
+use Rattle.std.specs.Prelude.{Bool, true, false, get_or}
 use denote.Enum.Declared.{tag_of}
 use Rattle.s390x_inst.specs.declared.vec_ops.VecBinaryOp.{VecBinaryOp}
 use Rattle.s390x_inst.specs.declared.vec_ops.VecBinaryOp.TheVariants.{UDiv32x4, UDiv64x2, UDiv128, SDiv32x4, SDiv64x2, SDiv128, URem32x4, URem64x2, URem128, SRem32x4, SRem64x2, SRem128}
