@@ -16,3 +16,4 @@ pub mod ImmediateLaws
 pub mod SignedLaws
 pub mod StorageLaws
 pub mod VectorLaws
+pub mod Stems
