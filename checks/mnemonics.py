@@ -30,7 +30,8 @@ READERS = {
 # The same of tables of opcodes, by the columns that are read.
 OPCODE_READERS = {
     "ALU_ROWS": {"three": "AluRRR", "two": "AluRR", "halfword": "AluRSImm16", "three_halfword": "AluRRSImm16", "signed_word": "AluRSImm32",
-                 "unsigned_word": "AluRUImm32", "rx": "AluRX", "rxy": "AluRX", "atomic": "AtomicRmw"},
+                 "unsigned_word": "AluRUImm32", "rx": "AluRX", "rxy": "AluRX", "atomic": "AtomicRmw", "parts": "AluRUImm16Shifted",
+                 "halves": "AluRUImm32Shifted"},
     "CMP_ROWS": {"two": "CmpRR", "halfword": "CmpRSImm16", "signed_word": "CmpRSImm32", "unsigned_word": "CmpRUImm32", "rx": "CmpRX",
                  "rxy": "CmpRX", "ril": "CmpRX", "trap": "CmpTrapRR", "trap_signed": "CmpTrapRSImm16", "trap_unsigned": "CmpTrapRUImm16"},
     "LOAD_ROWS": {"rx": None, "rxy": None, "ril": None},
@@ -95,16 +96,23 @@ def opcode_entries():
         for table, rows in tables:
             for row, operator in re.findall(r"^ *(.*), // (\w+)$", rows, re.M):
                 for column, name in OPCODE_READERS.get(table, {}).items():
-                    cell = re.search(rf"\b{column}: (?:Some\()?opcodes::(\w+)" if column else r"opcodes::(\w+)", row)
-                    # what the table hasn't is the count of ones
-                    if cell or table == "UNARY_ROWS":
-                        mnemonic = stems[cell[1] if cell else "POPCNT"]
+                    cell = re.search(rf"\b{column}: (\w+(?:::\w+)?(?:\([^)]*\))?)", row)[1] if column else row
+                    # what the table of operators on one register hasn't is the count of ones
+                    opcodes = re.findall(r"opcodes::(\w+)", cell) or ["POPCNT"] * (table == "UNARY_ROWS")
+                    for mnemonic in (stems[opcode] for opcode in opcodes):
                         yield table, (name, operator, mnemonic) if name else (operator, "", mnemonic)
 
 
+def moved():
+    """The mnemonics of moves, extensions and indexed addresses."""
+    stems = {row.name: row.stem for row in machine_rows()}
+    with open(os.path.join(ROWS, "move_rows.rt")) as file:
+        return {stems[opcode] for opcode in re.findall(r"opcodes::(\w+)", file.read())}
+
+
 def other_mnemonics():
-    """The mnemonics that stand in no table."""
-    found = set()
+    """The mnemonics that stand in no table of operators."""
+    found = moved()
     for path in glob.glob(os.path.join(SOURCES, "*.rt")):
         if not path.endswith("mnemonics.rt"):
             with open(path) as file:

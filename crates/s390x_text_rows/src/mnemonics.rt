@@ -13,8 +13,8 @@ use s390x_typed_steps::{
     rows_of_rotate, rows_of_store,
 };
 
-// The stem of a row that there may be.
-fn stem_where(opcode: Option<u16>) -> Option<&'static str>
+/// The stem of a row that there may be; None where there is none.
+pub fn stem_where(opcode: Option<u16>) -> Option<&'static str>
     ensures { option_map (λ s. s.now) result ≡ option_map stem_of opcode }
 {
     match opcode {

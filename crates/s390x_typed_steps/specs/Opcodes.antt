@@ -2,10 +2,9 @@
 -- of two digits are RR, of four with two operands RRE, with three RRF-AB; with an immediate of 16 bits rows are RI-A, or RIE-D with a third operand;
 -- of 32 bits RIL-A. Shifts by an amount are RSY, selected bits of a rotated register RIE-F, indexed addresses RXY. Rows of a single instruction have
 -- their opcodes in `Alone.antt`: of these, conditional moves are RRF-CDE, or RIE-G with an immediate, and counts of ones RRF-CDE.
-use Rattle.std.specs.Prelude.{ℕ, Bool, nat_eq, cond, get_or, Option, Some, None}
+use Rattle.std.specs.Prelude.{ℕ, Bool, nat_eq, cond, List, get_or, slice_index, Option, Some, None}
 use denote.Enum.Declared.{tag_of}
 use Rattle.s390x_inst.specs.declared.ops.ALUOp.{ALUOp}
-use Rattle.s390x_inst.specs.declared.ops.ALUOp.TheVariants.{And32, And64, Orr32, Orr64, Xor32, Xor64}
 use Rattle.s390x_inst.specs.declared.ops.CmpOp.{CmpOp}
 use Rattle.s390x_inst.specs.declared.ops.ShiftOp.{ShiftOp}
 use Rattle.s390x_inst.specs.declared.ops.RxSBGOp.{RxSBGOp}
@@ -15,15 +14,17 @@ use Rattle.s390x_inst.specs.contracts.ops.CmpOp as the_cmp
 use Rattle.s390x_inst.specs.contracts.ops.RxSBGOp as the_rotate
 use Rattle.s390x_inst.specs.contracts.ops.ShiftOp as the_shift
 use Rattle.s390x_inst.specs.contracts.ops.UnaryOp as the_unary
-use Rattle.s390x_rows.specs.declared.opcodes.TheConstants as opcodes
 use Rattle.s390x_typed_steps.specs.declared.operator_rows.AluRows.{AluRows}
 use Rattle.s390x_typed_steps.specs.declared.operator_rows.CmpRows.{CmpRows}
+use Rattle.s390x_typed_steps.specs.declared.operator_rows.PartRows.{PartRows}
+use Rattle.s390x_typed_steps.specs.declared.operator_rows.PartRows.TheVariants.{Lacking, One, Two, Four}
 use Rattle.s390x_typed_steps.specs.declared.operator_rows.RotateRows.{RotateRows}
 use Rattle.s390x_typed_steps.specs.declared.operator_rows.TheConstants.{ALU_ROWS, CMP_ROWS, ROTATE_ROWS, SHIFT_ROWS, UNARY_ROWS}
+use Rattle.s390x_typed_steps.specs.declared.move_rows.TheConstants.{BYTE_TO_DOUBLEWORD, BYTE_TO_WORD, HALFWORD_TO_DOUBLEWORD, HALFWORD_TO_WORD, INDEXED_ROWS, INSERT_HALVES, INSERT_PARTS, LOAD_HALVES, LOAD_PARTS, LOGICAL_INDEXED_ROWS, WORD_TO_DOUBLEWORD}
 
 -- the rows of an operator, at its place in their table
 abbrev pub alu_rows : ALUOp → AluRows
-alu_rows op = get_or ALU_ROWS (tag_of the_alu.the_type op) (record { three = None; two = None; halfword = None; three_halfword = None; signed_word = None; unsigned_word = None; rx = None; rxy = None; atomic = None })
+alu_rows op = get_or ALU_ROWS (tag_of the_alu.the_type op) (record { three = None; two = None; halfword = None; three_halfword = None; signed_word = None; unsigned_word = None; rx = None; rxy = None; atomic = None; parts = Lacking; halves = Lacking })
 
 -- the rows of a comparison
 abbrev pub cmp_rows : CmpOp → CmpRows
@@ -101,49 +102,50 @@ of_two zeroth first n = cond (nat_eq n 0) (Some zeroth) (cond (nat_eq n 1) (Some
 abbrev pub of_four : (zeroth first second third : ℕ) → ℕ → Option ℕ
 of_four zeroth first second third n = cond (nat_eq n 0) (Some zeroth) (cond (nat_eq n 1) (Some first) (cond (nat_eq n 2) (Some second) (cond (nat_eq n 3) (Some third) None)))
 
--- a part of 16 bits, by its number from the right; of 32-bit operators the right two alone
+-- of a part by its number from the right
+abbrev pub opcode_of_part : PartRows → ℕ → Option ℕ
+opcode_of_part Lacking n = None
+opcode_of_part (One zeroth) n = of_one zeroth n
+opcode_of_part (Two zeroth first) n = of_two zeroth first n
+opcode_of_part (Four zeroth first second third) n = of_four zeroth first second third n
+
+-- a part of 16 bits; of 32-bit operators the right two alone
 abbrev pub alu_part : ALUOp → ℕ → Option ℕ
-alu_part And32 shift = of_two opcodes.NILL opcodes.NILH shift
-alu_part And64 shift = of_four opcodes.NILL opcodes.NILH opcodes.NIHL opcodes.NIHH shift
-alu_part Orr32 shift = of_two opcodes.OILL opcodes.OILH shift
-alu_part Orr64 shift = of_four opcodes.OILL opcodes.OILH opcodes.OIHL opcodes.OIHH shift
-alu_part _ shift = None
+alu_part op shift = opcode_of_part (alu_rows op).parts shift
 
--- a half of 32 bits, by its number from the right; of 32-bit operators the right one alone
+-- a half of 32 bits; of 32-bit operators the right one alone
 abbrev pub alu_half : ALUOp → ℕ → Option ℕ
-alu_half And32 shift = of_one opcodes.NILF shift
-alu_half And64 shift = of_two opcodes.NILF opcodes.NIHF shift
-alu_half Orr32 shift = of_one opcodes.OILF shift
-alu_half Orr64 shift = of_two opcodes.OILF opcodes.OIHF shift
-alu_half Xor32 shift = of_one opcodes.XILF shift
-alu_half Xor64 shift = of_two opcodes.XILF opcodes.XIHF shift
-alu_half _ shift = None
+alu_half op shift = opcode_of_part (alu_rows op).halves shift
 
--- a load of a part of 16 bits, by its number from the right, into a register that is zero elsewhere
+-- a load of a part of 16 bits into a register that is zero elsewhere
 abbrev pub load_part : ℕ → Option ℕ
-load_part shift = of_four opcodes.LLILL opcodes.LLILH opcodes.LLIHL opcodes.LLIHH shift
+load_part shift = opcode_of_part LOAD_PARTS shift
 
--- a load of a half of 32 bits, by its number from the right, into a register that is zero elsewhere
+-- a load of a half of 32 bits into a register that is zero elsewhere
 abbrev pub load_half : ℕ → Option ℕ
-load_half shift = of_two opcodes.LLILF opcodes.LLIHF shift
+load_half shift = opcode_of_part LOAD_HALVES shift
 
--- a part of 16 bits, by its number from the right, in a register that is left elsewhere
+-- a part of 16 bits in a register that is left elsewhere
 abbrev pub insert_part : ℕ → Option ℕ
-insert_part shift = of_four opcodes.IILL opcodes.IILH opcodes.IIHL opcodes.IIHH shift
+insert_part shift = opcode_of_part INSERT_PARTS shift
 
--- a half of 32 bits, by its number from the right, in a register that is left elsewhere
+-- a half of 32 bits in a register that is left elsewhere
 abbrev pub insert_half : ℕ → Option ℕ
-insert_half shift = of_two opcodes.IILF opcodes.IIHF shift
+insert_half shift = opcode_of_part INSERT_HALVES shift
 
 -- a number of so many bits becomes one of 32 bits; one bit counts as a byte with its sign
 abbrev pub extend_to_word : Bool → ℕ → Option ℕ
 extend_to_word signed from =
-    cond (nat_eq from 1) (Some opcodes.LBR) (cond (nat_eq from 8) (Some (cond signed opcodes.LBR opcodes.LLCR)) (cond (nat_eq from 16) (Some (cond signed opcodes.LHR opcodes.LLHR)) None))
+    cond (nat_eq from 1) (Some BYTE_TO_WORD.signed)
+    (cond (nat_eq from 8) (Some (cond signed BYTE_TO_WORD.signed BYTE_TO_WORD.unsigned)) (cond (nat_eq from 16) (Some (cond signed HALFWORD_TO_WORD.signed HALFWORD_TO_WORD.unsigned)) None))
 
 -- or of 64 bits
 abbrev pub extend_to_doubleword : Bool → ℕ → Option ℕ
 extend_to_doubleword signed from =
-    cond (nat_eq from 1) (Some opcodes.LGBR) (cond (nat_eq from 8) (Some (cond signed opcodes.LGBR opcodes.LLGCR)) (cond (nat_eq from 16) (Some (cond signed opcodes.LGHR opcodes.LLGHR)) (cond (nat_eq from 32) (Some (cond signed opcodes.LGFR opcodes.LLGFR)) None)))
+    cond (nat_eq from 1) (Some BYTE_TO_DOUBLEWORD.signed)
+    (cond (nat_eq from 8) (Some (cond signed BYTE_TO_DOUBLEWORD.signed BYTE_TO_DOUBLEWORD.unsigned))
+    (cond (nat_eq from 16) (Some (cond signed HALFWORD_TO_DOUBLEWORD.signed HALFWORD_TO_DOUBLEWORD.unsigned))
+    (cond (nat_eq from 32) (Some (cond signed WORD_TO_DOUBLEWORD.signed WORD_TO_DOUBLEWORD.unsigned)) None)))
 
 -- an extension to 32 or to 64 bits
 abbrev pub extend_two : Bool → (from to : ℕ) → Option ℕ
@@ -161,10 +163,16 @@ rotate_then op = (rotate_rows op).change
 abbrev pub rotate_then_test : RxSBGOp → Option ℕ
 rotate_then_test op = (rotate_rows op).test
 
+-- one of four by the size of elements, which is 1 to 4
+abbrev pub of_size : (rows : List ℕ) → ℕ → Option ℕ
+of_size rows size =
+    cond (nat_eq size 1) (Some (slice_index rows 0))
+    (cond (nat_eq size 2) (Some (slice_index rows 1)) (cond (nat_eq size 3) (Some (slice_index rows 2)) (cond (nat_eq size 4) (Some (slice_index rows 3)) None)))
+
 -- an indexed address by the size of its elements, the index with its sign
 abbrev pub indexed_opcode : ℕ → Option ℕ
-indexed_opcode size = cond (nat_eq size 1) (Some opcodes.LXAH) (cond (nat_eq size 2) (Some opcodes.LXAF) (cond (nat_eq size 3) (Some opcodes.LXAG) (cond (nat_eq size 4) (Some opcodes.LXAQ) None)))
+indexed_opcode size = of_size INDEXED_ROWS size
 
 -- the same, the index without a sign
 abbrev pub logical_indexed_opcode : ℕ → Option ℕ
-logical_indexed_opcode size = cond (nat_eq size 1) (Some opcodes.LLXAH) (cond (nat_eq size 2) (Some opcodes.LLXAF) (cond (nat_eq size 3) (Some opcodes.LLXAG) (cond (nat_eq size 4) (Some opcodes.LLXAQ) None)))
+logical_indexed_opcode size = of_size LOGICAL_INDEXED_ROWS size

@@ -5,6 +5,7 @@ mod access_rows;
 mod immediates;
 mod law;
 mod mem_inst_type;
+mod move_rows;
 mod operator_rows;
 mod vector_opcode;
 mod vector_rows;
@@ -22,9 +23,14 @@ pub use law::{
     relative_machines_keep_trees,
 };
 pub use mem_inst_type::MemInstType;
+pub use move_rows::{
+    BYTE_TO_DOUBLEWORD, BYTE_TO_WORD, ExtendRows, HALFWORD_TO_DOUBLEWORD, HALFWORD_TO_WORD,
+    INDEXED_ROWS, INSERT_HALVES, INSERT_PARTS, LOAD_HALVES, LOAD_PARTS, LOGICAL_INDEXED_ROWS,
+    WORD_TO_DOUBLEWORD, row_of_extension, row_of_index, row_of_logical_index,
+};
 pub use operator_rows::{
-    ALU_ROWS, AluRows, CMP_ROWS, CmpRows, ROTATE_ROWS, RotateRows, SHIFT_ROWS, UNARY_ROWS,
-    row_of_shift, row_of_unary, rows_of_alu, rows_of_cmp, rows_of_rotate,
+    ALU_ROWS, AluRows, CMP_ROWS, CmpRows, PartRows, ROTATE_ROWS, RotateRows, SHIFT_ROWS,
+    UNARY_ROWS, row_of_part, row_of_shift, row_of_unary, rows_of_alu, rows_of_cmp, rows_of_rotate,
 };
 pub use vector_opcode::VectorOpcode;
 pub use vector_rows::{

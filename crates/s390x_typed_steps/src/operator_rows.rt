@@ -1,9 +1,22 @@
 //! The machine rows of each operator on general registers (cranelift-codegen, `emit.rs`).
 ghost use Rattle.std.specs.Prelude.{◌≡◌};
-ghost use Rattle.s390x_typed_steps.specs.Opcodes.{alu_rows, cmp_rows, rotate_rows, shift_opcode, unary_two};
+ghost use Rattle.s390x_typed_steps.specs.Opcodes.{alu_rows, cmp_rows, of_four, of_one, of_two, opcode_of_part, rotate_rows, shift_opcode, unary_two};
 
 use s390x_inst::{ALUOp, CmpOp, RxSBGOp, ShiftOp, UnaryOp};
 use s390x_rows::opcodes;
+
+/// The opcodes of the rows on a part of a register each, by the part's number from the right.
+#[derive(Clone, Copy)]
+pub enum PartRows {
+    /// There are none.
+    Lacking,
+    /// Of the rightmost part alone.
+    One(u16),
+    /// Of the right two.
+    Two(u16, u16),
+    /// Of the right four.
+    Four(u16, u16, u16, u16),
+}
 
 /// The opcodes of an operator's rows, by what its operands are. None where it has none.
 #[derive(Clone, Copy)]
@@ -26,6 +39,10 @@ pub struct AluRows {
     pub rxy: Option<u16>,
     /// An operand in memory that is changed in one access (RSY).
     pub atomic: Option<u16>,
+    /// An immediate at a part of 16 bits (RI).
+    pub parts: PartRows,
+    /// An immediate at a half of 32 bits (RIL).
+    pub halves: PartRows,
 }
 
 /// The opcodes of a comparison's rows, by what its second operand is. None where it has none.
@@ -75,45 +92,45 @@ pub const ROTATE_COUNT: usize = RxSBGOp::Xor as usize + 1;
 /// The rows by operator.
 #[rattlefmt::skip]
 pub const ALU_ROWS: [AluRows; ALU_COUNT] = [
-    AluRows { three: Some(opcodes::ARK), two: Some(opcodes::AR), halfword: Some(opcodes::AHI), three_halfword: Some(opcodes::AHIK), signed_word: Some(opcodes::AFI), unsigned_word: None, rx: Some(opcodes::A as u8), rxy: Some(opcodes::AY), atomic: Some(opcodes::LAA) }, // Add32
-    AluRows { three: None, two: None, halfword: None, three_halfword: None, signed_word: None, unsigned_word: None, rx: Some(opcodes::AH as u8), rxy: Some(opcodes::AHY), atomic: None }, // Add32Ext16
-    AluRows { three: Some(opcodes::AGRK), two: Some(opcodes::AGR), halfword: Some(opcodes::AGHI), three_halfword: Some(opcodes::AGHIK), signed_word: Some(opcodes::AGFI), unsigned_word: None, rx: None, rxy: Some(opcodes::AG), atomic: Some(opcodes::LAAG) }, // Add64
-    AluRows { three: None, two: None, halfword: None, three_halfword: None, signed_word: None, unsigned_word: None, rx: None, rxy: Some(opcodes::AGH), atomic: None }, // Add64Ext16
-    AluRows { three: None, two: Some(opcodes::AGFR), halfword: None, three_halfword: None, signed_word: None, unsigned_word: None, rx: None, rxy: Some(opcodes::AGF), atomic: None }, // Add64Ext32
-    AluRows { three: Some(opcodes::ALRK), two: Some(opcodes::ALR), halfword: None, three_halfword: None, signed_word: None, unsigned_word: Some(opcodes::ALFI), rx: Some(opcodes::AL as u8), rxy: Some(opcodes::ALY), atomic: Some(opcodes::LAAL) }, // AddLogical32
-    AluRows { three: Some(opcodes::ALGRK), two: Some(opcodes::ALGR), halfword: None, three_halfword: None, signed_word: None, unsigned_word: Some(opcodes::ALGFI), rx: None, rxy: Some(opcodes::ALG), atomic: Some(opcodes::LAALG) }, // AddLogical64
-    AluRows { three: None, two: Some(opcodes::ALGFR), halfword: None, three_halfword: None, signed_word: None, unsigned_word: None, rx: None, rxy: Some(opcodes::ALGF), atomic: None }, // AddLogical64Ext32
-    AluRows { three: Some(opcodes::SRK), two: Some(opcodes::SR), halfword: None, three_halfword: None, signed_word: None, unsigned_word: None, rx: Some(opcodes::S as u8), rxy: Some(opcodes::SY), atomic: None }, // Sub32
-    AluRows { three: None, two: None, halfword: None, three_halfword: None, signed_word: None, unsigned_word: None, rx: Some(opcodes::SH as u8), rxy: Some(opcodes::SHY), atomic: None }, // Sub32Ext16
-    AluRows { three: Some(opcodes::SGRK), two: Some(opcodes::SGR), halfword: None, three_halfword: None, signed_word: None, unsigned_word: None, rx: None, rxy: Some(opcodes::SG), atomic: None }, // Sub64
-    AluRows { three: None, two: None, halfword: None, three_halfword: None, signed_word: None, unsigned_word: None, rx: None, rxy: Some(opcodes::SGH), atomic: None }, // Sub64Ext16
-    AluRows { three: None, two: Some(opcodes::SGFR), halfword: None, three_halfword: None, signed_word: None, unsigned_word: None, rx: None, rxy: Some(opcodes::SGF), atomic: None }, // Sub64Ext32
-    AluRows { three: Some(opcodes::SLRK), two: Some(opcodes::SLR), halfword: None, three_halfword: None, signed_word: None, unsigned_word: Some(opcodes::SLFI), rx: Some(opcodes::SL as u8), rxy: Some(opcodes::SLY), atomic: None }, // SubLogical32
-    AluRows { three: Some(opcodes::SLGRK), two: Some(opcodes::SLGR), halfword: None, three_halfword: None, signed_word: None, unsigned_word: Some(opcodes::SLGFI), rx: None, rxy: Some(opcodes::SLG), atomic: None }, // SubLogical64
-    AluRows { three: None, two: Some(opcodes::SLGFR), halfword: None, three_halfword: None, signed_word: None, unsigned_word: None, rx: None, rxy: Some(opcodes::SLGF), atomic: None }, // SubLogical64Ext32
-    AluRows { three: Some(opcodes::MSRKC), two: Some(opcodes::MSR), halfword: Some(opcodes::MHI), three_halfword: None, signed_word: Some(opcodes::MSFI), unsigned_word: None, rx: Some(opcodes::MS as u8), rxy: Some(opcodes::MSY), atomic: None }, // Mul32
-    AluRows { three: None, two: None, halfword: None, three_halfword: None, signed_word: None, unsigned_word: None, rx: Some(opcodes::MH as u8), rxy: Some(opcodes::MHY), atomic: None }, // Mul32Ext16
-    AluRows { three: Some(opcodes::MSRKC), two: None, halfword: None, three_halfword: None, signed_word: None, unsigned_word: None, rx: None, rxy: None, atomic: None }, // Mul32CC
-    AluRows { three: Some(opcodes::MSGRKC), two: Some(opcodes::MSGR), halfword: Some(opcodes::MGHI), three_halfword: None, signed_word: Some(opcodes::MSGFI), unsigned_word: None, rx: None, rxy: Some(opcodes::MSG), atomic: None }, // Mul64
-    AluRows { three: None, two: None, halfword: None, three_halfword: None, signed_word: None, unsigned_word: None, rx: None, rxy: Some(opcodes::MGH), atomic: None }, // Mul64Ext16
-    AluRows { three: None, two: Some(opcodes::MSGFR), halfword: None, three_halfword: None, signed_word: None, unsigned_word: None, rx: None, rxy: Some(opcodes::MSGF), atomic: None }, // Mul64Ext32
-    AluRows { three: Some(opcodes::MSGRKC), two: None, halfword: None, three_halfword: None, signed_word: None, unsigned_word: None, rx: None, rxy: None, atomic: None }, // Mul64CC
-    AluRows { three: Some(opcodes::NRK), two: Some(opcodes::NR), halfword: None, three_halfword: None, signed_word: None, unsigned_word: None, rx: Some(opcodes::N as u8), rxy: Some(opcodes::NY), atomic: Some(opcodes::LAN) }, // And32
-    AluRows { three: Some(opcodes::NGRK), two: Some(opcodes::NGR), halfword: None, three_halfword: None, signed_word: None, unsigned_word: None, rx: None, rxy: Some(opcodes::NG), atomic: Some(opcodes::LANG) }, // And64
-    AluRows { three: Some(opcodes::ORK), two: Some(opcodes::OR), halfword: None, three_halfword: None, signed_word: None, unsigned_word: None, rx: Some(opcodes::O as u8), rxy: Some(opcodes::OY), atomic: Some(opcodes::LAO) }, // Orr32
-    AluRows { three: Some(opcodes::OGRK), two: Some(opcodes::OGR), halfword: None, three_halfword: None, signed_word: None, unsigned_word: None, rx: None, rxy: Some(opcodes::OG), atomic: Some(opcodes::LAOG) }, // Orr64
-    AluRows { three: Some(opcodes::XRK), two: Some(opcodes::XR), halfword: None, three_halfword: None, signed_word: None, unsigned_word: None, rx: Some(opcodes::X as u8), rxy: Some(opcodes::XY), atomic: Some(opcodes::LAX) }, // Xor32
-    AluRows { three: Some(opcodes::XGRK), two: Some(opcodes::XGR), halfword: None, three_halfword: None, signed_word: None, unsigned_word: None, rx: None, rxy: Some(opcodes::XG), atomic: Some(opcodes::LAXG) }, // Xor64
-    AluRows { three: Some(opcodes::NNRK), two: None, halfword: None, three_halfword: None, signed_word: None, unsigned_word: None, rx: None, rxy: None, atomic: None }, // NotAnd32
-    AluRows { three: Some(opcodes::NNGRK), two: None, halfword: None, three_halfword: None, signed_word: None, unsigned_word: None, rx: None, rxy: None, atomic: None }, // NotAnd64
-    AluRows { three: Some(opcodes::NORK), two: None, halfword: None, three_halfword: None, signed_word: None, unsigned_word: None, rx: None, rxy: None, atomic: None }, // NotOrr32
-    AluRows { three: Some(opcodes::NOGRK), two: None, halfword: None, three_halfword: None, signed_word: None, unsigned_word: None, rx: None, rxy: None, atomic: None }, // NotOrr64
-    AluRows { three: Some(opcodes::NXRK), two: None, halfword: None, three_halfword: None, signed_word: None, unsigned_word: None, rx: None, rxy: None, atomic: None }, // NotXor32
-    AluRows { three: Some(opcodes::NXGRK), two: None, halfword: None, three_halfword: None, signed_word: None, unsigned_word: None, rx: None, rxy: None, atomic: None }, // NotXor64
-    AluRows { three: Some(opcodes::NCRK), two: None, halfword: None, three_halfword: None, signed_word: None, unsigned_word: None, rx: None, rxy: None, atomic: None }, // AndNot32
-    AluRows { three: Some(opcodes::NCGRK), two: None, halfword: None, three_halfword: None, signed_word: None, unsigned_word: None, rx: None, rxy: None, atomic: None }, // AndNot64
-    AluRows { three: Some(opcodes::OCRK), two: None, halfword: None, three_halfword: None, signed_word: None, unsigned_word: None, rx: None, rxy: None, atomic: None }, // OrrNot32
-    AluRows { three: Some(opcodes::OCGRK), two: None, halfword: None, three_halfword: None, signed_word: None, unsigned_word: None, rx: None, rxy: None, atomic: None }, // OrrNot64
+    AluRows { three: Some(opcodes::ARK), two: Some(opcodes::AR), halfword: Some(opcodes::AHI), three_halfword: Some(opcodes::AHIK), signed_word: Some(opcodes::AFI), unsigned_word: None, rx: Some(opcodes::A as u8), rxy: Some(opcodes::AY), atomic: Some(opcodes::LAA), parts: PartRows::Lacking, halves: PartRows::Lacking }, // Add32
+    AluRows { three: None, two: None, halfword: None, three_halfword: None, signed_word: None, unsigned_word: None, rx: Some(opcodes::AH as u8), rxy: Some(opcodes::AHY), atomic: None, parts: PartRows::Lacking, halves: PartRows::Lacking }, // Add32Ext16
+    AluRows { three: Some(opcodes::AGRK), two: Some(opcodes::AGR), halfword: Some(opcodes::AGHI), three_halfword: Some(opcodes::AGHIK), signed_word: Some(opcodes::AGFI), unsigned_word: None, rx: None, rxy: Some(opcodes::AG), atomic: Some(opcodes::LAAG), parts: PartRows::Lacking, halves: PartRows::Lacking }, // Add64
+    AluRows { three: None, two: None, halfword: None, three_halfword: None, signed_word: None, unsigned_word: None, rx: None, rxy: Some(opcodes::AGH), atomic: None, parts: PartRows::Lacking, halves: PartRows::Lacking }, // Add64Ext16
+    AluRows { three: None, two: Some(opcodes::AGFR), halfword: None, three_halfword: None, signed_word: None, unsigned_word: None, rx: None, rxy: Some(opcodes::AGF), atomic: None, parts: PartRows::Lacking, halves: PartRows::Lacking }, // Add64Ext32
+    AluRows { three: Some(opcodes::ALRK), two: Some(opcodes::ALR), halfword: None, three_halfword: None, signed_word: None, unsigned_word: Some(opcodes::ALFI), rx: Some(opcodes::AL as u8), rxy: Some(opcodes::ALY), atomic: Some(opcodes::LAAL), parts: PartRows::Lacking, halves: PartRows::Lacking }, // AddLogical32
+    AluRows { three: Some(opcodes::ALGRK), two: Some(opcodes::ALGR), halfword: None, three_halfword: None, signed_word: None, unsigned_word: Some(opcodes::ALGFI), rx: None, rxy: Some(opcodes::ALG), atomic: Some(opcodes::LAALG), parts: PartRows::Lacking, halves: PartRows::Lacking }, // AddLogical64
+    AluRows { three: None, two: Some(opcodes::ALGFR), halfword: None, three_halfword: None, signed_word: None, unsigned_word: None, rx: None, rxy: Some(opcodes::ALGF), atomic: None, parts: PartRows::Lacking, halves: PartRows::Lacking }, // AddLogical64Ext32
+    AluRows { three: Some(opcodes::SRK), two: Some(opcodes::SR), halfword: None, three_halfword: None, signed_word: None, unsigned_word: None, rx: Some(opcodes::S as u8), rxy: Some(opcodes::SY), atomic: None, parts: PartRows::Lacking, halves: PartRows::Lacking }, // Sub32
+    AluRows { three: None, two: None, halfword: None, three_halfword: None, signed_word: None, unsigned_word: None, rx: Some(opcodes::SH as u8), rxy: Some(opcodes::SHY), atomic: None, parts: PartRows::Lacking, halves: PartRows::Lacking }, // Sub32Ext16
+    AluRows { three: Some(opcodes::SGRK), two: Some(opcodes::SGR), halfword: None, three_halfword: None, signed_word: None, unsigned_word: None, rx: None, rxy: Some(opcodes::SG), atomic: None, parts: PartRows::Lacking, halves: PartRows::Lacking }, // Sub64
+    AluRows { three: None, two: None, halfword: None, three_halfword: None, signed_word: None, unsigned_word: None, rx: None, rxy: Some(opcodes::SGH), atomic: None, parts: PartRows::Lacking, halves: PartRows::Lacking }, // Sub64Ext16
+    AluRows { three: None, two: Some(opcodes::SGFR), halfword: None, three_halfword: None, signed_word: None, unsigned_word: None, rx: None, rxy: Some(opcodes::SGF), atomic: None, parts: PartRows::Lacking, halves: PartRows::Lacking }, // Sub64Ext32
+    AluRows { three: Some(opcodes::SLRK), two: Some(opcodes::SLR), halfword: None, three_halfword: None, signed_word: None, unsigned_word: Some(opcodes::SLFI), rx: Some(opcodes::SL as u8), rxy: Some(opcodes::SLY), atomic: None, parts: PartRows::Lacking, halves: PartRows::Lacking }, // SubLogical32
+    AluRows { three: Some(opcodes::SLGRK), two: Some(opcodes::SLGR), halfword: None, three_halfword: None, signed_word: None, unsigned_word: Some(opcodes::SLGFI), rx: None, rxy: Some(opcodes::SLG), atomic: None, parts: PartRows::Lacking, halves: PartRows::Lacking }, // SubLogical64
+    AluRows { three: None, two: Some(opcodes::SLGFR), halfword: None, three_halfword: None, signed_word: None, unsigned_word: None, rx: None, rxy: Some(opcodes::SLGF), atomic: None, parts: PartRows::Lacking, halves: PartRows::Lacking }, // SubLogical64Ext32
+    AluRows { three: Some(opcodes::MSRKC), two: Some(opcodes::MSR), halfword: Some(opcodes::MHI), three_halfword: None, signed_word: Some(opcodes::MSFI), unsigned_word: None, rx: Some(opcodes::MS as u8), rxy: Some(opcodes::MSY), atomic: None, parts: PartRows::Lacking, halves: PartRows::Lacking }, // Mul32
+    AluRows { three: None, two: None, halfword: None, three_halfword: None, signed_word: None, unsigned_word: None, rx: Some(opcodes::MH as u8), rxy: Some(opcodes::MHY), atomic: None, parts: PartRows::Lacking, halves: PartRows::Lacking }, // Mul32Ext16
+    AluRows { three: Some(opcodes::MSRKC), two: None, halfword: None, three_halfword: None, signed_word: None, unsigned_word: None, rx: None, rxy: None, atomic: None, parts: PartRows::Lacking, halves: PartRows::Lacking }, // Mul32CC
+    AluRows { three: Some(opcodes::MSGRKC), two: Some(opcodes::MSGR), halfword: Some(opcodes::MGHI), three_halfword: None, signed_word: Some(opcodes::MSGFI), unsigned_word: None, rx: None, rxy: Some(opcodes::MSG), atomic: None, parts: PartRows::Lacking, halves: PartRows::Lacking }, // Mul64
+    AluRows { three: None, two: None, halfword: None, three_halfword: None, signed_word: None, unsigned_word: None, rx: None, rxy: Some(opcodes::MGH), atomic: None, parts: PartRows::Lacking, halves: PartRows::Lacking }, // Mul64Ext16
+    AluRows { three: None, two: Some(opcodes::MSGFR), halfword: None, three_halfword: None, signed_word: None, unsigned_word: None, rx: None, rxy: Some(opcodes::MSGF), atomic: None, parts: PartRows::Lacking, halves: PartRows::Lacking }, // Mul64Ext32
+    AluRows { three: Some(opcodes::MSGRKC), two: None, halfword: None, three_halfword: None, signed_word: None, unsigned_word: None, rx: None, rxy: None, atomic: None, parts: PartRows::Lacking, halves: PartRows::Lacking }, // Mul64CC
+    AluRows { three: Some(opcodes::NRK), two: Some(opcodes::NR), halfword: None, three_halfword: None, signed_word: None, unsigned_word: None, rx: Some(opcodes::N as u8), rxy: Some(opcodes::NY), atomic: Some(opcodes::LAN), parts: PartRows::Two(opcodes::NILL, opcodes::NILH), halves: PartRows::One(opcodes::NILF) }, // And32
+    AluRows { three: Some(opcodes::NGRK), two: Some(opcodes::NGR), halfword: None, three_halfword: None, signed_word: None, unsigned_word: None, rx: None, rxy: Some(opcodes::NG), atomic: Some(opcodes::LANG), parts: PartRows::Four(opcodes::NILL, opcodes::NILH, opcodes::NIHL, opcodes::NIHH), halves: PartRows::Two(opcodes::NILF, opcodes::NIHF) }, // And64
+    AluRows { three: Some(opcodes::ORK), two: Some(opcodes::OR), halfword: None, three_halfword: None, signed_word: None, unsigned_word: None, rx: Some(opcodes::O as u8), rxy: Some(opcodes::OY), atomic: Some(opcodes::LAO), parts: PartRows::Two(opcodes::OILL, opcodes::OILH), halves: PartRows::One(opcodes::OILF) }, // Orr32
+    AluRows { three: Some(opcodes::OGRK), two: Some(opcodes::OGR), halfword: None, three_halfword: None, signed_word: None, unsigned_word: None, rx: None, rxy: Some(opcodes::OG), atomic: Some(opcodes::LAOG), parts: PartRows::Four(opcodes::OILL, opcodes::OILH, opcodes::OIHL, opcodes::OIHH), halves: PartRows::Two(opcodes::OILF, opcodes::OIHF) }, // Orr64
+    AluRows { three: Some(opcodes::XRK), two: Some(opcodes::XR), halfword: None, three_halfword: None, signed_word: None, unsigned_word: None, rx: Some(opcodes::X as u8), rxy: Some(opcodes::XY), atomic: Some(opcodes::LAX), parts: PartRows::Lacking, halves: PartRows::One(opcodes::XILF) }, // Xor32
+    AluRows { three: Some(opcodes::XGRK), two: Some(opcodes::XGR), halfword: None, three_halfword: None, signed_word: None, unsigned_word: None, rx: None, rxy: Some(opcodes::XG), atomic: Some(opcodes::LAXG), parts: PartRows::Lacking, halves: PartRows::Two(opcodes::XILF, opcodes::XIHF) }, // Xor64
+    AluRows { three: Some(opcodes::NNRK), two: None, halfword: None, three_halfword: None, signed_word: None, unsigned_word: None, rx: None, rxy: None, atomic: None, parts: PartRows::Lacking, halves: PartRows::Lacking }, // NotAnd32
+    AluRows { three: Some(opcodes::NNGRK), two: None, halfword: None, three_halfword: None, signed_word: None, unsigned_word: None, rx: None, rxy: None, atomic: None, parts: PartRows::Lacking, halves: PartRows::Lacking }, // NotAnd64
+    AluRows { three: Some(opcodes::NORK), two: None, halfword: None, three_halfword: None, signed_word: None, unsigned_word: None, rx: None, rxy: None, atomic: None, parts: PartRows::Lacking, halves: PartRows::Lacking }, // NotOrr32
+    AluRows { three: Some(opcodes::NOGRK), two: None, halfword: None, three_halfword: None, signed_word: None, unsigned_word: None, rx: None, rxy: None, atomic: None, parts: PartRows::Lacking, halves: PartRows::Lacking }, // NotOrr64
+    AluRows { three: Some(opcodes::NXRK), two: None, halfword: None, three_halfword: None, signed_word: None, unsigned_word: None, rx: None, rxy: None, atomic: None, parts: PartRows::Lacking, halves: PartRows::Lacking }, // NotXor32
+    AluRows { three: Some(opcodes::NXGRK), two: None, halfword: None, three_halfword: None, signed_word: None, unsigned_word: None, rx: None, rxy: None, atomic: None, parts: PartRows::Lacking, halves: PartRows::Lacking }, // NotXor64
+    AluRows { three: Some(opcodes::NCRK), two: None, halfword: None, three_halfword: None, signed_word: None, unsigned_word: None, rx: None, rxy: None, atomic: None, parts: PartRows::Lacking, halves: PartRows::Lacking }, // AndNot32
+    AluRows { three: Some(opcodes::NCGRK), two: None, halfword: None, three_halfword: None, signed_word: None, unsigned_word: None, rx: None, rxy: None, atomic: None, parts: PartRows::Lacking, halves: PartRows::Lacking }, // AndNot64
+    AluRows { three: Some(opcodes::OCRK), two: None, halfword: None, three_halfword: None, signed_word: None, unsigned_word: None, rx: None, rxy: None, atomic: None, parts: PartRows::Lacking, halves: PartRows::Lacking }, // OrrNot32
+    AluRows { three: Some(opcodes::OCGRK), two: None, halfword: None, three_halfword: None, signed_word: None, unsigned_word: None, rx: None, rxy: None, atomic: None, parts: PartRows::Lacking, halves: PartRows::Lacking }, // OrrNot64
 ];
 
 /// The rows by comparison.
@@ -203,4 +220,46 @@ pub fn rows_of_rotate(op: RxSBGOp) -> RotateRows
     ensures { result ≡ rotate_rows op }
 {
     ROTATE_ROWS[op as usize]
+}
+
+/// The opcode of the row on a part. None where there is none.
+pub fn row_of_part(rows: PartRows, number: u8) -> Option<u16>
+    ensures { result ≡ opcode_of_part rows number }
+{
+    match rows {
+        PartRows::Lacking => None,
+        PartRows::One(zeroth) => of_one(zeroth, number),
+        PartRows::Two(zeroth, first) => of_two(zeroth, first, number),
+        PartRows::Four(zeroth, first, second, third) => {
+            of_four(zeroth, first, second, third, number)
+        }
+    }
+}
+
+fn of_one(zeroth: u16, number: u8) -> Option<u16>
+    ensures { result ≡ of_one zeroth number }
+{
+    if number == 0 { Some(zeroth) } else { None }
+}
+
+fn of_two(zeroth: u16, first: u16, number: u8) -> Option<u16>
+    ensures { result ≡ of_two zeroth first number }
+{
+    match number {
+        0 => Some(zeroth),
+        1 => Some(first),
+        _ => None,
+    }
+}
+
+fn of_four(zeroth: u16, first: u16, second: u16, third: u16, number: u8) -> Option<u16>
+    ensures { result ≡ of_four zeroth first second third number }
+{
+    match number {
+        0 => Some(zeroth),
+        1 => Some(first),
+        2 => Some(second),
+        3 => Some(third),
+        _ => None,
+    }
 }

@@ -1,4 +1,4 @@
-use Rattle.std.proofs.Common.{◌≡◌, ℕ, ap, ◌∙◌}
+use Rattle.std.proofs.Common.{ℕ, ap, ◌∙◌}
 use Rattle.s390x_format.specs.declared.first_bytes.TheConstants.{FIRST_BYTES}
 use Rattle.s390x_format.specs.declared.row_offsets.TheConstants.{ROW_OFFSETS}
 use Rattle.s390x_format.specs.Index.{place_in}
