@@ -1,5 +1,5 @@
 -- What the opcodes of operators are, by their tables.
-use Rattle.std.proofs.Common.{◌≡◌, ℕ, ◌&&◌, Bool, true, false, cond, Option, Some, None, nat_eq, nat_lt, refl}
+use Rattle.std.proofs.Common.{◌≡◌, ℕ, ◌<◌, ◌&&◌, Bool, true, false, cond, Option, Some, None, nat_eq, nat_lt, ltb-true, refl, subst}
 use Rattle.std.proofs.lemmas.Bool.{and_parts}
 use Rattle.s390x_inst.specs.declared.ops.ALUOp.{ALUOp}
 use Rattle.s390x_inst.specs.declared.ops.ALUOp.TheVariants as Alu
@@ -14,6 +14,9 @@ use Rattle.s390x_emit_rows.specs.SingleInstruction.{takes_general}
 use Rattle.s390x_typed_steps.specs.Storage.{alu_rx, alu_rxy, cmp_rx, cmp_rxy, cmp_ril}
 
 -- ---- those of three digits
+pub below_12_bits : (o : Option ℕ) (opcode : ℕ) → o ≡ Some opcode → has_12_bits o ≡ true → opcode < 4096
+below_12_bits o opcode is h = ltb-true opcode 4096 (subst (λ (x : Option ℕ). has_12_bits x ≡ true) is h)
+
 pub alu_halfword_short : (op : ALUOp) → has_12_bits (alu_halfword op) ≡ true
 alu_halfword_short Alu.Add32 = refl
 alu_halfword_short _ = refl

@@ -29,6 +29,7 @@ pub fn short(value: u16) -> ShortOpcode
 }
 
 /// An opcode of at most three hex digits, where there is one.
+#[tactic(auto, using(crate::proofs::Opcodes::below_12_bits))]
 pub fn short_where(value: Option<u16>) -> Option<ShortOpcode>
     requires { has_12_bits value ≡ true }
     ensures { option_map opcode_of result ≡ value }
