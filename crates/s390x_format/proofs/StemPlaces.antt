@@ -75,11 +75,17 @@ place_past (r ∷ rows) opcode none =
 
 -- ---- its stem
 
-pub stem_there : (rows : List MachineRow) (spellings : List (Bor (List ℕ) × Suffix × Form)) (opcode at : ℕ) (d : Bor (List ℕ) × Suffix × Form) → length spellings ≡ length rows → IsOnlyAt rows opcode at → at < length rows → (get_or rows at no_row).opcode ≡ opcode
-    → (slice_index_or spellings at d).0.now ≡ get_or (stems_passed spellings) (place_for rows opcode) []
-stem_there rows spellings opcode at d beside only lt here =
+any_default : (rows : List MachineRow) (i : ℕ) (y z : MachineRow) → i < length rows → get_or rows i y ≡ get_or rows i z
+any_default [] i y z lt = absurd (omega arith)
+any_default (r ∷ rows) zero y z lt = refl
+any_default (r ∷ rows) (suc i) y z lt = any_default rows i y z (omega (arith, lt))
+
+pub stem_there : (rows : List MachineRow) (spellings : List (Bor (List ℕ) × Suffix × Form)) (opcode at : ℕ) (r : MachineRow) (d : Bor (List ℕ) × Suffix × Form) → length spellings ≡ length rows → IsOnlyAt rows opcode at → at < length rows
+    → (get_or rows at r).opcode ≡ opcode → (slice_index_or spellings at d).0.now ≡ get_or (stems_passed spellings) (place_for rows opcode) []
+stem_there rows spellings opcode at r d beside only lt here =
+    let same : get_or rows at no_row ≡ get_or rows at r = any_default rows at no_row r lt in
     sym (get_or-map (λ (s : Bor (List ℕ) × Suffix × Form). s.0.now) spellings at d [] (omega (arith, lt, beside)))
-    ∙ ap (λ (n : ℕ). get_or (stems_passed spellings) n []) (sym (place_here rows opcode at only lt here))
+    ∙ ap (λ (n : ℕ). get_or (stems_passed spellings) n []) (sym (place_here rows opcode at only lt (ap (λ (x : MachineRow). x.opcode) same ∙ here)))
 
 no_stem : (rows : List MachineRow) (spellings : List (Bor (List ℕ) × Suffix × Form)) (opcode : ℕ) → length spellings ≡ length rows → ((i : ℕ) → i < length rows → (get_or rows i no_row).opcode ≡ opcode → ⊥)
     → [] ≡ get_or (stems_passed spellings) (place_for rows opcode) []
@@ -90,5 +96,9 @@ no_stem rows spellings opcode beside none =
 pub no_stem_past : (rows : List MachineRow) (spellings : List (Bor (List ℕ) × Suffix × Form)) (opcode at : ℕ) → length spellings ≡ length rows → IsOnlyAt rows opcode at → length rows ≤ at → [] ≡ get_or (stems_passed spellings) (place_for rows opcode) []
 no_stem_past rows spellings opcode at beside only past = no_stem rows spellings opcode beside (λ i l e. absurd (omega (arith, l, past, only i l e)))
 
-pub no_stem_other : (rows : List MachineRow) (spellings : List (Bor (List ℕ) × Suffix × Form)) (opcode at : ℕ) → length spellings ≡ length rows → IsOnlyAt rows opcode at → ((get_or rows at no_row).opcode ≡ opcode → ⊥) → [] ≡ get_or (stems_passed spellings) (place_for rows opcode) []
-no_stem_other rows spellings opcode at beside only other = no_stem rows spellings opcode beside (λ i l e. other (subst (λ (n : ℕ). (get_or rows n no_row).opcode ≡ opcode) (only i l e) e))
+pub no_stem_other : (rows : List MachineRow) (spellings : List (Bor (List ℕ) × Suffix × Form)) (opcode at : ℕ) (r : MachineRow) → length spellings ≡ length rows → IsOnlyAt rows opcode at → at < length rows
+    → ((get_or rows at r).opcode ≡ opcode → ⊥) → [] ≡ get_or (stems_passed spellings) (place_for rows opcode) []
+no_stem_other rows spellings opcode at r beside only lt other =
+    let same : get_or rows at no_row ≡ get_or rows at r = any_default rows at no_row r lt in
+    no_stem rows spellings opcode beside
+    (λ i l e. other (ap (λ (x : MachineRow). x.opcode) (sym same) ∙ subst (λ (n : ℕ). (get_or rows n no_row).opcode ≡ opcode) (only i l e) e))

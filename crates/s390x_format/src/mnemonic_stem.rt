@@ -48,13 +48,15 @@ fn indexed_place(opcode: u16) -> usize
 }
 
 // The stem of the row with the opcode, which stands at this place or nowhere.
+#[tactic(auto, using(crate::proofs::StemPlaces::stem_there, crate::proofs::StemPlaces::no_stem_past, crate::proofs::StemPlaces::no_stem_other))]
 fn stem_at(rows: &[MachineRow], spellings: &[Spelling], at: usize, opcode: u16) -> &'static str
     requires beside { length spellings.now ≡ length rows.now }
     requires only { IsOnlyAt rows.now opcode at }
     ensures { result.now ≡ get_or (stems_passed spellings.now) (place_for rows.now opcode) [] }
 {
     if at < rows.len() {
-        if rows[at].opcode == opcode {
+        let row = &rows[at];
+        if row.opcode == opcode {
             spellings[at].0
         } else {
             ""
