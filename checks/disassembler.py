@@ -20,7 +20,7 @@ import subprocess
 import sys
 import tempfile
 
-from opcodes import plain
+from opcodes import machine_rows
 
 ROOT = os.path.dirname(os.path.dirname(os.path.abspath(__file__)))
 FORMAT = os.path.join(ROOT, "crates", "s390x_format", "src")
@@ -46,15 +46,14 @@ RULES = [
 
 def read(name):
     with open(os.path.join(FORMAT, name)) as file:
-        return plain(file.read())
+        return file.read()
 
 
 class Rows:
     """The machine rows and the formats, as the table says them."""
 
     def __init__(self):
-        pattern = r"MachineRow \{ format: FormatKind::(\w+), opcode: 0x(\w+), allowed: Allowed::(\w+)(?: \{ low: (\d+), high: (\d+) \})? \}"
-        self.rows = [(f, int(o, 16), a, int(low or 0), int(high or 0)) for f, o, a, low, high in re.findall(pattern, read("table.rt"))]
+        self.rows = [(row.format, row.opcode, row.allowed, row.low, row.high) for row in machine_rows()]
         kinds = read("kind.rt")
         parts = {}
         for name, body in re.findall(r"pub const (\w+): \[Part; \d+\] = \[(.*?)\];", kinds, re.S):

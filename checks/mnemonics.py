@@ -1,36 +1,44 @@
 #!/usr/bin/env python3
-"""Lists the mnemonics of s390x_text_rows that the input of s390x_text_tests expects nowhere: nothing else ties them to the manual.
+"""Lists the mnemonics of listings that the input of s390x_text_tests expects nowhere.
 
     checks/mnemonics.py
 
 A mnemonic of a table has to be expected of a job of one instruction, which has the operator of its row and the form of operands of its
-column; any other mnemonic in the sources has to be expected somewhere. It ends with 0 where all are, and else with 1.
+column; any other mnemonic in the sources of s390x_text_rows has to be expected somewhere. Those of integer operators, loads and stores
+are what the table of machine rows tells of the opcodes in their tables. It ends with 0 where all are, and else with 1.
 """
 import glob
 import os
 import re
 import sys
 
+from opcodes import machine_rows
+
 CRATES = os.path.join(os.path.dirname(os.path.dirname(os.path.abspath(__file__))), "crates")
 SOURCES = os.path.join(CRATES, "s390x_text_rows", "src")
+ROWS = os.path.join(CRATES, "s390x_typed_steps", "src")
 # The instructions whose texts read a table, one for each of its columns; none where they are named as the rows.
 READERS = {
-    "ALU_MNEMONICS": ["AluRRR", "AluRR", "AluRSImm16", "AluRRSImm16", "AluRSImm32", "AluRUImm32", "AluRX", "AluRX", "AtomicRmw"],
-    "CMP_MNEMONICS":
-        ["CmpRR", "CmpRSImm16", "CmpRSImm32", "CmpRUImm32", "CmpRX", "CmpRX", "CmpTrapRR", "CmpTrapRSImm16", "CmpTrapRUImm16"],
-    "CMP_RELATIVE_MNEMONICS": ["CmpRX"],
-    "LOAD_MNEMONICS": [None, None, None],
-    "STORE_MNEMONICS": [None, None, None],
     "WHOLE_MNEMONICS": ["VecLoad", "VecStore"],
-    "SHIFT_MNEMONICS": ["ShiftRR"],
-    "ROTATE_MNEMONICS": ["RxSBG"],
-    "UNARY_MNEMONICS": ["UnaryRR"],
     "VEC_BINARY_MNEMONICS": ["VecRRR"],
     "VEC_UNARY_MNEMONICS": ["VecRR"],
     "VEC_SHIFT_MNEMONICS": ["VecShiftRR"],
     "VEC_COMPARE_MNEMONICS": ["VecIntCmp"],
     "VEC_COMPARE_SET_MNEMONICS": ["VecIntCmpS"],
     "VEC_ELEMENT_COMPARE_MNEMONICS": ["VecIntEltCmp"],
+}
+# The same of tables of opcodes, by the columns that are read.
+OPCODE_READERS = {
+    "ALU_ROWS": {"three": "AluRRR", "two": "AluRR", "halfword": "AluRSImm16", "three_halfword": "AluRRSImm16", "signed_word": "AluRSImm32",
+                 "unsigned_word": "AluRUImm32", "rx": "AluRX", "rxy": "AluRX", "atomic": "AtomicRmw", "parts": "AluRUImm16Shifted",
+                 "halves": "AluRUImm32Shifted"},
+    "CMP_ROWS": {"two": "CmpRR", "halfword": "CmpRSImm16", "signed_word": "CmpRSImm32", "unsigned_word": "CmpRUImm32", "rx": "CmpRX",
+                 "rxy": "CmpRX", "ril": "CmpRX", "trap": "CmpTrapRR", "trap_signed": "CmpTrapRSImm16", "trap_unsigned": "CmpTrapRUImm16"},
+    "LOAD_ROWS": {"rx": None, "rxy": None, "ril": None},
+    "STORE_ROWS": {"rx": None, "rxy": None, "ril": None},
+    "SHIFT_ROWS": {"": "ShiftRR"},
+    "ROTATE_ROWS": {"change": "RxSBG"},
+    "UNARY_ROWS": {"": "UnaryRR"},
 }
 # What stands behind `VecLoad` and `VecStore` in the name of an instruction, by the layout of its row.
 LAYOUTS = {"Straight": "", "Reversed": "Rev", "Bytes16": "Byte16Rev", "Bytes32": "Byte32Rev", "Bytes64": "Byte64Rev", "Elements16": "Elt16Rev",
@@ -79,9 +87,32 @@ def table_entries():
                         yield table, (name, operator, mnemonic) if name else (operator, "", mnemonic)
 
 
+def opcode_entries():
+    """The same of the tables of opcodes."""
+    stems = {row.name: row.stem for row in machine_rows()}
+    for path in sorted(glob.glob(os.path.join(ROWS, "*_rows.rt"))):
+        with open(path) as file:
+            tables = re.findall(r"^pub const (\w+_ROWS): [^=]* = \[\n(.*?)^\];", file.read(), re.S | re.M)
+        for table, rows in tables:
+            for row, operator in re.findall(r"^ *(.*), // (\w+)$", rows, re.M):
+                for column, name in OPCODE_READERS.get(table, {}).items():
+                    cell = re.search(rf"\b{column}: (\w+(?:::\w+)?(?:\([^)]*\))?)", row)[1] if column else row
+                    # what the table of operators on one register hasn't is the count of ones
+                    opcodes = re.findall(r"opcodes::(\w+)", cell) or ["POPCNT"] * (table == "UNARY_ROWS")
+                    for mnemonic in (stems[opcode] for opcode in opcodes):
+                        yield table, (name, operator, mnemonic) if name else (operator, "", mnemonic)
+
+
+def moved():
+    """The mnemonics of moves, extensions and indexed addresses."""
+    stems = {row.name: row.stem for row in machine_rows()}
+    with open(os.path.join(ROWS, "move_rows.rt")) as file:
+        return {stems[opcode] for opcode in re.findall(r"opcodes::(\w+)", file.read())}
+
+
 def other_mnemonics():
-    """The mnemonics that stand in no table."""
-    found = set()
+    """The mnemonics that stand in no table of operators."""
+    found = moved()
     for path in glob.glob(os.path.join(SOURCES, "*.rt")):
         if not path.endswith("mnemonics.rt"):
             with open(path) as file:
@@ -91,7 +122,7 @@ def other_mnemonics():
 
 def main():
     expected = Expected()
-    entries, others = list(table_entries()), other_mnemonics()
+    entries, others = [*table_entries(), *opcode_entries()], other_mnemonics()
     missing = [f"{table}: {mnemonic} of {name} {operator}".rstrip() for table, (name, operator, mnemonic) in entries
                if (name, operator, mnemonic) not in expected.told]
     missing += [f"in no table: {mnemonic}" for mnemonic in others if mnemonic not in expected.mnemonics]

@@ -3,18 +3,25 @@
 
     checks/opcodes.py
 
-An opcode of three digits or more is looked for in all crates but those of tests. Each constant's name has to be the mnemonic
-that stands beside its row in the decoder's table, without the letter of an element's size. It ends with 1 where one differs.
-Other scripts that read the sources take `plain` from it, which puts the numbers in the constants' place.
+An opcode of three digits or more is looked for in all crates but those of tests. Each constant has to have one row, and its name
+has to be the mnemonic that stands beside it, without the letter of an element's size. It ends with 1 where one differs.
+Other scripts that read the sources take `plain` from it, which puts the numbers in the constants' place, and `machine_rows`, the
+lines of the table of machine rows.
 """
+import collections
 import os
 import re
 import sys
 
 CRATES = os.path.join(os.path.dirname(os.path.abspath(__file__)), "..", "crates")
 CONSTANTS = os.path.join(CRATES, "s390x_rows", "src", "opcodes.rt")
-ROWS = os.path.join(CRATES, "s390x_format", "src", "table.rt")
+TABLE = os.path.join(CRATES, "s390x_format", "src", "table.rt")
 TESTS = ("s390x_buffer_tests", "s390x_instruction_tests")
+LINE = re.compile(r'^ *\$each!\((\w+), (\w+), Allowed::(\w+)(?: \{ low: (\d+), high: (\d+) \})?, \("(\w*)", (\w+), (\w+)\), FacilityRule::(.*?), RowSemantics::(.*)\), // (.+)$', re.M)
+
+# A machine row: the number and the name of its opcode; what its first mask may be; what its mnemonics begin with, end with and stand before;
+# the rule of its facility, what it does, as the table writes them; and its mnemonics.
+MachineRow = collections.namedtuple("MachineRow", "format opcode name allowed low high stem suffix form facility semantics mnemonics")
 
 
 def constants():
@@ -27,6 +34,15 @@ def plain(text):
     """A source with the numbers in place of the opcodes' names."""
     known = constants()
     return re.sub(r"\bopcodes(?:::|\.)([A-Z][A-Z0-9]*)\b( as u8\b)?", lambda name: known[name[1]], text)
+
+
+def machine_rows(path=TABLE):
+    """The lines of the table of machine rows, in its order."""
+    known = constants()
+    with open(path) as file:
+        lines = LINE.findall(file.read())
+    return [MachineRow(kind, int(known[name], 16), name, allowed, int(low or 0), int(high or 0), *columns, mnemonics.split())
+            for kind, name, allowed, low, high, *columns, mnemonics in lines]
 
 
 def sources():
@@ -42,11 +58,10 @@ def sources():
 
 def misnamed():
     """The constants of rows whose mnemonic is another one, with these."""
-    with open(ROWS) as file:
-        rows = re.findall(r"opcode: opcodes::(\w+), .*// (\S+)", file.read())
-    if sorted(name for name, _ in rows) != sorted(constants()):
-        raise SystemExit("the decoder's table hasn't one row for each constant")
-    return [(name, mnemonic) for name, mnemonic in rows if not re.fullmatch(name.lower() + "[bhfgq]?", mnemonic)]
+    rows = machine_rows()
+    if sorted(row.name for row in rows) != sorted(constants()):
+        raise SystemExit("the table hasn't one row for each constant")
+    return [(row.name, row.mnemonics[0]) for row in rows if not re.fullmatch(row.name.lower() + "[bhfgq]?", row.mnemonics[0])]
 
 
 def main():

@@ -12,12 +12,11 @@ import argparse
 import collections
 import os
 import random
-import re
 import sys
 import tempfile
 
 import emulator
-from opcodes import plain
+from opcodes import machine_rows
 import program
 from random_jobs import CODE_BASE, RandomJob
 
@@ -39,10 +38,7 @@ RETURN_CODE = bytes([0x07, 0xfe])
 
 def row_names():
     """The mnemonic of each opcode of the decoder's table."""
-    path = os.path.join(program.ROOT, "crates", "s390x_format", "src", "table.rt")
-    with open(path) as file:
-        found = re.findall(r"opcode: 0x([0-9a-f]+).*// (.*)", plain(file.read()))
-    return {int(opcode, 16): names.split()[0] for opcode, names in found}
+    return {row.opcode: row.mnemonics[0] for row in machine_rows()}
 
 
 def row_at(names, code):

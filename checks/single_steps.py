@@ -26,7 +26,7 @@ import sys
 import tempfile
 
 import emulator
-from opcodes import plain
+from opcodes import machine_rows, plain
 from random_functions import LACKING, LACKING_SIZES
 from random_jobs import interesting
 
@@ -70,9 +70,7 @@ def layouts():
 def rows():
     """The machine rows, by the table's comment with the first of their mnemonics."""
     parts = layouts()
-    line = re.compile(r"MachineRow \{ format: FormatKind::(\w+), opcode: 0x([0-9a-f]+), allowed: Allowed::(\w+)(?: \{ low: (\d+), high: (\d+) \})? \}, // (\S+)")
-    return [Row(kind, int(opcode, 16), name, parts[kind.lower()], (allowed, int(low or 0), int(high or 0)))
-            for kind, opcode, allowed, low, high, name in line.findall(read("table.rt"))]
+    return [Row(row.format, row.opcode, row.mnemonics[0], parts[row.format.lower()], (row.allowed, row.low, row.high)) for row in machine_rows()]
 
 
 def drawn_slots(drawn, row):

@@ -1,5 +1,5 @@
 #!/usr/bin/env python3
-"""Changes lines of the machine's table ROW_SEMANTICS, one at a time, each to another meaning of its kind, and tells which of the changes the known
+"""Changes lines of the table of machine rows, one at a time, each to another meaning of its kind, and tells which of the changes the known
 steps of `crates/s390x_step_vectors` report; run by hand, from anywhere: checks/wrong_rows.py [COUNT [SEED]].
 
 The table is read by the machine and by its definition alike, so that no proof refuses a line that is wrong there. Each change is tried on an unproved
@@ -14,8 +14,9 @@ import sys
 import tempfile
 
 ROOT = pathlib.Path(__file__).resolve().parent.parent
-TABLE = "crates/s390x_machine/src/semantics.rt"
-LINE = re.compile(r"^    OpcodeSemantics \{ opcode: (opcodes::\w+), semantics: (.*) \}, // (\S+)$")
+TABLE = "crates/s390x_format/src/table.rt"
+LINE = re.compile(r"^ *\$each!\(\w+, (\w+), .*, (RowSemantics::.*)\), // (\S+)")
+VECTOR = r"Elements\((VectorRow \{.*?\})\)"
 
 # What a word is changed into: another of its kind.
 WORDS = {
@@ -56,11 +57,12 @@ WORDS = {
 
 
 def operands(text):
-    """The names of second operands that the file has, in capitals."""
-    return sorted(set(re.findall(r"^pub const ([A-Z_0-9]+): SecondOperand", text, re.M)))
+    """The names of second operands that the file reads, in capitals."""
+    used = re.search(r"use crate::semantics::\{(.*?)\}", text, re.S)[1]
+    return sorted(set(re.findall(r"\b[A-Z][A-Z_0-9]+\b", used)))
 
 
-def changes(semantics, names, opcodes):
+def changes(semantics, names, rows):
     """Each change of one word of a meaning."""
     found = []
     for word, others in WORDS.items():
@@ -70,10 +72,10 @@ def changes(semantics, names, opcodes):
         for place in re.finditer(r"\b" + name + r"\b", semantics):
             others = [other for other in names if related(name, other)]
             found += [semantics[:place.start()] + other + semantics[place.end():] for other in others]
-    place = re.search(r"Elements\((opcodes::\w+)\)", semantics)
+    place = re.search(VECTOR, semantics)
     if place:
-        at = opcodes.index(place[1])
-        found += [semantics.replace(place[1], other) for other in opcodes[max(0, at - 1):at + 2] if other != place[1]]
+        at = rows.index(place[1])
+        found += [semantics.replace(place[1], other) for other in rows[max(0, at - 1):at + 2] if other != place[1]]
     return found
 
 
@@ -99,7 +101,7 @@ def main():
     text = (ROOT / TABLE).read_text()
     lines = [line for line in text.splitlines() if LINE.match(line)]
     names = operands(text)
-    vector = re.findall(r"Elements\((opcodes::\w+)\)", text)
+    vector = re.findall(VECTOR, text)
     # some of the steps are wrong on purpose
     wanted = (ROOT / "crates/s390x_step_vectors/stdout").read_text().splitlines()[-1]
     missed = 0

@@ -1,5 +1,5 @@
 #!/usr/bin/env python3
-"""What each machine row does, in a sentence, made of the machine's own table of semantics; `build.sh` puts them into the page.
+"""What each machine row does, in a sentence, made of the table of machine rows; `build.sh` puts them into the page.
 
     page/sentences.py          the sentences as JSON, in the order of the table of machine rows
     page/sentences.py --list   a line each, with opcode and mnemonic
@@ -13,7 +13,7 @@ TOP = os.path.dirname(os.path.dirname(os.path.abspath(__file__)))
 CRATES = os.path.join(TOP, "crates")
 sys.path.insert(0, os.path.join(TOP, "checks"))
 sys.dont_write_bytecode = True
-from opcodes import plain  # noqa: E402
+from opcodes import constants, machine_rows  # noqa: E402
 
 SET = " The condition code is set by it."
 BYTES = {"Bits8": "the byte", "Bits16": "the 2 bytes", "Bits32": "the 4 bytes", "Bits64": "the 8 bytes"}
@@ -41,7 +41,7 @@ def fields_upper(text):
 
 def read(*path):
     with open(os.path.join(CRATES, *path)) as file:
-        return plain(file.read())
+        return file.read()
 
 
 def upper(text):
@@ -69,7 +69,7 @@ def operand(source, width, sign, is_reversed):
 def operands():
     """The named second operands: their source, width, sign and whether they are reversed."""
     body = r"pub const (\w+): SecondOperand = SecondOperand \{\s*operand_source: OperandSource::([^,]+),\s*width: Width::(\w+),\s*sign: Signedness::(\w+),\s*reversed: (\w+),"
-    return {name: (source, width, sign, flag == "true") for name, source, width, sign, flag in re.findall(body, read("s390x_machine", "src", "semantics.rt"))}
+    return {name: (source, width, sign, flag == "true") for name, source, width, sign, flag in re.findall(body, read("s390x_format", "src", "semantics.rt"))}
 
 
 def computed(operator, first, second, target, rule):
@@ -160,7 +160,7 @@ def storage(kind):
     }[name]
 
 
-def sentence(semantics, second, kinds):
+def sentence(semantics, second):
     """What a row with these semantics does."""
     name, _, inner = semantics.partition("(")
     inner = inner[:-1] if inner else ""
@@ -218,7 +218,7 @@ def sentence(semantics, second, kinds):
         count = {"Word": "The 4 bytes", "Doubleword": "The 8 bytes"}[short[0]]
         return "%s at %s become r2 if they are r1; else r1 gets them." % (count, PLACE) + SET
     if name in ("Elements", "ShiftElements"):
-        return on_elements(kinds[int(parts[0], 16)])
+        return on_elements(re.search(r"RowKind::(.*), least", semantics)[1])
     if name == "LoadVector":
         return "Vector register r1 gets %s from storage at %s." % (storage(short[0]), ADDRESS)
     if name == "StoreVector":
@@ -235,9 +235,8 @@ def sentence(semantics, second, kinds):
 def sentences():
     """The opcode, the mnemonic and the sentence of each row."""
     second = operands()
-    kinds = {int(opcode, 16): kind for opcode, kind in re.findall(r"OpcodeRow \{ opcode: (0x\w+), kind: RowKind::(.*?), least", read("s390x_lanes", "src", "opcodes.rt"))}
-    lines = re.findall(r"OpcodeSemantics \{ opcode: (0x\w+), semantics: RowSemantics::(.*) \}, // (\w+)", read("s390x_machine", "src", "semantics.rt"))
-    return [(opcode, name, fields_upper(sentence(semantics, second, kinds))) for opcode, semantics, name in lines]
+    numbers = constants()
+    return [(numbers[row.name], row.mnemonics[0], fields_upper(sentence(row.semantics, second))) for row in machine_rows()]
 
 
 def main():

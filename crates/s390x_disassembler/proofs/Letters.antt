@@ -1,8 +1,8 @@
 -- The letters of a mnemonic tell the mask that chose them.
 use Rattle.std.proofs.Common.{◌≡◌, ℕ, zero, suc, ◌+◌, ◌*◌, ◌%◌, ◌<◌, length, refl, arith, inl, inr}
 use Rattle.std.specs.Prelude.{◌⊎◌}
-use Rattle.s390x_disassembler.specs.declared.spelling.Suffix.{Suffix}
-use Rattle.s390x_disassembler.specs.declared.spelling.Suffix.TheVariants.{Size, HalfwordSize, SizeAndCode, Condition, Trap, Jump, Return}
+use Rattle.s390x_format.specs.declared.spelling.Suffix.{Suffix}
+use Rattle.s390x_format.specs.declared.spelling.Suffix.TheVariants.{Size, HalfwordSize, SizeAndCode, Condition, Trap, Jump, Return}
 use Rattle.s390x_disassembler.specs.Spelling.{letters_for, name_in}
 use Rattle.s390x_disassembler.specs.Names.{place_in}
 

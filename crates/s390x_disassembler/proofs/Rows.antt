@@ -1,8 +1,8 @@
 -- The text of the row at a place of a table of spellings.
 use Rattle.std.proofs.Common.{◌≡◌, ℕ, zero, suc, ◌<◌, ◌≤◌, List, [], ◌∷◌, length, map, slice_index_or, refl, Bor, arith}
 use Rattle.s390x_format.specs.declared.fields.Fields.{Fields}
-use Rattle.s390x_disassembler.specs.declared.forms.Form.{Form}
-use Rattle.s390x_disassembler.specs.declared.spelling.Suffix.{Suffix}
+use Rattle.s390x_format.specs.declared.spelling.Form.{Form}
+use Rattle.s390x_format.specs.declared.spelling.Suffix.{Suffix}
 use Rattle.s390x_disassembler.specs.Text.{plain_row, row_text, spelled}
 
 pub row_at : (rows : List (Bor (List ℕ) × Suffix × Form)) (a i : ℕ) (f : Fields) (d : Bor (List ℕ) × Suffix × Form) → i < length rows → row_text (map (λ row. plain_row row) rows) a i f ≡ spelled a (plain_row (slice_index_or rows i d)) f

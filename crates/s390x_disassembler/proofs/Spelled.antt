@@ -6,10 +6,10 @@ use Rattle.std.proofs.lemmas.List.{drop_at}
 use Rattle.s390x_format.specs.declared.row.MachineRow.{MachineRow}
 use Rattle.s390x_format.specs.Reading.{encode}
 use Rattle.s390x_format.specs.View.{fields_of}
-use Rattle.s390x_disassembler.specs.declared.forms.Form.{Form}
+use Rattle.s390x_format.specs.declared.spelling.Form.{Form}
 use Rattle.s390x_disassembler.specs.declared.forms.Operand.{Operand}
-use Rattle.s390x_disassembler.specs.declared.spelling.Suffix.{Suffix}
-use Rattle.s390x_disassembler.specs.declared.spelling.Suffix.TheVariants.{Plain, Size, ThirdSize, HalfwordSize, SizeAndCode, Condition, Trap, Jump, Return}
+use Rattle.s390x_format.specs.declared.spelling.Suffix.{Suffix}
+use Rattle.s390x_format.specs.declared.spelling.Suffix.TheVariants.{Plain, Size, ThirdSize, HalfwordSize, SizeAndCode, Condition, Trap, Jump, Return}
 use Rattle.s390x_disassembler.specs.Forms.{operands_of}
 use Rattle.s390x_disassembler.specs.Spelling.{letters_for, letters_of}
 use Rattle.s390x_disassembler.specs.Names.{place_in}

@@ -15,8 +15,8 @@ use Rattle.s390x_format.specs.Widths.{widths_of}
 use Rattle.s390x_format.specs.Fits.{slot_fits}
 use Rattle.s390x_disassembler.specs.declared.forms.Operand.{Operand}
 use Rattle.s390x_disassembler.specs.declared.forms.Operand.TheVariants.{General, Float, Vector, Access, Mask, NonzeroMask, UnnamedMask, Unsigned, Signed16, Signed32, Target, Storage, Indexed}
-use Rattle.s390x_disassembler.specs.declared.spelling.Suffix.{Suffix}
-use Rattle.s390x_disassembler.specs.declared.spelling.Suffix.TheVariants.{Plain, Size, ThirdSize, HalfwordSize, SizeAndCode, Condition, Trap, Jump, Return}
+use Rattle.s390x_format.specs.declared.spelling.Suffix.{Suffix}
+use Rattle.s390x_format.specs.declared.spelling.Suffix.TheVariants.{Plain, Size, ThirdSize, HalfwordSize, SizeAndCode, Condition, Trap, Jump, Return}
 use Rattle.s390x_disassembler.specs.Spelling.{letters_for, letters_of}
 use Rattle.s390x_disassembler.specs.Names.{place_in}
 use Rattle.s390x_disassembler.specs.Operands.{reads, tells}
@@ -109,9 +109,13 @@ IsPinnedAt row values k = row_value row k ≡ slice_index values k
 at_slot : (row : MachineRow) (values : List ℕ) (k slot : ℕ) → (k == slot) ≡ true → IsPinnedAt row values slot → IsPinnedAt row values k
 at_slot row values k slot e h = subst (λ (i : ℕ). IsPinnedAt row values i) (sym (eqb-true k slot e)) h
 
-pinned : (format : FormatKind) (opcode : ℕ) (al : Allowed) (values : List ℕ) (k : ℕ) → is_allowed al values ≡ true → is_pinned al k ≡ true → IsPinnedAt (record { format = format; opcode = opcode; allowed = al }) values k
-pinned format opcode (FirstMask low high) values k h e =
-    let row : MachineRow = record { format = format; opcode = opcode; allowed = FirstMask low high } in
+-- a row that allows other values
+abbrev with_allowed : MachineRow → Allowed → MachineRow
+with_allowed row al = record { format = row.format; opcode = row.opcode; allowed = al; facility = row.facility; semantics = row.semantics }
+
+pinned : (row : MachineRow) (al : Allowed) (values : List ℕ) (k : ℕ) → is_allowed al values ≡ true → is_pinned al k ≡ true → IsPinnedAt (with_allowed row al) values k
+pinned from (FirstMask low high) values k h e =
+    let row : MachineRow = with_allowed from (FirstMask low high) in
     let p = and_parts (nat_le low (slice_index values 5) && nat_le (slice_index values 5) high && (slice_index values 6 == 0)) (slice_index values 7 == 0) h in
     let q = and_parts (nat_le low (slice_index values 5) && nat_le (slice_index values 5) high) (slice_index values 6 == 0) p.0 in
     let r = and_parts (nat_le low (slice_index values 5)) (nat_le (slice_index values 5) high) q.0 in
@@ -125,11 +129,11 @@ pinned format opcode (FirstMask low high) values k h e =
       ]
       | inr x ↦ at_slot row values k 7 x (sym (eqb-true (slice_index values 7) 0 p.1))
     ]
-pinned format opcode CountMode values k h e =
+pinned from CountMode values k h e =
     let p = and_parts ((slice_index values 5 == 0) || (slice_index values 5 == 8)) (slice_index values 6 == 0) h in
-    at_slot (record { format = format; opcode = opcode; allowed = CountMode }) values k 6 e (sym (eqb-true (slice_index values 6) 0 p.1))
-pinned format opcode DoublewordPair values k h e =
-    let row : MachineRow = record { format = format; opcode = opcode; allowed = DoublewordPair } in
+    at_slot (with_allowed from CountMode) values k 6 e (sym (eqb-true (slice_index values 6) 0 p.1))
+pinned from DoublewordPair values k h e =
+    let row : MachineRow = with_allowed from DoublewordPair in
     let masks : Bool = (slice_index values 5 == 0) || (slice_index values 5 == 1) || (slice_index values 5 == 4) || (slice_index values 5 == 5) in
     let p = and_parts (masks && (slice_index values 6 == 0)) (slice_index values 7 == 0) h in
     let q = and_parts masks (slice_index values 6 == 0) p.0 in
@@ -137,12 +141,12 @@ pinned format opcode DoublewordPair values k h e =
       | inl x ↦ at_slot row values k 6 x (sym (eqb-true (slice_index values 6) 0 q.1))
       | inr x ↦ at_slot row values k 7 x (sym (eqb-true (slice_index values 7) 0 p.1))
     ]
-pinned format opcode Any values k h e = cc
-pinned format opcode ComparedLanes values k h e = cc
-pinned format opcode RotateBits values k h e = cc
-pinned format opcode RotateBitsOrTest values k h e = cc
-pinned format opcode BitRange values k h e = cc
-pinned format opcode ReplicatedLane values k h e = cc
+pinned from Any values k h e = cc
+pinned from ComparedLanes values k h e = cc
+pinned from RotateBits values k h e = cc
+pinned from RotateBitsOrTest values k h e = cc
+pinned from BitRange values k h e = cc
+pinned from ReplicatedLane values k h e = cc
 
 -- ---- letters
 sized : (al : Allowed) (values : List ℕ) → is_allowed al values ≡ true → is_sized al ≡ true → slice_index values 5 < 5
@@ -265,7 +269,7 @@ told row s os values k lt fit h e = elim (or_cases _ _ e) [
         | inl a ↦ inr (always_known _ (fields_of row.format values) os k a)
         | inr a ↦ by_letters row s os values k fit h a
       ]
-      | inr b ↦ let q = and_parts _ _ b in inl (told_plain s _ k (row_value row k) q.0 ∙ pinned row.format row.opcode row.allowed values k h q.1)
+      | inr b ↦ let q = and_parts _ _ b in inl (told_plain s _ k (row_value row k) q.0 ∙ pinned row row.allowed values k h q.1)
     ]
     | inr c ↦
         let q = and_parts _ _ c in

@@ -4,8 +4,8 @@ use Rattle.std.specs.Str.{bytes_eq}
 use Rattle.std.proofs.lemmas.List.{length-map, get_or_default}
 use Rattle.s390x_format.specs.declared.row.MachineRow.{MachineRow}
 use Rattle.s390x_format.specs.Reading.{be_bytes, no_row}
-use Rattle.s390x_disassembler.specs.declared.forms.Form.{Form}
-use Rattle.s390x_disassembler.specs.declared.spelling.Suffix.{Suffix}
+use Rattle.s390x_format.specs.declared.spelling.Form.{Form}
+use Rattle.s390x_format.specs.declared.spelling.Suffix.{Suffix}
 use Rattle.s390x_disassembler.specs.Text.{plain_row}
 use Rattle.s390x_disassembler.specs.Names.{may_name, place_in, row_named}
 use Rattle.s390x_disassembler.specs.Bare.{no_spelling, IsSpelledRead, IsRowRead}

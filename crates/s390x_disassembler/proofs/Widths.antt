@@ -17,12 +17,12 @@ use Rattle.s390x_format.specs.Reading.{no_row}
 use Rattle.s390x_format.specs.View.{fields_of}
 use Rattle.s390x_format.specs.Fetch.{IsLocated}
 use Rattle.s390x_format.proofs.SlotBounds.{slot_below}
-use Rattle.s390x_disassembler.specs.declared.forms.Form.{Form}
-use Rattle.s390x_disassembler.specs.declared.forms.Form.TheVariants.{BranchRegister}
+use Rattle.s390x_format.specs.declared.spelling.Form.{Form}
+use Rattle.s390x_format.specs.declared.spelling.Form.TheVariants.{BranchRegister}
 use Rattle.s390x_disassembler.specs.declared.forms.Operand.{Operand}
 use Rattle.s390x_disassembler.specs.declared.forms.Operand.TheVariants.{General, Float, Vector, Access, Mask, NonzeroMask, UnnamedMask, Unsigned, Signed16, Signed32, Target, Storage, Indexed}
-use Rattle.s390x_disassembler.specs.declared.spelling.Suffix.{Suffix}
-use Rattle.s390x_disassembler.specs.declared.spelling.Suffix.TheVariants.{Plain}
+use Rattle.s390x_format.specs.declared.spelling.Suffix.{Suffix}
+use Rattle.s390x_format.specs.declared.spelling.Suffix.TheVariants.{Plain}
 use Rattle.s390x_disassembler.specs.Forms.{operands_of}
 use Rattle.s390x_disassembler.specs.Spelling.{letters_for, letters_of, choice, name_in}
 use Rattle.s390x_disassembler.specs.Text.{found_text, register_text, general_text, registers_text, operand_text, operands_text, is_written, spellings}

@@ -19,9 +19,9 @@ use Rattle.s390x_format.specs.Fetch.{IsLocated, machine_rows}
 use Rattle.s390x_format.proofs.Fetching.{same_place}
 use Rattle.s390x_format.proofs.Finding.{known}
 use Rattle.s390x_format.proofs.RowTable.{rows_are, rows_rise, rows_indexed}
-use Rattle.s390x_disassembler.specs.declared.forms.Form.{Form}
-use Rattle.s390x_disassembler.specs.declared.forms.Form.TheVariants.{BranchRegister}
-use Rattle.s390x_disassembler.specs.declared.spelling.Suffix.{Suffix}
+use Rattle.s390x_format.specs.declared.spelling.Form.{Form}
+use Rattle.s390x_format.specs.declared.spelling.Form.TheVariants.{BranchRegister}
+use Rattle.s390x_format.specs.declared.spelling.Suffix.{Suffix}
 use Rattle.s390x_disassembler.specs.Forms.{operands_of}
 use Rattle.s390x_disassembler.specs.Spelling.{letters_of, choice}
 use Rattle.s390x_disassembler.specs.Text.{spellings, spelled, row_text, found_text, operands_text}

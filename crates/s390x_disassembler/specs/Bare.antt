@@ -9,10 +9,10 @@ use Rattle.s390x_format.specs.Rows.{is_allowed, fetch_length_of}
 use Rattle.s390x_format.specs.Reading.{encode, no_row}
 use Rattle.s390x_format.specs.View.{fields_of}
 use Rattle.s390x_format.specs.Fetch.{IsLocated}
-use Rattle.s390x_disassembler.specs.declared.forms.Form.{Form}
-use Rattle.s390x_disassembler.specs.declared.forms.Form.TheVariants.{BranchRegister}
-use Rattle.s390x_disassembler.specs.declared.spelling.Suffix.{Suffix}
-use Rattle.s390x_disassembler.specs.declared.spelling.Suffix.TheVariants.{Plain}
+use Rattle.s390x_format.specs.declared.spelling.Form.{Form}
+use Rattle.s390x_format.specs.declared.spelling.Form.TheVariants.{BranchRegister}
+use Rattle.s390x_format.specs.declared.spelling.Suffix.{Suffix}
+use Rattle.s390x_format.specs.declared.spelling.Suffix.TheVariants.{Plain}
 use Rattle.s390x_disassembler.specs.Forms.{operands_of}
 use Rattle.s390x_disassembler.specs.Spelling.{letters_of}
 use Rattle.s390x_disassembler.specs.Text.{operands_text, found_text}

@@ -1,8 +1,8 @@
 -- The operands of each form.
 use Rattle.std.specs.Prelude.{List}
 use Rattle.s390x_disassembler.specs.declared.forms.Operand.{Operand}
-use Rattle.s390x_disassembler.specs.declared.forms.Form.{Form}
-use Rattle.s390x_disassembler.specs.declared.forms.Form.TheVariants.{BranchRegister, General2, Float2, GeneralIndexed, FloatIndexed, StorageByte, General2Storage, GeneralUnsigned, Target, GeneralTarget, GeneralSigned16, GeneralSigned32, GeneralAccess, FloatGeneral, GeneralFloat, General2Mask, General3, General2Count, StorageSigned, VectorIndexedLane, VectorIndexed, GeneralVectorStorage, VectorGeneralStorage, Vector2Storage, VectorSignedLane, VectorUnsigned, VectorSigned, VectorBits, Vector2Lane, Vector2, Vector3, VectorGeneral2, Vector3Mask, Vector4Byte, Vector4, Vector3Control, GeneralSignedMask, General2Bits, GeneralUnsignedMask, General2Signed}
+use Rattle.s390x_format.specs.declared.spelling.Form.{Form}
+use Rattle.s390x_format.specs.declared.spelling.Form.TheVariants.{BranchRegister, General2, Float2, GeneralIndexed, FloatIndexed, StorageByte, General2Storage, GeneralUnsigned, Target, GeneralTarget, GeneralSigned16, GeneralSigned32, GeneralAccess, FloatGeneral, GeneralFloat, General2Mask, General3, General2Count, StorageSigned, VectorIndexedLane, VectorIndexed, GeneralVectorStorage, VectorGeneralStorage, Vector2Storage, VectorSignedLane, VectorUnsigned, VectorSigned, VectorBits, Vector2Lane, Vector2, Vector3, VectorGeneral2, Vector3Mask, Vector4Byte, Vector4, Vector3Control, GeneralSignedMask, General2Bits, GeneralUnsignedMask, General2Signed}
 use Rattle.s390x_disassembler.specs.declared.forms.TheConstants.{BRANCH_REGISTER, GENERAL_2, FLOAT_2, GENERAL_INDEXED, FLOAT_INDEXED, STORAGE_BYTE, GENERAL_2_STORAGE, GENERAL_UNSIGNED, TARGET, GENERAL_TARGET, GENERAL_SIGNED_16, GENERAL_SIGNED_32, GENERAL_ACCESS, FLOAT_GENERAL, GENERAL_FLOAT, GENERAL_2_MASK, GENERAL_3, GENERAL_2_COUNT, STORAGE_SIGNED, VECTOR_INDEXED_LANE, VECTOR_INDEXED, GENERAL_VECTOR_STORAGE, VECTOR_GENERAL_STORAGE, VECTOR_2_STORAGE, VECTOR_SIGNED_LANE, VECTOR_UNSIGNED, VECTOR_SIGNED, VECTOR_BITS, VECTOR_2_LANE, VECTOR_2, VECTOR_3, VECTOR_GENERAL_2, VECTOR_3_MASK, VECTOR_4_BYTE, VECTOR_4, VECTOR_3_CONTROL, GENERAL_SIGNED_MASK, GENERAL_2_BITS, GENERAL_UNSIGNED_MASK, GENERAL_2_SIGNED}
 
 -- the operands, in the order in which they are written

@@ -1,8 +1,8 @@
 -- Which rows a mnemonic may be of.
 use Rattle.std.specs.Prelude.{ℕ, zero, suc, Bool, ◌||◌, ◌&&◌, ◌==◌, nat_lt, if◌then◌else◌, List, [], ◌∷◌, length, take, drop}
 use Rattle.std.specs.Str.{bytes_eq}
-use Rattle.s390x_disassembler.specs.declared.forms.Form.{Form}
-use Rattle.s390x_disassembler.specs.declared.spelling.Suffix.{Suffix}
+use Rattle.s390x_format.specs.declared.spelling.Form.{Form}
+use Rattle.s390x_format.specs.declared.spelling.Suffix.{Suffix}
 use Rattle.s390x_disassembler.specs.Spelling.{letters_for}
 
 -- the place of the first name that is this one; how many there are where none is

@@ -1,8 +1,8 @@
 -- The letters that masks choose at the end of a mnemonic.
 use Rattle.std.specs.Prelude.{ℕ, ◌+◌, ◌*◌, List, [], map, get_or, slice_index}
 use Rattle.s390x_format.specs.declared.fields.Fields.{Fields}
-use Rattle.s390x_disassembler.specs.declared.spelling.Suffix.{Suffix}
-use Rattle.s390x_disassembler.specs.declared.spelling.Suffix.TheVariants.{Plain, Size, ThirdSize, HalfwordSize, SizeAndCode, Condition, Trap, Jump, Return}
+use Rattle.s390x_format.specs.declared.spelling.Suffix.{Suffix}
+use Rattle.s390x_format.specs.declared.spelling.Suffix.TheVariants.{Plain, Size, ThirdSize, HalfwordSize, SizeAndCode, Condition, Trap, Jump, Return}
 use Rattle.s390x_disassembler.specs.declared.spelling.TheConstants.{SIZES, HALFWORD_SIZES, SIZES_AND_CODES, CONDITIONS, TRAPS, JUMPS, RETURNS}
 
 -- the name at a place of a table

@@ -6,9 +6,9 @@ use Rattle.s390x_format.specs.declared.row.Allowed.TheVariants.{FirstMask, Count
 use Rattle.s390x_format.specs.Widths.{widths_of}
 use Rattle.s390x_disassembler.specs.declared.forms.Operand.{Operand}
 use Rattle.s390x_disassembler.specs.declared.forms.Operand.TheVariants.{NonzeroMask, UnnamedMask}
-use Rattle.s390x_disassembler.specs.declared.forms.Form.{Form}
-use Rattle.s390x_disassembler.specs.declared.spelling.Suffix.{Suffix}
-use Rattle.s390x_disassembler.specs.declared.spelling.Suffix.TheVariants.{Plain, Size, ThirdSize, HalfwordSize, SizeAndCode, Condition, Trap, Jump, Return}
+use Rattle.s390x_format.specs.declared.spelling.Form.{Form}
+use Rattle.s390x_format.specs.declared.spelling.Suffix.{Suffix}
+use Rattle.s390x_format.specs.declared.spelling.Suffix.TheVariants.{Plain, Size, ThirdSize, HalfwordSize, SizeAndCode, Condition, Trap, Jump, Return}
 use Rattle.s390x_disassembler.specs.Forms.{operands_of}
 use Rattle.s390x_disassembler.specs.Operands.{reads, all_suit, is_in_order}
 

@@ -9,10 +9,12 @@ ghost use Rattle.s390x_disassembler.specs.Bare.{IsBareRead, IsGroupRead, IsInstr
 use crate::forms::operands;
 use crate::reading::put_operands;
 use crate::scan::{begins, behind, head, hex_bytes, word};
-use crate::spelling::{Spelling, Suffix, letter_table};
-use crate::table::SPELLINGS;
+use crate::spelling::letter_table;
 use arrayvec::ArrayVec;
-use s390x_format::{Allowed, FormatKind, MACHINE_ROWS, MachineRow, layout, length, pack};
+use s390x_format::{
+    Allowed, FormatKind, MACHINE_ROWS, MachineRow, SPELLINGS, Spelling, Suffix, layout, length,
+    pack,
+};
 use std::alloc::{AllocError, Global};
 
 /// The bytes that the first line of a text is read as, at an address: those of which it is written without its address and its

@@ -8,10 +8,9 @@ ghost use Rattle.s390x_disassembler.specs.Fitted.{Adds, fitting};
 use crate::forms::{Operand, operands};
 use crate::glyphs::{put_digits, put_integer, put_natural};
 use crate::room::{Text, put, put_byte};
-use crate::spelling::{Spelling, letters};
-use crate::table::SPELLINGS;
+use crate::spelling::letters;
 use crate::text::{is_written, signed, value_at};
-use s390x_format::{Fields, Located};
+use s390x_format::{Fields, Located, SPELLINGS, Spelling};
 
 /// An instruction's text at an address, as GNU's assembler writes it, as far as it has 96 bytes: the whole of it where some
 /// bytes are read as the instruction. No memory is taken.

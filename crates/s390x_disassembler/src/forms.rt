@@ -2,6 +2,8 @@
 ghost use Rattle.std.specs.Prelude.{◌≡◌};
 ghost use Rattle.s390x_disassembler.specs.Forms.{operands_of};
 
+use s390x_format::Form;
+
 /// What is written between two commas.
 #[derive(Clone, Copy)]
 pub enum Operand {
@@ -31,51 +33,6 @@ pub enum Operand {
     Storage(u8),
     /// The displacement, and the index and the base register: without an index where that is 0.
     Indexed(u8, u8),
-}
-
-/// What stands behind a mnemonic.
-#[derive(Clone, Copy)]
-pub enum Form {
-    BranchRegister,
-    General2,
-    Float2,
-    GeneralIndexed,
-    FloatIndexed,
-    StorageByte,
-    General2Storage,
-    GeneralUnsigned,
-    Target,
-    GeneralTarget,
-    GeneralSigned16,
-    GeneralSigned32,
-    GeneralAccess,
-    FloatGeneral,
-    GeneralFloat,
-    General2Mask,
-    General3,
-    General2Count,
-    StorageSigned,
-    VectorIndexedLane,
-    VectorIndexed,
-    GeneralVectorStorage,
-    VectorGeneralStorage,
-    Vector2Storage,
-    VectorSignedLane,
-    VectorUnsigned,
-    VectorSigned,
-    VectorBits,
-    Vector2Lane,
-    Vector2,
-    Vector3,
-    VectorGeneral2,
-    Vector3Mask,
-    Vector4Byte,
-    Vector4,
-    Vector3Control,
-    GeneralSignedMask,
-    General2Bits,
-    GeneralUnsignedMask,
-    General2Signed,
 }
 
 pub const BRANCH_REGISTER: [Operand; 1] = [Operand::General(1)];

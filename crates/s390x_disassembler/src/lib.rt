@@ -15,15 +15,13 @@ mod reading;
 mod room;
 mod scan;
 mod spelling;
-mod table;
 mod text;
 
 pub use assembly::{AssembleError, assemble};
 pub use fitted_text::located_text;
-pub use forms::{Form, Operand, operands};
+pub use forms::{Operand, operands};
 pub use line::{Line, found_in, line_at};
 pub use listing::{disassemble, instruction_text};
 pub use noted::{Note, disassemble_with_notes};
 pub use one_line::assembled_line;
 pub use room::Text;
-pub use spelling::{Spelling, Suffix};

@@ -1,35 +1,8 @@
-//! How a machine row is written: its mnemonic, and which operands follow.
+//! The letters that an instruction's masks choose at the end of its mnemonic.
 ghost use Rattle.std.specs.Prelude.{◌≡◌, map};
 ghost use Rattle.s390x_disassembler.specs.Spelling.{letters_for, choice, letters_of, name_in};
 
-use crate::forms::Form;
-use s390x_format::Fields;
-
-/// Which letters of its mnemonic an instruction's masks choose.
-#[derive(Clone, Copy)]
-pub enum Suffix {
-    /// None.
-    Plain,
-    /// An element's size, by the first mask.
-    Size,
-    /// An element's size, by the third mask.
-    ThirdSize,
-    /// An element's size, by the first mask, where `h` would end another mnemonic.
-    HalfwordSize,
-    /// An element's size, by the first mask, and `s` where the second has the condition code set.
-    SizeAndCode,
-    /// A condition, by the first mask.
-    Condition,
-    /// A condition of a comparison that traps, by the first mask.
-    Trap,
-    /// A condition or its absence, by the first mask.
-    Jump,
-    /// The whole mnemonic of a branch to a register, by its mask, which is the first register's field.
-    Return,
-}
-
-/// How a machine row is written: what its mnemonics begin with, what they end with, and what stands behind them.
-pub type Spelling = (&'static str, Suffix, Form);
+use s390x_format::{Fields, Suffix};
 
 // The letters for the values of a mask from 0 on. Where a text is empty, or none stands, the mask is an operand.
 pub const SIZES: [&str; 5] = ["b", "h", "f", "g", "q"];

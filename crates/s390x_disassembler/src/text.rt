@@ -6,9 +6,8 @@ ghost use Rattle.hex.specs.Hex.{encode_lower};
 ghost use Rattle.s390x_disassembler.specs.Text.{register_text, registers_text, storage_text, signed_of, target_of, operand_text, is_written, operands_text, spelled, plain_row, row_text, pairs_text, bytes_text, data_text, found_text};
 
 use crate::forms::{Operand, operands};
-use crate::spelling::{Spelling, letters};
-use crate::table::SPELLINGS;
-use s390x_format::{Fields, Located};
+use crate::spelling::letters;
+use s390x_format::{Fields, Located, SPELLINGS, Spelling};
 use std::alloc::{AllocError, Global};
 
 /// Appends what is found at an address, of these bytes.

@@ -18,15 +18,15 @@ use Rattle.s390x_inst.proofs.Transfers.{Transfer, LoadOf, StoreOf, as_transfer, 
 use Rattle.s390x_inst.specs.declared.vec_inst.VecInst.{VecInst}
 use Rattle.s390x_inst.specs.declared.vec_inst.VecInst.TheVariants.{VecLoadReplicate, VecLoadReplicateRev, VecLoadLane, VecLoadLaneRev, VecLoadLaneUndef, VecLoadLaneRevUndef, VecStoreLane, VecStoreLaneRev}
 use Rattle.s390x_inst.specs.declared.ops.ALUOp.{ALUOp}
-use Rattle.s390x_inst.specs.declared.ops.ALUOp.TheVariants.{Add32, Add32Ext16, Add64, Add64Ext16, Add64Ext32, AddLogical32, AddLogical64, AddLogical64Ext32, Sub32, Sub32Ext16, Sub64, Sub64Ext16, Sub64Ext32, SubLogical32, SubLogical64, SubLogical64Ext32, Mul32, Mul32Ext16, Mul64, Mul64Ext16, Mul64Ext32, And32, And64, Orr32, Orr64, Xor32, Xor64}
+use Rattle.s390x_inst.specs.declared.ops.ALUOp.TheVariants.{Add32}
 use Rattle.s390x_inst.specs.declared.ops.CmpOp.{CmpOp}
-use Rattle.s390x_inst.specs.declared.ops.CmpOp.TheVariants.{CmpS32, CmpS32Ext16, CmpS64, CmpS64Ext16, CmpS64Ext32, CmpL32, CmpL64, CmpL64Ext32}
+use Rattle.s390x_inst.specs.declared.ops.CmpOp.TheVariants.{CmpS32}
 use Rattle.s390x_rows.specs.declared.opcodes.TheConstants as opcodes
 use Rattle.s390x_typed_steps.specs.General.{is_general, reuses}
-use Rattle.s390x_typed_steps.specs.Memory.{MemoryInstruction, StorageForm, RxForm, RsForm, VrxForm, FloatForm, load_memory, store_memory, whole_memory, memory, operate, access_vector, access_elements, access_lane, reversed_code, is_left_lane, load_left, store_left, load_lane_opcode, store_lane_opcode, load_reversed_opcode, store_reversed_opcode, vector_memory}
+use Rattle.s390x_typed_steps.specs.Memory.{MemoryInstruction, StorageForm, RxForm, RsForm, VrxForm, FloatForm, load_memory, store_memory, whole_memory, memory, operate, access_vector, access_elements, access_lane, reversed_code, is_left_lane, load_left, store_left, load_lane_opcode, store_lane_opcode, load_reversed_opcode, store_reversed_opcode, vector_memory, load_and_operate, holds_scratch}
 use Rattle.s390x_typed_steps.specs.VectorInstruction.{element_code, is_lane, is_vector, reuses_vector}
 use Rattle.s390x_typed_steps.specs.Operands.{is_numbered}
-use Rattle.s390x_typed_steps.specs.Storage.{alu_rx, alu_rxy, cmp_rx, cmp_rxy, cmp_ril}
+use Rattle.s390x_typed_steps.specs.Storage.{alu_rx, alu_rxy, atomic_rsy, cmp_rx, cmp_rxy, cmp_ril}
 use Rattle.s390x_address.specs.Emitters.{reads_register, reads_registers, is_multiple, one_register, two_registers}
 use Rattle.s390x_emit_int.specs.Emitters.{IsEmitted}
 
@@ -55,43 +55,10 @@ reused n rd ri h =
 -- comparisons and operators read their register
 cmp_reads : (op : CmpOp) → reads_register (cmp_rxy op) ≡ true
 cmp_reads CmpS32 = refl
-cmp_reads CmpS32Ext16 = refl
-cmp_reads CmpS64 = refl
-cmp_reads CmpS64Ext16 = refl
-cmp_reads CmpS64Ext32 = refl
-cmp_reads CmpL32 = refl
-cmp_reads CmpL64 = refl
-cmp_reads CmpL64Ext32 = refl
 cmp_reads op = refl
 
 alu_reads : (op : ALUOp) → reads_register (alu_rxy op) ≡ true
 alu_reads Add32 = refl
-alu_reads Add32Ext16 = refl
-alu_reads Add64 = refl
-alu_reads Add64Ext16 = refl
-alu_reads Add64Ext32 = refl
-alu_reads AddLogical32 = refl
-alu_reads AddLogical64 = refl
-alu_reads AddLogical64Ext32 = refl
-alu_reads Sub32 = refl
-alu_reads Sub32Ext16 = refl
-alu_reads Sub64 = refl
-alu_reads Sub64Ext16 = refl
-alu_reads Sub64Ext32 = refl
-alu_reads SubLogical32 = refl
-alu_reads SubLogical64 = refl
-alu_reads SubLogical64Ext32 = refl
-alu_reads Mul32 = refl
-alu_reads Mul32Ext16 = refl
-alu_reads Mul64 = refl
-alu_reads Mul64Ext16 = refl
-alu_reads Mul64Ext32 = refl
-alu_reads And32 = refl
-alu_reads And64 = refl
-alu_reads Orr32 = refl
-alu_reads Orr64 = refl
-alu_reads Xor32 = refl
-alu_reads Xor64 = refl
 alu_reads op = refl
 
 -- an instruction on one register, by what its emitter says of the register
@@ -131,6 +98,27 @@ atomic_as opcode rd rn mem x other reads e v =
     let more : (not (is_multiple (Some opcode)) || nat_le (number_of rd) (number_of rn)) ≡ true = ap (λ t. not t || nat_le (number_of rd) (number_of rn)) other in
     let same = two_as rd rn None (Some opcode) true (is_general rd && is_general rn) (is_numbered 1 rn) mem (pair_of rd rn _ valid more) (sym reads) in
     as_found _ x (rd, rn, same) e
+
+-- neither a multiple row nor a compare and swap
+abbrev changes_alone : Option ℕ → Bool
+changes_alone None = true
+changes_alone (Some opcode) = not (nat_eq opcode opcodes.LMG) && (not (nat_eq opcode opcodes.STMG) && not (nat_eq opcode opcodes.CSY || nat_eq opcode opcodes.CSG))
+
+by_tests : (a b c : Bool) → (not a && (not b && not c)) ≡ true → ((a || b) ≡ false) × ((s t u : Bool) → cond a false (cond b s (cond c t u)) ≡ u)
+by_tests true b c h = absurd (cc)
+by_tests false true c h = absurd (cc)
+by_tests false false true h = absurd (cc)
+by_tests false false false h = (refl, λ s t u. refl)
+
+atomic_from : (o : Option ℕ) (rd rn : Reg) (mem : MemArg) (x : MemoryInstruction) → changes_alone o ≡ true → load_and_operate o rd rn mem ≡ Some x → x.operands_valid ≡ true → IsEmitted x
+atomic_from None rd rn mem x h e v = absurd (cc)
+atomic_from (Some opcode) rd rn mem x h e v =
+    let t = by_tests (nat_eq opcode opcodes.LMG) (nat_eq opcode opcodes.STMG) (nat_eq opcode opcodes.CSY || nat_eq opcode opcodes.CSG) h in
+    atomic_as opcode rd rn mem x t.0 (t.1 (holds_scratch rd rn) (is_numbered 1 rd || is_numbered 1 rn) (is_numbered 1 rn)) e v
+
+atomic_reads : (op : ALUOp) → changes_alone (atomic_rsy op) ≡ true
+atomic_reads Add32 = refl
+atomic_reads op = refl
 
 -- a compare and swap
 swap_as : (rs : Option ℕ) (opcode : ℕ) (rd ri rn : Reg) (mem : MemArg) (x : MemoryInstruction) → is_multiple (Some opcode) ≡ false → reads_registers (Some opcode) rd rn ≡ (is_numbered 1 rd || is_numbered 1 rn) →
@@ -225,17 +213,7 @@ each_emitter (StoreImm64SExt16 imm mem) x e v = as_found _ x (imm, refl) e
 each_emitter (LoadMultiple64 rt rt2 mem) x e v = as_found _ x (rt, rt2, refl) e
 each_emitter (StoreMultiple64 rt rt2 mem) x e v = as_found _ x (rt, rt2, refl) e
 each_emitter (LoadAddr rd mem) x e v = as_found _ x (rd, refl, refl) e
-each_emitter (AtomicRmw Add32 rd rn mem) x e v = atomic_as opcodes.LAA rd rn mem x refl refl e v
-each_emitter (AtomicRmw Add64 rd rn mem) x e v = atomic_as opcodes.LAAG rd rn mem x refl refl e v
-each_emitter (AtomicRmw AddLogical32 rd rn mem) x e v = atomic_as opcodes.LAAL rd rn mem x refl refl e v
-each_emitter (AtomicRmw AddLogical64 rd rn mem) x e v = atomic_as opcodes.LAALG rd rn mem x refl refl e v
-each_emitter (AtomicRmw And32 rd rn mem) x e v = atomic_as opcodes.LAN rd rn mem x refl refl e v
-each_emitter (AtomicRmw And64 rd rn mem) x e v = atomic_as opcodes.LANG rd rn mem x refl refl e v
-each_emitter (AtomicRmw Orr32 rd rn mem) x e v = atomic_as opcodes.LAO rd rn mem x refl refl e v
-each_emitter (AtomicRmw Orr64 rd rn mem) x e v = atomic_as opcodes.LAOG rd rn mem x refl refl e v
-each_emitter (AtomicRmw Xor32 rd rn mem) x e v = atomic_as opcodes.LAX rd rn mem x refl refl e v
-each_emitter (AtomicRmw Xor64 rd rn mem) x e v = atomic_as opcodes.LAXG rd rn mem x refl refl e v
-each_emitter (AtomicRmw op rd rn mem) x e v = absurd (cc)
+each_emitter (AtomicRmw op rd rn mem) x e v = atomic_from (atomic_rsy op) rd rn mem x (atomic_reads op) e v
 each_emitter (AtomicCas32 rd ri rn mem) x e v = swap_as (Some opcodes.CS) opcodes.CSY rd ri rn mem x refl refl e v
 each_emitter (AtomicCas64 rd ri rn mem) x e v = swap_as None opcodes.CSG rd ri rn mem x refl refl e v
 each_emitter (Vector w) x e v = vector_emitter w x e v

@@ -19,7 +19,7 @@ use Rattle.s390x_typed_steps.specs.MachineInstruction.{bytes_of, ril_c}
 use Rattle.s390x_typed_steps.specs.Rows.{half_distance, table_distance, word_bytes}
 use Rattle.s390x_typed_steps.specs.StepBody.{NothingLeft, BranchLeft}
 use Rattle.s390x_typed_steps.specs.Steps.{Step, Plain, LoadedStep, Shortened, Opening, Back, Break, CallingStep, NoLoadStep, TailOpeningStep, TailJumpStep}
-use Rattle.s390x_machine.specs.declared.semantics.Action.TheVariants.{Branch as BranchAction}
+use Rattle.s390x_machine.specs.declared.action_type.Action.TheVariants.{Branch as BranchAction}
 use Rattle.s390x_machine.specs.CodeAt.{AllCodeAt, AreBlocks, ImageAt, IsBlock, IsFoldedRight, IsValidInstruction, IsValidStep, LeadsOn}
 use Rattle.s390x_machine.specs.Layout.{Layout, block_address, step_address}
 use Rattle.s390x_machine.specs.Machine.{ActionStep, Event, Executed, Interrupted}

@@ -10,125 +10,53 @@ ghost use Rattle.s390x_typed_steps.specs.SingleCode.{code_where, single_code};
 ghost use Rattle.s390x_typed_steps.specs.SingleInstruction.{single_with, unary_row, three_row, three_halfword_row, allocate_row};
 ghost use Rattle.s390x_emit_rows.specs.SingleInstruction.{opcode_of, takes_general};
 
-use crate::codes::{halfword, masked, short, three_operands, two_and_halfword, two_operands, word};
+use crate::codes::{
+    halfword, masked, short, short_where, three_operands, two_and_halfword, two_operands, word,
+};
 use crate::opcode::ShortOpcode;
 use crate::registers::{same_number, three_general, two_general};
 use crate::shapes::into_row;
 use s390x_base::{Code, EmitError, Reg, Writable, gpr};
 use s390x_inst::{ALUOp, CmpOp, UnaryOp};
 use s390x_rows::opcodes;
-use s390x_typed_steps::{bits_of_halfword, bits_of_unsigned};
+use s390x_typed_steps::{
+    bits_of_halfword, bits_of_unsigned, row_of_unary, rows_of_alu, rows_of_cmp,
+};
 
 /// The opcode of an operator's row with an output and two inputs (RRF). None where it has none.
 pub fn three_opcode(op: ALUOp) -> Option<u16>
     ensures { result ≡ alu_three op }
 {
-    match op {
-        ALUOp::Add32 => Some(opcodes::ARK),
-        ALUOp::Add64 => Some(opcodes::AGRK),
-        ALUOp::AddLogical32 => Some(opcodes::ALRK),
-        ALUOp::AddLogical64 => Some(opcodes::ALGRK),
-        ALUOp::Sub32 => Some(opcodes::SRK),
-        ALUOp::Sub64 => Some(opcodes::SGRK),
-        ALUOp::SubLogical32 => Some(opcodes::SLRK),
-        ALUOp::SubLogical64 => Some(opcodes::SLGRK),
-        ALUOp::Mul32 | ALUOp::Mul32CC => Some(opcodes::MSRKC),
-        ALUOp::Mul64 | ALUOp::Mul64CC => Some(opcodes::MSGRKC),
-        ALUOp::And32 => Some(opcodes::NRK),
-        ALUOp::And64 => Some(opcodes::NGRK),
-        ALUOp::Orr32 => Some(opcodes::ORK),
-        ALUOp::Orr64 => Some(opcodes::OGRK),
-        ALUOp::Xor32 => Some(opcodes::XRK),
-        ALUOp::Xor64 => Some(opcodes::XGRK),
-        ALUOp::NotAnd32 => Some(opcodes::NNRK),
-        ALUOp::NotAnd64 => Some(opcodes::NNGRK),
-        ALUOp::NotOrr32 => Some(opcodes::NORK),
-        ALUOp::NotOrr64 => Some(opcodes::NOGRK),
-        ALUOp::NotXor32 => Some(opcodes::NXRK),
-        ALUOp::NotXor64 => Some(opcodes::NXGRK),
-        ALUOp::AndNot32 => Some(opcodes::NCRK),
-        ALUOp::AndNot64 => Some(opcodes::NCGRK),
-        ALUOp::OrrNot32 => Some(opcodes::OCRK),
-        ALUOp::OrrNot64 => Some(opcodes::OCGRK),
-        _ => None,
-    }
+    rows_of_alu(op).three
 }
 
 /// The opcode of an operator's row on two registers (RR or RRE). None where it has none.
 pub fn two_opcode(op: ALUOp) -> Option<u16>
     ensures { result ≡ alu_two op }
 {
-    match op {
-        ALUOp::Add32 => Some(opcodes::AR),
-        ALUOp::Add64 => Some(opcodes::AGR),
-        ALUOp::Add64Ext32 => Some(opcodes::AGFR),
-        ALUOp::AddLogical32 => Some(opcodes::ALR),
-        ALUOp::AddLogical64 => Some(opcodes::ALGR),
-        ALUOp::AddLogical64Ext32 => Some(opcodes::ALGFR),
-        ALUOp::Sub32 => Some(opcodes::SR),
-        ALUOp::Sub64 => Some(opcodes::SGR),
-        ALUOp::Sub64Ext32 => Some(opcodes::SGFR),
-        ALUOp::SubLogical32 => Some(opcodes::SLR),
-        ALUOp::SubLogical64 => Some(opcodes::SLGR),
-        ALUOp::SubLogical64Ext32 => Some(opcodes::SLGFR),
-        ALUOp::Mul32 => Some(opcodes::MSR),
-        ALUOp::Mul64 => Some(opcodes::MSGR),
-        ALUOp::Mul64Ext32 => Some(opcodes::MSGFR),
-        ALUOp::And32 => Some(opcodes::NR),
-        ALUOp::And64 => Some(opcodes::NGR),
-        ALUOp::Orr32 => Some(opcodes::OR),
-        ALUOp::Orr64 => Some(opcodes::OGR),
-        ALUOp::Xor32 => Some(opcodes::XR),
-        ALUOp::Xor64 => Some(opcodes::XGR),
-        _ => None,
-    }
+    rows_of_alu(op).two
 }
 
 /// The opcode of a comparison of two registers (RR or RRE). None where it has none.
 pub fn compare_opcode(op: CmpOp) -> Option<u16>
     ensures { result ≡ cmp_two op }
 {
-    match op {
-        CmpOp::CmpS32 => Some(opcodes::CR),
-        CmpOp::CmpS64 => Some(opcodes::CGR),
-        CmpOp::CmpS64Ext32 => Some(opcodes::CGFR),
-        CmpOp::CmpL32 => Some(opcodes::CLR),
-        CmpOp::CmpL64 => Some(opcodes::CLGR),
-        CmpOp::CmpL64Ext32 => Some(opcodes::CLGFR),
-        _ => None,
-    }
+    rows_of_cmp(op).two
 }
 
 /// The opcode of an operator on one register (RR or RRE). None where it has none.
 pub fn unary_opcode(op: UnaryOp) -> Option<u16>
     ensures { result ≡ unary_two op }
 {
-    match op {
-        UnaryOp::Abs32 => Some(opcodes::LPR),
-        UnaryOp::Abs64 => Some(opcodes::LPGR),
-        UnaryOp::Abs64Ext32 => Some(opcodes::LPGFR),
-        UnaryOp::Neg32 => Some(opcodes::LCR),
-        UnaryOp::Neg64 => Some(opcodes::LCGR),
-        UnaryOp::Neg64Ext32 => Some(opcodes::LCGFR),
-        UnaryOp::BSwap32 => Some(opcodes::LRVR),
-        UnaryOp::BSwap64 => Some(opcodes::LRVGR),
-        UnaryOp::Clz64 => Some(opcodes::CLZG),
-        UnaryOp::Ctz64 => Some(opcodes::CTZG),
-        _ => None,
-    }
+    row_of_unary(op)
 }
 
 /// The opcode of an operator's row with a signed immediate of 16 bits (RI). None where it has none.
+#[tactic(auto, using(crate::proofs::Opcodes::alu_halfword_short))]
 pub fn halfword_opcode(op: ALUOp) -> Option<ShortOpcode>
     ensures { option_map opcode_of result ≡ alu_halfword op }
 {
-    match op {
-        ALUOp::Add32 => Some(short(opcodes::AHI)),
-        ALUOp::Add64 => Some(short(opcodes::AGHI)),
-        ALUOp::Mul32 => Some(short(opcodes::MHI)),
-        ALUOp::Mul64 => Some(short(opcodes::MGHI)),
-        _ => None,
-    }
+    short_where(rows_of_alu(op).halfword)
 }
 
 /// The opcode of an operator's row with another output and a signed immediate of 16 bits (RIE). None where it has
@@ -136,70 +64,47 @@ pub fn halfword_opcode(op: ALUOp) -> Option<ShortOpcode>
 pub fn three_halfword_opcode(op: ALUOp) -> Option<u16>
     ensures { result ≡ alu_three_halfword op }
 {
-    match op {
-        ALUOp::Add32 => Some(opcodes::AHIK),
-        ALUOp::Add64 => Some(opcodes::AGHIK),
-        _ => None,
-    }
+    rows_of_alu(op).three_halfword
 }
 
 /// The opcode of an operator's row with a signed immediate of 32 bits (RIL). None where it has none.
+#[tactic(auto, using(crate::proofs::Opcodes::alu_signed_word_short))]
 pub fn signed_word_opcode(op: ALUOp) -> Option<ShortOpcode>
     ensures { option_map opcode_of result ≡ alu_signed_word op }
 {
-    match op {
-        ALUOp::Add32 => Some(short(opcodes::AFI)),
-        ALUOp::Add64 => Some(short(opcodes::AGFI)),
-        ALUOp::Mul32 => Some(short(opcodes::MSFI)),
-        ALUOp::Mul64 => Some(short(opcodes::MSGFI)),
-        _ => None,
-    }
+    short_where(rows_of_alu(op).signed_word)
 }
 
 /// The opcode of an operator's row with an unsigned immediate of 32 bits (RIL). None where it has none.
+#[tactic(auto, using(crate::proofs::Opcodes::alu_unsigned_word_short))]
 pub fn unsigned_word_opcode(op: ALUOp) -> Option<ShortOpcode>
     ensures { option_map opcode_of result ≡ alu_unsigned_word op }
 {
-    match op {
-        ALUOp::AddLogical32 => Some(short(opcodes::ALFI)),
-        ALUOp::AddLogical64 => Some(short(opcodes::ALGFI)),
-        ALUOp::SubLogical32 => Some(short(opcodes::SLFI)),
-        ALUOp::SubLogical64 => Some(short(opcodes::SLGFI)),
-        _ => None,
-    }
+    short_where(rows_of_alu(op).unsigned_word)
 }
 
 /// The opcode of a comparison with a signed immediate of 16 bits (RI). None where it has none.
+#[tactic(auto, using(crate::proofs::Opcodes::cmp_halfword_short))]
 pub fn compare_halfword_opcode(op: CmpOp) -> Option<ShortOpcode>
     ensures { option_map opcode_of result ≡ cmp_halfword op }
 {
-    match op {
-        CmpOp::CmpS32 => Some(short(opcodes::CHI)),
-        CmpOp::CmpS64 => Some(short(opcodes::CGHI)),
-        _ => None,
-    }
+    short_where(rows_of_cmp(op).halfword)
 }
 
 /// The opcode of a comparison with a signed immediate of 32 bits (RIL). None where it has none.
+#[tactic(auto, using(crate::proofs::Opcodes::cmp_signed_word_short))]
 pub fn compare_signed_word_opcode(op: CmpOp) -> Option<ShortOpcode>
     ensures { option_map opcode_of result ≡ cmp_signed_word op }
 {
-    match op {
-        CmpOp::CmpS32 => Some(short(opcodes::CFI)),
-        CmpOp::CmpS64 => Some(short(opcodes::CGFI)),
-        _ => None,
-    }
+    short_where(rows_of_cmp(op).signed_word)
 }
 
 /// The opcode of a comparison with an unsigned immediate of 32 bits (RIL). None where it has none.
+#[tactic(auto, using(crate::proofs::Opcodes::cmp_unsigned_word_short))]
 pub fn compare_unsigned_word_opcode(op: CmpOp) -> Option<ShortOpcode>
     ensures { option_map opcode_of result ≡ cmp_unsigned_word op }
 {
-    match op {
-        CmpOp::CmpL32 => Some(short(opcodes::CLFI)),
-        CmpOp::CmpL64 => Some(short(opcodes::CLGFI)),
-        _ => None,
-    }
+    short_where(rows_of_cmp(op).unsigned_word)
 }
 
 // A mode stands in a mask.

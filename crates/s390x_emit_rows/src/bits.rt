@@ -5,105 +5,54 @@ ghost use Rattle.s390x_base.specs.Regs.{number_of};
 ghost use Rattle.s390x_rows.specs.declared.opcodes.TheConstants as opcodes;
 ghost use Rattle.s390x_typed_steps.specs.General.{is_general, is_even_pair, reuses, rotation};
 ghost use Rattle.s390x_typed_steps.specs.MachineInstruction.{rrf_ab};
-ghost use Rattle.s390x_typed_steps.specs.Opcodes.{of_one, alu_part, alu_half, shift_opcode, rotate_then, rotate_then_test};
+ghost use Rattle.s390x_typed_steps.specs.Opcodes.{alu_part, alu_half, shift_opcode, rotate_then, rotate_then_test};
 ghost use Rattle.s390x_typed_steps.specs.SingleCode.{code_where, single_code};
 ghost use Rattle.s390x_typed_steps.specs.SingleInstruction.{single_instruction, single_with, two_operands, rotated_row};
 ghost use Rattle.s390x_emit_rows.specs.SingleInstruction.{opcode_of, takes_general};
 
-use crate::codes::{selected, shifted, short, three_operands, two_operands};
-use crate::moves::{of_four, of_two};
+use crate::codes::{selected, shifted, short_where, three_operands, two_operands};
 use crate::opcode::ShortOpcode;
 use crate::registers::{is_even_pair, is_reused, three_general, two_general};
 use s390x_address::general;
 use s390x_base::{Code, EmitError, Reg, Writable, WritableRegPair};
 use s390x_inst::{ALUOp, Inst, RxSBGOp, ShiftOp};
 use s390x_rows::opcodes;
-use s390x_typed_steps::low_byte;
-
-fn of_one(zeroth: u16, n: u8) -> Option<ShortOpcode>
-    requires { zeroth < 4096 }
-    ensures { option_map opcode_of result ≡ of_one zeroth n }
-{
-    if n == 0 { Some(short(zeroth)) } else { None }
-}
+use s390x_typed_steps::{low_byte, row_of_part, row_of_shift, rows_of_alu, rows_of_rotate};
 
 /// The opcode of an operator with an immediate at a 16-bit part of a register, counted from the right. None where it
 /// has none.
+#[tactic(auto, using(crate::proofs::Opcodes::alu_part_short))]
 pub fn part_opcode(op: ALUOp, shift: u8) -> Option<ShortOpcode>
     ensures { option_map opcode_of result ≡ alu_part op shift }
 {
-    match op {
-        ALUOp::And32 => of_two(opcodes::NILL, opcodes::NILH, shift),
-        ALUOp::And64 => of_four(
-            opcodes::NILL,
-            opcodes::NILH,
-            opcodes::NIHL,
-            opcodes::NIHH,
-            shift,
-        ),
-        ALUOp::Orr32 => of_two(opcodes::OILL, opcodes::OILH, shift),
-        ALUOp::Orr64 => of_four(
-            opcodes::OILL,
-            opcodes::OILH,
-            opcodes::OIHL,
-            opcodes::OIHH,
-            shift,
-        ),
-        _ => None,
-    }
+    short_where(row_of_part(rows_of_alu(op).parts, shift))
 }
 
 /// The opcode of an operator with an immediate at a half of a register, counted from the right. None where it has
 /// none.
+#[tactic(auto, using(crate::proofs::Opcodes::alu_half_short))]
 pub fn half_opcode(op: ALUOp, shift: u8) -> Option<ShortOpcode>
     ensures { option_map opcode_of result ≡ alu_half op shift }
 {
-    match op {
-        ALUOp::And32 => of_one(opcodes::NILF, shift),
-        ALUOp::And64 => of_two(opcodes::NILF, opcodes::NIHF, shift),
-        ALUOp::Orr32 => of_one(opcodes::OILF, shift),
-        ALUOp::Orr64 => of_two(opcodes::OILF, opcodes::OIHF, shift),
-        ALUOp::Xor32 => of_one(opcodes::XILF, shift),
-        ALUOp::Xor64 => of_two(opcodes::XILF, opcodes::XIHF, shift),
-        _ => None,
-    }
+    short_where(row_of_part(rows_of_alu(op).halves, shift))
 }
 
 fn shift_opcode(op: ShiftOp) -> u16
     ensures { result ≡ shift_opcode op }
 {
-    match op {
-        ShiftOp::RotL32 => opcodes::RLL,
-        ShiftOp::RotL64 => opcodes::RLLG,
-        ShiftOp::LShL32 => opcodes::SLLK,
-        ShiftOp::LShL64 => opcodes::SLLG,
-        ShiftOp::LShR32 => opcodes::SRLK,
-        ShiftOp::LShR64 => opcodes::SRLG,
-        ShiftOp::AShR32 => opcodes::SRAK,
-        ShiftOp::AShR64 => opcodes::SRAG,
-    }
+    row_of_shift(op)
 }
 
 fn rotate_opcode(op: RxSBGOp) -> u16
     ensures { result ≡ rotate_then op }
 {
-    match op {
-        RxSBGOp::Insert => opcodes::RISBGN,
-        RxSBGOp::And => opcodes::RNSBG,
-        RxSBGOp::Or => opcodes::ROSBG,
-        RxSBGOp::Xor => opcodes::RXSBG,
-    }
+    rows_of_rotate(op).change
 }
 
 fn test_opcode(op: RxSBGOp) -> Option<u16>
     ensures { result ≡ rotate_then_test op }
 {
-    match op {
-        RxSBGOp::Insert => None,
-        RxSBGOp::And => Some(opcodes::RNSBG),
-        RxSBGOp::Or => Some(opcodes::ROSBG),
-        RxSBGOp::Xor => Some(opcodes::RXSBG),
-    }
+    rows_of_rotate(op).test
 }
 
 // An amount to the right counts as one to the left.

@@ -3,6 +3,7 @@
 
 ghost use Rattle.std.specs.Prelude.{◌≡◌, ◌<◌, ◌&&◌, true, Some};
 ghost use Rattle.std.specs.Option.{option_map};
+ghost use Rattle.s390x_address.specs.Rows.{has_12_bits};
 ghost use Rattle.s390x_base.specs.Regs.{number_of};
 ghost use Rattle.s390x_typed_steps.specs.General.{is_general, four_bits, low_displacement};
 ghost use Rattle.s390x_typed_steps.specs.MachineInstruction.{rrf_ab, ri_a, rie_a, rie_d, rrf_cde, rie_f, rie_g, ril_a, rsy, rxy};
@@ -25,6 +26,18 @@ pub fn short(value: u16) -> ShortOpcode
     ensures { opcode_of result ≡ value }
 {
     ShortOpcode { value }
+}
+
+/// An opcode of at most three hex digits, where there is one.
+#[tactic(auto, using(crate::proofs::Opcodes::below_12_bits))]
+pub fn short_where(value: Option<u16>) -> Option<ShortOpcode>
+    requires { has_12_bits value ≡ true }
+    ensures { option_map opcode_of result ≡ value }
+{
+    match value {
+        Some(value) => Some(short(value)),
+        None => None,
+    }
 }
 
 /// The opcode of a row that is there whatever the operator.

@@ -15,7 +15,7 @@ use s390x_base::{Reg, Writable};
 use s390x_emit_vec::find_vector_memory;
 use s390x_inst::{ALUOp, CmpOp, Inst, Load, MemArg, Store};
 use s390x_rows::opcodes;
-use s390x_typed_steps::{low_byte, rows_of_load, rows_of_store};
+use s390x_typed_steps::{low_byte, rows_of_alu, rows_of_cmp, rows_of_load, rows_of_store};
 
 // An access by one register.
 #[tactic(auto, using(crate::proofs::Storing::register_encodes))]
@@ -136,125 +136,50 @@ fn store_byte(imm: u8, operand: &MemArg) -> Option<MemoryInst>
 }
 
 // The opcodes of an operator's rows with an operand in memory.
+#[tactic(auto, using(crate::proofs::Opcodes::alu_rx_general))]
 fn alu_rx(op: ALUOp) -> Option<u8>
     ensures value { result ≡ alu_rx op }
     ensures general { rows_take_general result ≡ true }
 {
-    match op {
-        ALUOp::Add32 => Some(opcodes::A as u8),
-        ALUOp::Add32Ext16 => Some(opcodes::AH as u8),
-        ALUOp::AddLogical32 => Some(opcodes::AL as u8),
-        ALUOp::Sub32 => Some(opcodes::S as u8),
-        ALUOp::Sub32Ext16 => Some(opcodes::SH as u8),
-        ALUOp::SubLogical32 => Some(opcodes::SL as u8),
-        ALUOp::Mul32 => Some(opcodes::MS as u8),
-        ALUOp::Mul32Ext16 => Some(opcodes::MH as u8),
-        ALUOp::And32 => Some(opcodes::N as u8),
-        ALUOp::Orr32 => Some(opcodes::O as u8),
-        ALUOp::Xor32 => Some(opcodes::X as u8),
-        _ => None,
-    }
+    rows_of_alu(op).rx
 }
 
+#[tactic(auto, using(crate::proofs::Opcodes::alu_rxy_general))]
 fn alu_rxy(op: ALUOp) -> Option<u16>
     ensures value { result ≡ alu_rxy op }
     ensures general { rows_take_general result ≡ true }
 {
-    match op {
-        ALUOp::Add32 => Some(opcodes::AY),
-        ALUOp::Add32Ext16 => Some(opcodes::AHY),
-        ALUOp::Add64 => Some(opcodes::AG),
-        ALUOp::Add64Ext16 => Some(opcodes::AGH),
-        ALUOp::Add64Ext32 => Some(opcodes::AGF),
-        ALUOp::AddLogical32 => Some(opcodes::ALY),
-        ALUOp::AddLogical64 => Some(opcodes::ALG),
-        ALUOp::AddLogical64Ext32 => Some(opcodes::ALGF),
-        ALUOp::Sub32 => Some(opcodes::SY),
-        ALUOp::Sub32Ext16 => Some(opcodes::SHY),
-        ALUOp::Sub64 => Some(opcodes::SG),
-        ALUOp::Sub64Ext16 => Some(opcodes::SGH),
-        ALUOp::Sub64Ext32 => Some(opcodes::SGF),
-        ALUOp::SubLogical32 => Some(opcodes::SLY),
-        ALUOp::SubLogical64 => Some(opcodes::SLG),
-        ALUOp::SubLogical64Ext32 => Some(opcodes::SLGF),
-        ALUOp::Mul32 => Some(opcodes::MSY),
-        ALUOp::Mul32Ext16 => Some(opcodes::MHY),
-        ALUOp::Mul64 => Some(opcodes::MSG),
-        ALUOp::Mul64Ext16 => Some(opcodes::MGH),
-        ALUOp::Mul64Ext32 => Some(opcodes::MSGF),
-        ALUOp::And32 => Some(opcodes::NY),
-        ALUOp::And64 => Some(opcodes::NG),
-        ALUOp::Orr32 => Some(opcodes::OY),
-        ALUOp::Orr64 => Some(opcodes::OG),
-        ALUOp::Xor32 => Some(opcodes::XY),
-        ALUOp::Xor64 => Some(opcodes::XG),
-        _ => None,
-    }
+    rows_of_alu(op).rxy
 }
 
+#[tactic(auto, using(crate::proofs::Opcodes::cmp_rx_general))]
 fn cmp_rx(op: CmpOp) -> Option<u8>
     ensures value { result ≡ cmp_rx op }
     ensures general { rows_take_general result ≡ true }
 {
-    match op {
-        CmpOp::CmpS32 => Some(opcodes::C as u8),
-        CmpOp::CmpS32Ext16 => Some(opcodes::CH as u8),
-        CmpOp::CmpL32 => Some(opcodes::CL as u8),
-        _ => None,
-    }
+    rows_of_cmp(op).rx
 }
 
+#[tactic(auto, using(crate::proofs::Opcodes::cmp_rxy_general))]
 fn cmp_rxy(op: CmpOp) -> Option<u16>
     ensures value { result ≡ cmp_rxy op }
     ensures general { rows_take_general result ≡ true }
 {
-    match op {
-        CmpOp::CmpS32 => Some(opcodes::CY),
-        CmpOp::CmpS32Ext16 => Some(opcodes::CHY),
-        CmpOp::CmpS64 => Some(opcodes::CG),
-        CmpOp::CmpS64Ext16 => Some(opcodes::CGH),
-        CmpOp::CmpS64Ext32 => Some(opcodes::CGF),
-        CmpOp::CmpL32 => Some(opcodes::CLY),
-        CmpOp::CmpL64 => Some(opcodes::CLG),
-        CmpOp::CmpL64Ext32 => Some(opcodes::CLGF),
-        _ => None,
-    }
+    rows_of_cmp(op).rxy
 }
 
+#[tactic(auto, using(crate::proofs::Opcodes::cmp_ril_short))]
 fn cmp_ril(op: CmpOp) -> u16
     ensures value { result ≡ cmp_ril op }
     ensures short { has_12_bits (Some result) ≡ true }
 {
-    match op {
-        CmpOp::CmpS32 => opcodes::CRL,
-        CmpOp::CmpS32Ext16 => opcodes::CHRL,
-        CmpOp::CmpS64 => opcodes::CGRL,
-        CmpOp::CmpS64Ext16 => opcodes::CGHRL,
-        CmpOp::CmpS64Ext32 => opcodes::CGFRL,
-        CmpOp::CmpL32 => opcodes::CLRL,
-        CmpOp::CmpL32Ext16 => opcodes::CLHRL,
-        CmpOp::CmpL64 => opcodes::CLGRL,
-        CmpOp::CmpL64Ext16 => opcodes::CLGHRL,
-        CmpOp::CmpL64Ext32 => opcodes::CLGFRL,
-    }
+    rows_of_cmp(op).ril
 }
 
 fn atomic_rsy(op: ALUOp) -> Option<u16>
     ensures { result ≡ atomic_rsy op }
 {
-    match op {
-        ALUOp::Add32 => Some(opcodes::LAA),
-        ALUOp::Add64 => Some(opcodes::LAAG),
-        ALUOp::AddLogical32 => Some(opcodes::LAAL),
-        ALUOp::AddLogical64 => Some(opcodes::LAALG),
-        ALUOp::And32 => Some(opcodes::LAN),
-        ALUOp::And64 => Some(opcodes::LANG),
-        ALUOp::Orr32 => Some(opcodes::LAO),
-        ALUOp::Orr64 => Some(opcodes::LAOG),
-        ALUOp::Xor32 => Some(opcodes::LAX),
-        ALUOp::Xor64 => Some(opcodes::LAXG),
-        _ => None,
-    }
+    rows_of_alu(op).atomic
 }
 
 // An operator on a register and an operand in memory, where it has a row.

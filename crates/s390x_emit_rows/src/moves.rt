@@ -5,12 +5,12 @@ ghost use Rattle.s390x_base.specs.Regs.{number_of};
 ghost use Rattle.s390x_rows.specs.declared.opcodes.TheConstants as opcodes;
 ghost use Rattle.s390x_typed_steps.specs.General.{is_general, is_access, reuses, four_bits, low_halfword, low_displacement};
 ghost use Rattle.s390x_typed_steps.specs.MachineInstruction.{rr, rrf_cde, rie_g};
-ghost use Rattle.s390x_typed_steps.specs.Opcodes.{of_two, of_four, extend_to_word, extend_to_doubleword, extend_two, indexed_opcode, logical_indexed_opcode};
+ghost use Rattle.s390x_typed_steps.specs.Opcodes.{load_part, load_half, insert_part, insert_half, extend_two, indexed_opcode, logical_indexed_opcode};
 ghost use Rattle.s390x_typed_steps.specs.SingleCode.{code_where, single_code};
 ghost use Rattle.s390x_typed_steps.specs.SingleInstruction.{single_instruction, single_with, two_operands, indexed_row};
 ghost use Rattle.s390x_emit_rows.specs.SingleInstruction.{opcode_of, takes_general, implies};
 
-use crate::codes::{always, conditional_halfword, indexed, masked, short, two_operands};
+use crate::codes::{always, conditional_halfword, indexed, masked, short_where, two_operands};
 use crate::opcode::ShortOpcode;
 use crate::registers::{is_access, is_reused, three_general};
 use crate::shapes::{into_signed_halfword_row, into_signed_word_row, into_word_row};
@@ -18,115 +18,70 @@ use s390x_address::general;
 use s390x_base::{Code, Cond, EmitError, Reg, SImm20, Writable, gpr};
 use s390x_inst::Inst;
 use s390x_rows::opcodes;
-use s390x_typed_steps::{bits_of_halfword, bits_of_unsigned};
+use s390x_typed_steps::{
+    INSERT_HALVES, INSERT_PARTS, LOAD_HALVES, LOAD_PARTS, bits_of_halfword, bits_of_unsigned,
+    row_of_extension, row_of_index, row_of_logical_index, row_of_part,
+};
 
-/// One of two opcodes by its number.
-pub fn of_two(zeroth: u16, first: u16, n: u8) -> Option<ShortOpcode>
-    requires zeroth { zeroth < 4096 }
-    requires first { first < 4096 }
-    ensures { option_map opcode_of result ≡ of_two zeroth first n }
+/// The opcode of a load of a part of 16 bits. None where there is none.
+#[tactic(auto, using(crate::proofs::Opcodes::load_part_short))]
+pub fn load_part(shift: u8) -> Option<ShortOpcode>
+    ensures { option_map opcode_of result ≡ load_part shift }
 {
-    match n {
-        0 => Some(short(zeroth)),
-        1 => Some(short(first)),
-        _ => None,
-    }
+    short_where(row_of_part(LOAD_PARTS, shift))
 }
 
-/// One of four opcodes by its number.
-pub fn of_four(zeroth: u16, first: u16, second: u16, third: u16, n: u8) -> Option<ShortOpcode>
-    requires zeroth { zeroth < 4096 }
-    requires first { first < 4096 }
-    requires second { second < 4096 }
-    requires third { third < 4096 }
-    ensures { option_map opcode_of result ≡ of_four zeroth first second third n }
+/// The opcode of a load of a half of 32 bits. None where there is none.
+#[tactic(auto, using(crate::proofs::Opcodes::load_half_short))]
+pub fn load_half(shift: u8) -> Option<ShortOpcode>
+    ensures { option_map opcode_of result ≡ load_half shift }
 {
-    match n {
-        0 => Some(short(zeroth)),
-        1 => Some(short(first)),
-        2 => Some(short(second)),
-        3 => Some(short(third)),
-        _ => None,
-    }
+    short_where(row_of_part(LOAD_HALVES, shift))
 }
 
-fn to_word(signed: bool, from: u8) -> Option<u16>
-    ensures value { result ≡ extend_to_word signed from }
-    ensures general { takes_general result ≡ true }
+/// The opcode that puts a part of 16 bits into a register. None where there is none.
+#[tactic(auto, using(crate::proofs::Opcodes::insert_part_short))]
+pub fn insert_part(shift: u8) -> Option<ShortOpcode>
+    ensures { option_map opcode_of result ≡ insert_part shift }
 {
-    match from {
-        1 => Some(opcodes::LBR),
-        8 => Some(if signed { opcodes::LBR } else { opcodes::LLCR }),
-        16 => Some(if signed { opcodes::LHR } else { opcodes::LLHR }),
-        _ => None,
-    }
+    short_where(row_of_part(INSERT_PARTS, shift))
 }
 
-fn to_doubleword(signed: bool, from: u8) -> Option<u16>
-    ensures value { result ≡ extend_to_doubleword signed from }
-    ensures general { takes_general result ≡ true }
+/// The opcode that puts a half of 32 bits into a register. None where there is none.
+#[tactic(auto, using(crate::proofs::Opcodes::insert_half_short))]
+pub fn insert_half(shift: u8) -> Option<ShortOpcode>
+    ensures { option_map opcode_of result ≡ insert_half shift }
 {
-    match from {
-        1 => Some(opcodes::LGBR),
-        8 => Some(if signed {
-            opcodes::LGBR
-        } else {
-            opcodes::LLGCR
-        }),
-        16 => Some(if signed {
-            opcodes::LGHR
-        } else {
-            opcodes::LLGHR
-        }),
-        32 => Some(if signed {
-            opcodes::LGFR
-        } else {
-            opcodes::LLGFR
-        }),
-        _ => None,
-    }
+    short_where(row_of_part(INSERT_HALVES, shift))
 }
 
 /// The opcode of an extension.
+#[tactic(auto, using(crate::proofs::Opcodes::extend_general))]
 pub fn extend_opcode(signed: bool, from: u8, to: u8) -> Option<u16>
     ensures value { result ≡ extend_two signed from to }
     ensures general { takes_general result ≡ true }
 {
-    match to {
-        32 => to_word(signed, from),
-        64 => to_doubleword(signed, from),
-        _ => None,
-    }
+    row_of_extension(signed, from, to)
 }
 
 /// The opcode of the address of an element whose index has a sign, by the element's size in powers of two. None where
 /// it has none.
+#[tactic(auto, using(crate::proofs::Opcodes::indexed_general))]
 pub fn indexed_opcode(size: u8) -> Option<u16>
     ensures value { result ≡ indexed_opcode size }
     ensures general { takes_general result ≡ true }
 {
-    match size {
-        1 => Some(opcodes::LXAH),
-        2 => Some(opcodes::LXAF),
-        3 => Some(opcodes::LXAG),
-        4 => Some(opcodes::LXAQ),
-        _ => None,
-    }
+    row_of_index(size)
 }
 
 /// The opcode of the address of an element whose index has no sign, by the element's size in powers of two. None
 /// where it has none.
+#[tactic(auto, using(crate::proofs::Opcodes::logical_indexed_general))]
 pub fn logical_indexed_opcode(size: u8) -> Option<u16>
     ensures value { result ≡ logical_indexed_opcode size }
     ensures general { takes_general result ≡ true }
 {
-    match size {
-        1 => Some(opcodes::LLXAH),
-        2 => Some(opcodes::LLXAF),
-        3 => Some(opcodes::LLXAG),
-        4 => Some(opcodes::LLXAQ),
-        _ => None,
-    }
+    row_of_logical_index(size)
 }
 
 // EXTRACT ACCESS; its second field is the access register's number.

@@ -15,8 +15,9 @@ use crate::bits::{
 };
 use crate::moves::{
     branch_nowhere, conditional_doubleword, conditional_row, conditional_word, extend_opcode,
-    indexed_opcode, indexed_row, insert_access_row, load_access_row, logical_indexed_opcode,
-    of_four, of_two, set_doubleword, set_short_doubleword, set_short_word, set_word,
+    indexed_opcode, indexed_row, insert_access_row, insert_half, insert_part, load_access_row,
+    load_half, load_part, logical_indexed_opcode, set_doubleword, set_short_doubleword,
+    set_short_word, set_word,
 };
 use crate::shapes::{
     halfword_row, into_halfword_row, into_row, into_word_row, reused_halfword_row, reused_row,
@@ -149,35 +150,23 @@ pub fn find_single_instruction(inst: &Inst) -> Option<Result<Code, EmitError>>
         Inst::Mov64SImm16 { rd, imm } => set_short_doubleword(rd, imm),
         Inst::Mov64SImm32 { rd, imm } => set_doubleword(rd, imm),
         Inst::Mov64UImm16Shifted { rd, imm } => into_halfword_row(
-            of_four(
-                opcodes::LLILL,
-                opcodes::LLILH,
-                opcodes::LLIHL,
-                opcodes::LLIHH,
-                imm.shift,
-            ),
+            load_part(imm.shift),
             rd,
             bits_of_unsigned_halfword(imm.bits),
         ),
         Inst::Mov64UImm32Shifted { rd, imm } => into_word_row(
-            of_two(opcodes::LLILF, opcodes::LLIHF, imm.shift),
+            load_half(imm.shift),
             rd,
             bits_of_unsigned(imm.bits),
         ),
         Inst::Insert64UImm16Shifted { rd, ri, imm } => reused_halfword_row(
-            of_four(
-                opcodes::IILL,
-                opcodes::IILH,
-                opcodes::IIHL,
-                opcodes::IIHH,
-                imm.shift,
-            ),
+            insert_part(imm.shift),
             rd,
             ri,
             bits_of_unsigned_halfword(imm.bits),
         ),
         Inst::Insert64UImm32Shifted { rd, ri, imm } => reused_word_row(
-            of_two(opcodes::IILF, opcodes::IIHF, imm.shift),
+            insert_half(imm.shift),
             rd,
             ri,
             bits_of_unsigned(imm.bits),

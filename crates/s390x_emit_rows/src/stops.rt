@@ -13,41 +13,27 @@ use s390x_address::general;
 use s390x_base::{Code, Cond, EmitError, Reg, RegPair, TrapCode, WritableRegPair};
 use s390x_emit_vec::stop_of;
 use s390x_inst::{CmpOp, Inst};
-use s390x_rows::opcodes;
+use s390x_typed_steps::rows_of_cmp;
 
 /// The opcodes of a comparison that traps, by what its second operand is.
 pub fn compare_opcode(op: CmpOp) -> Option<u16>
     ensures { result ≡ cmp_trap op }
 {
-    match op {
-        CmpOp::CmpS32 => Some(opcodes::CRT),
-        CmpOp::CmpS64 => Some(opcodes::CGRT),
-        CmpOp::CmpL32 => Some(opcodes::CLRT),
-        CmpOp::CmpL64 => Some(opcodes::CLGRT),
-        _ => None,
-    }
+    rows_of_cmp(op).trap
 }
 
 /// The opcode of a comparison with a signed immediate that traps (RIE). None where it has none.
 pub fn compare_signed_opcode(op: CmpOp) -> Option<u16>
     ensures { result ≡ cmp_trap_signed op }
 {
-    match op {
-        CmpOp::CmpS32 => Some(opcodes::CIT),
-        CmpOp::CmpS64 => Some(opcodes::CGIT),
-        _ => None,
-    }
+    rows_of_cmp(op).trap_signed
 }
 
 /// The opcode of a comparison with an unsigned immediate that traps (RIE). None where it has none.
 pub fn compare_unsigned_opcode(op: CmpOp) -> Option<u16>
     ensures { result ≡ cmp_trap_unsigned op }
 {
-    match op {
-        CmpOp::CmpL32 => Some(opcodes::CLFIT),
-        CmpOp::CmpL64 => Some(opcodes::CLGIT),
-        _ => None,
-    }
+    rows_of_cmp(op).trap_unsigned
 }
 
 /// A comparison of two registers that traps, where there is a row. None where there is no row; `BadRegister` comes

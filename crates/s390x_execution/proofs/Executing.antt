@@ -9,9 +9,9 @@ use Rattle.s390x_machine.specs.declared.instruction_fetch.Fetched.TheVariants.{M
 use Rattle.s390x_machine.specs.Machine.{Executed, Interrupted, ActionStep, OddPairStep, RowStep, FetchedStep}
 use Rattle.s390x_machine.specs.Semantics.{action, is_odd_pair, semantics_of}
 use Rattle.s390x_machine.specs.Step.{Steps}
-use Rattle.s390x_machine.specs.declared.semantics.RowSemantics.{RowSemantics}
-use Rattle.s390x_machine.specs.declared.semantics.Action.{Action}
-use Rattle.s390x_machine.specs.declared.semantics.Action.TheVariants.{Perform, Branch, BranchAndSave}
+use Rattle.s390x_format.specs.declared.semantics.RowSemantics.{RowSemantics}
+use Rattle.s390x_machine.specs.declared.action_type.Action.{Action}
+use Rattle.s390x_machine.specs.declared.action_type.Action.TheVariants.{Perform, Branch, BranchAndSave}
 use Rattle.s390x_machine.specs.declared.step.StepEnd.TheVariants.{Went, Stopped as Stops, NoRow as HasNoRow}
 use Rattle.s390x_execution.specs.Execution.{Walks, Ends, IsExecution, IsStepped}
 use Rattle.s390x_execution.specs.declared.execution.End.{End}

@@ -15,3 +15,4 @@ pub mod SlotBounds
 pub mod Patching
 pub mod RowTable
 pub mod Unpacking
+pub mod StemPlaces

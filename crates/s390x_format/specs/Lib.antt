@@ -6,6 +6,7 @@ pub mod View
 pub mod Fetch
 pub mod Index
 pub mod Encoded
+pub mod Facilities
 pub mod Lookup
 pub mod Widths
 pub mod Fits
@@ -15,3 +16,4 @@ pub mod ImmediateLaws
 pub mod SignedLaws
 pub mod StorageLaws
 pub mod VectorLaws
+pub mod Stems

@@ -3,6 +3,9 @@ use Rattle.std.specs.Prelude.{◌≡◌, ℕ, zero, suc, ◌+◌, ◌-◌, ◌*�
 use Rattle.s390x_format.specs.declared.kind.FormatKind.{FormatKind}
 use Rattle.s390x_format.specs.declared.kind.FormatKind.TheVariants.{E}
 use Rattle.s390x_format.specs.declared.row.MachineRow.{MachineRow}
+use Rattle.s390x_format.specs.declared.facility.Facility.TheVariants.{Base}
+use Rattle.s390x_format.specs.declared.facility.FacilityRule.TheVariants.{Always}
+use Rattle.s390x_format.specs.declared.semantics.RowSemantics.TheVariants.{Havoc}
 use Rattle.s390x_format.specs.declared.row.Allowed.TheVariants.{Any}
 use Rattle.s390x_format.specs.declared.reading.Reading.{Reading}
 use Rattle.s390x_format.specs.declared.reading.PlacedReading.{PlacedReading}
@@ -29,7 +32,7 @@ encode kind slots = be_bytes (length_of kind) (number (layout_of kind) slots)
 
 -- what a read past the table's end gives
 abbrev pub no_row : MachineRow
-no_row = record { format = E; opcode = 0; allowed = Any }
+no_row = record { format = E; opcode = 0; allowed = Any; facility = Always Base; semantics = Havoc }
 
 -- the opcode of a number of t bits that goes on there
 abbrev pub opcode_at : RestPlace → ℕ → ℕ → ℕ

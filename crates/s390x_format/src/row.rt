@@ -2,7 +2,9 @@
 ghost use Rattle.std.specs.Prelude.{◌≡◌};
 ghost use Rattle.s390x_format.specs.Rows.{is_allowed};
 
+use crate::facility::FacilityRule;
 use crate::kind::FormatKind;
+use crate::semantics::RowSemantics;
 
 /// Which masks and immediates of 8 bits a row allows. Bytes with others have no row.
 #[derive(Clone, Copy)]
@@ -29,12 +31,15 @@ pub enum Allowed {
     ReplicatedLane,
 }
 
-/// A row of the table: an opcode with its format, and what it allows.
+/// A row of the table: an opcode with its format, what it allows, which facility it needs, and what it does. How it is written
+/// stands at the same place of `SPELLINGS`.
 #[derive(Clone, Copy)]
 pub struct MachineRow {
     pub format: FormatKind,
     pub opcode: u16,
     pub allowed: Allowed,
+    pub facility: FacilityRule,
+    pub semantics: RowSemantics,
 }
 
 /// A row by its format and opcode.

@@ -5,7 +5,7 @@ use Rattle.s390x_typed_steps.specs.Parts.{ToStep, Branch as BranchPart, step_par
 use Rattle.s390x_typed_steps.specs.Steps.{Step}
 use Rattle.s390x_operations.specs.State.{Core, written, wrapping_add64, IsLoaded}
 use Rattle.s390x_operations.specs.Effects.{is_selected}
-use Rattle.s390x_machine.specs.declared.semantics.Action.TheVariants.{Branch}
+use Rattle.s390x_machine.specs.declared.action_type.Action.TheVariants.{Branch}
 use Rattle.s390x_machine.specs.Layout.{Layout, step_address, InStep}
 use Rattle.s390x_machine.specs.Machine.{Executed, Transition, Run, all_writes}
 use Rattle.s390x_machine.specs.Match.{start}

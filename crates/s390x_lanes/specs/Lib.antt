@@ -6,5 +6,5 @@ pub mod Elements
 pub mod Places
 pub mod Results
 pub mod Relation
-pub mod Opcodes
+pub mod Rows
 pub mod Step

@@ -1,25 +1,13 @@
-// Finding the operation of an opcode, masks and an immediate.
+// The operation of a row, masks and an immediate.
 #![tactic(auto)]
 
 ghost use Rattle.std.specs.Prelude.{◌≡◌, ℕ, ◌+◌, ◌-◌, ◌*◌, ◌/◌, ◌%◌, ◌^◌, ◌<◌, ◌≤◌, IsTrue, MatchOption};
 ghost use Rattle.s390x_lanes.specs.Size.{size_of_code, narrower_of_code};
-ghost use Rattle.s390x_lanes.specs.Opcodes.{row_in, operation_from, is_mask_within, kind_allows, is_operation, is_computed, where_operation, row_operation, immediate_bits as immediate_bits_of, operation_in, operation_of};
+ghost use Rattle.s390x_lanes.specs.Rows.{operation_from, is_mask_within, kind_allows, is_operation, is_computed, where_operation, row_operation, immediate_bits as immediate_bits_of, with_immediate, operation_of};
 
-use crate::opcodes::{OPCODES, OpcodeRow, RowKind};
 use crate::operators::VectorOperation;
+use crate::row::{RowKind, VectorRow};
 use crate::size::ElementSize;
-
-/// The first row with the opcode.
-fn find(rows: &[OpcodeRow], opcode: u16) -> Option<OpcodeRow>
-    ensures { result ≡ row_in rows.now opcode }
-{
-    for row in rows {
-        if row.opcode == opcode {
-            return Some(*row);
-        }
-    }
-    None
-}
 
 /// The size with an element-size code of 0 to 4.
 pub fn size_from(code: u8) -> ElementSize
@@ -116,14 +104,14 @@ fn checked(operation: VectorOperation) -> Option<VectorOperation>
 }
 
 /// Whether a mask lies from the row's least to its greatest.
-fn within(row: OpcodeRow, mask: u8) -> bool
+fn within(row: VectorRow, mask: u8) -> bool
     ensures { result ≡ is_mask_within row mask }
 {
     row.least <= mask && mask <= row.greatest
 }
 
 /// Whether a row may have these masks and this immediate.
-fn allows(row: OpcodeRow, a: u8, b: u8, c: u8, imm: u16) -> bool
+fn allows(row: VectorRow, a: u8, b: u8, c: u8, imm: u16) -> bool
     ensures { result ≡ kind_allows row.kind row a b c imm }
 {
     match row.kind {
@@ -139,19 +127,14 @@ fn allows(row: OpcodeRow, a: u8, b: u8, c: u8, imm: u16) -> bool
 }
 
 /// The operation of a row.
-fn operation_at(row: Option<OpcodeRow>, masks: [u8; 3], imm: u16) -> Option<VectorOperation>
+fn operation_at(row: VectorRow, masks: [u8; 3], imm: u16) -> Option<VectorOperation>
     ensures value { result ≡ row_operation row masks imm }
     ensures is_operation { MatchOption result (Unit {0}) (λ o. IsTrue (is_operation o)) }
 {
-    match row {
-        None => None,
-        Some(row) => {
-            if allows(row, masks[0], masks[1], masks[2], imm) {
-                checked(operation_with(row.kind, masks[0], masks[1], masks[2], imm))
-            } else {
-                None
-            }
-        }
+    if allows(row, masks[0], masks[1], masks[2], imm) {
+        checked(operation_with(row.kind, masks[0], masks[1], masks[2], imm))
+    } else {
+        None
     }
 }
 
@@ -166,28 +149,23 @@ fn immediate_bits(imm: i64) -> Option<u16>
     }
 }
 
-/// The operation with an opcode, masks and an immediate, by a table of opcodes.
-fn operation_in_rows(
-    rows: &[OpcodeRow],
-    opcode: u16,
-    masks: [u8; 3],
-    imm: i64,
-) -> Option<VectorOperation>
-    ensures value { result ≡ operation_in rows.now opcode masks imm }
+/// The operation of a row, where its immediate has 16 bits.
+fn operation_in_row(row: VectorRow, masks: [u8; 3], imm: i64) -> Option<VectorOperation>
+    ensures value { result ≡ with_immediate row masks (immediate_bits_of imm) }
     ensures is_operation { MatchOption result (Unit {0}) (λ o. IsTrue (is_operation o)) }
 {
     match immediate_bits(imm) {
         None => None,
-        Some(k) => operation_at(find(rows, opcode), masks, k),
+        Some(k) => operation_at(row, masks, k),
     }
 }
 
-/// The operation with an opcode, masks and an immediate.
-pub fn operation(opcode: u16, masks: [u8; 3], imm: i64) -> Option<VectorOperation>
-    ensures value { result ≡ operation_of opcode masks imm }
+/// The operation of a row with these masks and this immediate, where it allows them.
+pub fn operation(row: VectorRow, masks: [u8; 3], imm: i64) -> Option<VectorOperation>
+    ensures value { result ≡ operation_of row masks imm }
     ensures is_operation { MatchOption result (Unit {0}) (λ o. IsTrue (is_operation o)) }
 {
-    operation_in_rows(&OPCODES, opcode, masks, imm)
+    operation_in_row(row, masks, imm)
 }
 
 /// Whether the result of an operation is computed.

@@ -6,7 +6,7 @@ ghost use Rattle.s390x_lanes.specs.Size.{element_bits, lane_count, wider};
 ghost use Rattle.s390x_lanes.specs.Results.{result_size as result_size_of, result_lane as lane_of_result, vector_result};
 ghost use Rattle.s390x_lanes.specs.Lanes.{lane as lane_of};
 ghost use Rattle.s390x_lanes.specs.Elements.{elements_compare, immediate as immediate_of};
-ghost use Rattle.s390x_lanes.specs.Opcodes.{is_operation, is_computed};
+ghost use Rattle.s390x_lanes.specs.Rows.{is_operation, is_computed};
 
 use crate::binary::{binary, compare};
 use crate::lane::{append, element, ones};

@@ -14,7 +14,7 @@ use Rattle.s390x_typed_steps.specs.Operands.{scratch}
 use Rattle.s390x_typed_steps.specs.Parts.{Row, part_size, operand_parts, step_parts}
 use Rattle.s390x_typed_steps.specs.Steps.{Step}
 use Rattle.s390x_operations.specs.State.{Registers, Core, set_general, wrapping_add64}
-use Rattle.s390x_machine.specs.declared.semantics.Action.TheVariants.{Perform}
+use Rattle.s390x_machine.specs.declared.action_type.Action.TheVariants.{Perform}
 use Rattle.s390x_operations.specs.Effects.{Refines}
 use Rattle.s390x_operations.specs.declared.effect.CodeRule.TheVariants.{Kept}
 use Rattle.s390x_operations.specs.declared.effect.Operation.{Operation}

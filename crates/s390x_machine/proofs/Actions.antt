@@ -6,19 +6,19 @@ use Rattle.s390x_lanes.specs.declared.size.ElementSize.{ElementSize}
 use Rattle.s390x_lanes.specs.declared.size.ElementSize.TheVariants.{Doubleword as LongElement}
 use Rattle.s390x_lanes.specs.declared.operators.VectorOperation.{VectorOperation}
 use Rattle.s390x_lanes.specs.Size.{lane_count, element_bits}
-use Rattle.s390x_lanes.specs.Opcodes.{operation_of}
+use Rattle.s390x_lanes.specs.Rows.{operation_of}
 use Rattle.s390x_operations.specs.State.{Registers, State, set_general, wrapping_add64}
 use Rattle.s390x_operations.specs.Access.{store_event}
 use Rattle.s390x_operations.specs.Effects.{access, is_selected}
 use Rattle.s390x_operations.specs.declared.effect.Operation.{Operation}
 use Rattle.s390x_machine.specs.Operands.{based, performed_where}
 use Rattle.s390x_machine.specs.Semantics.{register_field, mask_field, vector_field, element_size, all_bits, left_bits, action, on_elements}
-use Rattle.s390x_machine.specs.declared.semantics.RowSemantics.{RowSemantics}
-use Rattle.s390x_machine.specs.declared.semantics.RowSemantics.TheVariants.{Compute, Compare, MoveWhere, CountOnes, RotateThen, MultiplySigned, MultiplyLogical, DivideSigned, DivideLogical, CompareAndTrap, CompareImmediateAndTrap, FindLeftmostOne, Havoc}
-use Rattle.s390x_machine.specs.declared.semantics.RowSemantics.TheVariants.{BranchToRegister, BranchRelative, Store, StoreByte, StoreImmediate, LoadMultiple, StoreMultiple, LoadAndOperate, CompareAndSwap, BranchAndSaveToRegister, BranchAndSaveRelative}
-use Rattle.s390x_machine.specs.declared.semantics.RowSemantics.TheVariants.{Elements, ShiftElements, LoadVector, StoreVector, LoadLeft, StoreLeft, MoveLeft, RegisterToLeft, LeftToRegister, JoinRegisters, InsertElement, ExtractElement}
-use Rattle.s390x_machine.specs.declared.semantics.Action.{Action}
-use Rattle.s390x_machine.specs.declared.semantics.Action.TheVariants.{Perform, Branch, BranchAndSave}
+use Rattle.s390x_format.specs.declared.semantics.RowSemantics.{RowSemantics}
+use Rattle.s390x_format.specs.declared.semantics.RowSemantics.TheVariants.{Compute, Compare, MoveWhere, CountOnes, RotateThen, MultiplySigned, MultiplyLogical, DivideSigned, DivideLogical, CompareAndTrap, CompareImmediateAndTrap, FindLeftmostOne, Havoc}
+use Rattle.s390x_format.specs.declared.semantics.RowSemantics.TheVariants.{BranchToRegister, BranchRelative, Store, StoreByte, StoreImmediate, LoadMultiple, StoreMultiple, LoadAndOperate, CompareAndSwap, BranchAndSaveToRegister, BranchAndSaveRelative}
+use Rattle.s390x_format.specs.declared.semantics.RowSemantics.TheVariants.{Elements, ShiftElements, LoadVector, StoreVector, LoadLeft, StoreLeft, MoveLeft, RegisterToLeft, LeftToRegister, JoinRegisters, InsertElement, ExtractElement}
+use Rattle.s390x_machine.specs.declared.action_type.Action.{Action}
+use Rattle.s390x_machine.specs.declared.action_type.Action.TheVariants.{Perform, Branch, BranchAndSave}
 use Rattle.s390x_machine.specs.Machine.{Event, Executed, Interrupted, ActionStep}
 use Rattle.s390x_machine.proofs.Results.{result_lt}
 use Rattle.s390x_machine.proofs.Operations.{IsAllowed, operation_allowed}
@@ -55,11 +55,11 @@ abbrev pub VectorsFit : Fields → Registers → Type 0
 VectorsFit f r = (i : ℕ) → vector_field f r i < 2 ^ 128
 
 pub row_has : (semantics : RowSemantics) (f : Fields) (r : Registers) (address : ℕ) → VectorsFit f r → ActionHasValue (action semantics f r address)
-row_has (Elements opcode) f r address h =
-    elements_have (operation_of opcode f.masks f.imm) (register_field f 0) (vector_field f r 0) (vector_field f r 1) (vector_field f r 2) (vector_field f r 3) (operation_allowed opcode f.masks f.imm) (h 0) (h 1) (h 2)
-row_has (ShiftElements opcode) f r address h =
+row_has (Elements row) f r address h =
+    elements_have (operation_of row f.masks f.imm) (register_field f 0) (vector_field f r 0) (vector_field f r 1) (vector_field f r 2) (vector_field f r 3) (operation_allowed row f.masks f.imm) (h 0) (h 1) (h 2)
+row_has (ShiftElements row) f r address h =
     let amount = pos (based r (register_field f 1) f.disp % 64) in
-    elements_have (operation_of opcode f.masks amount) (register_field f 0) (vector_field f r 0) (vector_field f r 2) 0 0 (operation_allowed opcode f.masks amount) (h 0) (h 2) (pow_pos 128)
+    elements_have (operation_of row f.masks amount) (register_field f 0) (vector_field f r 0) (vector_field f r 2) 0 0 (operation_allowed row f.masks amount) (h 0) (h 2) (pow_pos 128)
 row_has (LoadVector storage) f r address h = all_lt
 row_has (LoadLeft size) f r address h = left_lt size
 row_has (MoveLeft size) f r address h = left_lt size

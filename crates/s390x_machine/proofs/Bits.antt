@@ -26,10 +26,10 @@ use Rattle.s390x_operations.specs.declared.operator.Operator.TheVariants.{Move, 
 use Rattle.s390x_operations.specs.declared.operator.SelectedBitsOperator.TheVariants as Select
 use Rattle.s390x_operations.specs.declared.size.Size.TheVariants.{Word, Doubleword}
 use Rattle.s390x_operations.specs.declared.size.Width.TheVariants.{Bits8, Bits16, Bits32, Bits64}
-use Rattle.s390x_machine.specs.declared.semantics.RowSemantics.{RowSemantics}
-use Rattle.s390x_machine.specs.declared.semantics.RowSemantics.TheVariants.{Compute, MoveWhere, CountOnes, RotateThen, MultiplySigned, MultiplyLogical, DivideSigned, DivideLogical, CompareAndTrap, CompareImmediateAndTrap, FindLeftmostOne, Havoc, BranchToRegister}
-use Rattle.s390x_machine.specs.declared.semantics.SecondOperand.{SecondOperand}
-use Rattle.s390x_machine.specs.declared.semantics.OperandSource.TheVariants.{Register, Immediate, ShiftedImmediate, Amount, AccessRegister}
+use Rattle.s390x_format.specs.declared.semantics.RowSemantics.{RowSemantics}
+use Rattle.s390x_format.specs.declared.semantics.RowSemantics.TheVariants.{Compute, MoveWhere, CountOnes, RotateThen, MultiplySigned, MultiplyLogical, DivideSigned, DivideLogical, CompareAndTrap, CompareImmediateAndTrap, FindLeftmostOne, Havoc, BranchToRegister}
+use Rattle.s390x_format.specs.declared.semantics.SecondOperand.{SecondOperand}
+use Rattle.s390x_format.specs.declared.semantics.OperandSource.TheVariants.{Register, Immediate, ShiftedImmediate, Amount, AccessRegister}
 use Rattle.s390x_machine.specs.Computations.{Second, Computation, comparison, unsigned_word, doubleword, signed_halfword, on_words, on_doublewords, on_selected, with_second, extended_second, extension, part_mask, half_mask, part_operator, shift_operator, shift_size, shift_rule, rotate_operator, rotate_rule}
 use Rattle.s390x_machine.specs.Semantics.{semantics_in, semantics_of}
 use Rattle.s390x_machine.proofs.Listing.{Agrees, PairRow, rows, none_but_zero, TwoRow, TwoRows, OpcodeRow, OpcodeRows, Meant, MeantRows}

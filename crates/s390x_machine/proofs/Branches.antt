@@ -5,8 +5,8 @@ use Rattle.s390x_operations.specs.State.{Registers, Core, written, wrapping_add6
 use Rattle.s390x_operations.specs.Effects.{is_selected}
 use Rattle.s390x_operations.specs.declared.stop.ConditionCode.{ConditionCode}
 use Rattle.s390x_operations.specs.declared.stop.ConditionCode.TheVariants.{Code0, Code1, Code2, Code3}
-use Rattle.s390x_machine.specs.declared.semantics.Action.{Action}
-use Rattle.s390x_machine.specs.declared.semantics.Action.TheVariants.{Branch}
+use Rattle.s390x_machine.specs.declared.action_type.Action.{Action}
+use Rattle.s390x_machine.specs.declared.action_type.Action.TheVariants.{Branch}
 use Rattle.s390x_machine.specs.Machine.{Executed, Transition, Run, all_writes}
 use Rattle.s390x_machine.specs.StepKinds.{StepKind, GoesTo, Chooses, GoesByAddress, Leads, Returns, TailCalls}
 use Rattle.s390x_machine.specs.Typed.{Returned, TailCalled, At, Ended, IsTarget, KindStep, KindWrong, TypedStep, kind_at, store_event_of_kind, typed_store_event}

@@ -21,9 +21,9 @@ use Rattle.s390x_operations.specs.Effects.{Refines, refused, MayRefuse}
 use Rattle.s390x_operations.specs.declared.effect.Operation.{Operation}
 use Rattle.s390x_operations.specs.declared.effect.CodeRule.{CodeRule}
 use Rattle.s390x_operations.specs.declared.stop.StopKind.{StopKind}
-use Rattle.s390x_machine.specs.declared.semantics.RowSemantics.{RowSemantics}
-use Rattle.s390x_machine.specs.declared.semantics.Action.{Action}
-use Rattle.s390x_machine.specs.declared.semantics.Action.TheVariants.{Perform}
+use Rattle.s390x_format.specs.declared.semantics.RowSemantics.{RowSemantics}
+use Rattle.s390x_machine.specs.declared.action_type.Action.{Action}
+use Rattle.s390x_machine.specs.declared.action_type.Action.TheVariants.{Perform}
 use Rattle.s390x_machine.specs.Computations.{Computation, Comparison, computes, compares, computes_immediate, compares_immediate}
 use Rattle.s390x_machine.specs.StepKinds.{StepKind, Performs, no_code}
 use Rattle.s390x_machine.specs.Layout.{Layout, step_address}

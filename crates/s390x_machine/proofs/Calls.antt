@@ -24,7 +24,7 @@ use Rattle.s390x_typed_steps.specs.Steps.{Step, CallingStep}
 use Rattle.s390x_operations.specs.State.{State, wrapping_add64}
 use Rattle.s390x_operations.specs.Numbers.{low}
 use Rattle.s390x_operations.specs.declared.size.Size.TheVariants.{Doubleword}
-use Rattle.s390x_machine.specs.declared.semantics.Action.TheVariants.{Branch, BranchAndSave}
+use Rattle.s390x_machine.specs.declared.action_type.Action.TheVariants.{Branch, BranchAndSave}
 use Rattle.s390x_machine.specs.Machine.{Event, ActionStep}
 use Rattle.s390x_machine.specs.Semantics.{semantics_in, semantics_of}
 use Rattle.s390x_machine.specs.Layout.{Layout, step_address}

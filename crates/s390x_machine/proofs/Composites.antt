@@ -15,8 +15,8 @@ use Rattle.s390x_operations.specs.declared.effect.CodeRule.TheVariants.{Kept}
 use Rattle.s390x_operations.specs.declared.effect.Operation.{Operation}
 use Rattle.s390x_operations.specs.declared.stop.StopKind.{StopKind}
 use Rattle.s390x_operations.specs.declared.stop.StopKind.TheVariants.{Operation as OperationStop}
-use Rattle.s390x_machine.specs.declared.semantics.Action.{Action}
-use Rattle.s390x_machine.specs.declared.semantics.Action.TheVariants.{Perform, Branch, BranchAndSave}
+use Rattle.s390x_machine.specs.declared.action_type.Action.{Action}
+use Rattle.s390x_machine.specs.declared.action_type.Action.TheVariants.{Perform, Branch, BranchAndSave}
 use Rattle.s390x_machine.specs.Machine.{Event, Executed, Interrupted, ActionStep, MachineStep, Transition, after_writes, Run, after_all, all_writes}
 use Rattle.s390x_machine.specs.StepKinds.{PerformsWhere, TrapsAlways, TrapsWhere, DebugStops, Calls}
 use Rattle.s390x_machine.specs.Computations.{with_rule}

@@ -13,7 +13,7 @@ use Rattle.s390x_format.specs.Encoded.{IsEncoded, decoded_of}
 use Rattle.s390x_format.proofs.Encoding.{encode-length}
 use Rattle.s390x_typed_steps.specs.MachineInstruction.{MachineInstruction, bytes_of, size_of}
 use Rattle.s390x_operations.specs.State.{Registers, Memory, State, wrapping_add64, CodeImage, is_within, IsLoaded, bytes_from, bytes_at, reaches}
-use Rattle.s390x_machine.specs.declared.semantics.Action.{Action}
+use Rattle.s390x_machine.specs.declared.action_type.Action.{Action}
 use Rattle.s390x_machine.specs.Fetch.{Fetched, Misplaced, Missing, Unknown, Found, IsReached, IsFound, Fetches, length_at, instruction_bytes}
 use Rattle.s390x_machine.specs.Machine.{Event, ActionStep, FetchedStep}
 use Rattle.s390x_machine.specs.Layout.{Layout}

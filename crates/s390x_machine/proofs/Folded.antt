@@ -8,7 +8,7 @@ use Rattle.s390x_typed_steps.specs.StepBody.{Remainder, NothingLeft, BranchLeft}
 use Rattle.s390x_typed_steps.specs.Steps.{Step, Shortened}
 use Rattle.s390x_operations.specs.State.{Registers, Core, written, wrapping_add64}
 use Rattle.s390x_operations.specs.Effects.{is_selected}
-use Rattle.s390x_machine.specs.declared.semantics.Action.TheVariants.{Branch}
+use Rattle.s390x_machine.specs.declared.action_type.Action.TheVariants.{Branch}
 use Rattle.s390x_machine.specs.Machine.{Executed, Transition, all_writes}
 use Rattle.s390x_machine.specs.StepKinds.{GoesTo, Chooses}
 use Rattle.s390x_machine.specs.Typed.{At, KindStep, TypedStep, kind_at, typed_store_event}

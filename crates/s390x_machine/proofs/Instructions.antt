@@ -32,7 +32,7 @@ use Rattle.s390x_operations.specs.declared.size.Size.TheVariants.{Word, Doublewo
 use Rattle.s390x_operations.specs.declared.size.Width.TheVariants.{Bits16, Bits32, Bits64}
 use Rattle.s390x_operations.specs.declared.operator.SelectedBitsOperator.TheVariants as Select
 use Rattle.s390x_operations.specs.declared.operator.Operator.TheVariants.{Move, SelectedBits}
-use Rattle.s390x_machine.specs.declared.semantics.RowSemantics.TheVariants.{DivideSigned, DivideLogical}
+use Rattle.s390x_format.specs.declared.semantics.RowSemantics.TheVariants.{DivideSigned, DivideLogical}
 use Rattle.s390x_machine.specs.Computations.{alu_computation, alu_two_rule, unary_computation, unary_rule, comparison, on_words, on_doublewords, unsigned_word, signed_word, signed_halfword, on_immediate, compares_on_immediate, doubleword, part_mask, half_mask, part_operator, extension, divides_signed, divides_logical}
 use Rattle.s390x_machine.specs.Typed.{kind_of_step}
 use Rattle.s390x_machine.specs.Match.{EveryRunFrom, EveryRun, EveryReturnRun, EveryBlockRun}

@@ -5,7 +5,7 @@ use Rattle.std.proofs.lemmas.Nat.{mod_below}
 use Rattle.s390x_format.specs.Formats.{length_of}
 use Rattle.s390x_format.specs.declared.fields.Fields.{Fields}
 use Rattle.s390x_lanes.specs.Size.{lane_count}
-use Rattle.s390x_lanes.specs.Opcodes.{operation_of}
+use Rattle.s390x_lanes.specs.Rows.{operation_of}
 use Rattle.s390x_lanes.specs.declared.operators.VectorOperation.{VectorOperation}
 use Rattle.s390x_operations.specs.Numbers.{whole}
 use Rattle.s390x_operations.specs.State.{State, Core, Memory, IsState, Registers, CodeImage, Write, MayWrite, written, wrapping_add64}
@@ -21,14 +21,14 @@ use Rattle.s390x_machine.specs.Operands.{value_in, based, performed_where}
 use Rattle.s390x_machine.specs.Semantics.{register_field, mask_field, vector_field, element_size, relative_address, first_register, is_odd_pair, action, on_elements, semantics_of}
 use Rattle.s390x_machine.specs.Sound.{HasRegisters, IsMeant}
 use Rattle.s390x_machine.specs.Machine.{Event, Executed, Interrupted, ActionStep, OddPairStep, RowStep, FetchedStep, MachineStep, Transition, Run, after_all, TransitionStep}
-use Rattle.s390x_machine.specs.declared.semantics.OperandSource.{OperandSource}
-use Rattle.s390x_machine.specs.declared.semantics.OperandSource.TheVariants.{ThreeRegisters, ThreeImmediate, Amount}
-use Rattle.s390x_machine.specs.declared.semantics.RowSemantics.{RowSemantics}
-use Rattle.s390x_machine.specs.declared.semantics.RowSemantics.TheVariants.{Compute, Compare, MoveWhere, CountOnes, RotateThen, MultiplySigned, MultiplyLogical, DivideSigned, DivideLogical, CompareAndTrap, CompareImmediateAndTrap, FindLeftmostOne, Havoc}
-use Rattle.s390x_machine.specs.declared.semantics.RowSemantics.TheVariants.{BranchToRegister, BranchRelative, Store, StoreByte, StoreImmediate, LoadMultiple, StoreMultiple, LoadAndOperate, CompareAndSwap, BranchAndSaveToRegister, BranchAndSaveRelative}
-use Rattle.s390x_machine.specs.declared.semantics.RowSemantics.TheVariants.{Elements, ShiftElements, LoadVector, StoreVector, LoadLeft, StoreLeft, MoveLeft, RegisterToLeft, LeftToRegister, JoinRegisters, InsertElement, ExtractElement}
-use Rattle.s390x_machine.specs.declared.semantics.Action.{Action}
-use Rattle.s390x_machine.specs.declared.semantics.Action.TheVariants.{Perform, Branch, BranchAndSave}
+use Rattle.s390x_format.specs.declared.semantics.OperandSource.{OperandSource}
+use Rattle.s390x_format.specs.declared.semantics.OperandSource.TheVariants.{ThreeRegisters, ThreeImmediate, Amount}
+use Rattle.s390x_format.specs.declared.semantics.RowSemantics.{RowSemantics}
+use Rattle.s390x_format.specs.declared.semantics.RowSemantics.TheVariants.{Compute, Compare, MoveWhere, CountOnes, RotateThen, MultiplySigned, MultiplyLogical, DivideSigned, DivideLogical, CompareAndTrap, CompareImmediateAndTrap, FindLeftmostOne, Havoc}
+use Rattle.s390x_format.specs.declared.semantics.RowSemantics.TheVariants.{BranchToRegister, BranchRelative, Store, StoreByte, StoreImmediate, LoadMultiple, StoreMultiple, LoadAndOperate, CompareAndSwap, BranchAndSaveToRegister, BranchAndSaveRelative}
+use Rattle.s390x_format.specs.declared.semantics.RowSemantics.TheVariants.{Elements, ShiftElements, LoadVector, StoreVector, LoadLeft, StoreLeft, MoveLeft, RegisterToLeft, LeftToRegister, JoinRegisters, InsertElement, ExtractElement}
+use Rattle.s390x_machine.specs.declared.action_type.Action.{Action}
+use Rattle.s390x_machine.specs.declared.action_type.Action.TheVariants.{Perform, Branch, BranchAndSave}
 use Rattle.s390x_machine.proofs.Performing.{can_perform}
 use Rattle.s390x_machine.specs.Progress.{HasTransition, MayWriteEach, HasRun}
 use Rattle.s390x_machine.proofs.Lanes.{choice_lt}
@@ -103,9 +103,9 @@ row_fits LeftToRegister f r address regs meant even fit = (fit.general (register
 row_fits ExtractElement f r address regs meant even fit =
     either_fits (nat_lt (based r (register_field f 1) f.disp) (lane_count (element_size f))) _ _ (fit.general (register_field f 0) (regs 0), full_width) tt
 row_fits InsertElement f r address regs meant even fit = either_fits (nat_lt (based r (register_field f 1) f.disp) (lane_count (element_size f))) _ _ tt tt
-row_fits (Elements opcode) f r address regs meant even fit =
-    elements_fit (operation_of opcode f.masks f.imm) (register_field f 0) (vector_field f r 0) (vector_field f r 1) (vector_field f r 2) (vector_field f r 3)
-row_fits (ShiftElements opcode) f r address regs meant even fit = elements_fit (operation_of opcode f.masks _) (register_field f 0) (vector_field f r 0) (vector_field f r 2) 0 0
+row_fits (Elements row) f r address regs meant even fit =
+    elements_fit (operation_of row f.masks f.imm) (register_field f 0) (vector_field f r 0) (vector_field f r 1) (vector_field f r 2) (vector_field f r 3)
+row_fits (ShiftElements row) f r address regs meant even fit = elements_fit (operation_of row f.masks _) (register_field f 0) (vector_field f r 0) (vector_field f r 2) 0 0
 row_fits (Compare sign size s) f r address regs meant even fit = tt
 row_fits (DivideSigned width) f r address regs meant even fit = tt
 row_fits (CompareAndTrap sign size) f r address regs meant even fit = tt

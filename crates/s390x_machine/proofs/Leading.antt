@@ -15,8 +15,8 @@ use Rattle.s390x_operations.specs.declared.effect.CodeRule.TheVariants.{Kept}
 use Rattle.s390x_operations.specs.declared.operator.Operator.TheVariants.{Move}
 use Rattle.s390x_operations.specs.declared.stop.ConditionCode.{ConditionCode}
 use Rattle.s390x_operations.specs.declared.stop.ConditionCode.TheVariants.{Code0, Code1, Code2, Code3}
-use Rattle.s390x_machine.specs.declared.semantics.Action.TheVariants.{Perform, Branch as BranchAction}
-use Rattle.s390x_machine.specs.declared.semantics.RowSemantics.TheVariants.{BranchToRegister}
+use Rattle.s390x_machine.specs.declared.action_type.Action.TheVariants.{Perform, Branch as BranchAction}
+use Rattle.s390x_format.specs.declared.semantics.RowSemantics.TheVariants.{BranchToRegister}
 use Rattle.s390x_machine.specs.Computations.{computes_immediate, on_doublewords, idles}
 use Rattle.s390x_machine.specs.StepKinds.{Performs, GoesTo, Chooses, GoesByTable, Leads, Silent, linked_value, no_code}
 use Rattle.s390x_machine.specs.Layout.{Layout, step_address, block_address, InStep}

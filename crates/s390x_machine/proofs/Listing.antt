@@ -4,11 +4,10 @@ use Rattle.s390x_format.specs.declared.kind.FormatKind.{FormatKind}
 use Rattle.s390x_format.specs.declared.kind.FormatKind.TheVariants.{RrfAb}
 use Rattle.s390x_format.specs.declared.row.Allowed.{Allowed}
 use Rattle.s390x_format.specs.declared.row.Allowed.TheVariants.{Any, FirstMask}
-use Rattle.s390x_format.specs.declared.row.MachineRow.{MachineRow}
 use Rattle.s390x_format.specs.Lookup.{row_for}
 use Rattle.s390x_format.specs.Fetch.{machine_rows}
 use Rattle.s390x_typed_steps.specs.SingleInstruction.{two_operands}
-use Rattle.s390x_machine.specs.declared.semantics.RowSemantics.{RowSemantics}
+use Rattle.s390x_format.specs.declared.semantics.RowSemantics.{RowSemantics}
 use Rattle.s390x_machine.specs.Semantics.{semantics_of, names_pair}
 
 -- ---- one opcode
@@ -21,16 +20,19 @@ Lists opcode kind allowed =
 
 -- what the tables say
 pub record Entry : Type 0 where
-  pub row : MachineRow
+  pub format : FormatKind
+  pub opcode : ℕ
+  pub allowed : Allowed
   pub semantics : Option RowSemantics
   pub some : Bool
   pub few : Bool
 
 abbrev pub entry : (digits opcode : ℕ) → Entry
-entry digits opcode = record { row = row_for machine_rows opcode; semantics = semantics_of opcode; some = nat_lt 0 opcode; few = nat_lt opcode digits }
+entry digits opcode =
+    let row = row_for machine_rows opcode in record { format = row.format; opcode = row.opcode; allowed = row.allowed; semantics = semantics_of opcode; some = nat_lt 0 opcode; few = nat_lt opcode digits }
 
 abbrev pub wanted : FormatKind → Allowed → ℕ → RowSemantics → Entry
-wanted kind allowed opcode semantics = record { row = record { format = kind; opcode = opcode; allowed = allowed }; semantics = Some semantics; some = true; few = true }
+wanted kind allowed opcode semantics = record { format = kind; opcode = opcode; allowed = allowed; semantics = Some semantics; some = true; few = true }
 
 -- a row of the table with semantics, whose opcode is below a bound: those of two and three digits are below 256 and 4096
 pub record Listed (kind : FormatKind) (allowed : Allowed) (digits opcode : ℕ) (semantics : RowSemantics) : Type 0 where
@@ -43,7 +45,7 @@ pub few_digits : {kind : FormatKind} {allowed : Allowed} {digits opcode : ℕ} {
 few_digits {digits = digits} {opcode = opcode} row = ltb-true opcode digits (ap (λ (x : Entry). x.few) row.is)
 
 pub lists_row : {kind : FormatKind} {allowed : Allowed} {digits opcode : ℕ} {semantics : RowSemantics} → Listed kind allowed digits opcode semantics → Lists opcode kind allowed
-lists_row row = (ap (λ (x : Entry). x.row.opcode) row.is, ap (λ (x : Entry). x.row.format) row.is, ap (λ (x : Entry). x.row.allowed) row.is)
+lists_row row = (ap (λ (x : Entry). x.opcode) row.is, ap (λ (x : Entry). x.format) row.is, ap (λ (x : Entry). x.allowed) row.is)
 
 pub means_this : {kind : FormatKind} {allowed : Allowed} {digits opcode : ℕ} {semantics : RowSemantics} → Listed kind allowed digits opcode semantics → semantics_of opcode ≡ Some semantics
 means_this row = ap (λ (x : Entry). x.semantics) row.is

@@ -14,8 +14,8 @@ use Rattle.s390x_operations.specs.declared.effect.CodeRule.TheVariants.{Kept, Se
 use Rattle.s390x_operations.specs.declared.operator.Operator.{Operator}
 use Rattle.s390x_operations.specs.declared.operator.Operator.TheVariants.{Move, SelectedBits}
 use Rattle.s390x_operations.specs.declared.operator.SelectedBitsOperator.TheVariants as Select
-use Rattle.s390x_machine.specs.declared.semantics.Action.TheVariants.{Perform}
-use Rattle.s390x_machine.specs.declared.semantics.OperandSource.TheVariants.{Immediate, ThreeImmediate}
+use Rattle.s390x_machine.specs.declared.action_type.Action.TheVariants.{Perform}
+use Rattle.s390x_format.specs.declared.semantics.OperandSource.TheVariants.{Immediate, ThreeImmediate}
 use Rattle.s390x_machine.specs.Computations.{Computation, Comparison, alu_computation, on_words, on_doublewords, unsigned_word, signed_halfword, on_immediate, computes_immediate, compares_immediate, half_mask, on_selected, at_half, inserts_half, takes_from_stack}
 use Rattle.s390x_machine.specs.Layout.{Layout}
 use Rattle.s390x_machine.specs.OneStep.{StepRuns}

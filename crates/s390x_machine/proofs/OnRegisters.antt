@@ -17,10 +17,10 @@ use Rattle.s390x_operations.specs.declared.effect.CodeRule.{CodeRule}
 use Rattle.s390x_operations.specs.declared.effect.CodeRule.TheVariants.{Kept, Set}
 use Rattle.s390x_operations.specs.declared.operator.Operator.TheVariants.{Move}
 use Rattle.s390x_operations.specs.declared.size.Size.{Size}
-use Rattle.s390x_machine.specs.declared.semantics.RowSemantics.{RowSemantics}
-use Rattle.s390x_machine.specs.declared.semantics.RowSemantics.TheVariants.{MoveWhere, CountOnes, MultiplySigned, MultiplyLogical, FindLeftmostOne, Havoc}
-use Rattle.s390x_machine.specs.declared.semantics.OperandSource.TheVariants.{Register, ThreeRegisters, Immediate, AccessRegister}
-use Rattle.s390x_machine.specs.declared.semantics.Action.TheVariants.{Perform}
+use Rattle.s390x_format.specs.declared.semantics.RowSemantics.{RowSemantics}
+use Rattle.s390x_format.specs.declared.semantics.RowSemantics.TheVariants.{MoveWhere, CountOnes, MultiplySigned, MultiplyLogical, FindLeftmostOne, Havoc}
+use Rattle.s390x_format.specs.declared.semantics.OperandSource.TheVariants.{Register, ThreeRegisters, Immediate, AccessRegister}
+use Rattle.s390x_machine.specs.declared.action_type.Action.TheVariants.{Perform}
 use Rattle.s390x_machine.specs.Computations.{Second, Computation, Comparison, alu_computation, alu_three_rule, alu_two_rule, computes, compares, copies_access, on_words, on_doublewords, signed_halfword, multiplies_signed, multiplies_logical, finds_leftmost, havocs, moves_where, moves_immediate_where}
 use Rattle.s390x_machine.specs.StepKinds.{no_code}
 use Rattle.s390x_machine.specs.Layout.{Layout}

@@ -27,12 +27,12 @@ use Rattle.s390x_operations.specs.declared.size.Width.{Width}
 use Rattle.s390x_operations.specs.declared.size.Width.TheVariants.{Bits8, Bits16, Bits32, Bits64}
 use Rattle.s390x_machine.specs.Semantics.{register_field, semantics_of, semantics_in}
 use Rattle.s390x_machine.specs.Sound.{IsMeant, IsRoomy, ShiftFits, HasRegisters, HasElement, CanPerform, register_bits, register_bound, is_vector_field, fits_field, has_registers, is_small, has_element, is_performed, are_performed, is_meant, is_no_wider, is_unsigned, has_room, fits_operand}
-use Rattle.s390x_machine.specs.declared.semantics.OperandSource.{OperandSource}
-use Rattle.s390x_machine.specs.declared.semantics.OperandSource.TheVariants.{ShiftedImmediate}
-use Rattle.s390x_machine.specs.declared.semantics.SecondOperand.{SecondOperand}
-use Rattle.s390x_machine.specs.declared.semantics.RowSemantics.{RowSemantics}
-use Rattle.s390x_machine.specs.declared.semantics.RowSemantics.TheVariants.{Compute, Compare, MoveWhere, CountOnes, RotateThen, MultiplySigned, MultiplyLogical, DivideSigned, DivideLogical, CompareAndTrap, CompareImmediateAndTrap, FindLeftmostOne, Havoc, BranchToRegister, BranchRelative, Store, StoreByte, StoreImmediate, LoadMultiple, StoreMultiple, LoadAndOperate, CompareAndSwap}
-use Rattle.s390x_machine.specs.declared.semantics.RowSemantics.TheVariants.{BranchAndSaveToRegister, BranchAndSaveRelative, Elements, ShiftElements, LoadVector, StoreVector, LoadLeft, StoreLeft, MoveLeft, RegisterToLeft, LeftToRegister, JoinRegisters, InsertElement, ExtractElement}
+use Rattle.s390x_format.specs.declared.semantics.OperandSource.{OperandSource}
+use Rattle.s390x_format.specs.declared.semantics.OperandSource.TheVariants.{ShiftedImmediate}
+use Rattle.s390x_format.specs.declared.semantics.SecondOperand.{SecondOperand}
+use Rattle.s390x_format.specs.declared.semantics.RowSemantics.{RowSemantics}
+use Rattle.s390x_format.specs.declared.semantics.RowSemantics.TheVariants.{Compute, Compare, MoveWhere, CountOnes, RotateThen, MultiplySigned, MultiplyLogical, DivideSigned, DivideLogical, CompareAndTrap, CompareImmediateAndTrap, FindLeftmostOne, Havoc, BranchToRegister, BranchRelative, Store, StoreByte, StoreImmediate, LoadMultiple, StoreMultiple, LoadAndOperate, CompareAndSwap}
+use Rattle.s390x_format.specs.declared.semantics.RowSemantics.TheVariants.{BranchAndSaveToRegister, BranchAndSaveRelative, Elements, ShiftElements, LoadVector, StoreVector, LoadLeft, StoreLeft, MoveLeft, RegisterToLeft, LeftToRegister, JoinRegisters, InsertElement, ExtractElement}
 
 -- ---- the table
 
@@ -171,8 +171,8 @@ meant (LoadAndOperate operator size) format slots h fit = (tt, tt)
 meant (CompareAndSwap size) format slots h fit = (tt, tt)
 meant BranchAndSaveToRegister format slots h fit = (tt, tt)
 meant BranchAndSaveRelative format slots h fit = (tt, tt)
-meant (Elements opcode) format slots h fit = (tt, tt)
-meant (ShiftElements opcode) format slots h fit = (tt, tt)
+meant (Elements row) format slots h fit = (tt, tt)
+meant (ShiftElements row) format slots h fit = (tt, tt)
 meant (LoadVector storage) format slots h fit = (tt, tt)
 meant (StoreVector storage) format slots h fit = (tt, tt)
 meant (LoadLeft size) format slots h fit = (tt, tt)

@@ -7,7 +7,7 @@ use Rattle.s390x_base.specs.declared.regs.Reg.TheVariants.{Real, Virtual}
 use Rattle.s390x_format.specs.declared.fields.Fields.{Fields}
 use Rattle.s390x_typed_steps.specs.General.{is_general, is_even_pair, reuses, four_bits, rotation}
 use Rattle.s390x_typed_steps.specs.Ranges.{IsConditionMask}
-use Rattle.s390x_machine.specs.declared.semantics.RowSemantics.{RowSemantics}
+use Rattle.s390x_format.specs.declared.semantics.RowSemantics.{RowSemantics}
 use Rattle.s390x_machine.specs.Semantics.{names_pair, is_odd_pair, register_field}
 use Rattle.s390x_machine.proofs.Rows.{general_number}
 

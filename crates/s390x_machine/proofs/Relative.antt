@@ -27,8 +27,8 @@ use Rattle.s390x_operations.specs.Numbers.{low}
 use Rattle.s390x_operations.specs.State.{Registers, wrapping_add64}
 use Rattle.s390x_operations.specs.declared.effect.Operation.{Operation}
 use Rattle.s390x_operations.specs.declared.size.Size.TheVariants.{Doubleword}
-use Rattle.s390x_machine.specs.declared.semantics.RowSemantics.{RowSemantics}
-use Rattle.s390x_machine.specs.declared.semantics.Action.TheVariants.{Perform}
+use Rattle.s390x_format.specs.declared.semantics.RowSemantics.{RowSemantics}
+use Rattle.s390x_machine.specs.declared.action_type.Action.TheVariants.{Perform}
 use Rattle.s390x_machine.specs.Layout.{Layout, declared, block_address, constant_address}
 use Rattle.s390x_machine.specs.Semantics.{action}
 use Rattle.s390x_machine.specs.CodeAt.{ConstantStands, ImageAt, IsBlock, NamesConstant, PartReaches}

@@ -17,9 +17,9 @@ use Rattle.s390x_operations.specs.declared.size.Size.{Size}
 use Rattle.s390x_operations.specs.declared.size.Size.TheVariants.{Doubleword}
 use Rattle.s390x_operations.specs.declared.operator.Operator.TheVariants.{Move}
 use Rattle.s390x_operations.specs.declared.effect.CodeRule.TheVariants.{Kept}
-use Rattle.s390x_machine.specs.declared.semantics.RowSemantics.{RowSemantics}
-use Rattle.s390x_machine.specs.declared.semantics.RowSemantics.TheVariants.{Compute, Store}
-use Rattle.s390x_machine.specs.declared.semantics.OperandSource.TheVariants.{Relative, RelativeAddress}
+use Rattle.s390x_format.specs.declared.semantics.RowSemantics.{RowSemantics}
+use Rattle.s390x_format.specs.declared.semantics.RowSemantics.TheVariants.{Compute, Store}
+use Rattle.s390x_format.specs.declared.semantics.OperandSource.TheVariants.{Relative, RelativeAddress}
 use Rattle.s390x_machine.specs.Computations.{Second, doubleword, comparison}
 use Rattle.s390x_machine.specs.Semantics.{semantics_in, semantics_of}
 use Rattle.s390x_machine.specs.Storage.{loaded_value, stored_value}

@@ -11,7 +11,7 @@ use Rattle.s390x_lanes.specs.Lanes.{lane, from_lanes}
 use Rattle.s390x_lanes.specs.Numbers.{element_number}
 use Rattle.s390x_lanes.specs.Elements.{elements_compare, immediate}
 use Rattle.s390x_lanes.specs.Places.{lane_of_pair, pair_product, first_of_half, unpacked_lane, byte_of_both, shift_byte_count, chosen_bit, chosen_bits}
-use Rattle.s390x_lanes.specs.Opcodes.{is_operation}
+use Rattle.s390x_lanes.specs.Rows.{is_operation}
 use Rattle.s390x_lanes.specs.Results.{result_size, result_lane, vector_result}
 use Rattle.s390x_lanes.proofs.Building.{lane_lt, build_lt, whole}
 use Rattle.s390x_machine.proofs.Lanes.{wrapped_lt, choice_lt, binary_lt, unary_lt, shifted_lt, product_lt, high_product_lt, divided_lt, narrowed_lt, bit_mask_lt, selected_lt}

@@ -7,7 +7,7 @@ use Rattle.s390x_format.specs.Formats.{length_of}
 use Rattle.s390x_lanes.specs.Lanes.{lane}
 use Rattle.s390x_lanes.specs.Relation.{code_of, divides_by_zero, division_overflows, is_determined}
 use Rattle.s390x_lanes.specs.Results.{vector_result}
-use Rattle.s390x_lanes.specs.Opcodes.{operation_of}
+use Rattle.s390x_lanes.specs.Rows.{operation_of}
 use Rattle.s390x_lanes.specs.Size.{element_bits, lane_count}
 use Rattle.s390x_lanes.specs.declared.operators.ShiftOperator.{ShiftOperator}
 use Rattle.s390x_lanes.specs.declared.operators.ShiftOperator.TheVariants.{RotateLeft}
@@ -28,9 +28,9 @@ use Rattle.s390x_typed_steps.specs.Parts.{row_parts, step_parts}
 use Rattle.s390x_typed_steps.specs.Steps.{Step}
 use Rattle.s390x_typed_steps.specs.VectorComposite.{exchanges_doublewords, exchanges_halves, reversing_rows, rows_cause, rows_or_none}
 use Rattle.s390x_typed_steps.specs.VectorOpcodes.{shift_row}
-use Rattle.s390x_machine.specs.declared.semantics.Action.{Action}
-use Rattle.s390x_machine.specs.declared.semantics.Action.TheVariants.{Perform}
-use Rattle.s390x_machine.specs.declared.semantics.RowSemantics.TheVariants as Row
+use Rattle.s390x_machine.specs.declared.action_type.Action.{Action}
+use Rattle.s390x_machine.specs.declared.action_type.Action.TheVariants.{Perform}
+use Rattle.s390x_format.specs.declared.semantics.RowSemantics.TheVariants as Row
 use Rattle.s390x_machine.specs.CodeAt.{ImageAt}
 use Rattle.s390x_machine.specs.Layout.{Layout, InStep, step_address}
 use Rattle.s390x_machine.specs.Machine.{Executed, Interrupted, Transition, all_writes}
@@ -50,7 +50,7 @@ use Rattle.s390x_machine.proofs.Listing.{few_digits}
 use Rattle.s390x_machine.proofs.Simulation.{Inside, RowAt, Simulates, at_start, mid}
 use Rattle.s390x_machine.proofs.SingleInstruction.{DoesThere, meant_at}
 use Rattle.s390x_machine.proofs.Standing.{inside_at, inside_first, next_place}
-use Rattle.s390x_machine.proofs.VectorRows.{doublewords_rows, elements_few, elements_listed, fits_vrr_c, fits_vrs_a, shift_allowed, shift_code, shift_operation, shift_rows, small_displacement}
+use Rattle.s390x_machine.proofs.VectorRows.{doublewords_rows, elements_few, elements_listed, fits_vrr_c, fits_vrs_a, shift_allowed, shift_code, shift_operation, shift_rows, small_displacement, vector_row_of}
 use Rattle.s390x_machine.proofs.VectorSteps.{computed_vector, elements_computed, vector_there}
 
 -- ---- a vector register that gets one value after another
@@ -118,9 +118,9 @@ turn_there L image offset even op d half ld small is =
     let short : half < 4096 = omega (arith, small) in
     let fit = fits_vrs_a (shift_row op).opcode d 0 d (shift_row op).code half (few_digits (shift_rows op).0) ld (omega arith) ld (shift_code op) short in
     let operation = shift_operation op half small ∙ ap (λ (o : ShiftOperator). Some (ShiftElements o (shifted_elements op) half)) is in
-    meant_at L image offset even x (Row.ShiftElements (shift_row op).opcode) (turned (shifted_elements op) half d) (shift_rows op) fit (shift_allowed op d 0 d half) (λ r p.
-    ap (λ (z : ℤ). on_elements (operation_of (shift_row op).opcode ((shift_row op).code ∷ 0 ∷ 0 ∷ []) (pos (based r 0 z % 64))) d (r.vector d) (r.vector d) 0 0) (small_displacement half short)
-    ∙ ap (λ k. on_elements (operation_of (shift_row op).opcode ((shift_row op).code ∷ 0 ∷ 0 ∷ []) (pos k)) d (r.vector d) (r.vector d) 0 0) (amount_is r half small)
+    meant_at L image offset even x (Row.ShiftElements (vector_row_of (shift_row op).opcode)) (turned (shifted_elements op) half d) (shift_rows op) fit (shift_allowed op d 0 d half) (λ r p.
+    ap (λ (z : ℤ). on_elements (operation_of (vector_row_of (shift_row op).opcode) ((shift_row op).code ∷ 0 ∷ 0 ∷ []) (pos (based r 0 z % 64))) d (r.vector d) (r.vector d) 0 0) (small_displacement half short)
+    ∙ ap (λ k. on_elements (operation_of (vector_row_of (shift_row op).opcode) ((shift_row op).code ∷ 0 ∷ 0 ∷ []) (pos k)) d (r.vector d) (r.vector d) 0 0) (amount_is r half small)
     ∙ ap (λ q. on_elements q d (r.vector d) (r.vector d) 0 0) operation)
 
 -- what the two do

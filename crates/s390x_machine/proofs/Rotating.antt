@@ -19,8 +19,8 @@ use Rattle.s390x_operations.specs.declared.effect.Effect.TheVariants as Effect
 use Rattle.s390x_operations.specs.declared.effect.Operation.{Operation}
 use Rattle.s390x_operations.specs.declared.operator.Operator.TheVariants.{Shift, SelectedBits}
 use Rattle.s390x_operations.specs.declared.size.Size.TheVariants.{Doubleword}
-use Rattle.s390x_machine.specs.declared.semantics.Action.TheVariants.{Perform}
-use Rattle.s390x_machine.specs.declared.semantics.RowSemantics.TheVariants.{RotateThen}
+use Rattle.s390x_machine.specs.declared.action_type.Action.TheVariants.{Perform}
+use Rattle.s390x_format.specs.declared.semantics.RowSemantics.TheVariants.{RotateThen}
 use Rattle.s390x_machine.specs.Computations.{with_rule, operand_of, shift_operator, shift_size, shift_rule, shift_computation, shifts, rotate_operator, rotate_rule, rotates_into, rotates_to_test}
 use Rattle.s390x_machine.specs.StepKinds.{no_code}
 use Rattle.s390x_machine.specs.Layout.{Layout}

@@ -22,7 +22,7 @@ use Rattle.s390x_typed_steps.specs.Rows.{half_distance}
 use Rattle.s390x_operations.specs.State.{State, wrapping_add64}
 use Rattle.s390x_operations.specs.Numbers.{low}
 use Rattle.s390x_operations.specs.declared.size.Size.TheVariants.{Doubleword}
-use Rattle.s390x_machine.specs.declared.semantics.Action.TheVariants.{Perform, Branch}
+use Rattle.s390x_machine.specs.declared.action_type.Action.TheVariants.{Perform, Branch}
 use Rattle.s390x_operations.specs.declared.effect.CodeRule.TheVariants.{Kept}
 use Rattle.s390x_operations.specs.declared.operator.Operator.TheVariants.{Move}
 use Rattle.s390x_machine.specs.Computations.{on_doublewords, computes_immediate}

@@ -9,7 +9,7 @@ use Rattle.s390x_operations.specs.State.{wrapping_add64}
 use Rattle.s390x_operations.specs.declared.size.Size.TheVariants as Size
 use Rattle.s390x_rows.specs.declared.opcodes.TheConstants as opcodes
 use Rattle.s390x_typed_steps.specs.MachineInstruction.{bytes_of, ri_c}
-use Rattle.s390x_machine.specs.declared.semantics.Action.TheVariants.{Branch}
+use Rattle.s390x_machine.specs.declared.action_type.Action.TheVariants.{Branch}
 use Rattle.s390x_machine.specs.CodeAt.{ImageAt}
 use Rattle.s390x_machine.specs.Layout.{Layout}
 use Rattle.s390x_machine.specs.Machine.{ActionStep}

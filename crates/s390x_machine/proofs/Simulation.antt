@@ -6,8 +6,8 @@ use Rattle.s390x_operations.specs.Access.{fault, store_event}
 use Rattle.s390x_operations.specs.Effects.{access, refused, MayRefuse, is_selected, MayExecute, MayInterrupt, Refines}
 use Rattle.s390x_operations.specs.declared.effect.Operation.{Operation}
 use Rattle.s390x_operations.specs.declared.stop.StopKind.{StopKind}
-use Rattle.s390x_machine.specs.declared.semantics.Action.{Action}
-use Rattle.s390x_machine.specs.declared.semantics.Action.TheVariants.{Perform, Branch, BranchAndSave}
+use Rattle.s390x_machine.specs.declared.action_type.Action.{Action}
+use Rattle.s390x_machine.specs.declared.action_type.Action.TheVariants.{Perform, Branch, BranchAndSave}
 use Rattle.s390x_machine.specs.Machine.{Event, Executed, Interrupted, ActionStep, MachineStep, Transition, after_writes, TransitionStep, Run, after_all, all_writes}
 use Rattle.s390x_machine.specs.StepKinds.{Performs}
 use Rattle.s390x_machine.specs.Typed.{Ending, Trapped, At, Ended, loosened, loosen, goes_on, traps, OperationWrong, faults_uncoded, KindStep, KindWrong, TypedStep, kind_at, store_event_of_kind, typed_store_event}

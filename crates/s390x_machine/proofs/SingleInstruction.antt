@@ -33,12 +33,12 @@ use Rattle.s390x_operations.specs.declared.effect.CodeRule.{CodeRule}
 use Rattle.s390x_operations.specs.declared.effect.CodeRule.TheVariants.{Kept, Set, Unspecified}
 use Rattle.s390x_operations.specs.declared.effect.Operation.{Operation}
 use Rattle.s390x_operations.specs.declared.operator.Operator.TheVariants.{Move}
-use Rattle.s390x_machine.specs.declared.semantics.RowSemantics.{RowSemantics}
-use Rattle.s390x_machine.specs.declared.semantics.RowSemantics.TheVariants.{Compute, Compare}
-use Rattle.s390x_machine.specs.declared.semantics.OperandSource.{OperandSource}
-use Rattle.s390x_machine.specs.declared.semantics.OperandSource.TheVariants.{Register, ThreeRegisters, Immediate, ThreeImmediate}
-use Rattle.s390x_machine.specs.declared.semantics.SecondOperand.{SecondOperand}
-use Rattle.s390x_machine.specs.declared.semantics.Action.TheVariants.{Perform}
+use Rattle.s390x_format.specs.declared.semantics.RowSemantics.{RowSemantics}
+use Rattle.s390x_format.specs.declared.semantics.RowSemantics.TheVariants.{Compute, Compare}
+use Rattle.s390x_format.specs.declared.semantics.OperandSource.{OperandSource}
+use Rattle.s390x_format.specs.declared.semantics.OperandSource.TheVariants.{Register, ThreeRegisters, Immediate, ThreeImmediate}
+use Rattle.s390x_format.specs.declared.semantics.SecondOperand.{SecondOperand}
+use Rattle.s390x_machine.specs.declared.action_type.Action.TheVariants.{Perform}
 use Rattle.s390x_machine.specs.Computations.{Second, Computation, Comparison, alu_computation, alu_three_rule, alu_two_rule, unary_computation, unary_rule, comparison, on_words, on_doublewords, unsigned_word, signed_word, signed_halfword, on_immediate, compares_on_immediate, computes_immediate, compares_immediate, with_rule}
 use Rattle.s390x_machine.specs.Fetch.{Found}
 use Rattle.s390x_machine.specs.Machine.{Event, ActionStep, OddPairStep, RowStep, FetchedStep}

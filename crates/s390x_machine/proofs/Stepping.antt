@@ -9,8 +9,8 @@ use Rattle.s390x_machine.specs.Machine.{Event, OddPairStep, RowStep, MachineStep
 use Rattle.s390x_machine.specs.Semantics.{action, is_odd_pair, semantics_of}
 use Rattle.s390x_machine.specs.Sound.{is_free}
 use Rattle.s390x_machine.specs.Step.{IsOpen, Overflows, ActionFits, Executes, Steps, stored_by}
-use Rattle.s390x_machine.specs.declared.semantics.Action.{Action}
-use Rattle.s390x_machine.specs.declared.semantics.RowSemantics.{RowSemantics}
+use Rattle.s390x_machine.specs.declared.action_type.Action.{Action}
+use Rattle.s390x_format.specs.declared.semantics.RowSemantics.{RowSemantics}
 use Rattle.s390x_machine.specs.declared.step.StepEnd.{StepEnd}
 use Rattle.s390x_machine.specs.declared.step.StepEnd.TheVariants.{Went, Stopped, NoRow}
 use Rattle.s390x_machine.proofs.Fetching.{one_thing}

@@ -10,7 +10,7 @@ use Rattle.s390x_machine.specs.Fetch.{IsReached, IsFound, length_at, instruction
 use Rattle.s390x_machine.specs.Semantics.{action, is_odd_pair, semantics_of, register_field}
 use Rattle.s390x_machine.specs.Sound.{CanPerform, register_bound, is_vector_field}
 use Rattle.s390x_machine.specs.Machine.{Event, Interrupted, OddPairStep, RowStep}
-use Rattle.s390x_machine.specs.declared.semantics.RowSemantics.{RowSemantics}
+use Rattle.s390x_format.specs.declared.semantics.RowSemantics.{RowSemantics}
 use Rattle.s390x_machine.proofs.RowSemantics.{row_means}
 use Rattle.s390x_machine.proofs.Performing.{can_perform}
 use Rattle.s390x_machine.specs.Progress.{HasStep, HasTransition}

@@ -23,9 +23,9 @@ use Rattle.s390x_operations.specs.declared.size.Width.{Width}
 use Rattle.s390x_operations.specs.declared.size.Width.TheVariants.{Bits16}
 use Rattle.s390x_operations.specs.declared.stop.StopKind.{StopKind}
 use Rattle.s390x_lanes.specs.declared.operators.Signedness.TheVariants.{Signed}
-use Rattle.s390x_machine.specs.declared.semantics.RowSemantics.{RowSemantics}
-use Rattle.s390x_machine.specs.declared.semantics.RowSemantics.TheVariants.{CompareAndTrap, CompareImmediateAndTrap}
-use Rattle.s390x_machine.specs.declared.semantics.Action.TheVariants.{Perform}
+use Rattle.s390x_format.specs.declared.semantics.RowSemantics.{RowSemantics}
+use Rattle.s390x_format.specs.declared.semantics.RowSemantics.TheVariants.{CompareAndTrap, CompareImmediateAndTrap}
+use Rattle.s390x_machine.specs.declared.action_type.Action.TheVariants.{Perform}
 use Rattle.s390x_machine.specs.Computations.{Comparison, divides_signed, divides_logical, compares_and_traps, compares_immediate_and_traps}
 use Rattle.s390x_machine.specs.StepKinds.{Performs, TrapsAlways, TrapsWhere, DebugStops, division_code, comparison_code}
 use Rattle.s390x_machine.specs.Layout.{Layout, InStep}

@@ -20,9 +20,9 @@ use Rattle.s390x_operations.specs.declared.size.Size.TheVariants.{Word, Doublewo
 use Rattle.s390x_operations.specs.declared.size.Width.TheVariants.{Bits16, Bits32, Bits64}
 use Rattle.s390x_operations.specs.declared.operator.Operator.TheVariants.{Move}
 use Rattle.s390x_operations.specs.declared.effect.CodeRule.TheVariants.{Kept}
-use Rattle.s390x_machine.specs.declared.semantics.RowSemantics.{RowSemantics}
-use Rattle.s390x_machine.specs.declared.semantics.RowSemantics.TheVariants.{Compute, Store, StoreByte, StoreImmediate, LoadMultiple, StoreMultiple, LoadAndOperate, CompareAndSwap}
-use Rattle.s390x_machine.specs.declared.semantics.OperandSource.TheVariants.{Indexed, IndexedAddress}
+use Rattle.s390x_format.specs.declared.semantics.RowSemantics.{RowSemantics}
+use Rattle.s390x_format.specs.declared.semantics.RowSemantics.TheVariants.{Compute, Store, StoreByte, StoreImmediate, LoadMultiple, StoreMultiple, LoadAndOperate, CompareAndSwap}
+use Rattle.s390x_format.specs.declared.semantics.OperandSource.TheVariants.{Indexed, IndexedAddress}
 use Rattle.s390x_machine.specs.Computations.{Second, doubleword, alu_computation, alu_two_rule, comparison}
 use Rattle.s390x_machine.specs.Storage.{loaded_value, stored_value, alu_forms, cmp_forms}
 use Rattle.s390x_machine.specs.Semantics.{semantics_in, semantics_of}

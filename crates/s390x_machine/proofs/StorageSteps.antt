@@ -28,9 +28,9 @@ use Rattle.s390x_operations.specs.declared.effect.Effect.TheVariants as Effect
 use Rattle.s390x_operations.specs.declared.effect.CodeRule.{CodeRule}
 use Rattle.s390x_operations.specs.declared.effect.CodeRule.TheVariants.{Kept, Set}
 use Rattle.s390x_operations.specs.declared.effect.Operation.{Operation}
-use Rattle.s390x_machine.specs.declared.semantics.RowSemantics.TheVariants.{Compute, StoreByte, StoreImmediate, LoadMultiple, StoreMultiple, LoadAndOperate, CompareAndSwap}
-use Rattle.s390x_machine.specs.declared.semantics.OperandSource.TheVariants.{Indexed, IndexedAddress, Relative, RelativeAddress}
-use Rattle.s390x_machine.specs.declared.semantics.Action.TheVariants.{Perform}
+use Rattle.s390x_format.specs.declared.semantics.RowSemantics.TheVariants.{Compute, StoreByte, StoreImmediate, LoadMultiple, StoreMultiple, LoadAndOperate, CompareAndSwap}
+use Rattle.s390x_format.specs.declared.semantics.OperandSource.TheVariants.{Indexed, IndexedAddress, Relative, RelativeAddress}
+use Rattle.s390x_machine.specs.declared.action_type.Action.TheVariants.{Perform}
 use Rattle.s390x_machine.specs.Computations.{Second, Computation, Comparison, doubleword, with_rule}
 use Rattle.s390x_machine.specs.StepKinds.{Unsupported, kind_or, performed_at, access_code}
 use Rattle.s390x_machine.specs.Layout.{Layout}

@@ -18,7 +18,7 @@ use Rattle.s390x_format.specs.declared.kind.FormatKind.TheVariants.{RiB, Rxy}
 use Rattle.s390x_format.specs.Formats.{length_of}
 use Rattle.s390x_rows.specs.declared.opcodes.TheConstants as opcodes
 use Rattle.s390x_typed_steps.specs.MachineInstruction.{bytes_of, ri_b, rxy}
-use Rattle.s390x_machine.specs.declared.semantics.Action.TheVariants.{Perform, BranchAndSave}
+use Rattle.s390x_machine.specs.declared.action_type.Action.TheVariants.{Perform, BranchAndSave}
 use Rattle.s390x_machine.specs.Operands.{address_part}
 use Rattle.s390x_machine.specs.Computations.{with_rule, on_doublewords, computes_immediate}
 use Rattle.s390x_machine.specs.Semantics.{semantics_in, semantics_of}

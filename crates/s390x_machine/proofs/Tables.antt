@@ -28,7 +28,7 @@ use Rattle.s390x_rows.specs.declared.opcodes.TheConstants as opcodes
 use Rattle.s390x_typed_steps.specs.MachineInstruction.{bytes_of, rxy}
 use Rattle.s390x_typed_steps.specs.Parts.{table_words}
 use Rattle.s390x_typed_steps.specs.Rows.{table_distance, word_bytes}
-use Rattle.s390x_machine.specs.declared.semantics.Action.TheVariants.{Perform, Branch}
+use Rattle.s390x_machine.specs.declared.action_type.Action.TheVariants.{Perform, Branch}
 use Rattle.s390x_machine.specs.Operands.{address_part}
 use Rattle.s390x_machine.specs.Computations.{with_rule, on_doublewords, computes_immediate}
 use Rattle.s390x_machine.specs.Semantics.{semantics_in, semantics_of}

@@ -34,8 +34,8 @@ use Rattle.s390x_typed_steps.specs.SingleInstruction.{SingleInstruction, single_
 use Rattle.s390x_typed_steps.specs.Steps.{Step}
 use Rattle.s390x_typed_steps.specs.VectorComposite.{composite_cause, composite_rows, skipping}
 use Rattle.s390x_typed_steps.specs.VectorInstruction.{divides, is_vector, move_left_row, reuses_vector, vector_operands_valid, vector_row, vector_stop}
-use Rattle.s390x_machine.specs.declared.semantics.Action.TheVariants.{Perform, Branch}
-use Rattle.s390x_machine.specs.declared.semantics.RowSemantics.TheVariants.{MoveLeft}
+use Rattle.s390x_machine.specs.declared.action_type.Action.TheVariants.{Perform, Branch}
+use Rattle.s390x_format.specs.declared.semantics.RowSemantics.TheVariants.{MoveLeft}
 use Rattle.s390x_machine.specs.CodeAt.{OperandsValidOr, ValidMemoryOr}
 use Rattle.s390x_machine.specs.Layout.{Layout, step_address}
 use Rattle.s390x_machine.specs.OneStep.{StepRuns}

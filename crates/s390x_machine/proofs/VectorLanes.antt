@@ -28,8 +28,8 @@ use Rattle.s390x_typed_steps.specs.Parts.{step_parts, parts_or}
 use Rattle.s390x_typed_steps.specs.SingleInstruction.{single_with}
 use Rattle.s390x_typed_steps.specs.Steps.{Step}
 use Rattle.s390x_typed_steps.specs.VectorInstruction.{element_code, extract_lane_row, extract_row, insert_alone_row, insert_lane_row, is_float_doubleword, is_lane, lane_row}
-use Rattle.s390x_machine.specs.declared.semantics.RowSemantics.TheVariants.{RegisterToLeft, LeftToRegister, InsertElement, ExtractElement}
-use Rattle.s390x_machine.specs.declared.semantics.Action.TheVariants.{Perform}
+use Rattle.s390x_format.specs.declared.semantics.RowSemantics.TheVariants.{RegisterToLeft, LeftToRegister, InsertElement, ExtractElement}
+use Rattle.s390x_machine.specs.declared.action_type.Action.TheVariants.{Perform}
 use Rattle.s390x_machine.specs.CodeAt.{OperandsValidOr}
 use Rattle.s390x_machine.specs.Computations.{with_rule, on_doublewords, havocs}
 use Rattle.s390x_machine.specs.Layout.{Layout}

@@ -20,12 +20,12 @@ use Rattle.s390x_format.specs.Fits.{fields_from}
 use Rattle.s390x_format.specs.Formats.{layout_of}
 use Rattle.s390x_format.specs.Layout.{SlotsFit}
 use Rattle.s390x_format.specs.View.{fields_of, disp_of}
-use Rattle.s390x_lanes.specs.Opcodes.{operation_of, row_in, with_immediate, immediate_bits}
+use Rattle.s390x_lanes.specs.Rows.{operation_of, with_immediate, immediate_bits, no_vector_row}
 use Rattle.s390x_lanes.specs.declared.operators.VectorOperation.{VectorOperation}
 use Rattle.s390x_lanes.specs.declared.operators.VectorOperation.TheVariants.{Select, Permute, Blend, Move, Evaluate, PermuteDoublewords, ByteMask, ReplicateImmediate, BitMask, Replicate, InsertImmediate, CompareElement}
 use Rattle.s390x_lanes.specs.declared.operators.VectorOperation.TheVariants as O
 use Rattle.s390x_lanes.specs.declared.operators.Signedness.TheVariants.{Signed, Unsigned}
-use Rattle.s390x_lanes.specs.declared.opcodes.TheConstants.{OPCODES}
+use Rattle.s390x_lanes.specs.declared.row.VectorRow.{VectorRow}
 use Rattle.s390x_lanes.specs.declared.size.ElementSize.{ElementSize}
 use Rattle.s390x_lanes.specs.declared.size.ElementSize.TheVariants.{Byte, Halfword, Word, Doubleword, Quadword}
 use Rattle.s390x_rows.specs.declared.opcodes.TheConstants as opcodes
@@ -33,8 +33,9 @@ use Rattle.s390x_typed_steps.specs.MachineInstruction.{MachineInstruction, vri_a
 use Rattle.s390x_lanes.specs.Size.{element_bits, lane_count}
 use Rattle.s390x_typed_steps.specs.VectorInstruction.{element_code, is_lane, insert_immediate_opcode}
 use Rattle.s390x_typed_steps.specs.VectorOpcodes.{binary_row, unary_row, shift_row, comparison_row, element_comparison_row}
-use Rattle.s390x_machine.specs.declared.semantics.RowSemantics.TheVariants.{Elements, JoinRegisters, MoveLeft, RegisterToLeft, LeftToRegister, InsertElement, ExtractElement}
-use Rattle.s390x_machine.specs.declared.semantics.RowSemantics.TheVariants as Row
+use Rattle.s390x_format.specs.declared.semantics.RowSemantics.{RowSemantics}
+use Rattle.s390x_format.specs.declared.semantics.RowSemantics.TheVariants.{Elements, JoinRegisters, MoveLeft, RegisterToLeft, LeftToRegister, InsertElement, ExtractElement}
+use Rattle.s390x_format.specs.declared.semantics.RowSemantics.TheVariants as Row
 use Rattle.s390x_machine.specs.Semantics.{semantics_in, semantics_of}
 use Rattle.s390x_machine.specs.VectorOperations.{binary_operation, unary_operation, shift_operator, shifted_elements, comparison_operation, element_comparison}
 use Rattle.s390x_machine.specs.VectorSteps.{elements_of}
@@ -47,7 +48,17 @@ opcode_in x = slice_index x.slots 0
 abbrev pub allowed_in : MachineInstruction → Allowed
 allowed_in x = (row_for machine_rows (opcode_in x)).allowed
 
--- what the tables say of a machine instruction on vectors
+-- what the semantics say of vector registers
+abbrev row_in : Option RowSemantics → VectorRow
+row_in (Some (Elements row)) = row
+row_in (Some (Row.ShiftElements row)) = row
+row_in _ = no_vector_row
+
+-- the same of an opcode; unfoldable, so that goals don't hold the table
+unfoldable pub vector_row_of : ℕ → VectorRow
+vector_row_of opcode = row_in (semantics_of opcode)
+
+-- what the table says of a machine instruction on vectors
 pub record VectorEntry : Type 0 where
   pub listed : Entry
   pub allows : Bool
@@ -58,13 +69,13 @@ abbrev pub vector_entry : (code : ℕ) → MachineInstruction → VectorEntry
 vector_entry code x = record {
   listed = entry 65536 (opcode_in x);
   allows = is_allowed (allowed_in x) x.slots;
-  operation = operation_of (opcode_in x) (fields_of x.format x.slots).masks (fields_of x.format x.slots).imm;
+  operation = operation_of (vector_row_of (opcode_in x)) (fields_of x.format x.slots).masks (fields_of x.format x.slots).imm;
   few = nat_lt code 16;
 }
 
 abbrev pub wanted_entry : MachineInstruction → VectorOperation → VectorEntry
 wanted_entry x o = record {
-  listed = wanted x.format (allowed_in x) (opcode_in x) (Elements (opcode_in x));
+  listed = wanted x.format (allowed_in x) (opcode_in x) (Elements (vector_row_of (opcode_in x)));
   allows = true;
   operation = Some o;
   few = true;
@@ -74,20 +85,20 @@ wanted_entry x o = record {
 pub record ElementsRow (code : ℕ) (x : MachineInstruction) (o : VectorOperation) : Type 0 where
   pub is : vector_entry code x ≡ wanted_entry x o
 
-pub elements_listed : {code : ℕ} {x : MachineInstruction} {o : VectorOperation} → ElementsRow code x o → Listed x.format (allowed_in x) 65536 (opcode_in x) (Elements (opcode_in x))
+pub elements_listed : {code : ℕ} {x : MachineInstruction} {o : VectorOperation} → ElementsRow code x o → Listed x.format (allowed_in x) 65536 (opcode_in x) (Elements (vector_row_of (opcode_in x)))
 elements_listed row = record { is = ap (λ (e : VectorEntry). e.listed) row.is }
 
 pub elements_allowed : {code : ℕ} {x : MachineInstruction} {o : VectorOperation} → ElementsRow code x o → is_allowed (allowed_in x) x.slots ≡ true
 elements_allowed row = ap (λ (e : VectorEntry). e.allows) row.is
 
-pub elements_operation : {code : ℕ} {x : MachineInstruction} {o : VectorOperation} → ElementsRow code x o → operation_of (opcode_in x) (fields_of x.format x.slots).masks (fields_of x.format x.slots).imm ≡ Some o
+pub elements_operation : {code : ℕ} {x : MachineInstruction} {o : VectorOperation} → ElementsRow code x o → operation_of (vector_row_of (opcode_in x)) (fields_of x.format x.slots).masks (fields_of x.format x.slots).imm ≡ Some o
 elements_operation row = ap (λ (e : VectorEntry). e.operation) row.is
 
 pub elements_few : {code : ℕ} {x : MachineInstruction} {o : VectorOperation} → ElementsRow code x o → code < 16
 elements_few {code = code} row = ltb-true code 16 (ap (λ (e : VectorEntry). e.few) row.is)
 
 -- by its parts
-entry_of : (code : ℕ) (x : MachineInstruction) (o : VectorOperation) → entry 65536 (opcode_in x) ≡ wanted x.format (allowed_in x) (opcode_in x) (Elements (opcode_in x)) → is_allowed (allowed_in x) x.slots ≡ true → operation_of (opcode_in x) (fields_of x.format x.slots).masks (fields_of x.format x.slots).imm ≡ Some o → nat_lt code 16 ≡ true → ElementsRow code x o
+entry_of : (code : ℕ) (x : MachineInstruction) (o : VectorOperation) → entry 65536 (opcode_in x) ≡ wanted x.format (allowed_in x) (opcode_in x) (Elements (vector_row_of (opcode_in x))) → is_allowed (allowed_in x) x.slots ≡ true → operation_of (vector_row_of (opcode_in x)) (fields_of x.format x.slots).masks (fields_of x.format x.slots).imm ≡ Some o → nat_lt code 16 ≡ true → ElementsRow code x o
 entry_of code x o listed allows operation few = record { is = λ i. record { listed = listed i; allows = allows i; operation = operation i; few = few i } }
 
 -- an immediate of 16 bits is read as it is
@@ -152,7 +163,7 @@ abbrev pub binary_instruction : VecBinaryOp → (d n m : ℕ) → MachineInstruc
 binary_instruction op d n m = vrr_c (binary_row op).opcode d n m (binary_row op).code
 
 pub binary_rows : (op : VecBinaryOp) (d n m : ℕ) → ElementsRow (binary_row op).code (binary_instruction op d n m) (binary_operation op)
-unfolding machine_rows row_for semantics_in semantics_of operation_of row_in
+unfolding machine_rows row_for semantics_in semantics_of operation_of vector_row_of
 binary_rows op d n m = record { is = agrees op }
   where
     agrees : (op : VecBinaryOp) → vector_entry (binary_row op).code (binary_instruction op d n m) ≡ wanted_entry (binary_instruction op d n m) (binary_operation op)
@@ -163,7 +174,7 @@ abbrev pub unary_instruction : VecUnaryOp → (d n : ℕ) → MachineInstruction
 unary_instruction op d n = vrr_a (unary_row op).opcode d n (unary_row op).code
 
 pub unary_rows : (op : VecUnaryOp) (d n : ℕ) → ElementsRow (unary_row op).code (unary_instruction op d n) (unary_operation op)
-unfolding machine_rows row_for semantics_in semantics_of operation_of row_in
+unfolding machine_rows row_for semantics_in semantics_of operation_of vector_row_of
 unary_rows op d n = record { is = agrees op }
   where
     agrees : (op : VecUnaryOp) → vector_entry (unary_row op).code (unary_instruction op d n) ≡ wanted_entry (unary_instruction op d n) (unary_operation op)
@@ -174,7 +185,7 @@ abbrev pub comparison_instruction : VecIntCmpOp → (d n m asks : ℕ) → Machi
 comparison_instruction op d n m asks = vrr_b (comparison_row op).opcode d n m (comparison_row op).code asks
 
 pub comparison_rows : (op : VecIntCmpOp) (d n m : ℕ) → ElementsRow (comparison_row op).code (comparison_instruction op d n m 0) (comparison_operation op false)
-unfolding machine_rows row_for semantics_in semantics_of operation_of row_in
+unfolding machine_rows row_for semantics_in semantics_of operation_of vector_row_of
 comparison_rows op d n m = record { is = agrees op }
   where
     agrees : (op : VecIntCmpOp) → vector_entry (comparison_row op).code (comparison_instruction op d n m 0) ≡ wanted_entry (comparison_instruction op d n m 0) (comparison_operation op false)
@@ -182,7 +193,7 @@ comparison_rows op d n m = record { is = agrees op }
     agrees _ = refl
 
 pub asking_rows : (op : VecIntCmpOp) (d n m : ℕ) → ElementsRow (comparison_row op).code (comparison_instruction op d n m 1) (comparison_operation op true)
-unfolding machine_rows row_for semantics_in semantics_of operation_of row_in
+unfolding machine_rows row_for semantics_in semantics_of operation_of vector_row_of
 asking_rows op d n m = record { is = agrees op }
   where
     agrees : (op : VecIntCmpOp) → vector_entry (comparison_row op).code (comparison_instruction op d n m 1) ≡ wanted_entry (comparison_instruction op d n m 1) (comparison_operation op true)
@@ -193,7 +204,7 @@ abbrev pub element_instruction : VecIntEltCmpOp → (n m : ℕ) → MachineInstr
 element_instruction op n m = vrr_a (element_comparison_row op).opcode n m (element_comparison_row op).code
 
 pub element_rows : (op : VecIntEltCmpOp) (n m : ℕ) → ElementsRow (element_comparison_row op).code (element_instruction op n m) (element_comparison op)
-unfolding machine_rows row_for semantics_in semantics_of operation_of row_in
+unfolding machine_rows row_for semantics_in semantics_of operation_of vector_row_of
 element_rows op n m = record { is = agrees op }
   where
     agrees : (op : VecIntEltCmpOp) → vector_entry (element_comparison_row op).code (element_instruction op n m) ≡ wanted_entry (element_instruction op n m) (element_comparison op)
@@ -204,31 +215,31 @@ element_rows op n m = record { is = agrees op }
 
 -- a comparison of the leftmost doublewords, with a sign or without
 pub compare_signed_row : (n m : ℕ) → ElementsRow 3 (vrr_a opcodes.VEC n m 3) (CompareElement Signed Doubleword)
-unfolding machine_rows row_for semantics_in semantics_of operation_of row_in
+unfolding machine_rows row_for semantics_in semantics_of operation_of vector_row_of
 compare_signed_row n m = record { is = refl }
 
 pub compare_unsigned_row : (n m : ℕ) → ElementsRow 3 (vrr_a opcodes.VECL n m 3) (CompareElement Unsigned Doubleword)
-unfolding machine_rows row_for semantics_in semantics_of operation_of row_in
+unfolding machine_rows row_for semantics_in semantics_of operation_of vector_row_of
 compare_unsigned_row n m = record { is = refl }
 
 pub select_row : (d n m a : ℕ) → ElementsRow 0 (vrr_e opcodes.VSEL d n m a) Select
-unfolding machine_rows row_for semantics_in semantics_of operation_of row_in
+unfolding machine_rows row_for semantics_in semantics_of operation_of vector_row_of
 select_row d n m a = record { is = refl }
 
 pub permute_row : (d n m a : ℕ) → ElementsRow 0 (vrr_e opcodes.VPERM d n m a) Permute
-unfolding machine_rows row_for semantics_in semantics_of operation_of row_in
+unfolding machine_rows row_for semantics_in semantics_of operation_of vector_row_of
 permute_row d n m a = record { is = refl }
 
 pub blend_row : (d n m a : ℕ) → ElementsRow 0 (vrr_d opcodes.VBLEND d n m a 0) Blend
-unfolding machine_rows row_for semantics_in semantics_of operation_of row_in
+unfolding machine_rows row_for semantics_in semantics_of operation_of vector_row_of
 blend_row d n m a = record { is = refl }
 
 pub move_row : (d n : ℕ) → ElementsRow 0 (vrr_a opcodes.VLR d n 0) Move
-unfolding machine_rows row_for semantics_in semantics_of operation_of row_in
+unfolding machine_rows row_for semantics_in semantics_of operation_of vector_row_of
 move_row d n = record { is = refl }
 
 pub evaluate_row : (imm d n m a : ℕ) → imm < 256 → ElementsRow 0 (vri_k opcodes.VEVAL imm d n m a) (Evaluate imm)
-unfolding machine_rows row_for semantics_in semantics_of operation_of row_in
+unfolding machine_rows row_for semantics_in semantics_of operation_of vector_row_of
 evaluate_row imm d n m a lt =
     entry_of 0 (vri_k opcodes.VEVAL imm d n m a) (Evaluate imm) refl refl
     (ap (λ t. cond ((t && nat_le imm 255) && (0 == 0) && (0 == 0) && (0 == 0)) (Some (Evaluate imm)) None) (at_most 0 imm (omega arith))
@@ -236,7 +247,7 @@ evaluate_row imm d n m a lt =
 
 -- two doublewords, each by its number 0 or 1
 pub doublewords_rows : (d n m first second : ℕ) → first < 2 → second < 2 → ElementsRow (4 * first + second) (vrr_c opcodes.VPDI d n m (4 * first + second)) (PermuteDoublewords first second)
-unfolding machine_rows row_for semantics_in semantics_of operation_of row_in
+unfolding machine_rows row_for semantics_in semantics_of operation_of vector_row_of
 doublewords_rows d n m zero zero lf ls = record { is = refl }
 doublewords_rows d n m zero (suc zero) lf ls = record { is = refl }
 doublewords_rows d n m (suc zero) zero lf ls = record { is = refl }
@@ -245,38 +256,38 @@ doublewords_rows d n m (suc (suc i)) second lf ls = absurd (omega (arith, lf))
 doublewords_rows d n m first (suc (suc i)) lf ls = absurd (omega (arith, ls))
 
 pub byte_mask_row : (d mask : ℕ) → mask < 65536 → ElementsRow 0 (vri_a opcodes.VGBM d mask 0) (ByteMask mask)
-unfolding machine_rows row_for semantics_in semantics_of operation_of row_in
-byte_mask_row d mask lt = entry_of 0 (vri_a opcodes.VGBM d mask 0) (ByteMask mask) refl refl (ap (λ k. with_immediate (row_in OPCODES opcodes.VGBM) (0 ∷ 0 ∷ 0 ∷ []) k) (sixteen_bits mask lt)) refl
+unfolding machine_rows row_for semantics_in semantics_of operation_of vector_row_of
+byte_mask_row d mask lt = entry_of 0 (vri_a opcodes.VGBM d mask 0) (ByteMask mask) refl refl (ap (λ k. with_immediate (vector_row_of opcodes.VGBM) (0 ∷ 0 ∷ 0 ∷ []) k) (sixteen_bits mask lt)) refl
 
 -- an immediate in each element
 pub replicate_rows : (e : ElementSize) → IsNarrow e → (d bits : ℕ) → bits < 65536 → ElementsRow (code_of_size e) (vri_a opcodes.VREPI d bits (code_of_size e)) (ReplicateImmediate e bits)
-unfolding machine_rows row_for semantics_in semantics_of operation_of row_in
-replicate_rows Byte narrow d bits lt = entry_of 0 (vri_a opcodes.VREPI d bits 0) (ReplicateImmediate Byte bits) refl refl (ap (λ k. with_immediate (row_in OPCODES opcodes.VREPI) (0 ∷ 0 ∷ 0 ∷ []) k) (sixteen_bits bits lt)) refl
-replicate_rows Halfword narrow d bits lt = entry_of 1 (vri_a opcodes.VREPI d bits 1) (ReplicateImmediate Halfword bits) refl refl (ap (λ k. with_immediate (row_in OPCODES opcodes.VREPI) (1 ∷ 0 ∷ 0 ∷ []) k) (sixteen_bits bits lt)) refl
-replicate_rows Word narrow d bits lt = entry_of 2 (vri_a opcodes.VREPI d bits 2) (ReplicateImmediate Word bits) refl refl (ap (λ k. with_immediate (row_in OPCODES opcodes.VREPI) (2 ∷ 0 ∷ 0 ∷ []) k) (sixteen_bits bits lt)) refl
-replicate_rows Doubleword narrow d bits lt = entry_of 3 (vri_a opcodes.VREPI d bits 3) (ReplicateImmediate Doubleword bits) refl refl (ap (λ k. with_immediate (row_in OPCODES opcodes.VREPI) (3 ∷ 0 ∷ 0 ∷ []) k) (sixteen_bits bits lt)) refl
+unfolding machine_rows row_for semantics_in semantics_of operation_of vector_row_of
+replicate_rows Byte narrow d bits lt = entry_of 0 (vri_a opcodes.VREPI d bits 0) (ReplicateImmediate Byte bits) refl refl (ap (λ k. with_immediate (vector_row_of opcodes.VREPI) (0 ∷ 0 ∷ 0 ∷ []) k) (sixteen_bits bits lt)) refl
+replicate_rows Halfword narrow d bits lt = entry_of 1 (vri_a opcodes.VREPI d bits 1) (ReplicateImmediate Halfword bits) refl refl (ap (λ k. with_immediate (vector_row_of opcodes.VREPI) (1 ∷ 0 ∷ 0 ∷ []) k) (sixteen_bits bits lt)) refl
+replicate_rows Word narrow d bits lt = entry_of 2 (vri_a opcodes.VREPI d bits 2) (ReplicateImmediate Word bits) refl refl (ap (λ k. with_immediate (vector_row_of opcodes.VREPI) (2 ∷ 0 ∷ 0 ∷ []) k) (sixteen_bits bits lt)) refl
+replicate_rows Doubleword narrow d bits lt = entry_of 3 (vri_a opcodes.VREPI d bits 3) (ReplicateImmediate Doubleword bits) refl refl (ap (λ k. with_immediate (vector_row_of opcodes.VREPI) (3 ∷ 0 ∷ 0 ∷ []) k) (sixteen_bits bits lt)) refl
 replicate_rows Quadword narrow d bits lt = absurd narrow
 
 -- one element for all
 pub lane_rows : (e : ElementSize) → IsNarrow e → (d n lane : ℕ) → lane < lane_count e → ElementsRow (code_of_size e) (vri_c opcodes.VREP d n lane (code_of_size e)) (Replicate e lane)
-unfolding machine_rows row_for semantics_in semantics_of operation_of row_in
+unfolding machine_rows row_for semantics_in semantics_of operation_of vector_row_of
 lane_rows Byte narrow d n lane lt =
     entry_of 0 (vri_c opcodes.VREP d n lane 0) (Replicate Byte lane) refl (below lane 16 lt)
-    (ap (λ k. with_immediate (row_in OPCODES opcodes.VREP) (0 ∷ 0 ∷ 0 ∷ []) k) (sixteen_bits lane (omega (arith, lt))) ∙ ap (λ t. cond t (Some (Replicate Byte lane)) None) (below lane 16 lt)) refl
+    (ap (λ k. with_immediate (vector_row_of opcodes.VREP) (0 ∷ 0 ∷ 0 ∷ []) k) (sixteen_bits lane (omega (arith, lt))) ∙ ap (λ t. cond t (Some (Replicate Byte lane)) None) (below lane 16 lt)) refl
 lane_rows Halfword narrow d n lane lt =
     entry_of 1 (vri_c opcodes.VREP d n lane 1) (Replicate Halfword lane) refl (below lane 8 lt)
-    (ap (λ k. with_immediate (row_in OPCODES opcodes.VREP) (1 ∷ 0 ∷ 0 ∷ []) k) (sixteen_bits lane (omega (arith, lt))) ∙ ap (λ t. cond t (Some (Replicate Halfword lane)) None) (below lane 8 lt)) refl
+    (ap (λ k. with_immediate (vector_row_of opcodes.VREP) (1 ∷ 0 ∷ 0 ∷ []) k) (sixteen_bits lane (omega (arith, lt))) ∙ ap (λ t. cond t (Some (Replicate Halfword lane)) None) (below lane 8 lt)) refl
 lane_rows Word narrow d n lane lt =
     entry_of 2 (vri_c opcodes.VREP d n lane 2) (Replicate Word lane) refl (below lane 4 lt)
-    (ap (λ k. with_immediate (row_in OPCODES opcodes.VREP) (2 ∷ 0 ∷ 0 ∷ []) k) (sixteen_bits lane (omega (arith, lt))) ∙ ap (λ t. cond t (Some (Replicate Word lane)) None) (below lane 4 lt)) refl
+    (ap (λ k. with_immediate (vector_row_of opcodes.VREP) (2 ∷ 0 ∷ 0 ∷ []) k) (sixteen_bits lane (omega (arith, lt))) ∙ ap (λ t. cond t (Some (Replicate Word lane)) None) (below lane 4 lt)) refl
 lane_rows Doubleword narrow d n lane lt =
     entry_of 3 (vri_c opcodes.VREP d n lane 3) (Replicate Doubleword lane) refl (below lane 2 lt)
-    (ap (λ k. with_immediate (row_in OPCODES opcodes.VREP) (3 ∷ 0 ∷ 0 ∷ []) k) (sixteen_bits lane (omega (arith, lt))) ∙ ap (λ t. cond t (Some (Replicate Doubleword lane)) None) (below lane 2 lt)) refl
+    (ap (λ k. with_immediate (vector_row_of opcodes.VREP) (3 ∷ 0 ∷ 0 ∷ []) k) (sixteen_bits lane (omega (arith, lt))) ∙ ap (λ t. cond t (Some (Replicate Doubleword lane)) None) (below lane 2 lt)) refl
 lane_rows Quadword narrow d n lane lt = absurd narrow
 
 -- ones from a bit to another one
 pub bit_mask_rows : (e : ElementSize) → IsNarrow e → (d start end : ℕ) → start < element_bits e → end < element_bits e → ElementsRow (code_of_size e) (vri_b opcodes.VGM d start end (code_of_size e)) (BitMask e start end)
-unfolding machine_rows row_for semantics_in semantics_of operation_of row_in
+unfolding machine_rows row_for semantics_in semantics_of operation_of vector_row_of
 bit_mask_rows Byte narrow d start end ls le =
     entry_of 0 (vri_b opcodes.VGM d start end 0) (BitMask Byte start end) refl (ap (λ t. t && nat_lt end 8) (below start 8 ls) ∙ below end 8 le)
     (ap (λ t. cond (t && nat_lt end 8) (Some (BitMask Byte start end)) None) (below start 8 ls) ∙ ap (λ t. cond t (Some (BitMask Byte start end)) None) (below end 8 le)) refl
@@ -293,32 +304,32 @@ bit_mask_rows Quadword narrow d start end ls le = absurd narrow
 
 -- an immediate in one element
 pub insert_rows : (e : ElementSize) → IsNarrow e → (d bits lane : ℕ) → bits < 65536 → lane < lane_count e → ElementsRow lane (vri_a (insert_immediate_opcode (code_of_size e)) d bits lane) (InsertImmediate e bits lane)
-unfolding machine_rows row_for semantics_in semantics_of operation_of row_in
+unfolding machine_rows row_for semantics_in semantics_of operation_of vector_row_of
 insert_rows Byte narrow d bits lane lb lt =
     entry_of lane (vri_a opcodes.VLEIB d bits lane) (InsertImmediate Byte bits lane) refl
     (ap (λ t. (t && nat_le lane 15) && true && true) (at_most 0 lane (omega arith)) ∙ ap (λ t. (true && t) && true && true) (at_most lane 15 (omega (arith, lt))))
-    (ap (λ k. with_immediate (row_in OPCODES opcodes.VLEIB) (lane ∷ 0 ∷ 0 ∷ []) k) (sixteen_bits bits lb)
+    (ap (λ k. with_immediate (vector_row_of opcodes.VLEIB) (lane ∷ 0 ∷ 0 ∷ []) k) (sixteen_bits bits lb)
     ∙ ap (λ t. cond ((t && nat_le lane 15) && true && true) (cond (nat_lt lane 16) (Some (InsertImmediate Byte bits lane)) None) None) (at_most 0 lane (omega arith))
     ∙ ap (λ t. cond ((true && t) && true && true) (cond (nat_lt lane 16) (Some (InsertImmediate Byte bits lane)) None) None) (at_most lane 15 (omega (arith, lt)))
     ∙ ap (λ t. cond t (Some (InsertImmediate Byte bits lane)) None) (below lane 16 lt)) (below lane 16 (omega (arith, lt)))
 insert_rows Halfword narrow d bits lane lb lt =
     entry_of lane (vri_a opcodes.VLEIH d bits lane) (InsertImmediate Halfword bits lane) refl
     (ap (λ t. (t && nat_le lane 7) && true && true) (at_most 0 lane (omega arith)) ∙ ap (λ t. (true && t) && true && true) (at_most lane 7 (omega (arith, lt))))
-    (ap (λ k. with_immediate (row_in OPCODES opcodes.VLEIH) (lane ∷ 0 ∷ 0 ∷ []) k) (sixteen_bits bits lb)
+    (ap (λ k. with_immediate (vector_row_of opcodes.VLEIH) (lane ∷ 0 ∷ 0 ∷ []) k) (sixteen_bits bits lb)
     ∙ ap (λ t. cond ((t && nat_le lane 7) && true && true) (cond (nat_lt lane 8) (Some (InsertImmediate Halfword bits lane)) None) None) (at_most 0 lane (omega arith))
     ∙ ap (λ t. cond ((true && t) && true && true) (cond (nat_lt lane 8) (Some (InsertImmediate Halfword bits lane)) None) None) (at_most lane 7 (omega (arith, lt)))
     ∙ ap (λ t. cond t (Some (InsertImmediate Halfword bits lane)) None) (below lane 8 lt)) (below lane 16 (omega (arith, lt)))
 insert_rows Word narrow d bits lane lb lt =
     entry_of lane (vri_a opcodes.VLEIF d bits lane) (InsertImmediate Word bits lane) refl
     (ap (λ t. (t && nat_le lane 3) && true && true) (at_most 0 lane (omega arith)) ∙ ap (λ t. (true && t) && true && true) (at_most lane 3 (omega (arith, lt))))
-    (ap (λ k. with_immediate (row_in OPCODES opcodes.VLEIF) (lane ∷ 0 ∷ 0 ∷ []) k) (sixteen_bits bits lb)
+    (ap (λ k. with_immediate (vector_row_of opcodes.VLEIF) (lane ∷ 0 ∷ 0 ∷ []) k) (sixteen_bits bits lb)
     ∙ ap (λ t. cond ((t && nat_le lane 3) && true && true) (cond (nat_lt lane 4) (Some (InsertImmediate Word bits lane)) None) None) (at_most 0 lane (omega arith))
     ∙ ap (λ t. cond ((true && t) && true && true) (cond (nat_lt lane 4) (Some (InsertImmediate Word bits lane)) None) None) (at_most lane 3 (omega (arith, lt)))
     ∙ ap (λ t. cond t (Some (InsertImmediate Word bits lane)) None) (below lane 4 lt)) (below lane 16 (omega (arith, lt)))
 insert_rows Doubleword narrow d bits lane lb lt =
     entry_of lane (vri_a opcodes.VLEIG d bits lane) (InsertImmediate Doubleword bits lane) refl
     (ap (λ t. (t && nat_le lane 1) && true && true) (at_most 0 lane (omega arith)) ∙ ap (λ t. (true && t) && true && true) (at_most lane 1 (omega (arith, lt))))
-    (ap (λ k. with_immediate (row_in OPCODES opcodes.VLEIG) (lane ∷ 0 ∷ 0 ∷ []) k) (sixteen_bits bits lb)
+    (ap (λ k. with_immediate (vector_row_of opcodes.VLEIG) (lane ∷ 0 ∷ 0 ∷ []) k) (sixteen_bits bits lb)
     ∙ ap (λ t. cond ((t && nat_le lane 1) && true && true) (cond (nat_lt lane 2) (Some (InsertImmediate Doubleword bits lane)) None) None) (at_most 0 lane (omega arith))
     ∙ ap (λ t. cond ((true && t) && true && true) (cond (nat_lt lane 2) (Some (InsertImmediate Doubleword bits lane)) None) None) (at_most lane 1 (omega (arith, lt)))
     ∙ ap (λ t. cond t (Some (InsertImmediate Doubleword bits lane)) None) (below lane 2 lt)) (below lane 16 (omega (arith, lt)))
@@ -355,11 +366,11 @@ unfolding machine_rows row_for semantics_in semantics_of
 extract_listed = (record { is = refl }, refl)
 
 -- a shift's row
-pub shift_rows : (op : VecShiftOp) → Meant VrsA (FirstMask 0 3) (shift_row op).opcode (Row.ShiftElements (shift_row op).opcode)
-unfolding machine_rows row_for semantics_in semantics_of
-shift_rows op = rows (λ n. VrsA) (FirstMask 0 3) 65536 (Some (shift_row op).opcode) (Row.ShiftElements (shift_row op).opcode) refl (agrees op)
+pub shift_rows : (op : VecShiftOp) → Meant VrsA (FirstMask 0 3) (shift_row op).opcode (Row.ShiftElements (vector_row_of (shift_row op).opcode))
+unfolding machine_rows row_for semantics_in semantics_of vector_row_of
+shift_rows op = rows (λ n. VrsA) (FirstMask 0 3) 65536 (Some (shift_row op).opcode) (Row.ShiftElements (vector_row_of (shift_row op).opcode)) refl (agrees op)
   where
-    agrees : (op : VecShiftOp) → Agrees (λ n. VrsA) (FirstMask 0 3) 65536 (Some (shift_row op).opcode) (Row.ShiftElements (shift_row op).opcode)
+    agrees : (op : VecShiftOp) → Agrees (λ n. VrsA) (FirstMask 0 3) 65536 (Some (shift_row op).opcode) (Row.ShiftElements (vector_row_of (shift_row op).opcode))
     agrees S.RotL8x16 = refl
     agrees _ = refl
 
@@ -375,13 +386,13 @@ shift_code op = ltb-true (shift_row op).code 16 (few op)
     few _ = refl
 
 -- the operation of a shift by an amount below 64
-pub shift_operation : (op : VecShiftOp) (k : ℕ) → k < 64 → operation_of (shift_row op).opcode ((shift_row op).code ∷ 0 ∷ 0 ∷ []) (pos k) ≡ Some (O.ShiftElements (shift_operator op) (shifted_elements op) k)
-unfolding operation_of row_in
+pub shift_operation : (op : VecShiftOp) (k : ℕ) → k < 64 → operation_of (vector_row_of (shift_row op).opcode) ((shift_row op).code ∷ 0 ∷ 0 ∷ []) (pos k) ≡ Some (O.ShiftElements (shift_operator op) (shifted_elements op) k)
+unfolding machine_rows semantics_in semantics_of operation_of vector_row_of
 shift_operation op k lt =
-    ap (λ i. with_immediate (row_in OPCODES (shift_row op).opcode) ((shift_row op).code ∷ 0 ∷ 0 ∷ []) i) (sixteen_bits k (omega (arith, lt))) ∙ tested op
+    ap (λ i. with_immediate (vector_row_of (shift_row op).opcode) ((shift_row op).code ∷ 0 ∷ 0 ∷ []) i) (sixteen_bits k (omega (arith, lt))) ∙ tested op
     ∙ ap (λ t. cond t (Some (O.ShiftElements (shift_operator op) (shifted_elements op) k)) None) (below k 64 lt)
   where
-    tested : (op : VecShiftOp) → with_immediate (row_in OPCODES (shift_row op).opcode) ((shift_row op).code ∷ 0 ∷ 0 ∷ []) (Some k) ≡ cond (nat_lt k 64) (Some (O.ShiftElements (shift_operator op) (shifted_elements op) k)) None
+    tested : (op : VecShiftOp) → with_immediate (vector_row_of (shift_row op).opcode) ((shift_row op).code ∷ 0 ∷ 0 ∷ []) (Some k) ≡ cond (nat_lt k 64) (Some (O.ShiftElements (shift_operator op) (shifted_elements op) k)) None
     tested S.RotL8x16 = refl
     tested _ = refl
 

@@ -28,7 +28,7 @@ use Rattle.s390x_lanes.specs.Size.{element_bits, lane_count}
 use Rattle.s390x_lanes.specs.declared.size.ElementSize.{ElementSize}
 use Rattle.s390x_lanes.specs.declared.size.ElementSize.TheVariants.{Byte, Halfword, Word, Doubleword, Quadword}
 use Rattle.s390x_lanes.specs.Relation.{code_of, divides_by_zero, division_overflows, is_determined}
-use Rattle.s390x_lanes.specs.Opcodes.{operation_of}
+use Rattle.s390x_lanes.specs.Rows.{operation_of}
 use Rattle.s390x_lanes.specs.Results.{vector_result}
 use Rattle.s390x_lanes.specs.declared.operators.VectorOperation.{VectorOperation}
 use Rattle.s390x_lanes.specs.declared.operators.VectorOperation.TheVariants as O
@@ -48,9 +48,9 @@ use Rattle.s390x_typed_steps.specs.Steps.{Step}
 use Rattle.s390x_typed_steps.specs.Traps.{first_code}
 use Rattle.s390x_typed_steps.specs.VectorInstruction.{is_vector, element_code, doublewords_row, replicate_row, vector_row, vector_operands_valid, vector_stop, divides, replicate_lane_row, bit_mask_row, insert_immediate_opcode, insert_immediate_row, move_left_row, reuses_vector}
 use Rattle.s390x_typed_steps.specs.VectorOpcodes.{binary_row, unary_row, shift_row, comparison_row, element_comparison_row, is_division}
-use Rattle.s390x_machine.specs.declared.semantics.RowSemantics.TheVariants.{Elements, JoinRegisters, MoveLeft}
-use Rattle.s390x_machine.specs.declared.semantics.RowSemantics.TheVariants as Row
-use Rattle.s390x_machine.specs.declared.semantics.Action.TheVariants.{Perform}
+use Rattle.s390x_format.specs.declared.semantics.RowSemantics.TheVariants.{Elements, JoinRegisters, MoveLeft}
+use Rattle.s390x_format.specs.declared.semantics.RowSemantics.TheVariants as Row
+use Rattle.s390x_machine.specs.declared.action_type.Action.TheVariants.{Perform}
 use Rattle.s390x_machine.specs.CodeAt.{ImageAt, OperandsValidOr}
 use Rattle.s390x_machine.specs.Computations.{with_rule}
 use Rattle.s390x_machine.specs.Layout.{Layout, step_address}
@@ -70,7 +70,7 @@ use Rattle.s390x_machine.proofs.Simulation.{ValuesCoded, Coded}
 use Rattle.s390x_machine.proofs.Stops.{only_by, never_by_values}
 use Rattle.s390x_machine.proofs.Trapping.{division_late, late_code}
 use Rattle.s390x_machine.proofs.VectorLanes.{IsOptionalRow, alone_inserted_runs, inserts_never, lane_extracted_runs, lane_inserted_runs, lane_runs}
-use Rattle.s390x_machine.proofs.VectorRows.{ElementsRow, elements_listed, elements_allowed, elements_operation, elements_few, binary_instruction, binary_rows, unary_instruction, unary_rows, comparison_instruction, comparison_rows, asking_rows, element_instruction, element_rows}
+use Rattle.s390x_machine.proofs.VectorRows.{ElementsRow, elements_listed, elements_allowed, elements_operation, elements_few, binary_instruction, binary_rows, unary_instruction, unary_rows, comparison_instruction, comparison_rows, asking_rows, element_instruction, element_rows, vector_row_of}
 use Rattle.s390x_machine.proofs.VectorRows.{select_row, permute_row, blend_row, move_row, opcode_in, allowed_in, fits_vrr_a, fits_vrr_b, fits_vrr_c, fits_vrr_d, fits_vrr_e}
 use Rattle.s390x_machine.proofs.VectorRows.{evaluate_row, doublewords_rows, byte_mask_row, replicate_rows, join_row, shift_rows, shift_allowed, shift_code, shift_operation, small_displacement, code_of_size, HasSize, Sized, size_of_elements, lane_rows, bit_mask_rows, insert_rows, ler_row, ldr_row, fits_vri_b, fits_vri_c, fits_vri_a, fits_vri_k, fits_vrr_f, fits_vrs_a}
 
@@ -270,7 +270,7 @@ stop_of divides = cond divides (Some IntegerDivisionByZero) None
 pub vector_there : (L : Layout) (image : ImageAt L) (offset : ℕ) (even : offset % 2 ≡ 0) {code : ℕ} (x : MachineInstruction) (o : VectorOperation) → ElementsRow code x o → SlotsFit (layout_of x.format) x.slots → DoesThere L image offset even x (elements_computed x o)
 vector_there L image offset even x o row fit st =
     let f = fields_of x.format x.slots in
-    meant_at L image offset even x (Elements (opcode_in x)) (elements_computed x o) (elements_listed row, refl) fit (elements_allowed row) (λ r p.
+    meant_at L image offset even x (Elements (vector_row_of (opcode_in x))) (elements_computed x o) (elements_listed row, refl) fit (elements_allowed row) (λ r p.
     ap (λ q. on_elements q (register_field f 0) (vector_field f r 0) (vector_field f r 1) (vector_field f r 2) (vector_field f r 3)) (elements_operation row)) st
 
 module _ {L : Layout} {k : ℕ} {s : Step} (b : StepAt L k s) where
@@ -348,8 +348,8 @@ module _ {L : Layout} {k : ℕ} {s : Step} (b : StepAt L k s) where
       let x = vrs_a (shift_row op).opcode d base n (shift_row op).code displacement in
       let does = shifts_vector (shift_operator op) (shifted_elements op) d n base displacement in
       let fit = fits_vrs_a (shift_row op).opcode d base n (shift_row op).code displacement (few_digits (shift_rows op).0) few.0 few.2 few.1 (shift_code op) small in
-      meant_runs b x (Row.ShiftElements (shift_row op).opcode) does (λ r. never_by_values (does r) no_code refl (λ kind by. true≢false (sym by.1))) is (shift_rows op) fit (shift_allowed op d base n displacement) (λ r p.
-      ap (λ (z : ℤ). on_elements (operation_of (shift_row op).opcode ((shift_row op).code ∷ 0 ∷ 0 ∷ []) (pos (based r base z % 64))) d (r.vector d) (r.vector n) 0 0) (small_displacement displacement small)
+      meant_runs b x (Row.ShiftElements (vector_row_of (shift_row op).opcode)) does (λ r. never_by_values (does r) no_code refl (λ kind by. true≢false (sym by.1))) is (shift_rows op) fit (shift_allowed op d base n displacement) (λ r p.
+      ap (λ (z : ℤ). on_elements (operation_of (vector_row_of (shift_row op).opcode) ((shift_row op).code ∷ 0 ∷ 0 ∷ []) (pos (based r base z % 64))) d (r.vector d) (r.vector n) 0 0) (small_displacement displacement small)
       ∙ ap (λ q. on_elements q d (r.vector d) (r.vector n) 0 0) (shift_operation op (based r base (pos displacement) % 64) (omega arith)))
 
   -- two general registers, one behind the other

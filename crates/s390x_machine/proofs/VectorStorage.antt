@@ -37,8 +37,8 @@ use Rattle.s390x_typed_steps.specs.Parts.{memory_or, step_parts}
 use Rattle.s390x_typed_steps.specs.Steps.{Step}
 use Rattle.s390x_typed_steps.specs.VectorInstruction.{element_code, is_lane, is_vector}
 use Rattle.s390x_typed_steps.specs.declared.mem_inst_type.MemInstType.{MemInstType}
-use Rattle.s390x_machine.specs.declared.semantics.RowSemantics.TheVariants as Row
-use Rattle.s390x_machine.specs.declared.semantics.VectorStorage.{VectorStorage}
+use Rattle.s390x_format.specs.declared.semantics.RowSemantics.TheVariants as Row
+use Rattle.s390x_format.specs.declared.semantics.VectorStorage.{VectorStorage}
 use Rattle.s390x_machine.specs.CodeAt.{ValidMemoryOr}
 use Rattle.s390x_machine.specs.Layout.{Layout}
 use Rattle.s390x_machine.specs.OneStep.{StepRuns}

@@ -23,8 +23,8 @@ use Rattle.s390x_typed_steps.specs.MachineInstruction.{vrr_a, vrr_b}
 use Rattle.s390x_typed_steps.specs.Parts.{row_parts, step_parts}
 use Rattle.s390x_typed_steps.specs.Steps.{Step}
 use Rattle.s390x_typed_steps.specs.VectorComposite.{comparing_rows}
-use Rattle.s390x_machine.specs.declared.semantics.Action.{Action}
-use Rattle.s390x_machine.specs.declared.semantics.Action.TheVariants.{Branch, Perform}
+use Rattle.s390x_machine.specs.declared.action_type.Action.{Action}
+use Rattle.s390x_machine.specs.declared.action_type.Action.TheVariants.{Branch, Perform}
 use Rattle.s390x_machine.specs.Layout.{Layout, step_address}
 use Rattle.s390x_machine.specs.Machine.{Executed, Transition, all_writes}
 use Rattle.s390x_machine.specs.OneStep.{StepRuns}

@@ -1,9 +1,9 @@
 -- What a machine row does with its fields (Principles of Operation, chapter 7, "General instructions"). This is the only place that knows their order.
-use Rattle.std.specs.Prelude.{ℕ, ◌+◌, ◌-◌, ◌*◌, ◌^◌, ◌%◌, ◌==◌, nat_le, nat_lt, Bool, true, false, ◌&&◌, if◌then◌else◌, pos, ◌+ℤ◌, List, [], ◌∷◌, Option, Some, None, slice_index}
+use Rattle.std.specs.Prelude.{ℕ, ◌+◌, ◌-◌, ◌*◌, ◌^◌, ◌%◌, ◌==◌, nat_lt, Bool, true, false, ◌&&◌, if◌then◌else◌, pos, ◌+ℤ◌, List, [], ◌∷◌, Option, Some, None, slice_index}
 use Rattle.s390x_format.specs.declared.fields.Fields.{Fields}
 use Rattle.s390x_lanes.specs.Size.{element_bits, lane_count, size_of_code}
 use Rattle.s390x_lanes.specs.Lanes.{lane}
-use Rattle.s390x_lanes.specs.Opcodes.{operation_of}
+use Rattle.s390x_lanes.specs.Rows.{operation_of}
 use Rattle.s390x_lanes.specs.declared.operators.VectorOperation.{VectorOperation}
 use Rattle.s390x_lanes.specs.declared.size.ElementSize.{ElementSize}
 use Rattle.s390x_operations.specs.Numbers.{low}
@@ -26,19 +26,19 @@ use Rattle.s390x_operations.specs.declared.operator.SelectedBitsOperator.{Select
 use Rattle.s390x_operations.specs.declared.effect.Effect.{Effect}
 use Rattle.s390x_operations.specs.declared.effect.CodeRule.{CodeRule}
 use Rattle.s390x_operations.specs.declared.effect.CodeRule.TheVariants.{Kept, Set}
-use Rattle.s390x_machine.specs.declared.semantics.OperandSource.{OperandSource}
-use Rattle.s390x_machine.specs.declared.semantics.OperandSource.TheVariants.{Register, ThreeRegisters, Indexed, IndexedAddress, Relative, Immediate, ThreeImmediate, ShiftedImmediate, Amount, AccessRegister, RelativeAddress}
-use Rattle.s390x_machine.specs.declared.semantics.SecondOperand.{SecondOperand}
-use Rattle.s390x_machine.specs.declared.semantics.RowSemantics.{RowSemantics}
-use Rattle.s390x_machine.specs.declared.semantics.RowSemantics.TheVariants.{Compute, Compare, MoveWhere, CountOnes, RotateThen, MultiplySigned, MultiplyLogical, DivideSigned, DivideLogical, CompareAndTrap, CompareImmediateAndTrap, FindLeftmostOne, Havoc}
-use Rattle.s390x_machine.specs.declared.semantics.RowSemantics.TheVariants.{BranchToRegister, BranchRelative, Store, StoreByte, StoreImmediate, LoadMultiple, StoreMultiple, LoadAndOperate, CompareAndSwap, BranchAndSaveToRegister, BranchAndSaveRelative}
-use Rattle.s390x_machine.specs.declared.semantics.RowSemantics.TheVariants.{Elements, ShiftElements, LoadVector, StoreVector, LoadLeft, StoreLeft, MoveLeft, RegisterToLeft, LeftToRegister, JoinRegisters, InsertElement, ExtractElement}
-use Rattle.s390x_machine.specs.declared.semantics.OpcodeSemantics.{OpcodeSemantics}
-use Rattle.s390x_machine.specs.declared.semantics.VectorStorage.{VectorStorage}
-use Rattle.s390x_machine.specs.declared.semantics.VectorStorage.TheVariants.{Whole, ReversedBytes, ReversedElements, Replicated, Element}
-use Rattle.s390x_machine.specs.declared.semantics.Action.{Action}
-use Rattle.s390x_machine.specs.declared.semantics.Action.TheVariants.{Perform, Branch, BranchAndSave}
-use Rattle.s390x_machine.specs.declared.semantics.TheConstants.{ROW_SEMANTICS}
+use Rattle.s390x_format.specs.declared.semantics.OperandSource.{OperandSource}
+use Rattle.s390x_format.specs.declared.semantics.OperandSource.TheVariants.{Register, ThreeRegisters, Indexed, IndexedAddress, Relative, Immediate, ThreeImmediate, ShiftedImmediate, Amount, AccessRegister, RelativeAddress}
+use Rattle.s390x_format.specs.declared.semantics.SecondOperand.{SecondOperand}
+use Rattle.s390x_format.specs.declared.semantics.RowSemantics.{RowSemantics}
+use Rattle.s390x_format.specs.declared.semantics.RowSemantics.TheVariants.{Compute, Compare, MoveWhere, CountOnes, RotateThen, MultiplySigned, MultiplyLogical, DivideSigned, DivideLogical, CompareAndTrap, CompareImmediateAndTrap, FindLeftmostOne, Havoc}
+use Rattle.s390x_format.specs.declared.semantics.RowSemantics.TheVariants.{BranchToRegister, BranchRelative, Store, StoreByte, StoreImmediate, LoadMultiple, StoreMultiple, LoadAndOperate, CompareAndSwap, BranchAndSaveToRegister, BranchAndSaveRelative}
+use Rattle.s390x_format.specs.declared.semantics.RowSemantics.TheVariants.{Elements, ShiftElements, LoadVector, StoreVector, LoadLeft, StoreLeft, MoveLeft, RegisterToLeft, LeftToRegister, JoinRegisters, InsertElement, ExtractElement}
+use Rattle.s390x_format.specs.declared.row.MachineRow.{MachineRow}
+use Rattle.s390x_format.specs.declared.table.TheConstants.{MACHINE_ROWS}
+use Rattle.s390x_format.specs.declared.semantics.VectorStorage.{VectorStorage}
+use Rattle.s390x_format.specs.declared.semantics.VectorStorage.TheVariants.{Whole, ReversedBytes, ReversedElements, Replicated, Element}
+use Rattle.s390x_machine.specs.declared.action_type.Action.{Action}
+use Rattle.s390x_machine.specs.declared.action_type.Action.TheVariants.{Perform, Branch, BranchAndSave}
 
 -- a register field's number
 abbrev pub register_field : Fields → ℕ → ℕ
@@ -185,10 +185,10 @@ action (CompareAndSwap size) f r address =
     performs Set (Effect.CompareAndSwap size (register_field f 0) (value_in size r (register_field f 0)) (value_in size r (register_field f 1)) (based r (register_field f 2) f.disp))
 action BranchAndSaveToRegister f r address = BranchAndSave (register_field f 0) (if register_field f 1 == 0 then wrapping_add64 address 2 else r.general (register_field f 1))
 action BranchAndSaveRelative f r address = BranchAndSave (register_field f 0) (relative_address f address)
-action (Elements opcode) f r address =
-    on_elements (operation_of opcode f.masks f.imm) (register_field f 0) (vector_field f r 0) (vector_field f r 1) (vector_field f r 2) (vector_field f r 3)
-action (ShiftElements opcode) f r address =
-    on_elements (operation_of opcode f.masks (pos (based r (register_field f 1) f.disp % 64))) (register_field f 0) (vector_field f r 0) (vector_field f r 2) 0 0
+action (Elements row) f r address =
+    on_elements (operation_of row f.masks f.imm) (register_field f 0) (vector_field f r 0) (vector_field f r 1) (vector_field f r 2) (vector_field f r 3)
+action (ShiftElements row) f r address =
+    on_elements (operation_of row f.masks (pos (based r (register_field f 1) f.disp % 64))) (register_field f 0) (vector_field f r 0) (vector_field f r 2) 0 0
 action (LoadVector storage) f r address =
     performs Kept (Effect.LoadVector (vector_layout_of storage f) (register_field f 0) (vector_field f r 0) all_bits (indexed_address f r))
 action (StoreVector storage) f r address = performs Kept (Effect.StoreVector (vector_layout_of storage f) (vector_field f r 0) (indexed_address f r))
@@ -219,15 +219,10 @@ abbrev pub is_odd_pair : RowSemantics → Fields → Bool
 is_odd_pair semantics f = names_pair semantics && (register_field f 0 % 2 == 1)
 
 -- the semantics that a list has for an opcode
-unfoldable pub semantics_in : List OpcodeSemantics → ℕ → Option RowSemantics
+unfoldable pub semantics_in : List MachineRow → ℕ → Option RowSemantics
 semantics_in [] opcode = None
 semantics_in (row ∷ rows) opcode = if row.opcode == opcode then Some row.semantics else semantics_in rows opcode
 
--- the opcodes rise, from n on
-unfoldable pub opcodes_rise : ℕ → List OpcodeSemantics → Bool
-opcodes_rise n [] = true
-opcodes_rise n (row ∷ rows) = nat_le n row.opcode && opcodes_rise (row.opcode + 1) rows
-
 -- the semantics of an opcode; none of one that no row has
 unfoldable pub semantics_of : ℕ → Option RowSemantics
-semantics_of opcode = semantics_in ROW_SEMANTICS opcode
+semantics_of opcode = semantics_in MACHINE_ROWS opcode

@@ -15,7 +15,7 @@ use Rattle.s390x_operations.specs.State.{Registers, Core, set_general, set_vecto
 use Rattle.s390x_operations.specs.Effects.{results}
 use Rattle.s390x_operations.specs.Vectors.{layout_bytes, loaded}
 use Rattle.s390x_lanes.specs.Results.{vector_result}
-use Rattle.s390x_lanes.specs.Opcodes.{is_operation, is_computed, operation_of}
+use Rattle.s390x_lanes.specs.Rows.{is_operation, is_computed, operation_of}
 use Rattle.s390x_lanes.specs.declared.operators.VectorOperation.{VectorOperation}
 use Rattle.s390x_format.specs.declared.row.Allowed.{Allowed}
 use Rattle.s390x_format.specs.declared.row.Allowed.TheVariants.{FirstMask}
@@ -26,13 +26,13 @@ use Rattle.s390x_operations.specs.declared.size.Size.TheVariants.{Halfword, Word
 use Rattle.s390x_operations.specs.declared.size.Width.{Width}
 use Rattle.s390x_operations.specs.declared.effect.Effect.{Effect}
 use Rattle.s390x_machine.specs.Semantics.{register_field, mask_field, names_pair, semantics_of}
-use Rattle.s390x_machine.specs.declared.semantics.OperandSource.{OperandSource}
-use Rattle.s390x_machine.specs.declared.semantics.OperandSource.TheVariants.{ShiftedImmediate}
-use Rattle.s390x_machine.specs.declared.semantics.SecondOperand.{SecondOperand}
-use Rattle.s390x_machine.specs.declared.semantics.RowSemantics.{RowSemantics}
-use Rattle.s390x_machine.specs.declared.semantics.RowSemantics.TheVariants as Row
-use Rattle.s390x_machine.specs.declared.semantics.Action.{Action}
-use Rattle.s390x_machine.specs.declared.semantics.Action.TheVariants.{Perform, Branch, BranchAndSave}
+use Rattle.s390x_format.specs.declared.semantics.OperandSource.{OperandSource}
+use Rattle.s390x_format.specs.declared.semantics.OperandSource.TheVariants.{ShiftedImmediate}
+use Rattle.s390x_format.specs.declared.semantics.SecondOperand.{SecondOperand}
+use Rattle.s390x_format.specs.declared.semantics.RowSemantics.{RowSemantics}
+use Rattle.s390x_format.specs.declared.semantics.RowSemantics.TheVariants as Row
+use Rattle.s390x_machine.specs.declared.action_type.Action.{Action}
+use Rattle.s390x_machine.specs.declared.action_type.Action.TheVariants.{Perform, Branch, BranchAndSave}
 
 -- the bytes of an access are accessible
 abbrev pub is_reached : Access → (ℕ → Bool) → Bool
@@ -90,8 +90,8 @@ AreGeneral f = (i : ℕ) → register_field f i < 16
 
 -- this field names a vector register, of which there are 32
 abbrev pub is_vector_field : RowSemantics → ℕ → Bool
-is_vector_field (Row.Elements opcode) i = true
-is_vector_field (Row.ShiftElements opcode) i = (i == 0) || (i == 2)
+is_vector_field (Row.Elements row) i = true
+is_vector_field (Row.ShiftElements row) i = (i == 0) || (i == 2)
 is_vector_field (Row.LoadVector storage) i = i == 0
 is_vector_field (Row.StoreVector storage) i = i == 0
 is_vector_field (Row.LoadLeft size) i = i == 0
@@ -166,8 +166,8 @@ shift_amount f r = pos (based r (register_field f 1) f.disp % 64)
 -- the row's result is free, or a high product of 128-bit elements: the step gives none
 abbrev pub is_free : RowSemantics → Fields → Registers → Bool
 is_free Row.Havoc f r = true
-is_free (Row.Elements opcode) f r = is_uncomputed (operation_of opcode f.masks f.imm)
-is_free (Row.ShiftElements opcode) f r = is_uncomputed (operation_of opcode f.masks (shift_amount f r))
+is_free (Row.Elements row) f r = is_uncomputed (operation_of row f.masks f.imm)
+is_free (Row.ShiftElements row) f r = is_uncomputed (operation_of row f.masks (shift_amount f r))
 is_free _ f r = false
 
 -- ---- tests of a row, which the table of machine rows meets

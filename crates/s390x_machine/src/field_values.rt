@@ -7,9 +7,9 @@ ghost use Rattle.s390x_machine.specs.Semantics.{register_field, indexed_address,
 ghost use Rattle.s390x_machine.specs.State.{registers_of};
 ghost use Rattle.s390x_machine.specs.Sound.{AreGeneral, ShiftFits};
 
+use crate::action_type::Action;
 use crate::machine::Machine;
-use crate::semantics::{Action, OperandSource, SecondOperand};
-use s390x_format::Fields;
+use s390x_format::{Fields, OperandSource, SecondOperand};
 use s390x_lanes::Signedness;
 use s390x_operations::{CodeRule, Effect, Operand, Operation, Size, Source, Width, low};
 

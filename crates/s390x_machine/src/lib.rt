@@ -2,6 +2,7 @@
 #![tactic(auto)]
 
 mod access;
+mod action_type;
 mod codes;
 mod field_values;
 mod flat;
@@ -14,7 +15,6 @@ mod progress;
 mod register_action;
 mod registers;
 mod row_action;
-mod semantics;
 mod step;
 mod storage_action;
 mod value_step;
@@ -37,5 +37,4 @@ pub use progress::{
     every_write_leaves_a_step, runs_keep_ranges, steps_keep_ranges,
 };
 pub use row_action::action;
-pub use semantics::ROW_SEMANTICS;
 pub use step::StepEnd;

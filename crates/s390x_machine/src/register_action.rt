@@ -5,11 +5,11 @@ ghost use Rattle.s390x_machine.specs.Semantics.{count_operator, action};
 ghost use Rattle.s390x_machine.specs.State.{registers_of};
 ghost use Rattle.s390x_machine.specs.Sound.{FieldsFit, IsSoundAction};
 
+use crate::action_type::Action;
 use crate::field_values::{first_register, immediate, operand, performs, value_in, whole_operand};
 use crate::machine::Machine;
 use crate::perform::is_selected;
-use crate::semantics::{Action, RowSemantics, SecondOperand};
-use s390x_format::Fields;
+use s390x_format::{Fields, RowSemantics, SecondOperand};
 use s390x_lanes::Signedness;
 use s390x_operations::{
     CodeRule, Effect, Operator, SelectedBitsOperator, Size, Width, extended, rotated, selection,

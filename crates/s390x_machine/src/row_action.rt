@@ -5,6 +5,7 @@ ghost use Rattle.s390x_machine.specs.Semantics.{action};
 ghost use Rattle.s390x_machine.specs.State.{registers_of};
 ghost use Rattle.s390x_machine.specs.Sound.{FieldsFit, IsSoundAction, is_free};
 
+use crate::action_type::Action;
 use crate::field_values::{performs, relative_address};
 use crate::machine::Machine;
 use crate::register_action::{
@@ -12,7 +13,6 @@ use crate::register_action::{
     compute, count_ones, divide_logical, divide_signed, find_leftmost_one, move_where,
     multiply_logical, multiply_signed, rotate_then,
 };
-use crate::semantics::{Action, RowSemantics};
 use crate::storage_action::{
     compare_and_swap, load_and_operate, load_multiple, store, store_byte, store_immediate,
     store_multiple,
@@ -21,7 +21,7 @@ use crate::vector_action::{
     elements, extract_element, insert_element, join_registers, left_to_register, load_left,
     load_vector, move_left, register_to_left, shift_elements, store_left, store_vector,
 };
-use s390x_format::Fields;
+use s390x_format::{Fields, RowSemantics};
 use s390x_operations::{CodeRule, Effect};
 
 /// What a row does, with these fields and the machine's registers, at its place.
@@ -74,8 +74,8 @@ pub fn action(machine: &Machine, semantics: RowSemantics, fields: &Fields) -> Ac
             link: fields.regs[0],
             target: relative_address(machine, fields),
         },
-        RowSemantics::Elements(opcode) => elements(machine, fields, opcode),
-        RowSemantics::ShiftElements(opcode) => shift_elements(machine, fields, opcode),
+        RowSemantics::Elements(row) => elements(machine, fields, row),
+        RowSemantics::ShiftElements(row) => shift_elements(machine, fields, row),
         RowSemantics::LoadVector(storage) => load_vector(machine, fields, storage),
         RowSemantics::StoreVector(storage) => store_vector(machine, fields, storage),
         RowSemantics::LoadLeft(size) => load_left(machine, fields, size),

@@ -10,16 +10,16 @@ ghost use Rattle.s390x_machine.specs.State.{memory_of, registers_of, state_of};
 ghost use Rattle.s390x_machine.specs.Sound.{HasRegisters, IsSoundAction, is_free, is_uncomputed};
 ghost use Rattle.s390x_machine.specs.Step.{Executes, Steps};
 
+use crate::action_type::Action;
 use crate::field_values::{relative_address, source};
 use crate::instruction_fetch::{FetchedRow, fetch_row};
 use crate::machine::Machine;
 use crate::memory::Memory;
 use crate::perform::{is_selected, perform};
 use crate::row_action::action;
-use crate::semantics::{Action, OpcodeSemantics, ROW_SEMANTICS, RowSemantics};
 use crate::value_step::value_step;
 use crate::vector_action::shift_amount;
-use s390x_format::{Decoded, Fields, Located, length};
+use s390x_format::{Decoded, Fields, Located, MACHINE_ROWS, MachineRow, RowSemantics, length};
 use s390x_lanes::{VectorOperation, computes, operation};
 use s390x_operations::{Source, StopKind};
 
@@ -35,19 +35,19 @@ pub enum StepEnd {
 }
 
 /// The semantics at a place in a list of them.
-fn semantics_in(rows: &[OpcodeSemantics], at: usize) -> &RowSemantics
+fn semantics_in(rows: &[MachineRow], at: usize) -> &RowSemantics
     requires { at < length rows.now }
-    ensures { (z : OpcodeSemantics) → result.now ≡ (get_or rows.now at z).semantics }
+    ensures { (z : MachineRow) → result.now ≡ (get_or rows.now at z).semantics }
 {
     &rows[at].semantics
 }
 
-/// The semantics of the row at a place in the table of machine rows; both tables have the same opcodes at the same places.
+/// The semantics of the row at a place in the table of machine rows.
 fn semantics_at(at: usize) -> &'static RowSemantics
     requires { at < length machine_rows }
     ensures { semantics_of (get_or machine_rows at no_row).opcode ≡ Some result.now }
 {
-    semantics_in(&ROW_SEMANTICS, at)
+    semantics_in(&MACHINE_ROWS, at)
 }
 
 /// Whether the row's r1 is the first of an even-odd pair.
@@ -88,13 +88,9 @@ fn is_free(machine: &Machine, semantics: RowSemantics, fields: &Fields) -> bool
 {
     match semantics {
         RowSemantics::Havoc => true,
-        RowSemantics::Elements(opcode) => is_uncomputed(operation(
-            opcode,
-            fields.masks,
-            fields.imm,
-        )),
-        RowSemantics::ShiftElements(opcode) => {
-            is_uncomputed(operation(opcode, fields.masks, shift_amount(machine, fields)))
+        RowSemantics::Elements(row) => is_uncomputed(operation(row, fields.masks, fields.imm)),
+        RowSemantics::ShiftElements(row) => {
+            is_uncomputed(operation(row, fields.masks, shift_amount(machine, fields)))
         }
         _ => false,
     }

@@ -6,10 +6,10 @@ ghost use Rattle.s390x_machine.specs.Semantics.{registers_between, action};
 ghost use Rattle.s390x_machine.specs.State.{registers_of};
 ghost use Rattle.s390x_machine.specs.Sound.{FieldsFit, IsSoundAction};
 
+use crate::action_type::Action;
 use crate::field_values::{based, immediate, performs, source, value_in};
 use crate::machine::Machine;
-use crate::semantics::{Action, RowSemantics, SecondOperand};
-use s390x_format::Fields;
+use s390x_format::{Fields, RowSemantics, SecondOperand};
 use s390x_operations::{CodeRule, Effect, Operator, Size, Source, Width, ordered};
 
 /// How many registers there are from one to another, register 0 after 15.

@@ -13,9 +13,8 @@ ghost use Rattle.s390x_machine.specs.Step.{Steps, code_under};
 
 use crate::field_values::{first_register, value_in};
 use crate::machine::Machine;
-use crate::semantics::{RowSemantics, SecondOperand};
 use crate::step::StepEnd;
-use s390x_format::{Decoded, length};
+use s390x_format::{Decoded, RowSemantics, SecondOperand, length};
 use s390x_operations::{CodeRule, Operator, Size, Source, extended, operate, ordered};
 
 /// A register gets an operator's value of two numbers, and the condition code becomes that of the value where the rule sets it.

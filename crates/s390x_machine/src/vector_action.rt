@@ -3,17 +3,17 @@
 ghost use Rattle.std.specs.Prelude.{◌≡◌, ◌<◌, ◌≤◌, ◌+◌, ◌*◌, ◌%◌, ◌^◌, true, false, IsTrue, IsFalse, MatchOption, slice_index};
 ghost use Rattle.s390x_lanes.specs.Size.{element_bits, lane_count};
 ghost use Rattle.s390x_lanes.specs.Lanes.{lane};
-ghost use Rattle.s390x_lanes.specs.Opcodes.{is_operation};
+ghost use Rattle.s390x_lanes.specs.Rows.{is_operation};
 ghost use Rattle.s390x_operations.specs.Vectors.{layout_bytes, loaded};
 ghost use Rattle.s390x_machine.specs.Semantics.{register_field, performs, element_size, left_bits, vector_layout_of, on_elements, moves_value, action};
 ghost use Rattle.s390x_machine.specs.State.{registers_of};
 ghost use Rattle.s390x_machine.specs.Sound.{FieldsFit, IsSoundAction, is_free, is_uncomputed, shift_amount};
 
+use crate::action_type::Action;
 use crate::field_values::{based, indexed_address, performs, value_in, whole_operand};
 use crate::machine::Machine;
-use crate::semantics::{Action, RowSemantics, VectorStorage};
-use s390x_format::Fields;
-use s390x_lanes::{ElementSize, VectorOperation, element, operation, size_from};
+use s390x_format::{Fields, RowSemantics, VectorStorage};
+use s390x_lanes::{ElementSize, VectorOperation, VectorRow, element, operation, size_from};
 use s390x_operations::{CodeRule, Effect, Operator, Size, VectorLayout, loaded};
 
 /// The element size that the first mask tells.
@@ -94,12 +94,12 @@ fn on_elements(operation: Option<VectorOperation>, target: u8, values: [u128; 4]
 }
 
 /// Vector register r1 gets what the row makes of the vector registers that it names.
-pub fn elements(machine: &Machine, fields: &Fields, opcode: u16) -> Action
+pub fn elements(machine: &Machine, fields: &Fields, row: VectorRow) -> Action
     requires determined { IsFalse
-        (is_free (RowSemantics.Elements opcode) fields.now (registers_of machine.now)) }
-    requires fit { FieldsFit (RowSemantics.Elements opcode) fields.now }
+        (is_free (RowSemantics.Elements row) fields.now (registers_of machine.now)) }
+    requires fit { FieldsFit (RowSemantics.Elements row) fields.now }
     ensures value { result
-        ≡ action (RowSemantics.Elements opcode) fields.now (registers_of machine.now)
+        ≡ action (RowSemantics.Elements row) fields.now (registers_of machine.now)
         machine.now.place }
     ensures sound { IsSoundAction result }
 {
@@ -110,7 +110,7 @@ pub fn elements(machine: &Machine, fields: &Fields, opcode: u16) -> Action
         machine.vector(fields.regs[3]),
     ];
     on_elements(
-        operation(opcode, fields.masks, fields.imm),
+        operation(row, fields.masks, fields.imm),
         fields.regs[0],
         values,
     )
@@ -125,12 +125,12 @@ pub fn shift_amount(machine: &Machine, fields: &Fields) -> i64
 }
 
 /// Vector register r1 becomes r3 with its elements shifted by the amount at base r2 plus a displacement.
-pub fn shift_elements(machine: &Machine, fields: &Fields, opcode: u16) -> Action
+pub fn shift_elements(machine: &Machine, fields: &Fields, row: VectorRow) -> Action
     requires determined { IsFalse
-        (is_free (RowSemantics.ShiftElements opcode) fields.now (registers_of machine.now)) }
-    requires fit { FieldsFit (RowSemantics.ShiftElements opcode) fields.now }
+        (is_free (RowSemantics.ShiftElements row) fields.now (registers_of machine.now)) }
+    requires fit { FieldsFit (RowSemantics.ShiftElements row) fields.now }
     ensures value { result
-        ≡ action (RowSemantics.ShiftElements opcode) fields.now (registers_of machine.now)
+        ≡ action (RowSemantics.ShiftElements row) fields.now (registers_of machine.now)
         machine.now.place }
     ensures sound { IsSoundAction result }
 {
@@ -141,7 +141,7 @@ pub fn shift_elements(machine: &Machine, fields: &Fields, opcode: u16) -> Action
         0,
     ];
     on_elements(
-        operation(opcode, fields.masks, shift_amount(machine, fields)),
+        operation(row, fields.masks, shift_amount(machine, fields)),
         fields.regs[0],
         values,
     )

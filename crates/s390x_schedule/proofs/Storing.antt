@@ -12,9 +12,9 @@ use Rattle.s390x_machine.specs.declared.instruction_fetch.Fetched.{Fetched}
 use Rattle.s390x_machine.specs.declared.instruction_fetch.Fetched.TheVariants.{Misplaced, Missing, Unknown, Found}
 use Rattle.s390x_machine.specs.Machine.{Event, Executed, Interrupted, MachineStep, FetchedStep, RowStep, OddPairStep, ActionStep}
 use Rattle.s390x_machine.specs.Semantics.{action, is_odd_pair, semantics_of}
-use Rattle.s390x_machine.specs.declared.semantics.RowSemantics.{RowSemantics}
-use Rattle.s390x_machine.specs.declared.semantics.Action.{Action}
-use Rattle.s390x_machine.specs.declared.semantics.Action.TheVariants.{Perform, Branch, BranchAndSave}
+use Rattle.s390x_format.specs.declared.semantics.RowSemantics.{RowSemantics}
+use Rattle.s390x_machine.specs.declared.action_type.Action.{Action}
+use Rattle.s390x_machine.specs.declared.action_type.Action.TheVariants.{Perform, Branch, BranchAndSave}
 use Rattle.s390x_machine.proofs.Frame.{or_left, or_right}
 use Rattle.s390x_schedule.specs.Schedule.{LeavesImage, stored_writes}
 

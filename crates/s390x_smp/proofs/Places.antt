@@ -31,9 +31,9 @@ use Rattle.s390x_format.specs.declared.decoder.Decoded.{Decoded}
 use Rattle.s390x_machine.specs.Machine.{ActionStep, Event, Executed, Interrupted, MachineStep}
 use Rattle.s390x_machine.specs.Semantics.{semantics_in, semantics_of}
 use Rattle.s390x_machine.specs.Step.{IsOpen}
-use Rattle.s390x_machine.specs.declared.semantics.Action.TheVariants.{Perform, Branch}
-use Rattle.s390x_machine.specs.declared.semantics.RowSemantics.TheVariants as Row
-use Rattle.s390x_machine.specs.declared.semantics.TheConstants.{THREE_WORD_REGISTERS}
+use Rattle.s390x_machine.specs.declared.action_type.Action.TheVariants.{Perform, Branch}
+use Rattle.s390x_format.specs.declared.semantics.RowSemantics.TheVariants as Row
+use Rattle.s390x_format.specs.declared.semantics.TheConstants.{THREE_WORD_REGISTERS}
 use Rattle.s390x_machine.proofs.Addresses.{lands, unmoved}
 use Rattle.s390x_schedule.specs.Schedule.{Processor}
 use Rattle.s390x_smp.specs.Image.{HasImage, is_in_word}

@@ -19,7 +19,7 @@ use Rattle.s390x_machine.specs.Machine.{Event, FetchedStep, MachineStep}
 use Rattle.s390x_machine.specs.Semantics.{semantics_of}
 use Rattle.s390x_machine.specs.Sound.{is_free}
 use Rattle.s390x_machine.specs.Step.{IsOpen}
-use Rattle.s390x_machine.specs.declared.semantics.RowSemantics.{RowSemantics}
+use Rattle.s390x_format.specs.declared.semantics.RowSemantics.{RowSemantics}
 use Rattle.s390x_machine.proofs.Fetching.{StandsAt, found_at, one_thing}
 use Rattle.s390x_machine.proofs.Rows.{fits_rr, fits_rrf_ab, fits_ril_c, fits_rs, fits_rsy, bcr_listed, brcl_listed}
 use Rattle.s390x_smp.specs.Image.{code, image_at}

@@ -1,2 +1,3 @@
+mod Available
 mod Given
 mod Relative

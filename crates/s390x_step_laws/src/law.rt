@@ -1,4 +1,5 @@
 //! The laws of a function's typed steps beside its instructions as they are given.
+ghost use Rattle.s390x_step_laws.specs.Available.{AccessesAreAllowed, SinglesAreAllowed};
 ghost use Rattle.s390x_step_laws.specs.Given.{BlocksBeginAsGiven, FunctionsDoAsGiven, InstructionsDoAsGiven};
 ghost use Rattle.s390x_step_laws.specs.Relative.{FunctionsAccessNothingRelative, InstructionsAccessNothingRelative};
 
@@ -16,4 +17,11 @@ pub fn functions_do_as_given()
 pub fn no_relative_access_without_rows()
     ensures functions { FunctionsAccessNothingRelative }
     ensures instructions { InstructionsAccessNothingRelative }
+{}
+
+/// An instruction that is available by the flags needs no facility that the flags lack: that of its row in the table of machine rows is the one that is asked for,
+/// or the base. So it is where it is one machine instruction on registers and immediates, and for each row that an instruction with an operand in memory may have.
+pub fn available_instructions_need_no_more()
+    ensures singles { SinglesAreAllowed }
+    ensures accesses { AccessesAreAllowed }
 {}

@@ -3,4 +3,6 @@
 
 mod law;
 
-pub use law::{functions_do_as_given, no_relative_access_without_rows};
+pub use law::{
+    available_instructions_need_no_more, functions_do_as_given, no_relative_access_without_rows,
+};

@@ -6,9 +6,8 @@ use Rattle.s390x_base.specs.declared.regs.Reg.{Reg}
 use Rattle.s390x_inst.specs.Emission.{Emission}
 use Rattle.s390x_inst.specs.declared.args.MemArg.{MemArg}
 use Rattle.s390x_inst.specs.declared.ops.ALUOp.{ALUOp}
-use Rattle.s390x_inst.specs.declared.ops.ALUOp.TheVariants.{Add32, And32, And64, Orr32, Orr64, Xor32, Xor64}
+use Rattle.s390x_inst.specs.declared.ops.ALUOp.TheVariants.{Add32}
 use Rattle.s390x_inst.specs.declared.ops.CmpOp.{CmpOp}
-use Rattle.s390x_inst.specs.declared.ops.CmpOp.TheVariants.{CmpS32}
 use Rattle.s390x_inst.specs.declared.ops.RxSBGOp.{RxSBGOp}
 use Rattle.s390x_inst.specs.declared.ops.RxSBGOp.TheVariants.{Insert, And}
 use Rattle.s390x_inst.specs.declared.ops.UnaryOp.TheVariants.{Abs32}
@@ -27,151 +26,108 @@ use Rattle.s390x_inst.specs.declared.inst.Inst.TheVariants.{CmpRUImm32, CmpTrapR
 use Rattle.s390x_inst.specs.declared.inst.Inst.TheVariants.{Mov64SImm16, Mov64SImm32, CMov32, CMov64, CMov32SImm16, CMov64SImm16, LoadAR, InsertAR, AluRX, CmpRX, LoadMultiple64, StoreMultiple64, LoadAddr, AtomicRmw, AtomicCas32, AtomicCas64}
 use Rattle.s390x_inst.specs.declared.inst.Inst.TheVariants.{StoreImm8, StoreImm16}
 use Rattle.s390x_inst.specs.declared.inst.Inst.TheVariants.{StoreImm32SExt16, StoreImm64SExt16}
-use Rattle.s390x_rows.specs.declared.opcodes.TheConstants as opcodes
 use Rattle.s390x_typed_steps.specs.MachineInstruction.{MachineInstruction}
 use Rattle.s390x_typed_steps.specs.SingleInstruction.{single_instruction, single_with, two_row, three_row, halfword_row, word_row, three_halfword_row, masked_row, masked_halfword_row, indexed_row}
-use Rattle.s390x_typed_steps.specs.Opcodes.{alu_three, alu_two, cmp_two, cmp_trap, cmp_trap_signed, cmp_trap_unsigned, alu_halfword, alu_three_halfword, alu_signed_word, alu_unsigned_word, cmp_halfword, cmp_signed_word, cmp_unsigned_word, of_one, of_two, of_four, alu_part, alu_half, load_part}
+use Rattle.s390x_typed_steps.specs.Opcodes.{alu_three, alu_two, cmp_two, cmp_trap, cmp_trap_signed, cmp_trap_unsigned, alu_halfword, alu_three_halfword, alu_signed_word, alu_unsigned_word, cmp_halfword, cmp_signed_word, cmp_unsigned_word, alu_part, alu_half, load_part}
 use Rattle.s390x_typed_steps.specs.Opcodes.{load_half, insert_part, insert_half, extend_two, rotate_then_test, indexed_opcode, logical_indexed_opcode}
 use Rattle.s390x_typed_steps.specs.Storage.{alu_rx, alu_rxy, atomic_rsy}
 use Rattle.s390x_typed_steps.specs.Memory.{MemoryInstruction, load_memory, store_memory, other_memory, operate, load_and_operate, memory}
 use Rattle.s390x_text_rows.specs.Texts.{Text, row}
 use Rattle.s390x_base.specs.declared.regs.Reg.TheVariants.{Real, Virtual}
+use Rattle.std.specs.Option.{option_map}
 use Rattle.s390x_text_rows.specs.Operands.{is_reg, pair_cause}
 use Rattle.s390x_text_rows.specs.Mnemonics.{alu_three_name, alu_two_name, alu_halfword_name, alu_three_halfword_name, alu_signed_word_name, alu_unsigned_word_name, alu_short_name, alu_long_name, atomic_name, cmp_short_name, cmp_long_name, cmp_relative_name, cmp_two_name, cmp_halfword_name}
 use Rattle.s390x_text_rows.specs.Mnemonics.{cmp_signed_word_name, cmp_unsigned_word_name, cmp_trap_name, cmp_trap_signed_name, cmp_trap_unsigned_name, load_mnemonic, store_mnemonic, rotate_name, rotate_test_name}
-use Rattle.s390x_text_rows.specs.Integer.{three_text, conditional_row, one_of_two, one_of_four, only_one, alu_part_name, alu_half_name, load_part_name, load_half_name, insert_part_name, insert_half_name, extend_name, indexed_name, logical_indexed_name, arithmetic_text, pair_instruction_text, compare_text, move_text}
+use Rattle.s390x_text_rows.specs.Integer.{three_text, conditional_row, alu_part_name, alu_half_name, load_part_name, load_half_name, insert_part_name, insert_half_name, extend_name, indexed_name, logical_indexed_name, arithmetic_text, pair_instruction_text, compare_text, move_text}
 use Rattle.s390x_text_rows.specs.Storage.{rx, rs, has_row, access_where, address_cause, load_mnemonics, load_text, store_mnemonics, store_text, storage_operator_text}
 use Rattle.s390x_text.specs.Agreement.{has_row_text, Agrees, RowsAgree}
 use Rattle.s390x_text_rows.specs.declared.error.TextError.TheVariants.{NoRow, BadPair}
 
 -- ---- tables
 
--- two choices by one test
-by_test : {X Y : Type 0} (b : Bool) (x z : Option X) (y w : Option Y) → is_some x ≡ is_some y → is_some z ≡ is_some w → is_some (cond b x z) ≡ is_some (cond b y w)
-by_test true x z y w p q = p
-by_test false x z y w p q = q
+-- a mnemonic is there where the row is
+stem_same : (stem : ℕ → List ℕ) (o : Option ℕ) → is_some (option_map stem o) ≡ is_some o
+stem_same stem None = refl
+stem_same stem (Some opcode) = refl
 
 alu_three_same : (op : ALUOp) → is_some (alu_three_name op) ≡ is_some (alu_three op)
 unfolding alu_three_name
-alu_three_same Add32 = refl
-alu_three_same op = refl
+alu_three_same op = stem_same _ (alu_three op)
 
 alu_two_same : (op : ALUOp) → is_some (alu_two_name op) ≡ is_some (alu_two op)
 unfolding alu_two_name
-alu_two_same Add32 = refl
-alu_two_same op = refl
+alu_two_same op = stem_same _ (alu_two op)
 
 alu_halfword_same : (op : ALUOp) → is_some (alu_halfword_name op) ≡ is_some (alu_halfword op)
 unfolding alu_halfword_name
-alu_halfword_same Add32 = refl
-alu_halfword_same op = refl
+alu_halfword_same op = stem_same _ (alu_halfword op)
 
 alu_three_halfword_same : (op : ALUOp) → is_some (alu_three_halfword_name op) ≡ is_some (alu_three_halfword op)
 unfolding alu_three_halfword_name
-alu_three_halfword_same Add32 = refl
-alu_three_halfword_same op = refl
+alu_three_halfword_same op = stem_same _ (alu_three_halfword op)
 
 alu_signed_word_same : (op : ALUOp) → is_some (alu_signed_word_name op) ≡ is_some (alu_signed_word op)
 unfolding alu_signed_word_name
-alu_signed_word_same Add32 = refl
-alu_signed_word_same op = refl
+alu_signed_word_same op = stem_same _ (alu_signed_word op)
 
 alu_unsigned_word_same : (op : ALUOp) → is_some (alu_unsigned_word_name op) ≡ is_some (alu_unsigned_word op)
 unfolding alu_unsigned_word_name
-alu_unsigned_word_same Add32 = refl
-alu_unsigned_word_same op = refl
+alu_unsigned_word_same op = stem_same _ (alu_unsigned_word op)
 
 cmp_two_same : (op : CmpOp) → is_some (cmp_two_name op) ≡ is_some (cmp_two op)
 unfolding cmp_two_name
-cmp_two_same CmpS32 = refl
-cmp_two_same op = refl
+cmp_two_same op = stem_same _ (cmp_two op)
 
 cmp_halfword_same : (op : CmpOp) → is_some (cmp_halfword_name op) ≡ is_some (cmp_halfword op)
 unfolding cmp_halfword_name
-cmp_halfword_same CmpS32 = refl
-cmp_halfword_same op = refl
+cmp_halfword_same op = stem_same _ (cmp_halfword op)
 
 cmp_signed_word_same : (op : CmpOp) → is_some (cmp_signed_word_name op) ≡ is_some (cmp_signed_word op)
 unfolding cmp_signed_word_name
-cmp_signed_word_same CmpS32 = refl
-cmp_signed_word_same op = refl
+cmp_signed_word_same op = stem_same _ (cmp_signed_word op)
 
 cmp_unsigned_word_same : (op : CmpOp) → is_some (cmp_unsigned_word_name op) ≡ is_some (cmp_unsigned_word op)
 unfolding cmp_unsigned_word_name
-cmp_unsigned_word_same CmpS32 = refl
-cmp_unsigned_word_same op = refl
+cmp_unsigned_word_same op = stem_same _ (cmp_unsigned_word op)
 
 cmp_trap_same : (op : CmpOp) → is_some (cmp_trap_name op) ≡ is_some (cmp_trap op)
 unfolding cmp_trap_name
-cmp_trap_same CmpS32 = refl
-cmp_trap_same op = refl
+cmp_trap_same op = stem_same _ (cmp_trap op)
 
 cmp_trap_signed_same : (op : CmpOp) → is_some (cmp_trap_signed_name op) ≡ is_some (cmp_trap_signed op)
 unfolding cmp_trap_signed_name
-cmp_trap_signed_same CmpS32 = refl
-cmp_trap_signed_same op = refl
+cmp_trap_signed_same op = stem_same _ (cmp_trap_signed op)
 
 cmp_trap_unsigned_same : (op : CmpOp) → is_some (cmp_trap_unsigned_name op) ≡ is_some (cmp_trap_unsigned op)
 unfolding cmp_trap_unsigned_name
-cmp_trap_unsigned_same CmpS32 = refl
-cmp_trap_unsigned_same op = refl
+cmp_trap_unsigned_same op = stem_same _ (cmp_trap_unsigned op)
 
 rotate_test_same : (op : RxSBGOp) → is_some (rotate_test_name op) ≡ is_some (rotate_then_test op)
-rotate_test_same And = refl
-rotate_test_same op = refl
+rotate_test_same op = stem_same _ (rotate_then_test op)
 
 atomic_same : (op : ALUOp) → is_some (atomic_name op) ≡ is_some (atomic_rsy op)
 unfolding atomic_name
-atomic_same Add32 = refl
-atomic_same op = refl
+atomic_same op = stem_same _ (atomic_rsy op)
 
 storage_same : (op : ALUOp) → has_row (rx (alu_short_name op) (alu_long_name op) None) ≡ (is_some (alu_rx op) || is_some (alu_rxy op))
 unfolding alu_short_name alu_long_name
 storage_same Add32 = refl
 storage_same op = refl
 
-one_same : (a : List ℕ) (x n : ℕ) → is_some (only_one a n) ≡ is_some (of_one x n)
-one_same a x n = by_test (nat_eq n 0) (Some a) None (Some x) None refl refl
-
-two_same : (a b : List ℕ) (x y n : ℕ) → is_some (one_of_two a b n) ≡ is_some (of_two x y n)
-two_same a b x y n =
-    by_test (nat_eq n 0) (Some a) (cond (nat_eq n 1) (Some b) None) (Some x) (cond (nat_eq n 1) (Some y) None) refl (by_test (nat_eq n 1) (Some b) None (Some y) None refl refl)
-
-four_same : (a b c d : List ℕ) (x y z w n : ℕ) → is_some (one_of_four a b c d n) ≡ is_some (of_four x y z w n)
-four_same a b c d x y z w n =
-    by_test (nat_eq n 0) (Some a) _ (Some x) _ refl
-    (by_test (nat_eq n 1) (Some b) _ (Some y) _ refl
-    (by_test (nat_eq n 2) (Some c) _ (Some z) _ refl (by_test (nat_eq n 3) (Some d) None (Some w) None refl refl)))
-
 part_same : (op : ALUOp) (n : ℕ) → is_some (alu_part_name op n) ≡ is_some (alu_part op n)
-part_same And32 n = two_same _ _ opcodes.NILL opcodes.NILH n
-part_same And64 n = four_same _ _ _ _ opcodes.NILL opcodes.NILH opcodes.NIHL opcodes.NIHH n
-part_same Orr32 n = two_same _ _ opcodes.OILL opcodes.OILH n
-part_same Orr64 n = four_same _ _ _ _ opcodes.OILL opcodes.OILH opcodes.OIHL opcodes.OIHH n
-part_same op n = refl
+part_same op n = stem_same _ (alu_part op n)
 
 half_same : (op : ALUOp) (n : ℕ) → is_some (alu_half_name op n) ≡ is_some (alu_half op n)
-half_same And32 n = one_same _ opcodes.NILF n
-half_same And64 n = two_same _ _ opcodes.NILF opcodes.NIHF n
-half_same Orr32 n = one_same _ opcodes.OILF n
-half_same Orr64 n = two_same _ _ opcodes.OILF opcodes.OIHF n
-half_same Xor32 n = one_same _ opcodes.XILF n
-half_same Xor64 n = two_same _ _ opcodes.XILF opcodes.XIHF n
-half_same op n = refl
+half_same op n = stem_same _ (alu_half op n)
 
 extend_same : (signed : Bool) (from to : ℕ) → is_some (extend_name signed from to) ≡ is_some (extend_two signed from to)
-extend_same signed from to =
-    by_test (nat_eq to 32) _ _ _ _
-    (by_test (nat_eq from 1) _ _ _ _ refl (by_test (nat_eq from 8) _ _ _ _ refl (by_test (nat_eq from 16) _ _ _ _ refl refl)))
-    (by_test (nat_eq to 64) _ _ _ _
-    (by_test (nat_eq from 1) _ _ _ _ refl (by_test (nat_eq from 8) _ _ _ _ refl (by_test (nat_eq from 16) _ _ _ _ refl (by_test (nat_eq from 32) _ _ _ _ refl refl))))
-    refl)
+extend_same signed from to = stem_same _ (extend_two signed from to)
 
 indexed_same : (n : ℕ) → is_some (indexed_name n) ≡ is_some (indexed_opcode n)
-indexed_same n = by_test (nat_eq n 1) _ _ _ _ refl (by_test (nat_eq n 2) _ _ _ _ refl (by_test (nat_eq n 3) _ _ _ _ refl (by_test (nat_eq n 4) _ _ _ _ refl refl)))
+indexed_same n = stem_same _ (indexed_opcode n)
 
 logical_same : (n : ℕ) → is_some (logical_indexed_name n) ≡ is_some (logical_indexed_opcode n)
-logical_same n = by_test (nat_eq n 1) _ _ _ _ refl (by_test (nat_eq n 2) _ _ _ _ refl (by_test (nat_eq n 3) _ _ _ _ refl (by_test (nat_eq n 4) _ _ _ _ refl refl)))
+logical_same n = stem_same _ (logical_indexed_opcode n)
 
 -- ---- rows
 
@@ -337,10 +293,10 @@ comparisons (CmpTrapRUImm16 op rn imm mask code) = masked_halfword_agrees (cmp_t
 comparisons i = tt
 
 moves : (i : Inst) → Agrees (move_text i) (is_some (single_instruction i))
-moves (Mov64UImm16Shifted rd imm) = halfword_agrees (load_part_name imm.shift) (load_part imm.shift) _ _ _ _ (four_same _ _ _ _ opcodes.LLILL opcodes.LLILH opcodes.LLIHL opcodes.LLIHH imm.shift)
-moves (Mov64UImm32Shifted rd imm) = word_agrees (load_half_name imm.shift) (load_half imm.shift) _ _ _ _ (two_same _ _ opcodes.LLILF opcodes.LLIHF imm.shift)
-moves (Insert64UImm16Shifted rd ri imm) = halfword_agrees (insert_part_name imm.shift) (insert_part imm.shift) _ _ _ _ (four_same _ _ _ _ opcodes.IILL opcodes.IILH opcodes.IIHL opcodes.IIHH imm.shift)
-moves (Insert64UImm32Shifted rd ri imm) = word_agrees (insert_half_name imm.shift) (insert_half imm.shift) _ _ _ _ (two_same _ _ opcodes.IILF opcodes.IIHF imm.shift)
+moves (Mov64UImm16Shifted rd imm) = halfword_agrees (load_part_name imm.shift) (load_part imm.shift) _ _ _ _ (stem_same _ (load_part imm.shift))
+moves (Mov64UImm32Shifted rd imm) = word_agrees (load_half_name imm.shift) (load_half imm.shift) _ _ _ _ (stem_same _ (load_half imm.shift))
+moves (Insert64UImm16Shifted rd ri imm) = halfword_agrees (insert_part_name imm.shift) (insert_part imm.shift) _ _ _ _ (stem_same _ (insert_part imm.shift))
+moves (Insert64UImm32Shifted rd ri imm) = word_agrees (insert_half_name imm.shift) (insert_half imm.shift) _ _ _ _ (stem_same _ (insert_half imm.shift))
 moves (Extend rd rn signed from to) = two_agrees (extend_name signed from to) (extend_two signed from to) _ _ _ _ (extend_same signed from to)
 moves (LoadIndexedAddr rd base index offset size) = indexed_agrees (indexed_name size) (indexed_opcode size) _ _ _ _ _ _ (indexed_same size)
 moves (LoadLogicalIndexedAddr rd base index offset size) = indexed_agrees (logical_indexed_name size) (logical_indexed_opcode size) _ _ _ _ _ _ (logical_same size)

@@ -1,5 +1,5 @@
 -- The texts of instructions on general registers and immediates (cranelift-codegen, `mod.rs`).
-use Rattle.std.specs.Prelude.{ℕ, ◌+◌, List, [], ◌∷◌, ◌++◌, codes, Bool, cond, ◌&&◌, nat_eq, nat_lt, Option, Some, None}
+use Rattle.std.specs.Prelude.{ℕ, ◌+◌, List, [], ◌∷◌, ◌++◌, codes, Bool, cond, ◌&&◌, nat_lt, Option, Some, None}
 use Rattle.std.specs.Fmt.{decimal, signed_decimal}
 use Rattle.s390x_base.specs.declared.regs.Reg.{Reg}
 use Rattle.s390x_base.specs.declared.regs.WritableRegPair.{WritableRegPair}
@@ -8,7 +8,9 @@ use Rattle.s390x_inst.specs.declared.inst.Inst.TheVariants.{AluRRR, AluRR, AluRR
 use Rattle.s390x_inst.specs.declared.inst.Inst.TheVariants.{Mov32SImm16, Mov64SImm16, Mov64SImm32, Mov64UImm16Shifted, Mov64UImm32Shifted, Insert64UImm16Shifted, Insert64UImm32Shifted, CMov32, CMov64, CMov32SImm16, CMov64SImm16, Extend, LoadAR, InsertAR, LoadIndexedAddr, LoadLogicalIndexedAddr}
 use Rattle.s390x_inst.specs.declared.inst.Inst.TheVariants.{SDivMod32, SDivMod64, UDivMod32, UDivMod64, CmpTrapRR, CmpTrapRSImm16, CmpTrapRUImm16}
 use Rattle.s390x_inst.specs.declared.ops.ALUOp.{ALUOp}
-use Rattle.s390x_inst.specs.declared.ops.ALUOp.TheVariants.{And32, And64, Orr32, Orr64, Xor32, Xor64}
+use Rattle.std.specs.Option.{option_map}
+use Rattle.s390x_format.specs.Stems.{stem_of}
+use Rattle.s390x_typed_steps.specs.Opcodes.{alu_part, alu_half, load_part, load_half, insert_part, insert_half, extend_two, indexed_opcode, logical_indexed_opcode}
 use Rattle.s390x_inst.specs.declared.ops.UnaryOp.{UnaryOp}
 use Rattle.s390x_inst.specs.declared.ops.UnaryOp.TheVariants.{PopcntReg}
 use Rattle.s390x_typed_steps.specs.General.{rotation}
@@ -19,79 +21,41 @@ use Rattle.s390x_text_rows.specs.Mnemonics.{alu_three_name, alu_two_name, alu_ha
 
 -- ---- mnemonics that a number chooses
 
--- one of two by its number
-abbrev pub one_of_two : (zeroth first : List ℕ) → ℕ → Option (List ℕ)
-one_of_two zeroth first n = cond (nat_eq n 0) (Some zeroth) (cond (nat_eq n 1) (Some first) None)
-
--- one of four by its number
-abbrev pub one_of_four : (zeroth first second third : List ℕ) → ℕ → Option (List ℕ)
-one_of_four zeroth first second third n =
-    cond (nat_eq n 0) (Some zeroth) (cond (nat_eq n 1) (Some first) (cond (nat_eq n 2) (Some second) (cond (nat_eq n 3) (Some third) None)))
-
--- the only one, whose number is 0
-abbrev pub only_one : List ℕ → ℕ → Option (List ℕ)
-only_one zeroth n = cond (nat_eq n 0) (Some zeroth) None
-
 -- on a part of 16 bits, by its number from the right; of 32-bit operators the right two alone
 abbrev pub alu_part_name : ALUOp → ℕ → Option (List ℕ)
-alu_part_name And32 shift = one_of_two (codes "nill") (codes "nilh") shift
-alu_part_name And64 shift = one_of_four (codes "nill") (codes "nilh") (codes "nihl") (codes "nihh") shift
-alu_part_name Orr32 shift = one_of_two (codes "oill") (codes "oilh") shift
-alu_part_name Orr64 shift = one_of_four (codes "oill") (codes "oilh") (codes "oihl") (codes "oihh") shift
-alu_part_name _ shift = None
+alu_part_name op shift = option_map stem_of (alu_part op shift)
 
 -- on a half of 32 bits, by its number from the right; of 32-bit operators the right one alone
 abbrev pub alu_half_name : ALUOp → ℕ → Option (List ℕ)
-alu_half_name And32 shift = only_one (codes "nilf") shift
-alu_half_name And64 shift = one_of_two (codes "nilf") (codes "nihf") shift
-alu_half_name Orr32 shift = only_one (codes "oilf") shift
-alu_half_name Orr64 shift = one_of_two (codes "oilf") (codes "oihf") shift
-alu_half_name Xor32 shift = only_one (codes "xilf") shift
-alu_half_name Xor64 shift = one_of_two (codes "xilf") (codes "xihf") shift
-alu_half_name _ shift = None
+alu_half_name op shift = option_map stem_of (alu_half op shift)
 
 -- a part of 16 bits alone
 abbrev pub load_part_name : ℕ → Option (List ℕ)
-load_part_name shift = one_of_four (codes "llill") (codes "llilh") (codes "llihl") (codes "llihh") shift
+load_part_name shift = option_map stem_of (load_part shift)
 
 -- a half of 32 bits alone
 abbrev pub load_half_name : ℕ → Option (List ℕ)
-load_half_name shift = one_of_two (codes "llilf") (codes "llihf") shift
+load_half_name shift = option_map stem_of (load_half shift)
 
 -- a part of 16 bits in a register
 abbrev pub insert_part_name : ℕ → Option (List ℕ)
-insert_part_name shift = one_of_four (codes "iill") (codes "iilh") (codes "iihl") (codes "iihh") shift
+insert_part_name shift = option_map stem_of (insert_part shift)
 
 -- a half of 32 bits in a register
 abbrev pub insert_half_name : ℕ → Option (List ℕ)
-insert_half_name shift = one_of_two (codes "iilf") (codes "iihf") shift
-
--- a number of so many bits becomes one of 32 bits; one bit counts as a byte with its sign
-abbrev pub extend_to_word_name : Bool → ℕ → Option (List ℕ)
-extend_to_word_name signed from =
-    cond (nat_eq from 1) (Some (codes "lbr")) (cond (nat_eq from 8) (Some (cond signed (codes "lbr") (codes "llcr"))) (cond (nat_eq from 16) (Some (cond signed (codes "lhr") (codes "llhr"))) None))
-
--- or of 64 bits
-abbrev pub extend_to_doubleword_name : Bool → ℕ → Option (List ℕ)
-extend_to_doubleword_name signed from =
-    cond (nat_eq from 1) (Some (codes "lgbr"))
-    (cond (nat_eq from 8) (Some (cond signed (codes "lgbr") (codes "llgcr")))
-    (cond (nat_eq from 16) (Some (cond signed (codes "lghr") (codes "llghr")))
-    (cond (nat_eq from 32) (Some (cond signed (codes "lgfr") (codes "llgfr"))) None)))
+insert_half_name shift = option_map stem_of (insert_half shift)
 
 -- an extension to 32 or to 64 bits
 abbrev pub extend_name : Bool → (from to : ℕ) → Option (List ℕ)
-extend_name signed from to = cond (nat_eq to 32) (extend_to_word_name signed from) (cond (nat_eq to 64) (extend_to_doubleword_name signed from) None)
+extend_name signed from to = option_map stem_of (extend_two signed from to)
 
 -- an indexed address by the size of its elements, the index with its sign
 abbrev pub indexed_name : ℕ → Option (List ℕ)
-indexed_name size =
-    cond (nat_eq size 1) (Some (codes "lxah")) (cond (nat_eq size 2) (Some (codes "lxaf")) (cond (nat_eq size 3) (Some (codes "lxag")) (cond (nat_eq size 4) (Some (codes "lxaq")) None)))
+indexed_name size = option_map stem_of (indexed_opcode size)
 
 -- the same, the index without a sign
 abbrev pub logical_indexed_name : ℕ → Option (List ℕ)
-logical_indexed_name size =
-    cond (nat_eq size 1) (Some (codes "llxah")) (cond (nat_eq size 2) (Some (codes "llxaf")) (cond (nat_eq size 3) (Some (codes "llxag")) (cond (nat_eq size 4) (Some (codes "llxaq")) None)))
+logical_indexed_name size = option_map stem_of (logical_indexed_opcode size)
 
 -- selected bits are numbered below 64; no row for others
 abbrev pub selected_name : Option (List ℕ) → (start end : ℕ) → Option (List ℕ)

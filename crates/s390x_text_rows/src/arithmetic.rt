@@ -3,84 +3,33 @@ ghost use Rattle.std.specs.Prelude.{◌≡◌, ◌∷◌, [], Some, string_bytes
 ghost use Rattle.std.specs.Option.{option_map};
 ghost use Rattle.s390x_typed_steps.specs.General.{rotation};
 ghost use Rattle.s390x_text_rows.specs.Texts.{Prints, PrintsWhere, fixed, spelled};
-ghost use Rattle.s390x_text_rows.specs.Integer.{arithmetic_text, pair_instruction_text, pair_row, unary_operands, alu_part_name, alu_half_name, one_of_two, one_of_four, only_one, selected_name};
+ghost use Rattle.s390x_text_rows.specs.Integer.{arithmetic_text, pair_instruction_text, pair_row, unary_operands, alu_part_name, alu_half_name, selected_name};
 ghost use Rattle.s390x_text_rows.specs.Mnemonics.{unary_name};
 
 use crate::error::TextError;
 use crate::mnemonics::{
     alu_halfword_name, alu_signed_word_name, alu_three_halfword_name, alu_three_name, alu_two_name,
-    alu_unsigned_word_name, rotate_name, rotate_test_name, shift_name, unary_name,
+    alu_unsigned_word_name, rotate_name, rotate_test_name, shift_name, stem_where, unary_name,
 };
 use crate::operand::{Amount, Operand, Reused, ReusedLow, ReusedPair};
 use crate::regs::pair_refusal;
 use crate::row::{fixed2, fixed3, row2, row5, spelled2, spelled3, three};
 use s390x_base::{Reg, RegPair, Writable, WritableRegPair};
 use s390x_inst::{ALUOp, Inst, UnaryOp};
-
-/// One of two by its number; None for another one.
-pub fn one_of_two(zeroth: &'static str, first: &'static str, n: u8) -> Option<&'static str>
-    ensures { option_map (λ s. s.now) result ≡ one_of_two zeroth.now first.now n }
-{
-    match n {
-        0 => Some(zeroth),
-        1 => Some(first),
-        _ => None,
-    }
-}
-
-/// One of four by its number; None for another one.
-pub fn one_of_four(
-    zeroth: &'static str,
-    first: &'static str,
-    second: &'static str,
-    third: &'static str,
-    n: u8,
-) -> Option<&'static str>
-    ensures { option_map (λ s. s.now) result
-        ≡ one_of_four zeroth.now first.now second.now third.now n }
-{
-    match n {
-        0 => Some(zeroth),
-        1 => Some(first),
-        2 => Some(second),
-        3 => Some(third),
-        _ => None,
-    }
-}
-
-// The only one, whose number is 0.
-fn only_one(zeroth: &'static str, n: u8) -> Option<&'static str>
-    ensures { option_map (λ s. s.now) result ≡ only_one zeroth.now n }
-{
-    if n == 0 { Some(zeroth) } else { None }
-}
+use s390x_typed_steps::{row_of_part, rows_of_alu};
 
 // On a part of 16 bits.
 fn alu_part_name(op: ALUOp, shift: u8) -> Option<&'static str>
     ensures { option_map (λ s. s.now) result ≡ alu_part_name op shift }
 {
-    match op {
-        ALUOp::And32 => one_of_two("nill", "nilh", shift),
-        ALUOp::And64 => one_of_four("nill", "nilh", "nihl", "nihh", shift),
-        ALUOp::Orr32 => one_of_two("oill", "oilh", shift),
-        ALUOp::Orr64 => one_of_four("oill", "oilh", "oihl", "oihh", shift),
-        _ => None,
-    }
+    stem_where(row_of_part(rows_of_alu(op).parts, shift))
 }
 
 // On a half of 32 bits.
 fn alu_half_name(op: ALUOp, shift: u8) -> Option<&'static str>
     ensures { option_map (λ s. s.now) result ≡ alu_half_name op shift }
 {
-    match op {
-        ALUOp::And32 => only_one("nilf", shift),
-        ALUOp::And64 => one_of_two("nilf", "nihf", shift),
-        ALUOp::Orr32 => only_one("oilf", shift),
-        ALUOp::Orr64 => one_of_two("oilf", "oihf", shift),
-        ALUOp::Xor32 => only_one("xilf", shift),
-        ALUOp::Xor64 => one_of_two("xilf", "xihf", shift),
-        _ => None,
-    }
+    stem_where(row_of_part(rows_of_alu(op).halves, shift))
 }
 
 // No row where a selected bit isn't below 64.

@@ -2,70 +2,36 @@
 ghost use Rattle.std.specs.Prelude.{◌≡◌, string_bytes};
 ghost use Rattle.std.specs.Option.{option_map};
 ghost use Rattle.s390x_text_rows.specs.Texts.{PrintsWhere};
-ghost use Rattle.s390x_text_rows.specs.Integer.{move_text, extend_to_word_name, extend_to_doubleword_name, extend_name, indexed_name, logical_indexed_name};
+ghost use Rattle.s390x_text_rows.specs.Integer.{move_text, extend_name, indexed_name, logical_indexed_name};
 
-use crate::arithmetic::{one_of_four, one_of_two, reused};
+use crate::arithmetic::reused;
 use crate::error::TextError;
+use crate::mnemonics::stem_where;
 use crate::operand::{AccessRegister, Indexed};
 use crate::row::{conditional2, fixed2, row2};
 use s390x_base::{Reg, SImm20};
 use s390x_inst::Inst;
-
-fn extend_to_word_name(signed: bool, from: u8) -> Option<&'static str>
-    ensures { option_map (λ s. s.now) result ≡ extend_to_word_name signed from }
-{
-    match from {
-        1 => Some("lbr"),
-        8 => Some(if signed { "lbr" } else { "llcr" }),
-        16 => Some(if signed { "lhr" } else { "llhr" }),
-        _ => None,
-    }
-}
-
-fn extend_to_doubleword_name(signed: bool, from: u8) -> Option<&'static str>
-    ensures { option_map (λ s. s.now) result ≡ extend_to_doubleword_name signed from }
-{
-    match from {
-        1 => Some("lgbr"),
-        8 => Some(if signed { "lgbr" } else { "llgcr" }),
-        16 => Some(if signed { "lghr" } else { "llghr" }),
-        32 => Some(if signed { "lgfr" } else { "llgfr" }),
-        _ => None,
-    }
-}
+use s390x_typed_steps::{
+    INSERT_HALVES, INSERT_PARTS, LOAD_HALVES, LOAD_PARTS, row_of_extension, row_of_index,
+    row_of_logical_index, row_of_part,
+};
 
 fn extend_name(signed: bool, from: u8, to: u8) -> Option<&'static str>
     ensures { option_map (λ s. s.now) result ≡ extend_name signed from to }
 {
-    match to {
-        32 => extend_to_word_name(signed, from),
-        64 => extend_to_doubleword_name(signed, from),
-        _ => None,
-    }
+    stem_where(row_of_extension(signed, from, to))
 }
 
 fn indexed_name(size: u8) -> Option<&'static str>
     ensures { option_map (λ s. s.now) result ≡ indexed_name size }
 {
-    match size {
-        1 => Some("lxah"),
-        2 => Some("lxaf"),
-        3 => Some("lxag"),
-        4 => Some("lxaq"),
-        _ => None,
-    }
+    stem_where(row_of_index(size))
 }
 
 fn logical_indexed_name(size: u8) -> Option<&'static str>
     ensures { option_map (λ s. s.now) result ≡ logical_indexed_name size }
 {
-    match size {
-        1 => Some("llxah"),
-        2 => Some("llxaf"),
-        3 => Some("llxag"),
-        4 => Some("llxaq"),
-        _ => None,
-    }
+    stem_where(row_of_logical_index(size))
 }
 
 fn indexed(offset: &SImm20, index: &Reg, base: &Reg) -> Indexed
@@ -93,22 +59,25 @@ pub fn put_move(out: &mut String, inst: &Inst) -> Option<Result<(), TextError>>
         Inst::Mov64SImm32 { rd, imm } => Some(fixed2(out, "lgfi", rd, imm)),
         Inst::Mov64UImm16Shifted { rd, imm } => Some(row2(
             out,
-            one_of_four("llill", "llilh", "llihl", "llihh", imm.shift),
+            stem_where(row_of_part(LOAD_PARTS, imm.shift)),
             rd,
             imm,
         )),
-        Inst::Mov64UImm32Shifted { rd, imm } => {
-            Some(row2(out, one_of_two("llilf", "llihf", imm.shift), rd, imm))
-        }
+        Inst::Mov64UImm32Shifted { rd, imm } => Some(row2(
+            out,
+            stem_where(row_of_part(LOAD_HALVES, imm.shift)),
+            rd,
+            imm,
+        )),
         Inst::Insert64UImm16Shifted { rd, ri, imm } => Some(row2(
             out,
-            one_of_four("iill", "iilh", "iihl", "iihh", imm.shift),
+            stem_where(row_of_part(INSERT_PARTS, imm.shift)),
             &reused(rd, ri),
             imm,
         )),
         Inst::Insert64UImm32Shifted { rd, ri, imm } => Some(row2(
             out,
-            one_of_two("iilf", "iihf", imm.shift),
+            stem_where(row_of_part(INSERT_HALVES, imm.shift)),
             &reused(rd, ri),
             imm,
         )),

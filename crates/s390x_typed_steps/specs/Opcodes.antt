@@ -2,167 +2,93 @@
 -- of two digits are RR, of four with two operands RRE, with three RRF-AB; with an immediate of 16 bits rows are RI-A, or RIE-D with a third operand;
 -- of 32 bits RIL-A. Shifts by an amount are RSY, selected bits of a rotated register RIE-F, indexed addresses RXY. Rows of a single instruction have
 -- their opcodes in `Alone.antt`: of these, conditional moves are RRF-CDE, or RIE-G with an immediate, and counts of ones RRF-CDE.
-use Rattle.std.specs.Prelude.{ℕ, Bool, nat_eq, cond, Option, Some, None}
+use Rattle.std.specs.Prelude.{ℕ, Bool, nat_eq, cond, List, get_or, slice_index, Option, Some, None}
+use denote.Enum.Declared.{tag_of}
 use Rattle.s390x_inst.specs.declared.ops.ALUOp.{ALUOp}
-use Rattle.s390x_inst.specs.declared.ops.ALUOp.TheVariants.{Add32, Add64, Add64Ext32, AddLogical32, AddLogical64, AddLogical64Ext32, Sub32, Sub64, Sub64Ext32, SubLogical32, SubLogical64, SubLogical64Ext32, Mul32, Mul32CC, Mul64, Mul64Ext32, Mul64CC, And32, And64, Orr32, Orr64, Xor32, Xor64, NotAnd32, NotAnd64, NotOrr32, NotOrr64, NotXor32, NotXor64, AndNot32, AndNot64, OrrNot32, OrrNot64}
 use Rattle.s390x_inst.specs.declared.ops.CmpOp.{CmpOp}
-use Rattle.s390x_inst.specs.declared.ops.CmpOp.TheVariants.{CmpS32, CmpS64, CmpS64Ext32, CmpL32, CmpL64, CmpL64Ext32}
 use Rattle.s390x_inst.specs.declared.ops.ShiftOp.{ShiftOp}
-use Rattle.s390x_inst.specs.declared.ops.ShiftOp.TheVariants.{RotL32, RotL64, LShL32, LShL64, LShR32, LShR64, AShR32, AShR64}
 use Rattle.s390x_inst.specs.declared.ops.RxSBGOp.{RxSBGOp}
-use Rattle.s390x_inst.specs.declared.ops.RxSBGOp.TheVariants.{Insert, And, Or, Xor}
 use Rattle.s390x_inst.specs.declared.ops.UnaryOp.{UnaryOp}
-use Rattle.s390x_inst.specs.declared.ops.UnaryOp.TheVariants.{Abs32, Abs64, Abs64Ext32, Neg32, Neg64, Neg64Ext32, BSwap32, BSwap64, Clz64, Ctz64}
-use Rattle.s390x_rows.specs.declared.opcodes.TheConstants as opcodes
+use Rattle.s390x_inst.specs.contracts.ops.ALUOp as the_alu
+use Rattle.s390x_inst.specs.contracts.ops.CmpOp as the_cmp
+use Rattle.s390x_inst.specs.contracts.ops.RxSBGOp as the_rotate
+use Rattle.s390x_inst.specs.contracts.ops.ShiftOp as the_shift
+use Rattle.s390x_inst.specs.contracts.ops.UnaryOp as the_unary
+use Rattle.s390x_typed_steps.specs.declared.operator_rows.AluRows.{AluRows}
+use Rattle.s390x_typed_steps.specs.declared.operator_rows.CmpRows.{CmpRows}
+use Rattle.s390x_typed_steps.specs.declared.operator_rows.PartRows.{PartRows}
+use Rattle.s390x_typed_steps.specs.declared.operator_rows.PartRows.TheVariants.{Lacking, One, Two, Four}
+use Rattle.s390x_typed_steps.specs.declared.operator_rows.RotateRows.{RotateRows}
+use Rattle.s390x_typed_steps.specs.declared.operator_rows.TheConstants.{ALU_ROWS, CMP_ROWS, ROTATE_ROWS, SHIFT_ROWS, UNARY_ROWS}
+use Rattle.s390x_typed_steps.specs.declared.move_rows.TheConstants.{BYTE_TO_DOUBLEWORD, BYTE_TO_WORD, HALFWORD_TO_DOUBLEWORD, HALFWORD_TO_WORD, INDEXED_ROWS, INSERT_HALVES, INSERT_PARTS, LOAD_HALVES, LOAD_PARTS, LOGICAL_INDEXED_ROWS, WORD_TO_DOUBLEWORD}
+
+-- the rows of an operator, at its place in their table
+abbrev pub alu_rows : ALUOp → AluRows
+alu_rows op = get_or ALU_ROWS (tag_of the_alu.the_type op) (record { three = None; two = None; halfword = None; three_halfword = None; signed_word = None; unsigned_word = None; rx = None; rxy = None; atomic = None; parts = Lacking; halves = Lacking })
+
+-- the rows of a comparison
+abbrev pub cmp_rows : CmpOp → CmpRows
+cmp_rows op = get_or CMP_ROWS (tag_of the_cmp.the_type op) (record { two = None; halfword = None; signed_word = None; unsigned_word = None; trap = None; trap_signed = None; trap_unsigned = None; rx = None; rxy = None; ril = 0 })
+
+-- the rows that rotate
+abbrev pub rotate_rows : RxSBGOp → RotateRows
+rotate_rows op = get_or ROTATE_ROWS (tag_of the_rotate.the_type op) (record { change = 0; test = None })
 
 -- three operands
 abbrev pub alu_three : ALUOp → Option ℕ
-alu_three Add32 = Some opcodes.ARK
-alu_three Add64 = Some opcodes.AGRK
-alu_three AddLogical32 = Some opcodes.ALRK
-alu_three AddLogical64 = Some opcodes.ALGRK
-alu_three Sub32 = Some opcodes.SRK
-alu_three Sub64 = Some opcodes.SGRK
-alu_three SubLogical32 = Some opcodes.SLRK
-alu_three SubLogical64 = Some opcodes.SLGRK
-alu_three Mul32 = Some opcodes.MSRKC
-alu_three Mul32CC = Some opcodes.MSRKC
-alu_three Mul64 = Some opcodes.MSGRKC
-alu_three Mul64CC = Some opcodes.MSGRKC
-alu_three And32 = Some opcodes.NRK
-alu_three And64 = Some opcodes.NGRK
-alu_three Orr32 = Some opcodes.ORK
-alu_three Orr64 = Some opcodes.OGRK
-alu_three Xor32 = Some opcodes.XRK
-alu_three Xor64 = Some opcodes.XGRK
-alu_three NotAnd32 = Some opcodes.NNRK
-alu_three NotAnd64 = Some opcodes.NNGRK
-alu_three NotOrr32 = Some opcodes.NORK
-alu_three NotOrr64 = Some opcodes.NOGRK
-alu_three NotXor32 = Some opcodes.NXRK
-alu_three NotXor64 = Some opcodes.NXGRK
-alu_three AndNot32 = Some opcodes.NCRK
-alu_three AndNot64 = Some opcodes.NCGRK
-alu_three OrrNot32 = Some opcodes.OCRK
-alu_three OrrNot64 = Some opcodes.OCGRK
-alu_three _ = None
+alu_three op = (alu_rows op).three
 
 -- two operands, the first of which is also the output
 abbrev pub alu_two : ALUOp → Option ℕ
-alu_two Add32 = Some opcodes.AR
-alu_two Add64 = Some opcodes.AGR
-alu_two Add64Ext32 = Some opcodes.AGFR
-alu_two AddLogical32 = Some opcodes.ALR
-alu_two AddLogical64 = Some opcodes.ALGR
-alu_two AddLogical64Ext32 = Some opcodes.ALGFR
-alu_two Sub32 = Some opcodes.SR
-alu_two Sub64 = Some opcodes.SGR
-alu_two Sub64Ext32 = Some opcodes.SGFR
-alu_two SubLogical32 = Some opcodes.SLR
-alu_two SubLogical64 = Some opcodes.SLGR
-alu_two SubLogical64Ext32 = Some opcodes.SLGFR
-alu_two Mul32 = Some opcodes.MSR
-alu_two Mul64 = Some opcodes.MSGR
-alu_two Mul64Ext32 = Some opcodes.MSGFR
-alu_two And32 = Some opcodes.NR
-alu_two And64 = Some opcodes.NGR
-alu_two Orr32 = Some opcodes.OR
-alu_two Orr64 = Some opcodes.OGR
-alu_two Xor32 = Some opcodes.XR
-alu_two Xor64 = Some opcodes.XGR
-alu_two _ = None
+alu_two op = (alu_rows op).two
 
 -- a comparison of two registers
 abbrev pub cmp_two : CmpOp → Option ℕ
-cmp_two CmpS32 = Some opcodes.CR
-cmp_two CmpS64 = Some opcodes.CGR
-cmp_two CmpS64Ext32 = Some opcodes.CGFR
-cmp_two CmpL32 = Some opcodes.CLR
-cmp_two CmpL64 = Some opcodes.CLGR
-cmp_two CmpL64Ext32 = Some opcodes.CLGFR
-cmp_two _ = None
+cmp_two op = (cmp_rows op).two
 
 -- an operator on one register, but for the counts of ones
 abbrev pub unary_two : UnaryOp → Option ℕ
-unary_two Abs32 = Some opcodes.LPR
-unary_two Abs64 = Some opcodes.LPGR
-unary_two Abs64Ext32 = Some opcodes.LPGFR
-unary_two Neg32 = Some opcodes.LCR
-unary_two Neg64 = Some opcodes.LCGR
-unary_two Neg64Ext32 = Some opcodes.LCGFR
-unary_two BSwap32 = Some opcodes.LRVR
-unary_two BSwap64 = Some opcodes.LRVGR
-unary_two Clz64 = Some opcodes.CLZG
-unary_two Ctz64 = Some opcodes.CTZG
-unary_two _ = None
+unary_two op = get_or UNARY_ROWS (tag_of the_unary.the_type op) None
 
 -- a register and an immediate of 16 bits with its sign
 abbrev pub alu_halfword : ALUOp → Option ℕ
-alu_halfword Add32 = Some opcodes.AHI
-alu_halfword Add64 = Some opcodes.AGHI
-alu_halfword Mul32 = Some opcodes.MHI
-alu_halfword Mul64 = Some opcodes.MGHI
-alu_halfword _ = None
+alu_halfword op = (alu_rows op).halfword
 
 -- the same into another register
 abbrev pub alu_three_halfword : ALUOp → Option ℕ
-alu_three_halfword Add32 = Some opcodes.AHIK
-alu_three_halfword Add64 = Some opcodes.AGHIK
-alu_three_halfword _ = None
+alu_three_halfword op = (alu_rows op).three_halfword
 
 -- a register and an immediate of 32 bits, with its sign
 abbrev pub alu_signed_word : ALUOp → Option ℕ
-alu_signed_word Add32 = Some opcodes.AFI
-alu_signed_word Add64 = Some opcodes.AGFI
-alu_signed_word Mul32 = Some opcodes.MSFI
-alu_signed_word Mul64 = Some opcodes.MSGFI
-alu_signed_word _ = None
+alu_signed_word op = (alu_rows op).signed_word
 
 -- and without a sign
 abbrev pub alu_unsigned_word : ALUOp → Option ℕ
-alu_unsigned_word AddLogical32 = Some opcodes.ALFI
-alu_unsigned_word AddLogical64 = Some opcodes.ALGFI
-alu_unsigned_word SubLogical32 = Some opcodes.SLFI
-alu_unsigned_word SubLogical64 = Some opcodes.SLGFI
-alu_unsigned_word _ = None
+alu_unsigned_word op = (alu_rows op).unsigned_word
 
 -- a comparison of two registers that traps
 abbrev pub cmp_trap : CmpOp → Option ℕ
-cmp_trap CmpS32 = Some opcodes.CRT
-cmp_trap CmpS64 = Some opcodes.CGRT
-cmp_trap CmpL32 = Some opcodes.CLRT
-cmp_trap CmpL64 = Some opcodes.CLGRT
-cmp_trap _ = None
+cmp_trap op = (cmp_rows op).trap
 
 -- one with an immediate of 16 bits, with its sign
 abbrev pub cmp_trap_signed : CmpOp → Option ℕ
-cmp_trap_signed CmpS32 = Some opcodes.CIT
-cmp_trap_signed CmpS64 = Some opcodes.CGIT
-cmp_trap_signed _ = None
+cmp_trap_signed op = (cmp_rows op).trap_signed
 
 -- and without
 abbrev pub cmp_trap_unsigned : CmpOp → Option ℕ
-cmp_trap_unsigned CmpL32 = Some opcodes.CLFIT
-cmp_trap_unsigned CmpL64 = Some opcodes.CLGIT
-cmp_trap_unsigned _ = None
+cmp_trap_unsigned op = (cmp_rows op).trap_unsigned
 
 -- a comparison with an immediate of 16 bits, with its sign
 abbrev pub cmp_halfword : CmpOp → Option ℕ
-cmp_halfword CmpS32 = Some opcodes.CHI
-cmp_halfword CmpS64 = Some opcodes.CGHI
-cmp_halfword _ = None
+cmp_halfword op = (cmp_rows op).halfword
 
 -- a comparison with an immediate of 32 bits, with its sign
 abbrev pub cmp_signed_word : CmpOp → Option ℕ
-cmp_signed_word CmpS32 = Some opcodes.CFI
-cmp_signed_word CmpS64 = Some opcodes.CGFI
-cmp_signed_word _ = None
+cmp_signed_word op = (cmp_rows op).signed_word
 
 -- a comparison with an immediate of 32 bits, without a sign
 abbrev pub cmp_unsigned_word : CmpOp → Option ℕ
-cmp_unsigned_word CmpL32 = Some opcodes.CLFI
-cmp_unsigned_word CmpL64 = Some opcodes.CLGFI
-cmp_unsigned_word _ = None
+cmp_unsigned_word op = (cmp_rows op).unsigned_word
 
 -- the only one, whose number is 0
 abbrev pub of_one : (zeroth : ℕ) → ℕ → Option ℕ
@@ -176,49 +102,50 @@ of_two zeroth first n = cond (nat_eq n 0) (Some zeroth) (cond (nat_eq n 1) (Some
 abbrev pub of_four : (zeroth first second third : ℕ) → ℕ → Option ℕ
 of_four zeroth first second third n = cond (nat_eq n 0) (Some zeroth) (cond (nat_eq n 1) (Some first) (cond (nat_eq n 2) (Some second) (cond (nat_eq n 3) (Some third) None)))
 
--- a part of 16 bits, by its number from the right; of 32-bit operators the right two alone
+-- of a part by its number from the right
+abbrev pub opcode_of_part : PartRows → ℕ → Option ℕ
+opcode_of_part Lacking n = None
+opcode_of_part (One zeroth) n = of_one zeroth n
+opcode_of_part (Two zeroth first) n = of_two zeroth first n
+opcode_of_part (Four zeroth first second third) n = of_four zeroth first second third n
+
+-- a part of 16 bits; of 32-bit operators the right two alone
 abbrev pub alu_part : ALUOp → ℕ → Option ℕ
-alu_part And32 shift = of_two opcodes.NILL opcodes.NILH shift
-alu_part And64 shift = of_four opcodes.NILL opcodes.NILH opcodes.NIHL opcodes.NIHH shift
-alu_part Orr32 shift = of_two opcodes.OILL opcodes.OILH shift
-alu_part Orr64 shift = of_four opcodes.OILL opcodes.OILH opcodes.OIHL opcodes.OIHH shift
-alu_part _ shift = None
+alu_part op shift = opcode_of_part (alu_rows op).parts shift
 
--- a half of 32 bits, by its number from the right; of 32-bit operators the right one alone
+-- a half of 32 bits; of 32-bit operators the right one alone
 abbrev pub alu_half : ALUOp → ℕ → Option ℕ
-alu_half And32 shift = of_one opcodes.NILF shift
-alu_half And64 shift = of_two opcodes.NILF opcodes.NIHF shift
-alu_half Orr32 shift = of_one opcodes.OILF shift
-alu_half Orr64 shift = of_two opcodes.OILF opcodes.OIHF shift
-alu_half Xor32 shift = of_one opcodes.XILF shift
-alu_half Xor64 shift = of_two opcodes.XILF opcodes.XIHF shift
-alu_half _ shift = None
+alu_half op shift = opcode_of_part (alu_rows op).halves shift
 
--- a load of a part of 16 bits, by its number from the right, into a register that is zero elsewhere
+-- a load of a part of 16 bits into a register that is zero elsewhere
 abbrev pub load_part : ℕ → Option ℕ
-load_part shift = of_four opcodes.LLILL opcodes.LLILH opcodes.LLIHL opcodes.LLIHH shift
+load_part shift = opcode_of_part LOAD_PARTS shift
 
--- a load of a half of 32 bits, by its number from the right, into a register that is zero elsewhere
+-- a load of a half of 32 bits into a register that is zero elsewhere
 abbrev pub load_half : ℕ → Option ℕ
-load_half shift = of_two opcodes.LLILF opcodes.LLIHF shift
+load_half shift = opcode_of_part LOAD_HALVES shift
 
--- a part of 16 bits, by its number from the right, in a register that is left elsewhere
+-- a part of 16 bits in a register that is left elsewhere
 abbrev pub insert_part : ℕ → Option ℕ
-insert_part shift = of_four opcodes.IILL opcodes.IILH opcodes.IIHL opcodes.IIHH shift
+insert_part shift = opcode_of_part INSERT_PARTS shift
 
--- a half of 32 bits, by its number from the right, in a register that is left elsewhere
+-- a half of 32 bits in a register that is left elsewhere
 abbrev pub insert_half : ℕ → Option ℕ
-insert_half shift = of_two opcodes.IILF opcodes.IIHF shift
+insert_half shift = opcode_of_part INSERT_HALVES shift
 
 -- a number of so many bits becomes one of 32 bits; one bit counts as a byte with its sign
 abbrev pub extend_to_word : Bool → ℕ → Option ℕ
 extend_to_word signed from =
-    cond (nat_eq from 1) (Some opcodes.LBR) (cond (nat_eq from 8) (Some (cond signed opcodes.LBR opcodes.LLCR)) (cond (nat_eq from 16) (Some (cond signed opcodes.LHR opcodes.LLHR)) None))
+    cond (nat_eq from 1) (Some BYTE_TO_WORD.signed)
+    (cond (nat_eq from 8) (Some (cond signed BYTE_TO_WORD.signed BYTE_TO_WORD.unsigned)) (cond (nat_eq from 16) (Some (cond signed HALFWORD_TO_WORD.signed HALFWORD_TO_WORD.unsigned)) None))
 
 -- or of 64 bits
 abbrev pub extend_to_doubleword : Bool → ℕ → Option ℕ
 extend_to_doubleword signed from =
-    cond (nat_eq from 1) (Some opcodes.LGBR) (cond (nat_eq from 8) (Some (cond signed opcodes.LGBR opcodes.LLGCR)) (cond (nat_eq from 16) (Some (cond signed opcodes.LGHR opcodes.LLGHR)) (cond (nat_eq from 32) (Some (cond signed opcodes.LGFR opcodes.LLGFR)) None)))
+    cond (nat_eq from 1) (Some BYTE_TO_DOUBLEWORD.signed)
+    (cond (nat_eq from 8) (Some (cond signed BYTE_TO_DOUBLEWORD.signed BYTE_TO_DOUBLEWORD.unsigned))
+    (cond (nat_eq from 16) (Some (cond signed HALFWORD_TO_DOUBLEWORD.signed HALFWORD_TO_DOUBLEWORD.unsigned))
+    (cond (nat_eq from 32) (Some (cond signed WORD_TO_DOUBLEWORD.signed WORD_TO_DOUBLEWORD.unsigned)) None)))
 
 -- an extension to 32 or to 64 bits
 abbrev pub extend_two : Bool → (from to : ℕ) → Option ℕ
@@ -226,33 +153,26 @@ extend_two signed from to = cond (nat_eq to 32) (extend_to_word signed from) (co
 
 -- a shift by an amount
 abbrev pub shift_opcode : ShiftOp → ℕ
-shift_opcode RotL32 = opcodes.RLL
-shift_opcode RotL64 = opcodes.RLLG
-shift_opcode LShL32 = opcodes.SLLK
-shift_opcode LShL64 = opcodes.SLLG
-shift_opcode LShR32 = opcodes.SRLK
-shift_opcode LShR64 = opcodes.SRLG
-shift_opcode AShR32 = opcodes.SRAK
-shift_opcode AShR64 = opcodes.SRAG
+shift_opcode op = get_or SHIFT_ROWS (tag_of the_shift.the_type op) 0
 
 -- bits that are rotated, and then inserted or combined
 abbrev pub rotate_then : RxSBGOp → ℕ
-rotate_then Insert = opcodes.RISBGN
-rotate_then And = opcodes.RNSBG
-rotate_then Or = opcodes.ROSBG
-rotate_then Xor = opcodes.RXSBG
+rotate_then op = (rotate_rows op).change
 
 -- or combined to be tested alone
 abbrev pub rotate_then_test : RxSBGOp → Option ℕ
-rotate_then_test Insert = None
-rotate_then_test And = Some opcodes.RNSBG
-rotate_then_test Or = Some opcodes.ROSBG
-rotate_then_test Xor = Some opcodes.RXSBG
+rotate_then_test op = (rotate_rows op).test
+
+-- one of four by the size of elements, which is 1 to 4
+abbrev pub of_size : (rows : List ℕ) → ℕ → Option ℕ
+of_size rows size =
+    cond (nat_eq size 1) (Some (slice_index rows 0))
+    (cond (nat_eq size 2) (Some (slice_index rows 1)) (cond (nat_eq size 3) (Some (slice_index rows 2)) (cond (nat_eq size 4) (Some (slice_index rows 3)) None)))
 
 -- an indexed address by the size of its elements, the index with its sign
 abbrev pub indexed_opcode : ℕ → Option ℕ
-indexed_opcode size = cond (nat_eq size 1) (Some opcodes.LXAH) (cond (nat_eq size 2) (Some opcodes.LXAF) (cond (nat_eq size 3) (Some opcodes.LXAG) (cond (nat_eq size 4) (Some opcodes.LXAQ) None)))
+indexed_opcode size = of_size INDEXED_ROWS size
 
 -- the same, the index without a sign
 abbrev pub logical_indexed_opcode : ℕ → Option ℕ
-logical_indexed_opcode size = cond (nat_eq size 1) (Some opcodes.LLXAH) (cond (nat_eq size 2) (Some opcodes.LLXAF) (cond (nat_eq size 3) (Some opcodes.LLXAG) (cond (nat_eq size 4) (Some opcodes.LLXAQ) None)))
+logical_indexed_opcode size = of_size LOGICAL_INDEXED_ROWS size

@@ -2,8 +2,8 @@ use Rattle.std.proofs.Common.{ℕ, refl, subst}
 use Rattle.s390x_machine.specs.Semantics.{action}
 use Rattle.s390x_machine.specs.State.{state_of}
 use Rattle.s390x_machine.specs.Step.{Executes}
-use Rattle.s390x_machine.specs.declared.semantics.Action.TheVariants.{Branch}
-use Rattle.s390x_machine.specs.declared.semantics.RowSemantics.TheVariants.{BranchRelative}
+use Rattle.s390x_machine.specs.declared.action_type.Action.TheVariants.{Branch}
+use Rattle.s390x_format.specs.declared.semantics.RowSemantics.TheVariants.{BranchRelative}
 use Rattle.std.specs.Prelude.{slice_index}
 use Rattle.s390x_machine.proofs.Stepping.{executed}
 use Rattle.s390x_machine.proofs.step.relative_step.Goals as goal

@@ -1,7 +1,7 @@
 use Rattle.std.proofs.Common.{◌≡◌, Some, ap, sym, ◌∙◌}
 use Rattle.s390x_machine.specs.Semantics.{semantics_of}
 use Rattle.s390x_machine.specs.Sound.{CanPerform}
-use Rattle.s390x_machine.specs.declared.semantics.RowSemantics.TheVariants.{Compute}
+use Rattle.s390x_format.specs.declared.semantics.RowSemantics.TheVariants.{Compute}
 use Rattle.s390x_machine.proofs.Performing.{can_perform}
 use Rattle.s390x_machine.proofs.step.row_step.Goals as goal
 

@@ -2,7 +2,7 @@ use Rattle.std.proofs.Common.{ℕ, refl, rules, sym, ◌∙◌, subst}
 use Rattle.s390x_machine.specs.Semantics.{action}
 use Rattle.s390x_machine.specs.State.{state_of}
 use Rattle.s390x_machine.specs.Step.{Executes}
-use Rattle.s390x_machine.specs.declared.semantics.Action.{Action}
+use Rattle.s390x_machine.specs.declared.action_type.Action.{Action}
 use Rattle.s390x_machine.proofs.Performing.{can_perform}
 use Rattle.s390x_machine.proofs.Stepping.{not_open, odd_pair_stops, executed}
 use Rattle.s390x_machine.proofs.step.semantics_step.Goals as goal

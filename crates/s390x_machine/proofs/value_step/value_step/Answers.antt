@@ -8,7 +8,7 @@ use Rattle.s390x_operations.specs.State.{wrapping_add64}
 use Rattle.s390x_machine.specs.Operands.{value_in}
 use Rattle.s390x_machine.specs.Semantics.{first_register, operand}
 use Rattle.s390x_machine.specs.State.{registers_of, state_of, memory_of}
-use Rattle.s390x_machine.specs.declared.semantics.RowSemantics.TheVariants.{Compute}
+use Rattle.s390x_format.specs.declared.semantics.RowSemantics.TheVariants.{Compute}
 use Rattle.s390x_machine.specs.declared.step.StepEnd.TheVariants.{Went}
 use Rattle.s390x_machine.proofs.Stepping.{executed}
 use Rattle.s390x_machine.proofs.ValueSteps.{computed}

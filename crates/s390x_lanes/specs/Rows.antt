@@ -1,20 +1,14 @@
--- Which operation an opcode, masks and an immediate are. The masks are the masks and 8-bit immediates of the row's format in
+-- Which operation a row, masks and an immediate are. The masks are the masks and 8-bit immediates of the row's format in
 -- the order of its operands, and the immediate is its 16-bit one, or the amount of an element shift; what a format lacks is 0.
-use Rattle.std.specs.Prelude.{ℕ, ◌/◌, ◌%◌, ◌^◌, Bool, true, false, nat_lt, nat_le, ◌==◌, ◌&&◌, List, [], ◌∷◌, slice_index, Option, None, Some, ℤ, pos, negsuc, if◌then◌else◌}
+use Rattle.std.specs.Prelude.{ℕ, ◌/◌, ◌%◌, ◌^◌, Bool, true, false, nat_lt, nat_le, ◌==◌, ◌&&◌, List, slice_index, Option, None, Some, ℤ, pos, negsuc, if◌then◌else◌}
 use Rattle.s390x_lanes.specs.Size.{element_bits, lane_count, size_of_code, narrower_of_code}
 use Rattle.s390x_lanes.specs.declared.size.ElementSize.TheVariants.{Quadword}
 use Rattle.s390x_lanes.specs.declared.operators.VectorOperation.{VectorOperation}
 use Rattle.s390x_lanes.specs.declared.operators.VectorOperation.TheVariants as O
 use Rattle.s390x_lanes.specs.declared.operators.BinaryOperator.TheVariants.{Add}
-use Rattle.s390x_lanes.specs.declared.opcodes.OpcodeRow.{OpcodeRow}
-use Rattle.s390x_lanes.specs.declared.opcodes.RowKind.{RowKind}
-use Rattle.s390x_lanes.specs.declared.opcodes.RowKind.TheVariants.{Binary, Whole, Compare, MultiplyHigh, MultiplyPairs, Divide, Unary, ShiftElements, Pack, Merge, Unpack, Replicate, ByteMask, BitMask, Select, Permute, PermuteDoublewords, ShiftByBits, ShiftByBytes, Move, InsertImmediate, ReplicateImmediate, BitPermute, CompareElement, Blend, Evaluate}
-use Rattle.s390x_lanes.specs.declared.opcodes.TheConstants.{OPCODES}
-
--- the first row with the opcode
-unfoldable pub row_in : List OpcodeRow → ℕ → Option OpcodeRow
-row_in [] opcode = None
-row_in (row ∷ rows) opcode = if row.opcode == opcode then Some row else row_in rows opcode
+use Rattle.s390x_lanes.specs.declared.row.VectorRow.{VectorRow}
+use Rattle.s390x_lanes.specs.declared.row.RowKind.{RowKind}
+use Rattle.s390x_lanes.specs.declared.row.RowKind.TheVariants.{Binary, Whole, Compare, MultiplyHigh, MultiplyPairs, Divide, Unary, ShiftElements, Pack, Merge, Unpack, Replicate, ByteMask, BitMask, Select, Permute, PermuteDoublewords, ShiftByBits, ShiftByBytes, Move, InsertImmediate, ReplicateImmediate, BitPermute, CompareElement, Blend, Evaluate}
 
 -- the operation of a row with masks a, b, c and immediate k
 abbrev pub operation_from : RowKind → ℕ → ℕ → ℕ → ℕ → VectorOperation
@@ -46,11 +40,11 @@ operation_from Blend a b c k = O.Blend
 operation_from Evaluate a b c k = O.Evaluate a
 
 -- a mask from the row's least to its greatest
-abbrev pub is_mask_within : OpcodeRow → ℕ → Bool
+abbrev pub is_mask_within : VectorRow → ℕ → Bool
 is_mask_within row m = nat_le row.least m && nat_le m row.greatest
 
 -- the masks and the immediate that a row of a kind may have: one mask from least to greatest, and all that the kind doesn't name 0
-abbrev pub kind_allows : RowKind → OpcodeRow → ℕ → ℕ → ℕ → ℕ → Bool
+abbrev pub kind_allows : RowKind → VectorRow → ℕ → ℕ → ℕ → ℕ → Bool
 kind_allows (Compare comparison) row a b c k = is_mask_within row a && nat_le b 1 && (c == 0) && (k == 0)
 kind_allows (ShiftElements operator) row a b c k = is_mask_within row a && (b == 0) && (c == 0) && nat_lt k 64
 kind_allows Replicate row a b c k = is_mask_within row a && (b == 0) && (c == 0)
@@ -77,9 +71,8 @@ abbrev pub where_operation : VectorOperation → Option VectorOperation
 where_operation operation = if is_operation operation then Some operation else None
 
 -- the operation of a row with these masks and this immediate, where the row allows them
-abbrev pub row_operation : Option OpcodeRow → List ℕ → ℕ → Option VectorOperation
-row_operation None masks k = None
-row_operation (Some row) masks k =
+abbrev pub row_operation : VectorRow → List ℕ → ℕ → Option VectorOperation
+row_operation row masks k =
     if kind_allows row.kind row (slice_index masks 0) (slice_index masks 1) (slice_index masks 2) k
     then where_operation (operation_from row.kind (slice_index masks 0) (slice_index masks 1) (slice_index masks 2) k)
     else None
@@ -90,17 +83,13 @@ immediate_bits (pos n) = if nat_lt n (2 ^ 16) then Some n else None
 immediate_bits (negsuc n) = None
 
 -- the same, where there is an immediate
-abbrev pub with_immediate : Option OpcodeRow → List ℕ → Option ℕ → Option VectorOperation
+abbrev pub with_immediate : VectorRow → List ℕ → Option ℕ → Option VectorOperation
 with_immediate row masks None = None
 with_immediate row masks (Some k) = row_operation row masks k
 
--- the operation with an opcode, masks and an immediate, by a table of opcodes
-abbrev pub operation_in : List OpcodeRow → ℕ → List ℕ → ℤ → Option VectorOperation
-operation_in rows opcode masks imm = with_immediate (row_in rows opcode) masks (immediate_bits imm)
-
--- the operation with an opcode, masks and an immediate; unfoldable, so that goals don't hold the table
-unfoldable pub operation_of : ℕ → List ℕ → ℤ → Option VectorOperation
-operation_of opcode masks imm = operation_in OPCODES opcode masks imm
+-- the operation of a row with masks and an immediate
+unfoldable pub operation_of : VectorRow → List ℕ → ℤ → Option VectorOperation
+operation_of row masks imm = with_immediate row masks (immediate_bits imm)
 
 -- the stepper computes it: not Blend, Evaluate or a high product of 128-bit elements
 abbrev pub is_computed : VectorOperation → Bool
@@ -115,9 +104,9 @@ where_computed None = None
 where_computed (Some operation) = if is_computed operation then Some operation else None
 
 -- the operation that a step computes
-abbrev pub computed_operation : ℕ → List ℕ → ℤ → Option VectorOperation
-computed_operation opcode masks imm = where_computed (operation_of opcode masks imm)
+abbrev pub computed_operation : VectorRow → List ℕ → ℤ → Option VectorOperation
+computed_operation row masks imm = where_computed (operation_of row masks imm)
 
--- stands past the end of a table
-abbrev pub no_opcode_row : OpcodeRow
-no_opcode_row = record { opcode = 0; kind = Binary Add; least = 0; greatest = 0 }
+-- stands for the row of an opcode that has none
+abbrev pub no_vector_row : VectorRow
+no_vector_row = record { kind = Binary Add; least = 0; greatest = 0 }
