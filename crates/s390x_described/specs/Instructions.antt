@@ -11,27 +11,6 @@ use Rattle.s390x_inst.specs.Stores.{as_store, by_store, store_instruction}
 use Rattle.s390x_inst.specs.Wholes.{as_whole, by_whole, by_direction, whole_instruction}
 use Rattle.s390x_described.specs.Roles.{Written, Tied, Read, WrittenPair, LowRead, ReadPair, register, written_pair, read_pair, first, second, third, Described, of_none, of_one, of_two, of_three, of_four, of_memory, of_one_and_memory, of_two_and_memory, of_three_and_memory}
 
--- a move, an immediate or an element of vector or float registers
-abbrev pub described_vector_move : VecInst → Described VecInst
-described_vector_move (V.VecMov rd rn) = of_two V.VecMov (Written rd) (Read rn)
-described_vector_move (V.FpuMove32 rd rn) = of_two V.FpuMove32 (Written rd) (Read rn)
-described_vector_move (V.FpuMove64 rd rn) = of_two V.FpuMove64 (Written rd) (Read rn)
-described_vector_move (V.FpuCMov32 rd cond ri rm) = of_three (λ rd ri rm. V.FpuCMov32 rd cond ri rm) (Tied rd) (Read ri) (Read rm)
-described_vector_move (V.FpuCMov64 rd cond ri rm) = of_three (λ rd ri rm. V.FpuCMov64 rd cond ri rm) (Tied rd) (Read ri) (Read rm)
-described_vector_move (V.VecCMov rd cond ri rm) = of_three (λ rd ri rm. V.VecCMov rd cond ri rm) (Tied rd) (Read ri) (Read rm)
-described_vector_move (V.MovToVec128 rd rn rm) = of_three V.MovToVec128 (Written rd) (Read rn) (Read rm)
-described_vector_move (V.VecImmByteMask rd mask) = of_one (λ rd. V.VecImmByteMask rd mask) (Written rd)
-described_vector_move (V.VecImmBitMask size rd start_bit end_bit) = of_one (λ rd. V.VecImmBitMask size rd start_bit end_bit) (Written rd)
-described_vector_move (V.VecImmReplicate size rd imm) = of_one (λ rd. V.VecImmReplicate size rd imm) (Written rd)
-described_vector_move (V.VecInsertLane size rd ri rn lane_imm lane_reg) = of_four (λ rd ri rn lane_reg. V.VecInsertLane size rd ri rn lane_imm lane_reg) (Tied rd) (Read ri) (Read rn) (Read lane_reg)
-described_vector_move (V.VecInsertLaneUndef size rd rn lane_imm lane_reg) = of_three (λ rd rn lane_reg. V.VecInsertLaneUndef size rd rn lane_imm lane_reg) (Written rd) (Read rn) (Read lane_reg)
-described_vector_move (V.VecExtractLane size rd rn lane_imm lane_reg) = of_three (λ rd rn lane_reg. V.VecExtractLane size rd rn lane_imm lane_reg) (Written rd) (Read rn) (Read lane_reg)
-described_vector_move (V.VecInsertLaneImm size rd ri imm lane_imm) = of_two (λ rd ri. V.VecInsertLaneImm size rd ri imm lane_imm) (Tied rd) (Read ri)
-described_vector_move (V.VecInsertLaneImmUndef size rd imm lane_imm) = of_one (λ rd. V.VecInsertLaneImmUndef size rd imm lane_imm) (Written rd)
-described_vector_move (V.VecReplicateLane size rd rn lane_imm) = of_two (λ rd rn. V.VecReplicateLane size rd rn lane_imm) (Written rd) (Read rn)
-described_vector_move (V.VecEltRev lane_count rd rn) = of_two (V.VecEltRev lane_count) (Written rd) (Read rn)
-described_vector_move v = of_none v
-
 -- an instruction on vector or float registers and immediates
 abbrev pub described_register_vector : VecInst → Described VecInst
 described_register_vector (V.VecRRR op rd rn rm) = of_three (V.VecRRR op) (Written rd) (Read rn) (Read rm)
@@ -47,7 +26,24 @@ described_register_vector (V.VecIntCmpS op rd rn rm) = of_three (V.VecIntCmpS op
 described_register_vector (V.VecIntEltCmp op rn rm) = of_two (V.VecIntEltCmp op) (Read rn) (Read rm)
 described_register_vector (V.VecInt128SCmpHi tmp rn rm) = of_three V.VecInt128SCmpHi (Written tmp) (Read rn) (Read rm)
 described_register_vector (V.VecInt128UCmpHi tmp rn rm) = of_three V.VecInt128UCmpHi (Written tmp) (Read rn) (Read rm)
-described_register_vector v = described_vector_move v
+described_register_vector (V.VecMov rd rn) = of_two V.VecMov (Written rd) (Read rn)
+described_register_vector (V.FpuMove32 rd rn) = of_two V.FpuMove32 (Written rd) (Read rn)
+described_register_vector (V.FpuMove64 rd rn) = of_two V.FpuMove64 (Written rd) (Read rn)
+described_register_vector (V.FpuCMov32 rd cond ri rm) = of_three (λ rd ri rm. V.FpuCMov32 rd cond ri rm) (Tied rd) (Read ri) (Read rm)
+described_register_vector (V.FpuCMov64 rd cond ri rm) = of_three (λ rd ri rm. V.FpuCMov64 rd cond ri rm) (Tied rd) (Read ri) (Read rm)
+described_register_vector (V.VecCMov rd cond ri rm) = of_three (λ rd ri rm. V.VecCMov rd cond ri rm) (Tied rd) (Read ri) (Read rm)
+described_register_vector (V.MovToVec128 rd rn rm) = of_three V.MovToVec128 (Written rd) (Read rn) (Read rm)
+described_register_vector (V.VecImmByteMask rd mask) = of_one (λ rd. V.VecImmByteMask rd mask) (Written rd)
+described_register_vector (V.VecImmBitMask size rd start_bit end_bit) = of_one (λ rd. V.VecImmBitMask size rd start_bit end_bit) (Written rd)
+described_register_vector (V.VecImmReplicate size rd imm) = of_one (λ rd. V.VecImmReplicate size rd imm) (Written rd)
+described_register_vector (V.VecInsertLane size rd ri rn lane_imm lane_reg) = of_four (λ rd ri rn lane_reg. V.VecInsertLane size rd ri rn lane_imm lane_reg) (Tied rd) (Read ri) (Read rn) (Read lane_reg)
+described_register_vector (V.VecInsertLaneUndef size rd rn lane_imm lane_reg) = of_three (λ rd rn lane_reg. V.VecInsertLaneUndef size rd rn lane_imm lane_reg) (Written rd) (Read rn) (Read lane_reg)
+described_register_vector (V.VecExtractLane size rd rn lane_imm lane_reg) = of_three (λ rd rn lane_reg. V.VecExtractLane size rd rn lane_imm lane_reg) (Written rd) (Read rn) (Read lane_reg)
+described_register_vector (V.VecInsertLaneImm size rd ri imm lane_imm) = of_two (λ rd ri. V.VecInsertLaneImm size rd ri imm lane_imm) (Tied rd) (Read ri)
+described_register_vector (V.VecInsertLaneImmUndef size rd imm lane_imm) = of_one (λ rd. V.VecInsertLaneImmUndef size rd imm lane_imm) (Written rd)
+described_register_vector (V.VecReplicateLane size rd rn lane_imm) = of_two (λ rd rn. V.VecReplicateLane size rd rn lane_imm) (Written rd) (Read rn)
+described_register_vector (V.VecEltRev lane_count rd rn) = of_two (V.VecEltRev lane_count) (Written rd) (Read rn)
+described_register_vector v = of_none v
 
 -- the same of loads and stores of elements
 abbrev pub described_part : VecInst → Described VecInst

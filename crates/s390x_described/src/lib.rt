@@ -5,7 +5,6 @@ mod law;
 mod replacer;
 mod replacing;
 mod table;
-mod transfers;
 
 pub use law::descriptions_give_instructions;
 pub use replacer::Replacer;

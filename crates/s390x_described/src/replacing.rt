@@ -1,67 +1,16 @@
 //! An instruction with other registers.
 ghost use Rattle.std.specs.Prelude.{◌≡◌};
+ghost use Rattle.s390x_inst.specs.Stores.{store_instruction};
 ghost use Rattle.s390x_described.specs.Roles.{again_or_none, described_again};
-ghost use Rattle.s390x_described.specs.Instructions.{described, described_move, described_storage, described_store, described_rest, described_control, described_wide, described_vector, described_whole, described_part, described_register_vector, described_vector_move};
+ghost use Rattle.s390x_described.specs.Instructions.{described, described_move, described_storage, described_store, described_rest, described_control, described_wide, described_vector};
 
 use crate::replacer::Replacer;
 use crate::table::{
-    again, control_table, in_role, move_table, operator_table, part_table, register_vector_table,
-    rest_table, vector_again, vector_move_table,
+    again, control_table, in_role, move_table, operator_table, rest_table, vector_again,
+    vector_table,
 };
-use crate::transfers::{store_of, whole_load_of, whole_store_of};
-use s390x_base::Writable;
-use s390x_inst::{Direction, Inst, VecInst, WholeAccess};
-
-// A move, an immediate or an element of vector or float registers.
-fn replace_vector_move<R: Replacer>(inst: &VecInst, r: &mut R) -> VecInst
-    ensures value { result
-        ≡ (described_again R.role_at (described_vector_move inst.now) (R.state r.old)).0 }
-    ensures after { R.state r.new
-        ≡ (described_again R.role_at (described_vector_move inst.now) (R.state r.old)).1 }
-{
-    vector_move_table!(vector_again, inst, r, *inst)
-}
-
-// One on vector or float registers and immediates.
-fn replace_register_vector<R: Replacer>(inst: &VecInst, r: &mut R) -> VecInst
-    ensures value { result
-        ≡ (described_again R.role_at (described_register_vector inst.now) (R.state r.old)).0 }
-    ensures after { R.state r.new
-        ≡ (described_again R.role_at (described_register_vector inst.now) (R.state r.old)).1 }
-{
-    register_vector_table!(vector_again, inst, r, replace_vector_move(inst, r))
-}
-
-// One on vector or float registers that is no load or store of a whole one.
-fn replace_part<R: Replacer>(inst: &VecInst, r: &mut R) -> VecInst
-    ensures value { result
-        ≡ (described_again R.role_at (described_part inst.now) (R.state r.old)).0 }
-    ensures after { R.state r.new
-        ≡ (described_again R.role_at (described_part inst.now) (R.state r.old)).1 }
-{
-    part_table!(vector_again, inst, r, replace_register_vector(inst, r))
-}
-
-// A load or a store of a whole vector register.
-fn replace_whole<R: Replacer>(whole: &WholeAccess, r: &mut R) -> VecInst
-    ensures value { result
-        ≡ (described_again R.role_at (described_whole whole.now) (R.state r.old)).0 }
-    ensures after { R.state r.new
-        ≡ (described_again R.role_at (described_whole whole.now) (R.state r.old)).1 }
-{
-    match whole.direction {
-        Direction::Load => {
-            let rd = r.output(Writable::from_reg(whole.rd));
-            let mem = r.memory(whole.mem);
-            whole_load_of(whole.layout, rd, mem)
-        }
-        Direction::Store => {
-            let rd = r.input(whole.rd);
-            let mem = r.memory(whole.mem);
-            whole_store_of(whole.layout, rd, mem)
-        }
-    }
-}
+use s390x_base::Reg;
+use s390x_inst::{Inst, MemArg, StoreOp, VecInst};
 
 // One on vector or float registers.
 fn replace_vector<R: Replacer>(inst: &VecInst, r: &mut R) -> VecInst
@@ -70,10 +19,7 @@ fn replace_vector<R: Replacer>(inst: &VecInst, r: &mut R) -> VecInst
     ensures after { R.state r.new
         ≡ (described_again R.role_at (described_vector inst.now) (R.state r.old)).1 }
 {
-    match inst.as_whole() {
-        Some(whole) => replace_whole(&whole, r),
-        None => replace_part(inst, r),
-    }
+    vector_table!(vector_again, inst, r)
 }
 
 // The same as an instruction.
@@ -107,6 +53,21 @@ fn replace_rest<R: Replacer>(inst: &Inst, r: &mut R) -> Option<Inst>
         ≡ (again_or_none R.role_at (described_rest inst.now) (R.state r.old)).1 }
 {
     rest_table!(again, inst, r, replace_control(inst, r))
+}
+
+// The store of a register to an operand.
+fn store_of(op: StoreOp, rd: Reg, mem: MemArg) -> Inst
+    ensures { result ≡ store_instruction op rd mem }
+{
+    match op {
+        StoreOp::Store8 => Inst::Store8 { rd, mem },
+        StoreOp::Store16 => Inst::Store16 { rd, mem },
+        StoreOp::Store32 => Inst::Store32 { rd, mem },
+        StoreOp::Store64 => Inst::Store64 { rd, mem },
+        StoreOp::StoreRev16 => Inst::StoreRev16 { rd, mem },
+        StoreOp::StoreRev32 => Inst::StoreRev32 { rd, mem },
+        StoreOp::StoreRev64 => Inst::StoreRev64 { rd, mem },
+    }
 }
 
 // One that is no operator, no move and no load of one register.

@@ -93,24 +93,8 @@ macro_rules! control_table {
     };
 }
 
-/// Loads and stores of elements of a vector register.
-macro_rules! part_table {
-    ($walk:ident, $($with:tt)*) => {
-        $walk! { ($($with)*)
-            VecLoadReplicate { size: plain, rd: output, mem: memory }
-            VecLoadReplicateRev { size: plain, rd: output, mem: memory }
-            VecLoadLane { size: plain, rd: reused, ri: input, mem: memory, lane_imm: plain }
-            VecLoadLaneRev { size: plain, rd: reused, ri: input, mem: memory, lane_imm: plain }
-            VecLoadLaneUndef { size: plain, rd: output, mem: memory, lane_imm: plain }
-            VecLoadLaneRevUndef { size: plain, rd: output, mem: memory, lane_imm: plain }
-            VecStoreLane { size: plain, rd: input, mem: memory, lane_imm: plain }
-            VecStoreLaneRev { size: plain, rd: input, mem: memory, lane_imm: plain }
-        }
-    };
-}
-
-/// Arithmetic, permutations and comparisons on vector registers.
-macro_rules! register_vector_table {
+/// Instructions on vector or float registers.
+macro_rules! vector_table {
     ($walk:ident, $($with:tt)*) => {
         $walk! { ($($with)*)
             VecRRR { op: plain, rd: output, rn: input, rm: input }
@@ -126,14 +110,30 @@ macro_rules! register_vector_table {
             VecIntEltCmp { op: plain, rn: input, rm: input }
             VecInt128SCmpHi { tmp: output, rn: input, rm: input }
             VecInt128UCmpHi { tmp: output, rn: input, rm: input }
-        }
-    };
-}
-
-/// Moves, immediates and elements of vector or float registers.
-macro_rules! vector_move_table {
-    ($walk:ident, $($with:tt)*) => {
-        $walk! { ($($with)*)
+            VecLoad { rd: output, mem: memory }
+            VecLoadRev { rd: output, mem: memory }
+            VecLoadByte16Rev { rd: output, mem: memory }
+            VecLoadByte32Rev { rd: output, mem: memory }
+            VecLoadByte64Rev { rd: output, mem: memory }
+            VecLoadElt16Rev { rd: output, mem: memory }
+            VecLoadElt32Rev { rd: output, mem: memory }
+            VecLoadElt64Rev { rd: output, mem: memory }
+            VecStore { rd: input, mem: memory }
+            VecStoreRev { rd: input, mem: memory }
+            VecStoreByte16Rev { rd: input, mem: memory }
+            VecStoreByte32Rev { rd: input, mem: memory }
+            VecStoreByte64Rev { rd: input, mem: memory }
+            VecStoreElt16Rev { rd: input, mem: memory }
+            VecStoreElt32Rev { rd: input, mem: memory }
+            VecStoreElt64Rev { rd: input, mem: memory }
+            VecLoadReplicate { size: plain, rd: output, mem: memory }
+            VecLoadReplicateRev { size: plain, rd: output, mem: memory }
+            VecLoadLane { size: plain, rd: reused, ri: input, mem: memory, lane_imm: plain }
+            VecLoadLaneRev { size: plain, rd: reused, ri: input, mem: memory, lane_imm: plain }
+            VecLoadLaneUndef { size: plain, rd: output, mem: memory, lane_imm: plain }
+            VecLoadLaneRevUndef { size: plain, rd: output, mem: memory, lane_imm: plain }
+            VecStoreLane { size: plain, rd: input, mem: memory, lane_imm: plain }
+            VecStoreLaneRev { size: plain, rd: input, mem: memory, lane_imm: plain }
             VecMov { rd: output, rn: input }
             FpuMove32 { rd: output, rn: input }
             FpuMove64 { rd: output, rn: input }
@@ -167,10 +167,9 @@ macro_rules! again {
 
 /// The same of an instruction on vector or float registers.
 macro_rules! vector_again {
-    (($inst:expr, $r:expr, $other:expr) $($n:ident { $($f:ident : $m:ident),* })*) => {
+    (($inst:expr, $r:expr) $($n:ident { $($f:ident : $m:ident),* })*) => {
         match $inst {
             $(VecInst::$n { $($f),* } => VecInst::$n { $($f: in_role!($r, $f, $m)),* },)*
-            _ => $other,
         }
     };
 }
@@ -186,8 +185,6 @@ pub(crate) use control_table;
 pub(crate) use in_role;
 pub(crate) use move_table;
 pub(crate) use operator_table;
-pub(crate) use part_table;
-pub(crate) use register_vector_table;
 pub(crate) use rest_table;
 pub(crate) use vector_again;
-pub(crate) use vector_move_table;
+pub(crate) use vector_table;

@@ -82,6 +82,8 @@ pub fn item(alloc: Global, n: LineName, c: &mut Cursor) -> Result<Item, AllocErr
         LineName::Memory(name) => Ok(Item::One(memory(name, c))),
         LineName::Control(name) => Ok(Item::One(control(alloc, name, c)?)),
         LineName::Vector(name) => Ok(Item::One(Inst::Vector(vector(name, c)))),
-        LineName::Whole(direction, layout) => Ok(Item::One(Inst::Vector(whole(direction, layout, c)))),
+        LineName::Whole(direction, layout) => Ok(Item::One(Inst::Vector(whole(
+            direction, layout, c,
+        )))),
     }
 }

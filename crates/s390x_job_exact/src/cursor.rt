@@ -33,7 +33,10 @@ impl<'a> ExactCursor<'a> {
     pub fn end(&self) -> Option<()>
         ensures { IfSome result (λ _. self.now ≡ []) }
     {
-        if self.left.is_empty() { Some(()) } else { None }
+        match self.left {
+            [] => Some(()),
+            _ => None,
+        }
     }
 
     /// What is left.
@@ -54,6 +57,34 @@ impl<'a> ExactCursor<'a> {
                 Some(*first)
             }
             [] => None,
+        }
+    }
+
+    /// Takes `%` and the letter behind it.
+    #[inline(always)]
+    pub fn letter(&mut self) -> Option<u8>
+        ensures { IfSome result (λ x. self.old ≡ 37 ∷ x ∷ self.new) }
+    {
+        match self.left {
+            [b'%', letter, rest @ ..] => {
+                self.left = rest;
+                Some(*letter)
+            }
+            _ => None,
+        }
+    }
+
+    /// Takes a space, `%` and the letter behind it.
+    #[inline(always)]
+    pub fn spaced_letter(&mut self) -> Option<u8>
+        ensures { IfSome result (λ x. self.old ≡ 32 ∷ 37 ∷ x ∷ self.new) }
+    {
+        match self.left {
+            [b' ', b'%', letter, rest @ ..] => {
+                self.left = rest;
+                Some(*letter)
+            }
+            _ => None,
         }
     }
 

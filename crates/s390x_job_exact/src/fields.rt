@@ -21,14 +21,12 @@ use s390x_job_fields::vector_operators::{
 use s390x_job_fields::word::{Names, Word, find};
 
 impl<'a> ExactCursor<'a> {
-    /// Takes a register's name.
+    /// Takes the number of a register, which stands behind `%` and this letter.
     #[inline(always)]
-    pub fn register(&mut self) -> Option<Reg>
-        ensures text { IfSome result (λ r. self.old ≡ reg_text r ++ self.new) }
+    fn register_number(&mut self, letter: u8) -> Option<Reg>
+        ensures text { IfSome result (λ r. 37 ∷ letter ∷ self.old ≡ reg_text r ++ self.new) }
         ensures range { IfSome result IsReg }
     {
-        self.byte(b'%')?;
-        let letter = self.next()?;
         let number = self.natural()?;
         match letter {
             b'r' if number < 16 => Some(Reg::Real(gpr_preg(number as u8))),
@@ -45,12 +43,22 @@ impl<'a> ExactCursor<'a> {
         }
     }
 
+    /// Takes a register's name.
+    #[inline(always)]
+    pub fn register(&mut self) -> Option<Reg>
+        ensures text { IfSome result (λ r. self.old ≡ reg_text r ++ self.new) }
+        ensures range { IfSome result IsReg }
+    {
+        let letter = self.letter()?;
+        self.register_number(letter)
+    }
+
     /// Takes a register.
     pub fn reg(&mut self) -> Option<Reg>
         ensures { IfSome result (λ r. Takes (FReg r) self.old self.new) }
     {
-        self.byte(b' ')?;
-        self.register()
+        let letter = self.spaced_letter()?;
+        self.register_number(letter)
     }
 
     /// Takes a register that is written.

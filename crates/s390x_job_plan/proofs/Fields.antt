@@ -29,7 +29,28 @@ use Rattle.s390x_job_fields.specs.Lists.{AllItems}
 use Rattle.s390x_job_fields.specs.Memory.{IsMemory}
 use Rattle.s390x_job_lines.specs.Instructions.{inst_line, vector_line}
 use Rattle.s390x_job_lines.specs.Line.{AllFields}
-use Rattle.s390x_assign.specs.Assignments.{after, assigned_control, assigned_move, assigned_operator, assigned_register_vector, assigned_storage, assigned_store, with_one_and_memory, assigned_vector, dividend_at, memory_at, operand_at, pair_at, register_at}
+use Rattle.s390x_described.specs.Instructions.{described_control, described_move, described_register_vector, described_storage, described_store}
+use Rattle.s390x_described.specs.Roles.{described_again}
+use Rattle.s390x_assign.specs.Assignments.{after, assigned_by, assigned_operator, assigned_role, assigned_vector, dividend_at, memory_at, operand_at, pair_at, register_at}
+
+-- an instruction's groups with their registers, by their descriptions
+abbrev assigned_register_vector : VecInst → List Reg → VecInst × List Reg
+assigned_register_vector v s = described_again assigned_role (described_register_vector v) s
+
+abbrev assigned_control : Inst → List Reg → Inst × List Reg
+assigned_control i s = assigned_by (described_control i) i s
+
+abbrev assigned_store : Inst → List Reg → Inst × List Reg
+assigned_store i s = assigned_by (described_store i) i s
+
+abbrev assigned_storage : Inst → List Reg → Inst × List Reg
+assigned_storage i s = assigned_by (described_storage i) i s
+
+abbrev assigned_move : Inst → List Reg → Inst × List Reg
+assigned_move i s = assigned_by (described_move i) i s
+
+abbrev with_one_and_memory : (Reg → MemArg → Inst) → Reg → MemArg → List Reg → Inst × List Reg
+with_one_and_memory f a mem s = (f (register_at a s) (memory_at mem (after a s)).0, (memory_at mem (after a s)).1)
 
 -- all of them lie in their ranges
 abbrev pub Regs : List Reg → Type 0
