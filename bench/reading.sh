@@ -1,10 +1,12 @@
 #!/usr/bin/env bash
 # Counts the instructions that `image` executes for each line of a job of N lines (1000 if none is given), by valgrind's callgrind, for each kind of line:
 # in all, and within `find_job`, which reads. GNU as and LLVM's assembler translate the same code where it has a plain form. Words behind N choose the kinds.
-# PROGRAM names another program than the proved one, as bench/unproved.sh makes it. Needs valgrind; for the assemblers s390x-linux-gnu-as and llvm-mc.
+# PROGRAM names another program than the proved one, as bench/unproved.sh makes it, and COMMAND another command than `image 4096`, as `show` or `operands`.
+# Needs valgrind; for the assemblers s390x-linux-gnu-as and llvm-mc.
 set -eu
 cd "$(dirname "$0")/.."
 program=${PROGRAM:-crates/s390x/out/s390x}
+read -ra command <<< "${COMMAND:-image 4096}"
 count=${1:-1000}
 [ $# = 0 ] || shift
 work=$(mktemp -d)
@@ -34,7 +36,7 @@ assembler() {
 }
 
 printf 'block\nend\n' > "$work/job"
-nothing=$(executed "$program" image 4096 < "$work/job")
+nothing=$(executed "$program" "${command[@]}" < "$work/job")
 
 # A kind of line: its name, what stands before the block, the lines, and the same code as assembly, where it has a plain form.
 kind() {
@@ -42,7 +44,7 @@ kind() {
     case " ${chosen:-$name} " in *" $name "*) ;; *) return 0 ;; esac
     { printf '%b' "$head"; times "$unit"; echo end; } > "$work/job"
     lines=$(wc -l < "$work/job")
-    all=$(executed "$program" image 4096 < "$work/job")
+    all=$(executed "$program" "${command[@]}" < "$work/job")
     reading=$(callgrind_annotate --inclusive=yes --threshold=100 "$work/counts" | awk '/lines::find_job/ { gsub(",", "", $1); print $1; exit }')
     printf '%-12s %6d a line, reading %6d' "$name" $(((all - nothing) / lines)) $((${reading:-0} / lines))
     [ -z "$code" ] || printf ', as %6d, llvm-mc %6d' "$(assembler s390x-linux-gnu-as -march=z14)" \

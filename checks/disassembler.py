@@ -137,7 +137,7 @@ def program_lines(units, unproved):
     return lines
 
 
-def plain(text):
+def without_blanks(text):
     """A disassembler's text without the blanks that it may have."""
     return re.sub(r",\s+", ",", re.sub(r"\s+", " ", text.split("#")[0].split("<")[0]).strip())
 
@@ -152,7 +152,7 @@ def objdump_texts(units):
         done = subprocess.run(command, stdout=subprocess.PIPE, text=True)
     found = {}
     for address, digits, text in re.findall(r"^\s*([0-9a-f]+):\t([0-9a-f ]+?)\s*\t(.*)$", done.stdout, re.M):
-        found[int(address, 16)] = (digits.replace(" ", ""), plain(text))
+        found[int(address, 16)] = (digits.replace(" ", ""), without_blanks(text))
     texts = []
     for address, unit in units:
         digits, text = found.get(address, ("", ""))
@@ -168,7 +168,7 @@ def llvm_texts(units, llvm):
     found = {}
     for text, encoding in re.findall(r"^\s*(.*?)\s*# encoding: \[(.*)\]", done.stdout, re.M):
         if re.fullmatch(r"(0x[0-9a-f]{2},?)+", encoding):
-            found[bytes(int(byte, 16) for byte in encoding.split(","))] = plain(text)
+            found[bytes(int(byte, 16) for byte in encoding.split(","))] = without_blanks(text)
     return [found.get(unit) for _, unit in units]
 
 

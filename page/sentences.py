@@ -9,7 +9,11 @@ import os
 import re
 import sys
 
-CRATES = os.path.join(os.path.dirname(os.path.dirname(os.path.abspath(__file__))), "crates")
+TOP = os.path.dirname(os.path.dirname(os.path.abspath(__file__)))
+CRATES = os.path.join(TOP, "crates")
+sys.path.insert(0, os.path.join(TOP, "checks"))
+sys.dont_write_bytecode = True
+from opcodes import plain  # noqa: E402
 
 SET = " The condition code is set by it."
 BYTES = {"Bits8": "the byte", "Bits16": "the 2 bytes", "Bits32": "the 4 bytes", "Bits64": "the 8 bytes"}
@@ -37,7 +41,7 @@ def fields_upper(text):
 
 def read(*path):
     with open(os.path.join(CRATES, *path)) as file:
-        return file.read()
+        return plain(file.read())
 
 
 def upper(text):

@@ -7,7 +7,7 @@ ghost use Rattle.s390x_listing.specs.Texts.{block_texts, blocks_texts, inst_text
 use crate::head::put_head;
 use s390x_inst::{Block, EmitInfo, EmitState, Inst};
 use s390x_job_fields::number::put;
-use s390x_text::{TextError, pretty_print_inst};
+use s390x_text::{TextError, put_pretty};
 use std::alloc::Global;
 
 /// For each block the line `block K`, and a line for each of its instructions: its text, in the state of emission behind
@@ -95,8 +95,7 @@ fn put_inst(
         (text_line info.now.isa_flags state.old inst.now) }
     ensures after { IfOk result (λ _. state.new ≡ after state.old inst.now) }
 {
-    let text = pretty_print_inst(alloc, inst, info, state)?;
-    put(out, text.as_str())?;
+    put_pretty(alloc, out, inst, info, state)?;
     put(out, "\n")?;
     Ok(())
 }

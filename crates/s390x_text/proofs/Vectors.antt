@@ -1,5 +1,5 @@
 -- A vector instruction that emission lets pass has a text.
-use Rattle.std.proofs.Common.{◌≡◌, inr, ℕ, ◌*◌, Bool, true, false, Option, Some, None, List, [], refl, ap, ◌∙◌, is_some, ◌&&◌, arith}
+use Rattle.std.proofs.Common.{◌≡◌, inr, ℕ, ◌*◌, Bool, true, false, Option, Some, None, List, [], refl, ap, ◌∙◌, is_some, ◌&&◌, ◌||◌, arith}
 use Rattle.std.proofs.lemmas.Bool.{and_parts, eqb-true, ltb-true}
 use Rattle.std.specs.Prelude.{cond, nat_eq, nat_lt, codes}
 use Rattle.s390x_base.specs.Regs.{number_of}

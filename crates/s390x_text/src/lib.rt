@@ -8,7 +8,7 @@ mod pretty_print;
 mod row_laws;
 
 pub use law::rows_agree;
-pub use pretty::pretty_print_inst;
+pub use pretty::{pretty_print_inst, put_pretty};
 pub use pretty_print::PrettyPrint;
 pub use row_laws::{texts_have_rows_as_bytes, valid_blocks_have_texts};
 pub use s390x_text_rows::{

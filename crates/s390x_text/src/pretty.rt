@@ -155,6 +155,24 @@ fn put_inst(
     }
 }
 
+/// Appends the text of an instruction, as `pretty_print_inst` answers it. The state goes on to that behind the instruction; behind an error it may be that
+/// of a member of a loop, and there may be a part of the text.
+///
+/// Errors come as there.
+pub fn put_pretty(
+    alloc: Global,
+    out: &mut String,
+    inst: &Inst,
+    info: &EmitInfo,
+    state: &mut EmitState,
+) -> Result<(), TextError>
+    ensures answer { Prints result (string_bytes out.old) (string_bytes out.new)
+        (inst_text info.now.isa_flags 0 state.old inst.now) }
+    ensures after { IfOk result (λ _. state.new ≡ after state.old inst.now) }
+{
+    put_inst(alloc, out, info.isa_flags, state, 0, inst)
+}
+
 /// The text of an instruction as emission puts it for the machine of `info`, in a state of emission; branches that the end of a block leaves away are
 /// shown. The state goes on to that behind the instruction: after `AllocateArgs` its nominal size is that of the arguments, after a `Call` its nominal and
 /// its outgoing size are 0. A refused call leaves it as it was.
