@@ -19,7 +19,11 @@ last : (x : Option Role) → requests_of_roles (with_some x []) ≡ requests_of_
 last None = refl
 last (Some x) = refl
 
-pub in_turn : (xs : RoleList) → requests_of_roles (listed xs) ≡ requests_of_some xs.first ++ (requests_of_some xs.second ++ (requests_of_some xs.third ++ requests_of_some xs.fourth))
+-- what each place of a list reports
+abbrev pub turns : RoleList → List (Option Reported)
+turns xs = requests_of_some xs.first ++ (requests_of_some xs.second ++ (requests_of_some xs.third ++ requests_of_some xs.fourth))
+
+pub in_turn : (xs : RoleList) → requests_of_roles (listed xs) ≡ turns xs
 in_turn xs =
     some_and_rest xs.first (with_some xs.second (with_some xs.third (with_some xs.fourth [])))
     ∙ ap (λ rs. requests_of_some xs.first ++ rs) (some_and_rest xs.second (with_some xs.third (with_some xs.fourth []))

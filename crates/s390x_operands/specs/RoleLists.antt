@@ -1,5 +1,5 @@
 -- Roles in a list of at most four.
-use Rattle.std.specs.Prelude.{List, [], ◌∷◌, map, Option, Some, None, is_none, cond}
+use Rattle.std.specs.Prelude.{List, [], ◌∷◌, map, Option, Some, None, is_some, cond}
 use Rattle.s390x_inst.specs.declared.inst.Inst.{Inst}
 use Rattle.s390x_described.specs.Roles as R
 use Rattle.s390x_operands.specs.declared.role_list.Role.{Role}
@@ -28,9 +28,9 @@ no_roles = record { first = None; second = None; third = None; fourth = None }
 -- one more role in the first free place; in the last one where none is free
 abbrev pub with_role : RoleList → Role → RoleList
 with_role xs x =
-    cond (is_none xs.first) (record xs { first = Some x })
-    (cond (is_none xs.second) (record xs { second = Some x })
-    (cond (is_none xs.third) (record xs { third = Some x }) (record xs { fourth = Some x })))
+    cond (is_some xs.first)
+    (cond (is_some xs.second) (cond (is_some xs.third) (record xs { fourth = Some x }) (record xs { third = Some x })) (record xs { second = Some x }))
+    (record xs { first = Some x })
 
 -- the roles of a list, in order
 abbrev pub with_some : Option Role → List Role → List Role

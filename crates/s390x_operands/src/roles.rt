@@ -67,5 +67,6 @@ pub fn report_described<V: OperandVisitor>(
     ensures { Reports denied (requests_of_roles (roles_of (described inst.now))) (V.items v.old)
         (V.items v.new) (V.denies v.old) (V.denies v.new) result }
 {
-    report_roles(v, denied, &roles_in_order(inst))
+    let roles = roles_in_order(inst);
+    report_roles(v, denied, &roles)
 }

@@ -7,4 +7,4 @@ use Rattle.s390x_operands.proofs.role_list.roles_in_order.Goals as goal
 
 pub returns : goal.returns
 returns c =
-    ap listed c.replace.ensures.after ∙ ap (λ s. listed (again_or_none collected (described c.args.inst.now) s).1) c.new.ensures ∙ keeps c.args.inst.now
+    ap listed c.replace.ensures.after ∙ ap (λ s. listed (again_or_none collected (described c.args.inst.now) s).1) c.new-roles.ensures ∙ keeps c.args.inst.now
