@@ -1,8 +1,5 @@
 -- The registers of an instruction: those in the fields of its line, and those in the roles of its description.
 use Rattle.std.specs.Prelude.{◌≡◌, List, [], ◌∷◌, ◌++◌, Option, Some, None}
-use Rattle.s390x_base.specs.declared.regs.Reg.{Reg}
-use Rattle.s390x_inst.specs.declared.args.MemArg.{MemArg}
-use Rattle.s390x_inst.specs.declared.args.MemArg.TheVariants.{BXD12, BXD20, RegOffset}
 use Rattle.s390x_inst.specs.declared.inst.Inst.{Inst}
 use Rattle.s390x_inst.specs.declared.inst.Inst.TheVariants as I
 use Rattle.s390x_described.specs.Instructions.{described}
@@ -10,58 +7,54 @@ use Rattle.s390x_described.specs.Roles.{Role, Written, Tied, Read, WrittenPair, 
 use Rattle.s390x_job_fields.specs.Fields.{Field, FReg, FPair, FMemory}
 use Rattle.s390x_job_lines.specs.Instructions.{inst_line}
 
--- the registers of an operand in memory
-abbrev pub memory_registers : MemArg → List Reg
-memory_registers (BXD12 base index disp flags) = base ∷ index ∷ []
-memory_registers (BXD20 base index disp flags) = base ∷ index ∷ []
-memory_registers (RegOffset reg off flags) = reg ∷ []
-memory_registers _ = []
+-- the fields that are registers, pairs and operands in memory, and no lists
+abbrev pub register_fields : List Field → List Field
+register_fields [] = []
+register_fields (FReg r ∷ fs) = FReg r ∷ register_fields fs
+register_fields (FPair h l ∷ fs) = FPair h l ∷ register_fields fs
+register_fields (FMemory m ∷ fs) = FMemory m ∷ register_fields fs
+register_fields (f ∷ fs) = register_fields fs
 
--- the registers that stand in fields by themselves, in pairs and in operands in memory; those in lists aren't looked at
-abbrev pub field_registers : List Field → List Reg
-field_registers [] = []
-field_registers (FReg r ∷ fs) = r ∷ field_registers fs
-field_registers (FPair h l ∷ fs) = h ∷ l ∷ field_registers fs
-field_registers (FMemory m ∷ fs) = memory_registers m ++ field_registers fs
-field_registers (f ∷ fs) = field_registers fs
+-- such fields for the roles that are written
+abbrev pub written_fields : List Role → List Field
+written_fields [] = []
+written_fields (Written r ∷ xs) = FReg r ∷ written_fields xs
+written_fields (Tied r ∷ xs) = FReg r ∷ written_fields xs
+written_fields (WrittenPair d ∷ xs) = FPair d.hi d.lo ∷ written_fields xs
+written_fields (x ∷ xs) = written_fields xs
 
--- the registers that are written
-abbrev pub written_registers : List Role → List Reg
-written_registers [] = []
-written_registers (Written r ∷ xs) = r ∷ written_registers xs
-written_registers (Tied r ∷ xs) = r ∷ written_registers xs
-written_registers (WrittenPair d ∷ xs) = d.hi ∷ d.lo ∷ written_registers xs
-written_registers (x ∷ xs) = written_registers xs
+-- for those that have to stand in the pair that is written
+abbrev pub paired_fields : List Role → List Field
+paired_fields [] = []
+paired_fields (LowRead r ∷ xs) = FReg r ∷ paired_fields xs
+paired_fields (ReadPair d ∷ xs) = FPair d.hi d.lo ∷ paired_fields xs
+paired_fields (x ∷ xs) = paired_fields xs
 
--- those that have to stand in the pair that is written
-abbrev pub paired_registers : List Role → List Reg
-paired_registers [] = []
-paired_registers (LowRead r ∷ xs) = r ∷ paired_registers xs
-paired_registers (ReadPair d ∷ xs) = d.hi ∷ d.lo ∷ paired_registers xs
-paired_registers (x ∷ xs) = paired_registers xs
+-- for all others, which are read
+abbrev pub read_fields : List Role → List Field
+read_fields [] = []
+read_fields (Read r ∷ xs) = FReg r ∷ read_fields xs
+read_fields (InMemory m ∷ xs) = FMemory m ∷ read_fields xs
+read_fields (x ∷ xs) = read_fields xs
 
--- all others that are read
-abbrev pub read_registers : List Role → List Reg
-read_registers [] = []
-read_registers (Read r ∷ xs) = r ∷ read_registers xs
-read_registers (InMemory m ∷ xs) = memory_registers m ++ read_registers xs
-read_registers (x ∷ xs) = read_registers xs
+-- for all roles, in the order in which an instruction has its fields
+abbrev pub role_fields : List Role → List Field
+role_fields xs = written_fields xs ++ (paired_fields xs ++ read_fields xs)
 
--- the registers of a description, in the order of the fields
-abbrev pub role_registers : Option (Described Inst) → List Reg
-role_registers None = []
-role_registers (Some d) = written_registers d.roles ++ (paired_registers d.roles ++ read_registers d.roles)
+abbrev pub described_fields : Option (Described Inst) → List Field
+described_fields None = []
+described_fields (Some d) = role_fields d.roles
 
--- the registers in fields that are no roles: the ends of a range, where a return leads, and what stands beside a list
-abbrev pub other_registers : Inst → List Reg
-other_registers (I.LoadMultiple64 rt rt2 mem) = rt ∷ rt2 ∷ []
-other_registers (I.StoreMultiple64 rt rt2 mem) = rt ∷ rt2 ∷ []
-other_registers (I.Ret link) = link ∷ []
-other_registers (I.IndirectBr rn targets) = rn ∷ []
-other_registers (I.JTSequence ridx default default_cond targets) = ridx ∷ []
-other_registers (I.Call link info) = link ∷ []
-other_registers _ = []
+-- those that no role stands for: the ends of a range, where a return leads, and what stands beside a list
+abbrev pub other_fields : Inst → List Field
+other_fields (I.LoadMultiple64 rt rt2 mem) = FReg rt ∷ FReg rt2 ∷ []
+other_fields (I.StoreMultiple64 rt rt2 mem) = FReg rt ∷ FReg rt2 ∷ []
+other_fields (I.Ret link) = FReg link ∷ []
+other_fields (I.IndirectBr rn targets) = FReg rn ∷ []
+other_fields (I.JTSequence ridx default default_cond targets) = FReg ridx ∷ []
+other_fields (I.Call link info) = FReg link ∷ []
+other_fields _ = []
 
 -- an instruction's line names the registers of its description, in the order of the fields, and no others but these
 abbrev pub DescriptionsNameEachRegister : Type 0
-DescriptionsNameEachRegister = (i : Inst) → field_registers (inst_line i).fields ≡ other_registers i ++ role_registers (described i)
+DescriptionsNameEachRegister = (i : Inst) → register_fields (inst_line i).fields ≡ other_fields i ++ described_fields (described i)
