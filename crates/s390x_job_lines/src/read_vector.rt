@@ -3,10 +3,9 @@ ghost use Rattle.std.specs.Prelude.{◌≡◌};
 ghost use Rattle.s390x_job_lines.specs.Line.{line_with};
 ghost use Rattle.s390x_job_lines.specs.Instructions.{vector_line};
 
-use crate::access::whole_instruction;
 use crate::inst_name::VectorName;
 use crate::name::LineName;
-use s390x_inst::{Direction, VecInst, WholeLayout};
+use s390x_inst::{Direction, VecInst, WholeAccess, WholeLayout};
 use s390x_job_fields::Cursor;
 
 /// The instruction of this name, whose fields come next.
@@ -63,5 +62,11 @@ pub fn whole(direction: Direction, layout: WholeLayout, c: &mut Cursor) -> VecIn
 {
     let rd = c.reg();
     let mem = c.memory();
-    whole_instruction(direction, layout, rd, mem)
+    let access = WholeAccess {
+        direction,
+        layout,
+        rd,
+        mem,
+    };
+    access.instruction()
 }
