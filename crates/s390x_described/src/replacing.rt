@@ -20,7 +20,7 @@ fn replace_vector<R: Replacer>(inst: &VecInst, r: &mut R) -> VecInst
     vector_table!(vector_again, inst, r)
 }
 
-// The same as an instruction.
+// One on vector or float registers, as the `Inst` that holds it.
 fn replace_wide<R: Replacer>(inst: &Inst, r: &mut R) -> Option<Inst>
     ensures value { result
         ≡ (again_or_none R.role_at (described_wide inst.now) (R.state r.old)).0 }
