@@ -1,10 +1,8 @@
 //! A job, as far as its lines have told it.
-ghost use Rattle.std.specs.Prelude.{◌≡◌, ◌+◌, ◌^◌, ◌++◌, ◌∷◌, [], ℕ, IfOk, OnOk, MatchOption, Some, None, map, length, suc, ◌<◌, ◌≤◌, if◌then◌else◌, ◌==◌, codes, IsTrue};
-ghost use Rattle.std.specs.Str.{bytes_eq};
+ghost use Rattle.std.specs.Prelude.{◌≡◌, [], IfOk, OnOk, length, ◌<◌};
 ghost use Rattle.s390x_base.specs.Registers.{general, vector};
-ghost use Rattle.s390x_job_lines.specs.Line.{spelled, Line};
 ghost use Rattle.s390x_job.specs.Items.{item_line, IsItem, flags_line, frame_line, constant_line, symbol_line, register_line, memory_line, block_line, loop_line, close_line, end_line};
-ghost use Rattle.s390x_job.specs.Grammar.{Place, next, class, Header, Within, AtEnd, Instruction, may_follow, Class};
+ghost use Rattle.s390x_job.specs.Grammar.{class, Header, Within, Instruction, may_follow};
 ghost use Rattle.s390x_job.specs.Jobs.{job_lines};
 ghost use Rattle.s390x_job_lines.specs.Instructions.{inst_line};
 ghost use Rattle.s390x_job.specs.Builds.{beginning_lines, body_lines, done_lines, lines_at, place_at, rank_of, IsBegun, IsFullBody, IsAt, IsWhole, IsNext, Follows};

@@ -1,9 +1,8 @@
 //! Printing a job.
 ghost use Rattle.std.specs.Prelude.{◌≡◌, ◌≤◌, ◌++◌, ◌∷◌, [], OnOk, IfOk, map, length, string_bytes};
 ghost use Rattle.s390x_base.specs.Registers.{general, vector};
-ghost use Rattle.s390x_job_lines.specs.Line.{Line, line_text};
 ghost use Rattle.s390x_job_lines.specs.Instructions.{inst_line};
-ghost use Rattle.s390x_job.specs.Items.{flags_line, frame_line, constant_line, symbol_line, register_line, memory_line, block_line, end_line};
+ghost use Rattle.s390x_job.specs.Items.{constant_line, symbol_line, memory_line};
 ghost use Rattle.s390x_job.specs.Jobs.{lines_text, inst_lines, insts_lines, blocks_lines, flags_lines, frame_lines, start_lines, registers_lines, head_lines, text_of_job};
 
 use crate::heading::{is_plain_flags, is_plain_frame};
