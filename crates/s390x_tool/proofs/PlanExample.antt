@@ -1,5 +1,5 @@
 -- A plan with code is accepted: that of a job that returns at once.
-use Rattle.std.proofs.Common.{◌≡◌, ℕ, List, [], ◌∷◌, ◌++◌, drop, map, None, Vec, Global, refl, sym, ap, ◌∙◌, subst, arith}
+use Rattle.std.proofs.Common.{◌≡◌, List, [], ◌∷◌, ◌++◌, drop, map, None, Vec, Global, refl, sym, ap, ◌∙◌, subst, arith}
 use Rattle.std.specs.Prelude.{IsOk, Result, Ok, true}
 use Rattle.s390x_base.specs.declared.regs.Reg.{Reg}
 use Rattle.s390x_inst.specs.declared.function.Block.{Block}
@@ -17,7 +17,7 @@ use Rattle.s390x_alloc.specs.declared.plan.Edit.{Edit}
 use Rattle.s390x_alloc.specs.declared.plan.Edit.TheVariants.{Move, Step}
 use Rattle.s390x_alloc.specs.declared.plan.EntryPair.{EntryPair}
 use Rattle.s390x_job.specs.Completions.{joined}
-use Rattle.s390x_job.proofs.PlainJob.{plain_job, vec}
+use Rattle.s390x_job.proofs.PlainJob.{vec}
 use Rattle.s390x_job_plan.specs.Lines.{Closing, Heading, Opening, Stepping}
 use Rattle.s390x_job_plan.specs.Text.{IsPlanned, blocks_lines, edit_line, pair_line, plan_lines, text_of_planned}
 use Rattle.s390x_job_plan.specs.declared.planned_job.PlannedJob.{PlannedJob}
