@@ -156,7 +156,7 @@ fn put_inst(
 }
 
 /// Appends the text of an instruction, as `pretty_print_inst` answers it. The state goes on to that behind the instruction; behind an error it may be that
-/// of a member of a loop, and there may be a part of the text.
+/// of a member of a loop, and what `out` holds is left open.
 ///
 /// Errors come as there.
 pub fn put_pretty(
