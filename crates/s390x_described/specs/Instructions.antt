@@ -45,7 +45,7 @@ described_register_vector (V.VecReplicateLane size rd rn lane_imm) = of_two (λ 
 described_register_vector (V.VecEltRev lane_count rd rn) = of_two (V.VecEltRev lane_count) (Written rd) (Read rn)
 described_register_vector v = of_none v
 
--- the same of loads and stores of elements
+-- a load or a store of an element, or one of these
 abbrev pub described_part : VecInst → Described VecInst
 described_part (V.VecLoadReplicate size rd mem) = of_one_and_memory (V.VecLoadReplicate size) (Written rd) mem
 described_part (V.VecLoadReplicateRev size rd mem) = of_one_and_memory (V.VecLoadReplicateRev size) (Written rd) mem
@@ -61,11 +61,11 @@ described_part v = described_register_vector v
 abbrev pub described_whole : WholeAccess → Described VecInst
 described_whole w = of_one_and_memory (whole_instruction w.direction w.layout) (by_direction w.direction (Written w.rd) (Read w.rd)) w.mem
 
--- the same of loads and stores of whole registers
+-- a load or a store of a whole vector register, or one of these
 abbrev pub described_vector : VecInst → Described VecInst
 described_vector v = by_whole described_whole (described_part v) (as_whole v)
 
--- the same as an instruction
+-- an instruction on vector or float registers, as the `Inst` that holds it
 abbrev pub as_vector : Described VecInst → Described Inst
 as_vector d = record { roles = d.roles; again = λ xs. I.Vector (d.again xs) }
 

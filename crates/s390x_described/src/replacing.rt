@@ -1,6 +1,5 @@
 //! An instruction with other registers.
 ghost use Rattle.std.specs.Prelude.{◌≡◌};
-ghost use Rattle.s390x_inst.specs.Stores.{store_instruction};
 ghost use Rattle.s390x_described.specs.Roles.{again_or_none, described_again};
 ghost use Rattle.s390x_described.specs.Instructions.{described, described_move, described_storage, described_store, described_rest, described_control, described_wide, described_vector};
 
@@ -9,8 +8,7 @@ use crate::table::{
     again, control_table, in_role, move_table, operator_table, rest_table, vector_again,
     vector_table,
 };
-use s390x_base::Reg;
-use s390x_inst::{Inst, MemArg, StoreOp, VecInst};
+use s390x_inst::{Inst, VecInst};
 
 // One on vector or float registers.
 fn replace_vector<R: Replacer>(inst: &VecInst, r: &mut R) -> VecInst
@@ -22,7 +20,7 @@ fn replace_vector<R: Replacer>(inst: &VecInst, r: &mut R) -> VecInst
     vector_table!(vector_again, inst, r)
 }
 
-// The same as an instruction.
+// One on vector or float registers, as the `Inst` that holds it.
 fn replace_wide<R: Replacer>(inst: &Inst, r: &mut R) -> Option<Inst>
     ensures value { result
         ≡ (again_or_none R.role_at (described_wide inst.now) (R.state r.old)).0 }
@@ -55,21 +53,6 @@ fn replace_rest<R: Replacer>(inst: &Inst, r: &mut R) -> Option<Inst>
     rest_table!(again, inst, r, replace_control(inst, r))
 }
 
-// The store of a register to an operand.
-fn store_of(op: StoreOp, rd: Reg, mem: MemArg) -> Inst
-    ensures { result ≡ store_instruction op rd mem }
-{
-    match op {
-        StoreOp::Store8 => Inst::Store8 { rd, mem },
-        StoreOp::Store16 => Inst::Store16 { rd, mem },
-        StoreOp::Store32 => Inst::Store32 { rd, mem },
-        StoreOp::Store64 => Inst::Store64 { rd, mem },
-        StoreOp::StoreRev16 => Inst::StoreRev16 { rd, mem },
-        StoreOp::StoreRev32 => Inst::StoreRev32 { rd, mem },
-        StoreOp::StoreRev64 => Inst::StoreRev64 { rd, mem },
-    }
-}
-
 // One that is no operator, no move and no load of one register.
 fn replace_store<R: Replacer>(inst: &Inst, r: &mut R) -> Option<Inst>
     ensures value { result
@@ -81,7 +64,7 @@ fn replace_store<R: Replacer>(inst: &Inst, r: &mut R) -> Option<Inst>
         Some(store) => {
             let rd = r.input(store.rd);
             let mem = r.memory(store.mem);
-            Some(store_of(store.op, rd, mem))
+            Some(store.op.instruction(rd, mem))
         }
         None => replace_rest(inst, r),
     }

@@ -1,6 +1,6 @@
 //! Stores of a general register: one view of their variants, as `load` has one of the loads.
 ghost use Rattle.std.specs.Prelude.{◌≡◌, ◌<◌, Some};
-ghost use Rattle.s390x_inst.specs.Stores.{as_store, store_place};
+ghost use Rattle.s390x_inst.specs.Stores.{as_store, store_instruction, store_place};
 
 use crate::args::MemArg;
 use crate::inst::Inst;
@@ -61,6 +61,21 @@ impl Inst {
 }
 
 impl StoreOp {
+    /// The store of a register to an operand.
+    pub fn instruction(self, rd: Reg, mem: MemArg) -> Inst
+        ensures { result ≡ store_instruction self rd mem }
+    {
+        match self {
+            StoreOp::Store8 => Inst::Store8 { rd, mem },
+            StoreOp::Store16 => Inst::Store16 { rd, mem },
+            StoreOp::Store32 => Inst::Store32 { rd, mem },
+            StoreOp::Store64 => Inst::Store64 { rd, mem },
+            StoreOp::StoreRev16 => Inst::StoreRev16 { rd, mem },
+            StoreOp::StoreRev32 => Inst::StoreRev32 { rd, mem },
+            StoreOp::StoreRev64 => Inst::StoreRev64 { rd, mem },
+        }
+    }
+
     /// The store's row in each table of stores.
     pub fn place(self) -> usize
         ensures place { result ≡ store_place self }

@@ -2,7 +2,7 @@
 //!
 //! What differs by layout stands in tables, one row a layout, at the place that `WholeLayout::place` tells.
 ghost use Rattle.std.specs.Prelude.{◌≡◌, ◌<◌, Some};
-ghost use Rattle.s390x_inst.specs.Wholes.{as_whole, layout_place};
+ghost use Rattle.s390x_inst.specs.Wholes.{as_whole, layout_place, whole_instruction};
 
 use crate::args::MemArg;
 use crate::vec_inst::VecInst;
@@ -108,6 +108,50 @@ impl VecInst {
             VecInst::VecStoreElt32Rev { rd, mem } => some_store(WholeLayout::Elements32, rd, mem),
             VecInst::VecStoreElt64Rev { rd, mem } => some_store(WholeLayout::Elements64, rd, mem),
             _ => None,
+        }
+    }
+}
+
+// The load of a whole register.
+fn load_of(layout: WholeLayout, rd: Writable<Reg>, mem: MemArg) -> VecInst
+    ensures { result ≡ whole_instruction Direction.Load layout rd mem }
+{
+    match layout {
+        WholeLayout::Straight => VecInst::VecLoad { rd, mem },
+        WholeLayout::Reversed => VecInst::VecLoadRev { rd, mem },
+        WholeLayout::Bytes16 => VecInst::VecLoadByte16Rev { rd, mem },
+        WholeLayout::Bytes32 => VecInst::VecLoadByte32Rev { rd, mem },
+        WholeLayout::Bytes64 => VecInst::VecLoadByte64Rev { rd, mem },
+        WholeLayout::Elements16 => VecInst::VecLoadElt16Rev { rd, mem },
+        WholeLayout::Elements32 => VecInst::VecLoadElt32Rev { rd, mem },
+        WholeLayout::Elements64 => VecInst::VecLoadElt64Rev { rd, mem },
+    }
+}
+
+// The store of a whole register.
+fn store_of(layout: WholeLayout, rd: Reg, mem: MemArg) -> VecInst
+    ensures { result ≡ whole_instruction Direction.Store layout rd mem }
+{
+    match layout {
+        WholeLayout::Straight => VecInst::VecStore { rd, mem },
+        WholeLayout::Reversed => VecInst::VecStoreRev { rd, mem },
+        WholeLayout::Bytes16 => VecInst::VecStoreByte16Rev { rd, mem },
+        WholeLayout::Bytes32 => VecInst::VecStoreByte32Rev { rd, mem },
+        WholeLayout::Bytes64 => VecInst::VecStoreByte64Rev { rd, mem },
+        WholeLayout::Elements16 => VecInst::VecStoreElt16Rev { rd, mem },
+        WholeLayout::Elements32 => VecInst::VecStoreElt32Rev { rd, mem },
+        WholeLayout::Elements64 => VecInst::VecStoreElt64Rev { rd, mem },
+    }
+}
+
+impl WholeAccess {
+    /// The instruction that it is: a load writes `rd`.
+    pub fn instruction(self) -> VecInst
+        ensures { result ≡ whole_instruction self.direction self.layout self.rd self.mem }
+    {
+        match self.direction {
+            Direction::Load => load_of(self.layout, Writable::from_reg(self.rd), self.mem),
+            Direction::Store => store_of(self.layout, self.rd, self.mem),
         }
     }
 }

@@ -5,8 +5,8 @@ ghost use Rattle.s390x_job_exact.specs.Exact.{AreFields};
 
 use crate::cursor::ExactCursor;
 use crate::rows::{take_fields, take_rows};
-use s390x_inst::{Direction, Inst, LoadOp, StoreOp, WholeLayout};
-use s390x_job_lines::{LineName, MemoryName, store_instruction, whole_instruction};
+use s390x_inst::{Direction, Inst, LoadOp, StoreOp, WholeAccess, WholeLayout};
+use s390x_job_lines::{LineName, MemoryName};
 
 /// Takes the fields of an address in a register.
 #[tactic(auto, using(crate::proofs::Lines::two))]
@@ -65,7 +65,7 @@ pub fn store(op: StoreOp, cursor: &mut ExactCursor) -> Option<Inst>
     let rd = cursor.reg()?;
     let mem = cursor.memory()?;
     cursor.end()?;
-    Some(store_instruction(op, rd, mem))
+    Some(op.instruction(rd, mem))
 }
 
 /// Takes the fields of a load or a store of a whole vector register.
@@ -77,5 +77,11 @@ pub fn whole(direction: Direction, layout: WholeLayout, cursor: &mut ExactCursor
     let rd = cursor.reg()?;
     let mem = cursor.memory()?;
     cursor.end()?;
-    Some(Inst::Vector(whole_instruction(direction, layout, rd, mem)))
+    let access = WholeAccess {
+        direction,
+        layout,
+        rd,
+        mem,
+    };
+    Some(Inst::Vector(access.instruction()))
 }

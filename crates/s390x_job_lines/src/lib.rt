@@ -1,7 +1,6 @@
 //! The lines of instructions: their names, their printer and their reader.
 #![tactic(auto)]
 
-mod access;
 mod access_names;
 mod all_names;
 mod inst_name;
@@ -17,7 +16,6 @@ mod read_memory;
 mod read_vector;
 mod table;
 
-pub use access::{store_instruction, whole_instruction};
 pub use access_names::{LOAD_NAMES, STORE_NAMES, WHOLE_LOAD_NAMES, WHOLE_STORE_NAMES};
 pub use inst_name::{ControlName, IntegerName, MemoryName, VectorName};
 pub use law::lines_tell_instructions;

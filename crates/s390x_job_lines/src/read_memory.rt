@@ -3,7 +3,6 @@ ghost use Rattle.std.specs.Prelude.{◌≡◌};
 ghost use Rattle.s390x_job_lines.specs.Line.{line_with};
 ghost use Rattle.s390x_job_lines.specs.Instructions.{inst_line};
 
-use crate::access::store_instruction;
 use crate::inst_name::MemoryName;
 use crate::name::LineName;
 use crate::table::{memory_table, read_rows};
@@ -34,5 +33,5 @@ pub fn store(op: StoreOp, c: &mut Cursor) -> Inst
 {
     let rd = c.reg();
     let mem = c.memory();
-    store_instruction(op, rd, mem)
+    op.instruction(rd, mem)
 }

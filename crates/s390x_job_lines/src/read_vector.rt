@@ -3,11 +3,10 @@ ghost use Rattle.std.specs.Prelude.{◌≡◌};
 ghost use Rattle.s390x_job_lines.specs.Line.{line_with};
 ghost use Rattle.s390x_job_lines.specs.Instructions.{vector_line};
 
-use crate::access::whole_instruction;
 use crate::inst_name::VectorName;
 use crate::name::LineName;
 use crate::table::{read_rows, vector_table};
-use s390x_inst::{Direction, VecInst, WholeLayout};
+use s390x_inst::{Direction, VecInst, WholeAccess, WholeLayout};
 use s390x_job_fields::Cursor;
 
 /// The instruction of this name, whose fields come next.
@@ -24,5 +23,11 @@ pub fn whole(direction: Direction, layout: WholeLayout, c: &mut Cursor) -> VecIn
 {
     let rd = c.reg();
     let mem = c.memory();
-    whole_instruction(direction, layout, rd, mem)
+    let access = WholeAccess {
+        direction,
+        layout,
+        rd,
+        mem,
+    };
+    access.instruction()
 }

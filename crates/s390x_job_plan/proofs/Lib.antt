@@ -4,6 +4,7 @@ pub mod Fields
 pub mod Parts
 pub mod Plans
 pub mod PortionLines
+pub mod Registers
 pub mod Sizes
 pub mod Spelling
 pub mod Stopping

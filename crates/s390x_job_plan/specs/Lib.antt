@@ -4,4 +4,5 @@ pub mod Example
 pub mod Jobs
 pub mod Lines
 pub mod Order
+pub mod Registers
 pub mod Text

@@ -15,7 +15,7 @@ pub use allocated_jobs::{answered_jobs_are_jobs, answered_jobs_are_read_back};
 pub use completeness::complete;
 pub use error::PlanTextError;
 pub use find::{find_plan, find_planned};
-pub use law::{no_blocks_are_text, some_lines_are_text};
+pub use law::{descriptions_name_each_register, no_blocks_are_text, some_lines_are_text};
 pub use line::read_line;
 pub use planned_job::PlannedJob;
 pub use reader::read_plan;

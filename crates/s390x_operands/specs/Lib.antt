@@ -3,4 +3,5 @@ pub mod Meets
 pub mod Operands
 pub mod Queries
 pub mod Requests
+pub mod RoleLists
 pub mod Visits

@@ -1,18 +1,16 @@
 //! The operands of each instruction, as a register allocator reads them.
 #![tactic(auto)]
 
-mod arithmetic;
 mod calls;
 mod constraint;
-mod control;
+mod leaf;
 mod list;
 mod mach_inst;
-mod moves;
 mod multiple;
 mod operands;
 mod report;
-mod storage;
-mod vectors;
+mod role_list;
+mod roles;
 mod visitor;
 
 pub use constraint::{OperandConstraint, OperandError, OperandKind, OperandPos, Reported};
