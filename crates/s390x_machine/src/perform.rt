@@ -12,7 +12,7 @@ ghost use Rattle.s390x_machine.specs.State.{memory_of, registers_of, core_of};
 ghost use Rattle.s390x_machine.specs.Sound.{is_reached, IsSound, outcome, HasOutcome};
 ghost use Rattle.s390x_machine.specs.Step.{ExecutesOperation};
 
-use crate::access::{access_fault, found, load, load_wide, size_in_bytes, store, store_multiple};
+use crate::access::{access_fault, found, load, size_in_bytes, store_multiple};
 use crate::machine::Machine;
 use crate::memory::Memory;
 use s390x_lanes::{code, divides_by_zero, division_overflows, result};
@@ -143,7 +143,7 @@ fn vector_in<M: Memory>(memory: &M, layout: VectorLayout, old: u128, address: u6
     loaded(
         layout,
         old,
-        load_wide(memory, address, layout_bytes(layout) as u64),
+        memory.number(address, layout_bytes(layout) as u64),
     )
 }
 
@@ -378,8 +378,8 @@ fn store_value<M: Memory>(memory: &mut M, destination: Source, width: Width, val
 {
     match destination {
         Source::Value(_) => {}
-        Source::Memory(a) => store(memory, a, bytes(width) as u64, value as u128),
-        Source::AlignedMemory(a) => store(memory, a, bytes(width) as u64, value as u128),
+        Source::Memory(a) => memory.put_number(a, bytes(width) as u64, value as u128),
+        Source::AlignedMemory(a) => memory.put_number(a, bytes(width) as u64, value as u128),
     }
 }
 
@@ -410,7 +410,7 @@ fn put_stored<M: Memory>(memory: &mut M, effect: &Effect)
             ..
         } => {
             let value = operate(operator, size, found(memory, size, address), second).0;
-            store(memory, address, size_in_bytes(size), value as u128);
+            memory.put_number(address, size_in_bytes(size), value as u128);
         }
         Effect::CompareAndSwap {
             size,
@@ -420,7 +420,7 @@ fn put_stored<M: Memory>(memory: &mut M, effect: &Effect)
             ..
         } => {
             if found(memory, size, address) == expected {
-                store(memory, address, size_in_bytes(size), replacement as u128);
+                memory.put_number(address, size_in_bytes(size), replacement as u128);
             }
         }
         Effect::StoreMultiple {
@@ -436,7 +436,7 @@ fn put_stored<M: Memory>(memory: &mut M, effect: &Effect)
             address,
         } => {
             let stored = vector_stored(layout, value);
-            store(memory, address, layout_bytes(layout) as u64, stored);
+            memory.put_number(address, layout_bytes(layout) as u64, stored);
         }
         _ => {}
     }

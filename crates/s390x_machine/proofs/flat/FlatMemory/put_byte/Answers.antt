@@ -1,0 +1,7 @@
+use Rattle.s390x_machine.proofs.flat.FlatMemory.put_byte.Goals as goal
+
+pub put_in-requires : goal.put_in-requires
+put_in-requires c = c.in-Some.ensures
+
+pub returns-in-None-clause-stays : goal.returns-in-None-clause-stays
+returns-in-None-clause-stays c = λ a k h. h
