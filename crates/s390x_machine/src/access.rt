@@ -86,7 +86,7 @@ fn reach_fault<M: Memory>(memory: &M, misaligned: bool, address: u64, n: u64) ->
 }
 
 /// The fault of an operand of so many bytes, whether it is read or stored.
-fn operand_fault<M: Memory>(memory: &M, operand: Source, n: u64) -> Option<StopKind>
+pub fn operand_fault<M: Memory>(memory: &M, operand: Source, n: u64) -> Option<StopKind>
     requires { 0 < n }
     ensures read { result ≡ fault (source_access operand n) (M.held memory.now) }
     ensures stored { (value : ℕ)

@@ -35,7 +35,7 @@ pub fn is_selected(mask: u8, code: ConditionCode) -> bool
 }
 
 /// The bits of an operand.
-fn raw<M: Memory>(memory: &M, source: Source, width: Width) -> u64
+pub fn raw<M: Memory>(memory: &M, source: Source, width: Width) -> u64
     requires { IsTrue (is_reached (source_access source (bytes width)) (M.held memory.now)) }
     ensures { result ≡ raw source width (memory_of (M.held memory.now) (M.byte memory.now)) }
 {
