@@ -1,4 +1,4 @@
--- A step whose operator or comparison has both values is the row's operation.
+-- A step whose operator or comparison has both values is the row's operation, and so is one that stores a value.
 use Rattle.std.proofs.Common.{◌≡◌, ℕ, None, refl, sym, ap, subst, ◌∙◌}
 use Rattle.s390x_lanes.specs.declared.operators.Signedness.{Signedness}
 use Rattle.s390x_operations.specs.Bits.{bytes}
@@ -6,13 +6,14 @@ use Rattle.s390x_operations.specs.State.{Core, Memory, Registers, after_store, w
 use Rattle.s390x_operations.specs.Access.{fault, store_event}
 use Rattle.s390x_operations.specs.Unsigned.{compared}
 use Rattle.s390x_operations.specs.Values.{code_of_value, taken, value}
-use Rattle.s390x_operations.specs.Effects.{CodeAfter, MayExecute, set_sized, source_access}
+use Rattle.s390x_operations.specs.Effects.{CodeAfter, MayExecute, set_sized, source_access, store_access}
 use Rattle.s390x_operations.specs.declared.size.Size.{Size}
+use Rattle.s390x_operations.specs.declared.size.Width.{Width}
 use Rattle.s390x_operations.specs.declared.operator.Operator.{Operator}
 use Rattle.s390x_operations.specs.declared.operand.Operand.{Operand}
 use Rattle.s390x_operations.specs.declared.operand.Source.{Source}
 use Rattle.s390x_operations.specs.declared.operand.Source.TheVariants.{Value, Memory as InMemory, AlignedMemory}
-use Rattle.s390x_operations.specs.declared.effect.Effect.TheVariants.{Compute, Compare}
+use Rattle.s390x_operations.specs.declared.effect.Effect.TheVariants.{Compute, Compare, Store}
 use Rattle.s390x_operations.specs.declared.effect.CodeRule.{CodeRule}
 use Rattle.s390x_operations.specs.declared.effect.CodeRule.TheVariants.{Kept, Set, Unspecified}
 use Rattle.s390x_operations.specs.declared.stop.ConditionCode.{ConditionCode}
@@ -59,3 +60,7 @@ ordered_by sign size y first second c r reached t h =
       code = code;
       memory = nothing_stored y.source (bytes y.width) c.memory;
     }
+
+pub stored_by_it : (width : Width) (v : ℕ) (destination : Source) (c : Core) (m : Memory) → fault (store_access destination (bytes width) v) c.memory.has ≡ None → m ≡ after_store (store_event (store_access destination (bytes width) v) c.memory) c.memory →
+    MayExecute (record { effect = Store width v destination; rule = Kept }) c (record { registers = c.registers; memory = m })
+stored_by_it width v destination c m reached e = record { reached = reached; allowed = refl; results = refl; code = refl; memory = e }

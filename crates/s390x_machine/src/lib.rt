@@ -17,6 +17,7 @@ mod row_action;
 mod semantics;
 mod step;
 mod storage_action;
+mod store_step;
 mod value_step;
 mod vector_action;
 

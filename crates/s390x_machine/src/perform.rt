@@ -366,7 +366,7 @@ fn new_code<M: Memory>(machine: &Machine, memory: &M, op: &Operation) -> Conditi
 }
 
 /// The low bytes of a value go to a place in memory.
-fn store_value<M: Memory>(memory: &mut M, destination: Source, width: Width, value: u64)
+pub fn store_value<M: Memory>(memory: &mut M, destination: Source, width: Width, value: u64)
     requires { IsTrue
         (is_reached (store_access destination (bytes width) value) (M.held memory.old)) }
     ensures same { M.held memory.new ≡ M.held memory.old }

@@ -8,5 +8,8 @@ operator_step-requires-clause-is g c = ap semantics_of (sym c.requires.row.same)
 pub comparison_step-requires-clause-is : goal.comparison_step-requires-clause-is
 comparison_step-requires-clause-is g c = ap semantics_of (sym c.requires.row.same) ∙ c.semantics_at-semantics.ensures
 
+pub storing_step-requires-clause-is : goal.storing_step-requires-clause-is
+storing_step-requires-clause-is g c = ap semantics_of (sym c.requires.row.same) ∙ c.semantics_at-semantics.ensures
+
 pub semantics_step-requires-clause-is : goal.semantics_step-requires-clause-is
 semantics_step-requires-clause-is g c = ap semantics_of (sym c.requires.row.same) ∙ c.semantics_at-semantics.ensures
