@@ -20,6 +20,7 @@ mod storage_action;
 mod store_step;
 mod value_step;
 mod vector_action;
+mod vector_step;
 
 pub use codes::code_at;
 pub use flat::FlatMemory;

@@ -135,7 +135,7 @@ fn overflows(effect: &Effect) -> bool
 
 /// A vector register that held `old` gets what is in memory.
 #[tactic(auto, using(crate::proofs::Vectors::bytes_bits))]
-fn vector_in<M: Memory>(memory: &M, layout: VectorLayout, old: u128, address: u64) -> u128
+pub fn vector_in<M: Memory>(memory: &M, layout: VectorLayout, old: u128, address: u64) -> u128
     requires { IsTrue (reaches (M.held memory.now) address (layout_bytes layout)) }
     ensures { result
         ≡ loaded layout old (number_at (M.byte memory.now) address (layout_bytes layout)) }

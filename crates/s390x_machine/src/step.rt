@@ -21,6 +21,7 @@ use crate::semantics::{Action, OpcodeSemantics, ROW_SEMANTICS, RowSemantics};
 use crate::store_step::store_step;
 use crate::value_step::{compare_step, operand_bits, value_step};
 use crate::vector_action::shift_amount;
+use crate::vector_step::{vector_load_step, vector_store_step};
 use s390x_format::{Decoded, Fields, Located, length};
 use s390x_lanes::{VectorOperation, computes, operation};
 use s390x_operations::{StopKind, bytes};
@@ -264,6 +265,12 @@ fn row_step<M: Memory>(machine: &mut Machine, memory: &mut M, located: &Located)
         RowSemantics::Compute(..) => operator_step(machine, memory, &located.decoded, semantics),
         RowSemantics::Compare(..) => comparison_step(machine, memory, &located.decoded, semantics),
         RowSemantics::Store(_) => storing_step(machine, memory, &located.decoded, semantics),
+        RowSemantics::LoadVector(storage) => {
+            vector_load_step(machine, memory, &located.decoded, *storage)
+        }
+        RowSemantics::StoreVector(storage) => {
+            vector_store_step(machine, memory, &located.decoded, *storage)
+        }
         _ => semantics_step(machine, memory, &located.decoded, semantics),
     }
 }

@@ -5,3 +5,6 @@ put_in-requires c = c.in-Some.ensures
 
 pub returns-in-None-clause-stays : goal.returns-in-None-clause-stays
 returns-in-None-clause-stays c = λ a k h. h
+
+pub returns-in-Some-clause-stays : goal.returns-in-Some-clause-stays
+returns-in-Some-clause-stays c = c.put_in.ensures.stays
