@@ -69,6 +69,7 @@ pub mod TrapCodes
 pub mod Trapping
 pub mod ValueSteps
 pub mod Values
+pub mod VectorAccess
 pub mod VectorComposites
 pub mod VectorLanes
 pub mod VectorRows

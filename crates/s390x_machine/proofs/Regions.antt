@@ -1,22 +1,18 @@
 -- A memory of regions: the first region that has an address is the one that counts.
-use Rattle.std.proofs.Common.{◌≡◌, ◌≢◌, ℕ, zero, suc, ◌+◌, ◌-◌, ◌^◌, ◌<◌, ◌≤◌, Bool, true, false, ◌&&◌, ◌||◌, ◌==◌, if◌then◌else◌, List, [], ◌∷◌, length, get_or, slice_index, refl, sym, ap, ap₂, ◌∙◌, arith, true≢false}
+use Rattle.std.proofs.Common.{◌≡◌, ◌≢◌, ℕ, zero, suc, ◌+◌, ◌-◌, ◌^◌, ◌<◌, ◌≤◌, Bool, true, false, ◌&&◌, ◌||◌, ◌==◌, if◌then◌else◌, List, [], ◌∷◌, Option, Some, None, length, get_or, slice_index, inl, inr, refl, sym, ap, ap₂, ◌∙◌, subst, arith, true≢false}
 use Rattle.std.specs.Prelude.{nat_le, nat_lt, slice_set}
 use Rattle.std.specs.BTreeMap.{get}
 use Rattle.std.specs.Option.{is_some, unwrap_or}
 use Rattle.std.specs.Ordering.{nat_cmp}
 use Rattle.std.proofs.Math.Nat.{mod-eq_of_lt}
-use Rattle.std.proofs.lemmas.Bool.{and_parts, leb-true, ltb-true, le-leb, lt-ltb, eqb-true, eqb-false}
-use Rattle.std.proofs.lemmas.List.{get_or-set_same, get_or-set_other, length-set}
-use Rattle.s390x_operations.specs.State.{update, wrapping_add64}
-use Rattle.s390x_machine.specs.Regions.{covers, contains, held_in, byte_in, is_held, byte_of, ContainsAll, IsInFirst}
+use Rattle.std.proofs.lemmas.Bool.{and_parts, leb-true, ltb-true, le-leb, lt-leb, lt-ltb, le-ltb, eqb-true, eqb-false, cases_eq}
+use Rattle.std.proofs.lemmas.List.{get_or-set_same, get_or-set_other, get_or_default, length-set}
+use Rattle.s390x_operations.specs.State.{update, wrapping_add64, reaches}
+use Rattle.s390x_machine.specs.Regions.{covers, contains, held_in, byte_in, is_held, byte_of, ContainsAll, ContainsNone, NoneBefore, IsHolder, HoldsAll, IsInFirst}
 use Rattle.s390x_machine.specs.State.{AreBytes}
 use Rattle.s390x_machine.specs.declared.flat.FlatMemory.{FlatMemory}
 use Rattle.s390x_machine.proofs.Reaching.{reaches_all}
 use Rattle.s390x_machine.specs.declared.flat.Region.{Region}
-
--- none of the first i regions has the address
-abbrev pub NoneBefore : List Region → ℕ → ℕ → Type 0
-NoneBefore rs a i = (k : ℕ) (z : Region) → k < i → contains (get_or rs k z) a ≡ false
 
 later : (r : Region) (rs : List Region) (a i : ℕ) → NoneBefore (r ∷ rs) a (suc i) → NoneBefore rs a i
 later r rs a i h k z lt = h (suc k) z (omega arith)
@@ -44,10 +40,6 @@ covered r a here = (and_parts (covers r.start r.bytes.items a) (nat_lt a (2 ^ 64
 
 pub inside : (r : Region) (a : ℕ) → contains r a ≡ true → a - r.start < length r.bytes.items
 inside r a here = leb-true (suc (a - r.start)) (length r.bytes.items) (and_parts (nat_le r.start a) (nat_lt (a - r.start) (length r.bytes.items)) (covered r a here)).1
-
--- region i is the first that has the address
-abbrev pub IsHolder : List Region → ℕ → ℕ → Type 0
-IsHolder rs a i = (i < length rs) × ((z : Region) → contains (get_or rs i z) a ≡ true) × NoneBefore rs a i
 
 pub some_held : (rs : List Region) (a i : ℕ) → IsHolder rs a i → held_in rs a ≡ true
 some_held [] a i h = absurd (omega (arith, h.0))
@@ -110,6 +102,25 @@ byte_after (r ∷ rs) zero a v z new b c lt h here =
 byte_after (r ∷ rs) (suc i) a v z new b c lt h here =
     rest_after r rs (slice_set rs i new) a v b (h 0 z (omega arith)) (byte_after rs i a v z new b c (omega arith) (later r rs a i h) here) (b == a) refl (contains r b) refl
 
+-- the region that is the first to have an address stays so
+pub holder_after : (rs : List Region) (i a v : ℕ) (z new : Region) → IsChanged (get_or rs i z) new a v → i < length rs → (b k : ℕ) → IsHolder rs b k → IsHolder (slice_set rs i new) b k
+holder_after rs i a v z new c lt b k h = (subst (λ (n : ℕ). k < n) (sym (length-set rs i new)) h.0, (λ y. same k y ∙ h.1 y), (λ j y less. same j y ∙ h.2 j y less))
+  where
+    here : (j : ℕ) (y : Region) → j ≡ i → contains (get_or (slice_set rs i new) j y) b ≡ contains (get_or rs j y) b
+    here j y e =
+        ap (λ n. contains (get_or (slice_set rs i new) n y) b) e
+        ∙ ap (λ (r : Region). contains r b) (get_or-set_same rs i new y lt)
+        ∙ same_addresses (get_or rs i z) new a v b c
+        ∙ ap (λ (r : Region). contains r b) (get_or_default rs i z y lt)
+        ∙ sym (ap (λ n. contains (get_or rs n y) b) e)
+
+    same : (j : ℕ) (y : Region) → contains (get_or (slice_set rs i new) j y) b ≡ contains (get_or rs j y) b
+    same j y = elim (cases_eq j i) [ inl e ↦ here j y e | inr ne ↦ ap (λ (r : Region). contains r b) (get_or-set_other rs i j new y ne) ]
+
+pub still_holds : (region : Option ℕ) (rs ss : List Region) (a n : ℕ) → ((b k : ℕ) → IsHolder rs b k → IsHolder ss b k) → HoldsAll region rs a n → HoldsAll region ss a n
+still_holds None rs ss a n stays h j lt = tt
+still_holds (Some i) rs ss a n stays h j lt = stays (wrapping_add64 a j) i (h j lt)
+
 -- ---- a region is added
 
 pub held_added : (r : Region) (rs : List Region) (a : ℕ) → held_in (r ∷ rs) a ≡ (contains r a || held_in rs a)
@@ -124,7 +135,7 @@ pub none_held : (a : ℕ) → held_in [] a ≡ false
 unfolding held_in
 none_held a = refl
 
--- ---- some bytes of the region that was added last
+-- ---- some bytes of one region
 
 pub contained : (r : Region) (a n : ℕ) → r.start ≤ a → n ≤ length r.bytes.items → a - r.start ≤ length r.bytes.items - n → a + n < 2 ^ 64 → ContainsAll r a n
 contained r a n low few end small i lt =
@@ -135,6 +146,32 @@ contained r a n low few end small i lt =
 
 below_top : (r : Region) (a : ℕ) → contains r a ≡ true → a < 2 ^ 64
 below_top r a here = ltb-true a (2 ^ 64) (and_parts (covers r.start r.bytes.items a) (nat_lt a (2 ^ 64)) here).1
+
+and_none : (x : Bool) → (x && false) ≡ false
+and_none true = refl
+and_none false = refl
+
+pub apart_below : (r : Region) (a n : ℕ) → a < r.start → n ≤ r.start - a → ContainsNone r a n
+apart_below r a n low few i lt =
+    let out : nat_le r.start (a + i) ≡ false = lt-leb r.start (a + i) (omega arith) in
+    ap (λ x. (x && nat_lt (a + i - r.start) (length r.bytes.items)) && nat_lt (a + i) (2 ^ 64)) out
+
+pub apart_above : (r : Region) (a n : ℕ) → r.start ≤ a → length r.bytes.items ≤ a - r.start → ContainsNone r a n
+apart_above r a n high past i lt =
+    let out : nat_lt (a + i - r.start) (length r.bytes.items) ≡ false = le-ltb (a + i - r.start) (length r.bytes.items) (omega arith) in
+    ap (λ x. (nat_le r.start (a + i) && x) && nat_lt (a + i) (2 ^ 64)) out ∙ ap (λ x. x && nat_lt (a + i) (2 ^ 64)) (and_none (nat_le r.start (a + i)))
+
+pub each_held : (rs : List Region) (a n i : ℕ) → i < length rs → ((z : Region) → ContainsAll (get_or rs i z) a n) → ((k : ℕ) → k < i → (z : Region) → ContainsNone (get_or rs k z) a n) → HoldsAll (Some i) rs a n
+each_held [] a n i lt all none j less = absurd (omega (arith, lt))
+each_held (r ∷ rs) a n i lt all none j less =
+    let place : wrapping_add64 a j ≡ a + j = mod-eq_of_lt (below_top (get_or (r ∷ rs) i r) (a + j) (all r j less)) in
+    subst (λ (b : ℕ). IsHolder (r ∷ rs) b i) (sym place) (lt, (λ z. all z j less), (λ k z before. none k before z j less))
+
+pub all_held : (m : FlatMemory) (a n i : ℕ) → HoldsAll (Some i) m.regions.items a n → reaches (is_held m) a n ≡ true
+all_held m a n i h =
+    reaches_all (is_held m) a n (λ j lt. ap (λ (b : Bool). b || is_some (get nat_cmp m.older (wrapping_add64 a j))) (some_held m.regions.items (wrapping_add64 a j) i (h j lt)))
+
+-- ---- six bytes of the region that was added last
 
 no_region_before : (rs : List Region) (a : ℕ) → NoneBefore rs a 0
 no_region_before rs a k z lt = absurd (omega arith)

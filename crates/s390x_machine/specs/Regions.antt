@@ -1,8 +1,9 @@
 -- A memory of regions, the last one added first, and of bytes of older ones.
-use Rattle.std.specs.Prelude.{◌≡◌, ℕ, ◌+◌, ◌-◌, ◌^◌, ◌<◌, Bool, true, false, ◌&&◌, ◌||◌, nat_le, nat_lt, if◌then◌else◌, List, [], ◌∷◌, length, get_or, slice_index}
+use Rattle.std.specs.Prelude.{◌≡◌, ℕ, ◌+◌, ◌-◌, ◌^◌, ◌<◌, Bool, true, false, ◌&&◌, ◌||◌, nat_le, nat_lt, if◌then◌else◌, List, [], ◌∷◌, length, get_or, slice_index, Option, Some, None}
 use Rattle.std.specs.Option.{is_some, unwrap_or}
 use Rattle.std.specs.BTreeMap.{BTreeMap, get}
 use Rattle.std.specs.Ordering.{nat_cmp}
+use Rattle.s390x_operations.specs.State.{wrapping_add64}
 use Rattle.s390x_machine.specs.declared.flat.Region.{Region}
 use Rattle.s390x_machine.specs.declared.flat.FlatMemory.{FlatMemory}
 
@@ -21,6 +22,27 @@ contains r a = has_address r.start r.bytes.items a
 -- n addresses from one on are the region's
 abbrev pub ContainsAll : Region → ℕ → ℕ → Type 0
 ContainsAll r a n = (i : ℕ) → i < n → contains r (a + i) ≡ true
+
+-- none of n addresses from one on is the region's
+abbrev pub ContainsNone : Region → ℕ → ℕ → Type 0
+ContainsNone r a n = (i : ℕ) → i < n → contains r (a + i) ≡ false
+
+-- none of the first i regions has the address
+abbrev pub NoneBefore : List Region → ℕ → ℕ → Type 0
+NoneBefore rs a i = (k : ℕ) (z : Region) → k < i → contains (get_or rs k z) a ≡ false
+
+-- region i is the first that has the address
+abbrev pub IsHolder : List Region → ℕ → ℕ → Type 0
+IsHolder rs a i = (i < length rs) × ((z : Region) → contains (get_or rs i z) a ≡ true) × NoneBefore rs a i
+
+-- the region of this number is the first that has the address, where a number is given
+abbrev pub Holds : Option ℕ → List Region → ℕ → Type 0
+Holds None rs a = Unit {0}
+Holds (Some i) rs a = IsHolder rs a i
+
+-- the same of n addresses from one on
+abbrev pub HoldsAll : Option ℕ → List Region → ℕ → ℕ → Type 0
+HoldsAll region rs a n = (i : ℕ) → i < n → Holds region rs (wrapping_add64 a i)
 
 -- the address is one of some region's
 unfoldable pub held_in : List Region → ℕ → Bool

@@ -1,9 +1,13 @@
 -- What a step of the machine as a program answers.
 use Rattle.std.specs.Prelude.{◌≡◌, ℕ, IsTrue, Option, Some, None}
 use Rattle.s390x_format.specs.declared.decoder.Decoded.{Decoded}
-use Rattle.s390x_operations.specs.Access.{store_event}
+use Rattle.s390x_operations.specs.Access.{fault, store_event}
+use Rattle.s390x_operations.specs.Bits.{bytes}
 use Rattle.s390x_operations.specs.State.{State, Memory, Core, StoreEvent}
-use Rattle.s390x_operations.specs.Effects.{access, MayExecute, MayInterrupt, MayRefuse}
+use Rattle.s390x_operations.specs.Effects.{access, source_access, MayExecute, MayInterrupt, MayRefuse}
+use Rattle.s390x_operations.specs.Values.{raw}
+use Rattle.s390x_operations.specs.declared.operand.Source.{Source}
+use Rattle.s390x_operations.specs.declared.size.Width.{Width}
 use Rattle.s390x_operations.specs.declared.stop.StopKind.{StopKind}
 use Rattle.s390x_operations.specs.declared.stop.StopKind.TheVariants.{Divide}
 use Rattle.s390x_operations.specs.declared.effect.Operation.{Operation}
@@ -28,6 +32,11 @@ QuotientsFit op = MayRefuse op.effect Divide → ⊥
 abbrev pub ExecutesOperation : Operation → Core → Option StopKind → Core → Type 0
 ExecutesOperation op c None t = MayExecute op c t × QuotientsFit op
 ExecutesOperation op c (Some kind) t = MayInterrupt op c.memory.has kind × (t ≡ c)
+
+-- these are an operand's bits; where it is in memory, its access has no fault
+pub record IsRead (operand : Source) (width : Width) (m : Memory) (bits : ℕ) : Type 0 where
+  pub reached : fault (source_access operand (bytes width)) m.has ≡ None
+  pub is : bits ≡ raw operand width m
 
 -- the condition code that the machine has after a value, by the rule of its operation: a code that isn't stated stays
 abbrev pub code_under : CodeRule → ConditionCode → ConditionCode → ConditionCode

@@ -10,23 +10,8 @@ ghost use Rattle.s390x_operations.specs.Effects.{source_access, store_access, ac
 ghost use Rattle.s390x_machine.specs.State.{memory_of};
 ghost use Rattle.s390x_machine.specs.Sound.{IsSound};
 
-use crate::memory::{Memory, reaches};
+use crate::memory::Memory;
 use s390x_operations::{Effect, Size, Source, StopKind, bytes, layout_bytes};
-
-/// The number in so many bytes, at most 16, the most significant first.
-#[tactic(auto, using(crate::proofs::Numbers::number_none, crate::proofs::Numbers::number_more, crate::proofs::Reaching::reached_at))]
-pub fn load_wide<M: Memory>(memory: &M, address: u64, n: u64) -> u128
-    requires few { n ≤ 16 }
-    requires there { IsTrue (reaches (M.held memory.now) address n) }
-    ensures value { result ≡ number_at (M.byte memory.now) address n }
-    ensures below { result < 256 ^ n }
-{
-    let mut total: u128 = 0;
-    for i in 0..n {
-        total = total * 256 + u128::from(memory.get(address.wrapping_add(i)));
-    }
-    total
-}
 
 /// The number in so many bytes, at most 8.
 #[tactic(auto, using(crate::proofs::Numbers::room))]
@@ -36,21 +21,7 @@ pub fn load<M: Memory>(memory: &M, address: u64, n: u64) -> u64
     ensures value { result ≡ number_at (M.byte memory.now) address n }
     ensures below { result < 256 ^ n }
 {
-    load_wide(memory, address, n) as u64
-}
-
-/// So many bytes get the low bytes of a number, the most significant first.
-#[tactic(auto, using(crate::proofs::Numbers::store_none, crate::proofs::Numbers::store_more, crate::proofs::Reaching::reached_at))]
-pub fn store<M: Memory>(memory: &mut M, address: u64, n: u64, value: u128)
-    requires { IsTrue (reaches (M.held memory.old) address n) }
-    ensures same { M.held memory.new ≡ M.held memory.old }
-    ensures written { M.byte memory.new ≡ write_get (bytes_to address n value) (M.byte memory.old) }
-{
-    let mut rest = value;
-    for i in (0..n).rev() {
-        memory.set(address.wrapping_add(i), (rest % 256) as u8);
-        rest = rest / 256;
-    }
+    memory.number(address, n) as u64
 }
 
 /// So many of the values go to memory as doublewords, one after another.
@@ -65,7 +36,7 @@ pub fn store_multiple<M: Memory>(memory: &mut M, values: &[u64; 16], address: u6
 {
     for i in (0..count).rev() {
         let value = values[i as usize];
-        store(memory, address.wrapping_add(8 * i as u64), 8, value as u128);
+        memory.put_number(address.wrapping_add(8 * i as u64), 8, value as u128);
     }
 }
 
@@ -107,7 +78,7 @@ fn reach_fault<M: Memory>(memory: &M, misaligned: bool, address: u64, n: u64) ->
 {
     if misaligned {
         Some(StopKind::Specification)
-    } else if reaches(memory, address, n) {
+    } else if memory.has_all(address, n) {
         None
     } else {
         Some(StopKind::Access)
@@ -115,7 +86,7 @@ fn reach_fault<M: Memory>(memory: &M, misaligned: bool, address: u64, n: u64) ->
 }
 
 /// The fault of an operand of so many bytes, whether it is read or stored.
-fn operand_fault<M: Memory>(memory: &M, operand: Source, n: u64) -> Option<StopKind>
+pub fn operand_fault<M: Memory>(memory: &M, operand: Source, n: u64) -> Option<StopKind>
     requires { 0 < n }
     ensures read { result ≡ fault (source_access operand n) (M.held memory.now) }
     ensures stored { (value : ℕ)

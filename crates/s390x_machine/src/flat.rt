@@ -1,11 +1,11 @@
 //! A memory of regions.
 
-ghost use Rattle.std.specs.Prelude.{◌≡◌, ℕ, ◌+◌, ◌-◌, ◌<◌, ◌≤◌, ◌^◌, ◌||◌, ◌∷◌, ◌==◌, Some, IsSome, if◌then◌else◌, true, false, length, get_or, slice_index, IfOk, IfErr, OnOk, MatchResult, MatchOption};
+ghost use Rattle.std.specs.Prelude.{◌≡◌, ℕ, ◌+◌, ◌-◌, ◌<◌, ◌≤◌, ◌^◌, ◌||◌, ◌∷◌, ◌==◌, Some, IsSome, IsTrue, if◌then◌else◌, true, false, length, get_or, slice_index, IfOk, IfErr, OnOk, MatchResult, MatchOption};
 ghost use Rattle.std.specs.BTreeMap.{get};
 ghost use Rattle.std.specs.Ordering.{nat_cmp};
-ghost use Rattle.s390x_machine.specs.Regions.{contains, held_in, byte_in, covers, has_address, is_held, byte_of, ContainsAll, IsFolded, IsInFirst};
+ghost use Rattle.s390x_machine.specs.Regions.{contains, held_in, covers, has_address, is_held, byte_of, ContainsAll, ContainsNone, Holds, HoldsAll, IsFolded, IsHolder, IsInFirst};
 ghost use Rattle.s390x_machine.specs.State.{AreBytes};
-ghost use Rattle.s390x_operations.specs.State.{reaches};
+ghost use Rattle.s390x_operations.specs.State.{reaches, update};
 
 use crate::memory::Memory;
 use s390x_base::NoMemory;
@@ -40,6 +40,18 @@ impl Region {
             && n <= length
             && address - self.start <= length - n
             && address <= u64::MAX - n
+    }
+
+    /// Whether so many addresses from one on end before the region, or begin behind it: then none of them is the region's.
+    #[tactic(auto, using(crate::proofs::Regions::apart_below, crate::proofs::Regions::apart_above))]
+    fn is_apart(&self, address: u64, n: u64) -> bool
+        ensures { result ≡ true → ContainsNone self.now address n }
+    {
+        if address < self.start {
+            n <= self.start - address
+        } else {
+            address - self.start >= self.bytes.len() as u64
+        }
     }
 
     /// The bytes at six addresses from one on.
@@ -187,18 +199,126 @@ impl FlatMemory {
         None
     }
 
+    /// The number of the whole region to which each of so many addresses from one on belongs; `None` also where that isn't found at once.
+    fn holder_of_all(&self, address: u64, n: u64) -> Option<usize>
+        ensures { HoldsAll result self.now.regions.items address n }
+    {
+        for i in 0..self.regions.len() {
+            let region = &self.regions[i];
+            if region.contains_all(address, n) {
+                return Some(i);
+            }
+            if !region.is_apart(address, n) {
+                return None;
+            }
+        }
+        None
+    }
+
+    /// The byte that the first region with an address has there.
+    fn region_byte(&self, i: usize, address: u64) -> u8
+        requires { IsHolder self.now.regions.items address i }
+        ensures held { is_held self.now address ≡ true }
+        ensures value { result ≡ byte_of self.now address }
+    {
+        let region = &self.regions[i];
+        region.bytes[(address - region.start) as usize]
+    }
+
+    /// Whether the address is accessible.
+    fn has_byte(&self, address: u64) -> bool
+        ensures { result ≡ is_held self.now address }
+    {
+        match self.holder(address) {
+            Some(_) => true,
+            None => self.older.contains_key(&address),
+        }
+    }
+
+    /// The byte at an address; 0 where there is none.
+    fn byte(&self, address: u64) -> u8
+        ensures { result ≡ byte_of self.now address }
+    {
+        match self.holder(address) {
+            Some(i) => self.region_byte(i, address),
+            None => self.older.get(&address).copied().unwrap_or(0),
+        }
+    }
+
+    /// The byte at an address, of its region where the number is given.
+    fn byte_from(&self, region: Option<usize>, address: u64) -> u8
+        requires { Holds region self.now.regions.items address }
+        ensures { result ≡ byte_of self.now address }
+    {
+        match region {
+            Some(i) => self.region_byte(i, address),
+            None => self.byte(address),
+        }
+    }
+
     /// The byte at an address; `None` exactly where it isn't accessible.
     fn byte_found(&self, address: u64) -> Option<u8>
         ensures { MatchOption result (is_held self.now address ≡ false)
             (λ b. (is_held self.now address ≡ true) × (b ≡ byte_of self.now address)) }
     {
         match self.holder(address) {
-            Some(i) => {
-                let region = &self.regions[i];
-                Some(region.bytes[(address - region.start) as usize])
-            }
+            Some(i) => Some(self.region_byte(i, address)),
             None => self.older.get(&address).copied(),
         }
+    }
+
+    /// The byte at an address becomes this one, in the first region that has the address.
+    fn put_in(&mut self, i: usize, address: u64, value: u8)
+        requires { IsHolder self.old.regions.items address i }
+        ensures same { is_held self.new ≡ is_held self.old }
+        ensures written { byte_of self.new ≡ update (byte_of self.old) address value }
+        ensures stays { (a : ℕ) → (k : ℕ) → IsHolder self.old.regions.items a k
+            → IsHolder self.new.regions.items a k }
+    {
+        let region = &mut self.regions[i];
+        let k = (address - region.start) as usize;
+        region.bytes[k] = value;
+    }
+
+    /// The byte at an accessible address becomes this one.
+    fn put_byte(&mut self, address: u64, value: u8)
+        requires { IsTrue (is_held self.old address) }
+        ensures same { is_held self.new ≡ is_held self.old }
+        ensures written { byte_of self.new ≡ update (byte_of self.old) address value }
+        ensures stays { (a : ℕ) → (k : ℕ) → IsHolder self.old.regions.items a k
+            → IsHolder self.new.regions.items a k }
+    {
+        match self.holder(address) {
+            Some(i) => self.put_in(i, address, value),
+            None => replace_byte(&mut self.older, address, value),
+        }
+    }
+
+    /// The byte at an accessible address becomes this one, in its region where the number is given.
+    fn put_from(&mut self, region: Option<usize>, address: u64, value: u8)
+        requires there { IsTrue (is_held self.old address) }
+        requires holds { Holds region self.old.regions.items address }
+        ensures same { is_held self.new ≡ is_held self.old }
+        ensures written { byte_of self.new ≡ update (byte_of self.old) address value }
+        ensures stays { (a : ℕ) → (k : ℕ) → IsHolder self.old.regions.items a k
+            → IsHolder self.new.regions.items a k }
+    {
+        match region {
+            Some(i) => self.put_in(i, address, value),
+            None => self.put_byte(address, value),
+        }
+    }
+
+    /// Whether so many bytes from an address on are accessible, each looked for by itself.
+    #[tactic(auto, using(crate::proofs::Reaching::reaches_none, crate::proofs::Reaching::reaches_more))]
+    fn has_one_by_one(&self, address: u64, n: u64) -> bool
+        ensures { result ≡ reaches (is_held self.now) address n }
+    {
+        let mut all = true;
+        for i in 0..n {
+            all = self.has_byte(address.wrapping_add(i)) && all;
+        }
+        all
     }
 
     /// Whether so many addresses from one on belong to the region that was added last.
@@ -232,20 +352,11 @@ impl Memory for FlatMemory {
     ghost byte = { byte_of };
 
     fn has(&self, address: u64) -> bool {
-        match self.holder(address) {
-            Some(_) => true,
-            None => self.older.contains_key(&address),
-        }
+        self.has_byte(address)
     }
 
     fn get(&self, address: u64) -> u8 {
-        match self.holder(address) {
-            Some(i) => {
-                let region = &self.regions[i];
-                region.bytes[(address - region.start) as usize]
-            }
-            None => self.older.get(&address).copied().unwrap_or(0),
-        }
+        self.byte(address)
     }
 
     fn byte_at(&self, address: u64) -> Option<u8> {
@@ -260,14 +371,33 @@ impl Memory for FlatMemory {
         Some(region.bytes_from(address))
     }
 
+    fn has_all(&self, address: u64, n: u64) -> bool {
+        match self.holder_of_all(address, n) {
+            Some(_) => true,
+            None => self.has_one_by_one(address, n),
+        }
+    }
+
+    #[tactic(auto, using(crate::proofs::Numbers::number_none, crate::proofs::Numbers::number_more))]
+    fn number(&self, address: u64, n: u64) -> u128 {
+        let region = self.holder_of_all(address, n);
+        let mut total: u128 = 0;
+        for i in 0..n {
+            total = total * 256 + u128::from(self.byte_from(region, address.wrapping_add(i)));
+        }
+        total
+    }
+
     fn set(&mut self, address: u64, value: u8) {
-        match self.holder(address) {
-            Some(i) => {
-                let region = &mut self.regions[i];
-                let k = (address - region.start) as usize;
-                region.bytes[k] = value;
-            }
-            None => replace_byte(&mut self.older, address, value),
+        self.put_byte(address, value);
+    }
+
+    fn put_number(&mut self, address: u64, n: u64, value: u128) {
+        let region = self.holder_of_all(address, n);
+        let mut rest = value;
+        for i in (0..n).rev() {
+            self.put_from(region, address.wrapping_add(i), (rest % 256) as u8);
+            rest = rest / 256;
         }
     }
 }

@@ -1,7 +1,8 @@
 //! Fetching an instruction.
-ghost use Rattle.std.specs.Prelude.{◌≡◌, ◌%◌};
+ghost use Rattle.std.specs.Prelude.{◌≡◌, ℕ, Bool, ◌%◌, ◌^◌, ◌<◌};
+ghost use Rattle.s390x_format.specs.Rows.{fetch_length_of};
 ghost use Rattle.s390x_machine.specs.Fetch.{Fetches, StandsInTable, fetched_in};
-ghost use Rattle.s390x_machine.specs.State.{memory_of};
+ghost use Rattle.s390x_machine.specs.State.{AreBytes, memory_of};
 
 use crate::memory::Memory;
 use s390x_format::{Decoded, Located, fetch_length, locate};
@@ -51,7 +52,40 @@ fn fetched_in(fetched: &FetchedRow) -> Fetched
     }
 }
 
-/// What `fetch` answers, with the place of the row in the table of machine rows.
+/// What stands at a place whose bytes these six begin with. The first one tells how many the instruction has.
+fn row_in(bytes: &[u8; 6]) -> FetchedRow
+    ensures fetches { (held : ℕ → Bool) (byte : ℕ → ℕ) (place : ℕ)
+        → place % 2 ≡ 0
+        → place < 2 ^ 64
+        → AreBytes held byte place (fetch_length_of (byte place)) bytes.now
+        → Fetches (memory_of held byte) place (fetched_in result) }
+    ensures row { StandsInTable result }
+{
+    let n = fetch_length(bytes[0]);
+    match locate(&bytes[..n]) {
+        Some(located) => FetchedRow::Found(located),
+        None => FetchedRow::Unknown,
+    }
+}
+
+/// What stands at an even place, so many bytes read as its first one tells.
+fn row_by_length<M: Memory>(memory: &M, place: u64) -> FetchedRow
+    requires { place % 2 ≡ 0 }
+    ensures fetches { Fetches (memory_of (M.held memory.now) (M.byte memory.now)) place
+        (fetched_in result) }
+    ensures row { StandsInTable result }
+{
+    let Some(first) = memory.byte_at(place) else {
+        return FetchedRow::Missing;
+    };
+    let n = fetch_length(first);
+    let Some(bytes) = memory.leading_bytes(place, n as u64) else {
+        return FetchedRow::Missing;
+    };
+    row_in(&bytes)
+}
+
+/// What `fetch` answers, with the place of the row in the table of machine rows. No instruction has more than six bytes.
 pub fn fetch_row<M: Memory>(memory: &M, place: u64) -> FetchedRow
     ensures fetches { Fetches (memory_of (M.held memory.now) (M.byte memory.now)) place
         (fetched_in result) }
@@ -60,15 +94,8 @@ pub fn fetch_row<M: Memory>(memory: &M, place: u64) -> FetchedRow
     if place % 2 == 1 {
         return FetchedRow::Misplaced;
     }
-    let Some(first) = memory.byte_at(place) else {
-        return FetchedRow::Missing;
-    };
-    let n = fetch_length(first);
-    let Some(bytes) = memory.leading_bytes(place, n as u64) else {
-        return FetchedRow::Missing;
-    };
-    match locate(&bytes[..n]) {
-        Some(located) => FetchedRow::Found(located),
-        None => FetchedRow::Unknown,
+    match memory.leading_bytes(place, 6) {
+        Some(bytes) => row_in(&bytes),
+        None => row_by_length(memory, place),
     }
 }

@@ -17,8 +17,10 @@ mod registers;
 mod row_action;
 mod step;
 mod storage_action;
+mod store_step;
 mod value_step;
 mod vector_action;
+mod vector_step;
 
 pub use codes::code_at;
 pub use flat::FlatMemory;

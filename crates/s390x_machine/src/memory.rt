@@ -1,6 +1,6 @@
 //! Memory, as the machine sees it.
-ghost use Rattle.std.specs.Prelude.{◌≡◌, ℕ, Bool, true, false, ◌≤◌, IsTrue, MatchOption};
-ghost use Rattle.s390x_operations.specs.State.{update, reaches};
+ghost use Rattle.std.specs.Prelude.{◌≡◌, ℕ, Bool, true, false, ◌<◌, ◌≤◌, ◌^◌, IsTrue, MatchOption};
+ghost use Rattle.s390x_operations.specs.State.{bytes_to, number_at, reaches, update, write_get};
 ghost use Rattle.s390x_machine.specs.State.{AreBytes};
 
 /// Bytes at accessible addresses.
@@ -31,21 +31,27 @@ pub trait Memory {
         ensures { MatchOption result (reaches (held self.now) address n ≡ false)
             (λ bytes. AreBytes (held self.now) (byte self.now) address n bytes) };
 
+    /// Whether so many bytes from an address on are accessible.
+    fn has_all(&self, address: u64, n: u64) -> bool
+        ensures { result ≡ reaches (held self.now) address n };
+
+    /// The number in so many accessible bytes from an address on, at most 16, the most significant first.
+    fn number(&self, address: u64, n: u64) -> u128
+        requires few { n ≤ 16 }
+        requires there { IsTrue (reaches (held self.now) address n) }
+        ensures value { result ≡ number_at (byte self.now) address n }
+        ensures below { result < 256 ^ n };
+
     /// The byte at an accessible address becomes this one; every other byte and what is accessible stay.
     fn set(&mut self, address: u64, value: u8)
         requires { IsTrue (held self.old address) }
         ensures same { held self.new ≡ held self.old }
         ensures written { byte self.new ≡ update (byte self.old) address value };
-}
 
-/// Whether so many bytes from an address on are accessible.
-#[tactic(auto, using(crate::proofs::Reaching::reaches_none, crate::proofs::Reaching::reaches_more))]
-pub fn reaches<M: Memory>(memory: &M, address: u64, n: u64) -> bool
-    ensures { result ≡ reaches (M.held memory.now) address n }
-{
-    let mut all = true;
-    for i in 0..n {
-        all = memory.has(address.wrapping_add(i)) && all;
-    }
-    all
+    /// So many accessible bytes from an address on become the low bytes of a number, the most significant first; every other byte and what is
+    /// accessible stay.
+    fn put_number(&mut self, address: u64, n: u64, value: u128)
+        requires { IsTrue (reaches (held self.old) address n) }
+        ensures same { held self.new ≡ held self.old }
+        ensures written { byte self.new ≡ write_get (bytes_to address n value) (byte self.old) };
 }

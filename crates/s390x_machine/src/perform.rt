@@ -12,7 +12,7 @@ ghost use Rattle.s390x_machine.specs.State.{memory_of, registers_of, core_of};
 ghost use Rattle.s390x_machine.specs.Sound.{is_reached, IsSound, outcome, HasOutcome};
 ghost use Rattle.s390x_machine.specs.Step.{ExecutesOperation};
 
-use crate::access::{access_fault, found, load, load_wide, size_in_bytes, store, store_multiple};
+use crate::access::{access_fault, found, load, size_in_bytes, store_multiple};
 use crate::machine::Machine;
 use crate::memory::Memory;
 use s390x_lanes::{code, divides_by_zero, division_overflows, result};
@@ -35,7 +35,7 @@ pub fn is_selected(mask: u8, code: ConditionCode) -> bool
 }
 
 /// The bits of an operand.
-fn raw<M: Memory>(memory: &M, source: Source, width: Width) -> u64
+pub fn raw<M: Memory>(memory: &M, source: Source, width: Width) -> u64
     requires { IsTrue (is_reached (source_access source (bytes width)) (M.held memory.now)) }
     ensures { result ≡ raw source width (memory_of (M.held memory.now) (M.byte memory.now)) }
 {
@@ -135,7 +135,7 @@ fn overflows(effect: &Effect) -> bool
 
 /// A vector register that held `old` gets what is in memory.
 #[tactic(auto, using(crate::proofs::Vectors::bytes_bits))]
-fn vector_in<M: Memory>(memory: &M, layout: VectorLayout, old: u128, address: u64) -> u128
+pub fn vector_in<M: Memory>(memory: &M, layout: VectorLayout, old: u128, address: u64) -> u128
     requires { IsTrue (reaches (M.held memory.now) address (layout_bytes layout)) }
     ensures { result
         ≡ loaded layout old (number_at (M.byte memory.now) address (layout_bytes layout)) }
@@ -143,7 +143,7 @@ fn vector_in<M: Memory>(memory: &M, layout: VectorLayout, old: u128, address: u6
     loaded(
         layout,
         old,
-        load_wide(memory, address, layout_bytes(layout) as u64),
+        memory.number(address, layout_bytes(layout) as u64),
     )
 }
 
@@ -366,7 +366,7 @@ fn new_code<M: Memory>(machine: &Machine, memory: &M, op: &Operation) -> Conditi
 }
 
 /// The low bytes of a value go to a place in memory.
-fn store_value<M: Memory>(memory: &mut M, destination: Source, width: Width, value: u64)
+pub fn store_value<M: Memory>(memory: &mut M, destination: Source, width: Width, value: u64)
     requires { IsTrue
         (is_reached (store_access destination (bytes width) value) (M.held memory.old)) }
     ensures same { M.held memory.new ≡ M.held memory.old }
@@ -378,8 +378,8 @@ fn store_value<M: Memory>(memory: &mut M, destination: Source, width: Width, val
 {
     match destination {
         Source::Value(_) => {}
-        Source::Memory(a) => store(memory, a, bytes(width) as u64, value as u128),
-        Source::AlignedMemory(a) => store(memory, a, bytes(width) as u64, value as u128),
+        Source::Memory(a) => memory.put_number(a, bytes(width) as u64, value as u128),
+        Source::AlignedMemory(a) => memory.put_number(a, bytes(width) as u64, value as u128),
     }
 }
 
@@ -410,7 +410,7 @@ fn put_stored<M: Memory>(memory: &mut M, effect: &Effect)
             ..
         } => {
             let value = operate(operator, size, found(memory, size, address), second).0;
-            store(memory, address, size_in_bytes(size), value as u128);
+            memory.put_number(address, size_in_bytes(size), value as u128);
         }
         Effect::CompareAndSwap {
             size,
@@ -420,7 +420,7 @@ fn put_stored<M: Memory>(memory: &mut M, effect: &Effect)
             ..
         } => {
             if found(memory, size, address) == expected {
-                store(memory, address, size_in_bytes(size), replacement as u128);
+                memory.put_number(address, size_in_bytes(size), replacement as u128);
             }
         }
         Effect::StoreMultiple {
@@ -436,7 +436,7 @@ fn put_stored<M: Memory>(memory: &mut M, effect: &Effect)
             address,
         } => {
             let stored = vector_stored(layout, value);
-            store(memory, address, layout_bytes(layout) as u64, stored);
+            memory.put_number(address, layout_bytes(layout) as u64, stored);
         }
         _ => {}
     }

@@ -11,17 +11,20 @@ ghost use Rattle.s390x_machine.specs.Sound.{HasRegisters, IsSoundAction, is_free
 ghost use Rattle.s390x_machine.specs.Step.{Executes, Steps};
 
 use crate::action_type::Action;
+use crate::access::operand_fault;
 use crate::field_values::{relative_address, source};
 use crate::instruction_fetch::{FetchedRow, fetch_row};
 use crate::machine::Machine;
 use crate::memory::Memory;
 use crate::perform::{is_selected, perform};
 use crate::row_action::action;
-use crate::value_step::value_step;
+use crate::store_step::store_step;
+use crate::value_step::{compare_step, operand_bits, value_step};
 use crate::vector_action::shift_amount;
+use crate::vector_step::{vector_load_step, vector_store_step};
 use s390x_format::{Decoded, Fields, Located, MACHINE_ROWS, MachineRow, RowSemantics, length};
 use s390x_lanes::{VectorOperation, computes, operation};
-use s390x_operations::{Source, StopKind};
+use s390x_operations::{StopKind, bytes};
 
 /// How a step ends.
 #[derive(Clone, Copy, PartialEq, Eq, Debug)]
@@ -158,6 +161,80 @@ fn semantics_step<M: Memory>(
     execute(machine, memory, &action, length(decoded.row.format) as u64)
 }
 
+/// The step at an operator that was fetched. Where its second operand can be read, it builds no operation.
+fn operator_step<M: Memory>(
+    machine: &mut Machine,
+    memory: &mut M,
+    decoded: &Decoded,
+    semantics: &RowSemantics,
+) -> StepEnd
+    requires found { IsFound (memory_of (M.held memory.old) (M.byte memory.old)) machine.old.place
+        decoded.now }
+    requires is { semantics_of decoded.now.row.opcode ≡ Some semantics.now }
+    ensures { Steps (state_of machine.old (M.held memory.old) (M.byte memory.old)) result
+        (state_of machine.new (M.held memory.new) (M.byte memory.new)) }
+{
+    match semantics {
+        RowSemantics::Compute(operator, size, second, rule) => {
+            match operand_bits(machine, memory, *second, &decoded.fields) {
+                Some(bits) => value_step(machine, decoded, *operator, *size, *second, *rule, bits),
+                None => semantics_step(machine, memory, decoded, semantics),
+            }
+        }
+        _ => semantics_step(machine, memory, decoded, semantics),
+    }
+}
+
+/// The step at a comparison that was fetched. Where its second operand can be read, it builds no operation.
+fn comparison_step<M: Memory>(
+    machine: &mut Machine,
+    memory: &mut M,
+    decoded: &Decoded,
+    semantics: &RowSemantics,
+) -> StepEnd
+    requires found { IsFound (memory_of (M.held memory.old) (M.byte memory.old)) machine.old.place
+        decoded.now }
+    requires is { semantics_of decoded.now.row.opcode ≡ Some semantics.now }
+    ensures { Steps (state_of machine.old (M.held memory.old) (M.byte memory.old)) result
+        (state_of machine.new (M.held memory.new) (M.byte memory.new)) }
+{
+    match semantics {
+        RowSemantics::Compare(sign, size, second) => {
+            match operand_bits(machine, memory, *second, &decoded.fields) {
+                Some(bits) => compare_step(machine, decoded, *sign, *size, *second, bits),
+                None => semantics_step(machine, memory, decoded, semantics),
+            }
+        }
+        _ => semantics_step(machine, memory, decoded, semantics),
+    }
+}
+
+/// The step at a store of a register that was fetched. Where its access has no fault, it builds no operation.
+fn storing_step<M: Memory>(
+    machine: &mut Machine,
+    memory: &mut M,
+    decoded: &Decoded,
+    semantics: &RowSemantics,
+) -> StepEnd
+    requires found { IsFound (memory_of (M.held memory.old) (M.byte memory.old)) machine.old.place
+        decoded.now }
+    requires is { semantics_of decoded.now.row.opcode ≡ Some semantics.now }
+    ensures { Steps (state_of machine.old (M.held memory.old) (M.byte memory.old)) result
+        (state_of machine.new (M.held memory.new) (M.byte memory.new)) }
+{
+    match semantics {
+        RowSemantics::Store(second) => {
+            let destination = source(machine, second.operand_source, &decoded.fields);
+            let fault = operand_fault(memory, destination, bytes(second.width) as u64);
+            if fault.is_some() {
+                return semantics_step(machine, memory, decoded, semantics);
+            }
+            store_step(machine, memory, decoded, *second, destination)
+        }
+        _ => semantics_step(machine, memory, decoded, semantics),
+    }
+}
+
 /// The step at a branch to a distance that was fetched. It is the most frequent step, and has none of the others' values.
 fn relative_step(machine: &mut Machine, decoded: &Decoded) -> StepEnd
     requires { semantics_of decoded.now.row.opcode ≡ Some RowSemantics.BranchRelative }
@@ -181,19 +258,14 @@ fn row_step<M: Memory>(machine: &mut Machine, memory: &mut M, located: &Located)
     let semantics = semantics_at(located.at);
     match semantics {
         RowSemantics::BranchRelative => relative_step(machine, &located.decoded),
-        RowSemantics::Compute(operator, size, second, rule) => {
-            match source(machine, second.operand_source, &located.decoded.fields) {
-                Source::Value(bits) => value_step(
-                    machine,
-                    &located.decoded,
-                    *operator,
-                    *size,
-                    *second,
-                    *rule,
-                    bits,
-                ),
-                _ => semantics_step(machine, memory, &located.decoded, semantics),
-            }
+        RowSemantics::Compute(..) => operator_step(machine, memory, &located.decoded, semantics),
+        RowSemantics::Compare(..) => comparison_step(machine, memory, &located.decoded, semantics),
+        RowSemantics::Store(_) => storing_step(machine, memory, &located.decoded, semantics),
+        RowSemantics::LoadVector(storage) => {
+            vector_load_step(machine, memory, &located.decoded, *storage)
+        }
+        RowSemantics::StoreVector(storage) => {
+            vector_store_step(machine, memory, &located.decoded, *storage)
         }
         _ => semantics_step(machine, memory, &located.decoded, semantics),
     }

@@ -1,6 +1,6 @@
-//! The steps at rows whose operators have both values in registers or in the instruction. They are frequent, and build no operation.
+//! The steps at rows whose operators and comparisons have both values before them. They are frequent, and build no operation.
 
-ghost use Rattle.std.specs.Prelude.{◌≡◌, ◌<◌, ℕ, Bool, Some};
+ghost use Rattle.std.specs.Prelude.{◌≡◌, ◌<◌, ℕ, Bool, Some, IfSome};
 ghost use Rattle.s390x_operations.specs.Numbers.{whole};
 ghost use Rattle.s390x_operations.specs.Values.{code_of_value, value};
 ghost use Rattle.s390x_operations.specs.State.{with_code};
@@ -8,14 +8,40 @@ ghost use Rattle.s390x_operations.specs.Effects.{set_sized};
 ghost use Rattle.s390x_machine.specs.Fetch.{IsFound};
 ghost use Rattle.s390x_machine.specs.Semantics.{semantics_of, source};
 ghost use Rattle.s390x_machine.specs.State.{memory_of, registers_of, state_of};
-ghost use Rattle.s390x_machine.specs.Sound.{CanPerform};
-ghost use Rattle.s390x_machine.specs.Step.{Steps, code_under};
+ghost use Rattle.s390x_machine.specs.Sound.{AreGeneral, CanPerform, ShiftFits};
+ghost use Rattle.s390x_machine.specs.Step.{IsRead, Steps, code_under};
 
-use crate::field_values::{first_register, value_in};
+use crate::access::operand_fault;
+use crate::field_values::{first_register, source, value_in};
 use crate::machine::Machine;
+use crate::memory::Memory;
+use crate::perform::raw;
 use crate::step::StepEnd;
-use s390x_format::{Decoded, RowSemantics, SecondOperand, length};
-use s390x_operations::{CodeRule, Operator, Size, Source, extended, operate, ordered};
+use s390x_format::{Decoded, Fields, RowSemantics, SecondOperand, length};
+use s390x_lanes::Signedness;
+use s390x_operations::{CodeRule, Operator, Size, bytes, compared, extended, operate, ordered};
+
+/// The bits of a row's second operand; `None` where its access has a fault.
+pub fn operand_bits<M: Memory>(
+    machine: &Machine,
+    memory: &M,
+    second: SecondOperand,
+    fields: &Fields,
+) -> Option<u64>
+    requires general { AreGeneral fields.now }
+    requires room { ShiftFits second.operand_source fields.now }
+    ensures { IfSome result
+        (λ bits. IsRead
+        (source second.operand_source fields.now (registers_of machine.now) machine.now.place)
+        second.width (memory_of (M.held memory.now) (M.byte memory.now)) bits) }
+{
+    let operand = source(machine, second.operand_source, fields);
+    let fault = operand_fault(memory, operand, bytes(second.width) as u64);
+    if fault.is_some() {
+        return None;
+    }
+    Some(raw(memory, operand, second.width))
+}
 
 /// A register gets an operator's value of two numbers, and the condition code becomes that of the value where the rule sets it.
 fn compute(
@@ -57,10 +83,11 @@ pub fn value_step(
     requires is { semantics_of decoded.now.row.opcode
         ≡ Some (RowSemantics.Compute operator size second rule) }
     requires fit { CanPerform (RowSemantics.Compute operator size second rule) decoded.now.fields }
-    requires bits { source second.operand_source decoded.now.fields (registers_of machine.old)
-        machine.old.place ≡ Source.Value bits }
     ensures { (held : ℕ → Bool) (byte : ℕ → ℕ)
         → IsFound (memory_of held byte) machine.old.place decoded.now
+        → IsRead
+        (source second.operand_source decoded.now.fields (registers_of machine.old)
+        machine.old.place) second.width (memory_of held byte) bits
         → Steps (state_of machine.old held byte) result (state_of machine.new held byte) }
 {
     let fields = &decoded.fields;
@@ -68,6 +95,37 @@ pub fn value_step(
     let bits = ordered(second.reversed, second.width, bits);
     let other = extended(second.sign, second.width, size, bits);
     compute(machine, operator, size, rule, fields.regs[0], first, other);
+    machine.place = machine
+        .place
+        .wrapping_add(length(decoded.row.format) as u64);
+    StepEnd::Went
+}
+
+/// The step at a row that was fetched, of a comparison whose second operand has these bits.
+pub fn compare_step(
+    machine: &mut Machine,
+    decoded: &Decoded,
+    sign: Signedness,
+    size: Size,
+    second: SecondOperand,
+    bits: u64,
+) -> StepEnd
+    requires is { semantics_of decoded.now.row.opcode
+        ≡ Some (RowSemantics.Compare sign size second) }
+    requires fit { CanPerform (RowSemantics.Compare sign size second) decoded.now.fields }
+    ensures { (held : ℕ → Bool) (byte : ℕ → ℕ)
+        → IsFound (memory_of held byte) machine.old.place decoded.now
+        → IsRead
+        (source second.operand_source decoded.now.fields (registers_of machine.old)
+        machine.old.place) second.width (memory_of held byte) bits
+        → Steps (state_of machine.old held byte) result (state_of machine.new held byte) }
+{
+    let fields = &decoded.fields;
+    let first = value_in(machine, size, first_register(second.operand_source, fields));
+    let bits = ordered(second.reversed, second.width, bits);
+    let other = extended(second.sign, second.width, size, bits);
+    let code = compared(sign, size, first, other);
+    machine.set_condition_code(code);
     machine.place = machine
         .place
         .wrapping_add(length(decoded.row.format) as u64);

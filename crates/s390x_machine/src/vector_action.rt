@@ -37,7 +37,7 @@ fn left_bits(size: ElementSize) -> u128
 }
 
 /// Where an operand lies in memory and how, by the first mask.
-fn layout_of(storage: VectorStorage, fields: &Fields) -> VectorLayout
+pub fn layout_of(storage: VectorStorage, fields: &Fields) -> VectorLayout
     ensures { result ≡ vector_layout_of storage fields.now }
 {
     match storage {

@@ -56,8 +56,35 @@ impl Memory for Storage {
         Some(bytes)
     }
 
+    #[tactic(auto, using(s390x_machine::proofs::Reaching::reaches_none, s390x_machine::proofs::Reaching::reaches_more))]
+    fn has_all(&self, address: u64, n: u64) -> bool {
+        let mut all = true;
+        for i in 0..n {
+            all = self.contains(address.wrapping_add(i)) && all;
+        }
+        all
+    }
+
+    #[tactic(auto, using(s390x_machine::proofs::Numbers::number_none, s390x_machine::proofs::Numbers::number_more, s390x_machine::proofs::Reaching::reached_at))]
+    fn number(&self, address: u64, n: u64) -> u128 {
+        let mut total: u128 = 0;
+        for i in 0..n {
+            total = total * 256 + u128::from(self.get(address.wrapping_add(i)));
+        }
+        total
+    }
+
     fn set(&mut self, address: u64, value: u8) {
         let k = (address - self.start) as usize;
         self.bytes[k] = value;
+    }
+
+    #[tactic(auto, using(s390x_machine::proofs::Numbers::store_none, s390x_machine::proofs::Numbers::store_more, s390x_machine::proofs::Reaching::reached_at))]
+    fn put_number(&mut self, address: u64, n: u64, value: u128) {
+        let mut rest = value;
+        for i in (0..n).rev() {
+            self.set(address.wrapping_add(i), (rest % 256) as u8);
+            rest = rest / 256;
+        }
     }
 }

@@ -1,0 +1,7 @@
+use Rattle.std.proofs.Common.{◌≡◌}
+use Rattle.s390x_operations.specs.State.{reaches}
+use Rattle.s390x_machine.specs.Regions.{is_held}
+use Rattle.s390x_machine.proofs.flat.FlatMemory.has_one_by_one.Given as goal
+
+abbrev pub invariant-loop-i : goal.invariant-loop-i
+invariant-loop-i l = l.all ≡ reaches (is_held l.self) l.address l.i
