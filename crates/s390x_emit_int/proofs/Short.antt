@@ -1,5 +1,5 @@
 -- How many bytes an instruction has at most, and that emission fails by want of memory alone where no cause stands.
-use Rattle.std.proofs.Common.{ℕ, ◌*◌, ◌++◌, ◌&&◌, append-nil, length-append, ◌≡◌, ◌+◌, ◌≤◌, Bool, true, false, cond, nat_eq, nat_lt, List, [], ◌∷◌, Option, Some, None, length, refl, ap, ◌∙◌, arith, ltb-true, ◌<◌, ap₂, ◌⊎◌, inl, inr, sym}
+use Rattle.std.proofs.Common.{ℕ, ◌*◌, ◌++◌, ◌&&◌, append-nil, length-append, ◌≡◌, ◌+◌, ◌≤◌, Bool, true, false, cond, nat_eq, nat_lt, List, [], ◌∷◌, Option, Some, None, length, refl, ap, ◌∙◌, arith, ltb-true, ◌<◌, ap₂, ◌⊎◌, inl, inr, sym, unwrap_or}
 use Rattle.std.proofs.lemmas.Bool.{lt-ltb}
 use Rattle.s390x_base.specs.declared.trap.TrapKind.{TrapKind}
 use Rattle.s390x_base.specs.declared.error.EmitError.{EmitError}
@@ -248,6 +248,11 @@ declared_by n cs = record { blocks = n; aligns = aligns_of cs }
 pub declared_kept : (s t : BufferState) → Extends s t → declared_in t ≡ declared_in s
 declared_kept s t kept = ap₂ (λ n cs. declared_by n cs) kept.entries.block_count kept.entries.constants
 
--- the first cause, or want of memory
-pub or_memory : (c d : Option EmitError) (e : EmitError) → c ≡ d → (e ≡ NoMemory) ⊎ (c ≡ Some e) → (e ≡ NoMemory) ⊎ (d ≡ Some e)
-or_memory c d e same h = elim h [ inl m ↦ inl m | inr x ↦ inr (sym same ∙ x) ]
+answered_by : (c d : Option EmitError) (error result : EmitError) → c ≡ d → (c ≡ None → error ≡ NoMemory) → result ≡ unwrap_or c error → (result ≡ NoMemory) ⊎ (d ≡ Some result)
+answered_by None d error result same lacks is = inl (is ∙ lacks refl)
+answered_by (Some e) d error result same lacks is = inr (sym same ∙ ap Some (sym is))
+
+-- what emission is refused by: the first cause where one is found, else its error, which is want of memory
+pub refused_by : (c d found : Option EmitError) (error result : EmitError) → c ≡ d → (found ≡ Some NoMemory) ⊎ (c ≡ found) → (c ≡ None → error ≡ NoMemory) → result ≡ unwrap_or found error → (result ≡ NoMemory) ⊎ (d ≡ Some result)
+refused_by c d found error result same h lacks is =
+    elim h [ inl m ↦ inl (is ∙ ap (λ o. unwrap_or o error) m) | inr x ↦ answered_by c d error result same lacks (is ∙ ap (λ o. unwrap_or o error) (sym x)) ]

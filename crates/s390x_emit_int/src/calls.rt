@@ -30,15 +30,16 @@ ghost use Rattle.s390x_emit_int.specs.Room.{HasRoom, MembersPassed, LacksMemory}
 ghost use Rattle.s390x_emit_int.specs.Sequence.{AllKeepNominal, Emits, EmitsOwn};
 
 use crate::causes::{branchable, label_cause};
+use crate::context::Context;
 use crate::leaf::{emit_branch_register, emit_leaf};
 use s390x_address::{general, is_numbered, needs_address};
-use s390x_base::{EmitError, ExternalName, MachLabel, Reg, Reloc};
+use s390x_base::{EmitError, ExternalName, Reg, Reloc};
 use s390x_buffer::{MachBuffer, TryHandler};
 use s390x_emit_rows::find_memory;
 use s390x_enc::{enc_ril_b, enc_ril_c, enc_rr};
 use s390x_inst::{
-    CallInfo, CallInstDest, CallRetPair, EmitState, FrameLayout, Inst, IsaFlags, MachInstEmitState,
-    MemArg, RetLocation, ReturnCallInfo, TryCallHandler, TryCallInfo, gen_tail_epilogue,
+    CallInfo, CallInstDest, CallRetPair, EmitState, FrameLayout, Inst, MachInstEmitState, MemArg,
+    RetLocation, ReturnCallInfo, TryCallHandler, TryCallInfo, gen_tail_epilogue,
 };
 use s390x_rows::opcodes;
 use s390x_typed_steps::MemInstType;
@@ -364,38 +365,42 @@ fn emit_call_step(
 
 // One more step, of an instruction, where no cause refuses it.
 fn emit_step(
-    flags: IsaFlags,
+    context: Context,
     sink: &mut MachBuffer,
     state: &EmitState,
-    depth: u32,
     inst: &Inst,
-    after: MachLabel,
 ) -> Result<(), EmitError>
     requires { HasRoom sink.old }
-    ensures { Emits flags sink.old sink.new after.0 depth state.now.nominal
-        (nominal_after state.now.nominal inst.now)
+    ensures { Emits context.flags sink.old sink.new context.after.0 context.depth
+        state.now.nominal (nominal_after state.now.nominal inst.now)
         (Whole (resolved_instruction state.now inst.now) ∷ []) result }
 {
     sink.start_step()?;
-    emit_leaf(flags, sink, state, depth, inst, after)
+    emit_leaf(
+        context.flags,
+        sink,
+        state,
+        context.depth,
+        inst,
+        context.after,
+    )
 }
 
 // Instructions, each as a step, where no cause refuses one.
 fn emit_steps(
-    flags: IsaFlags,
+    context: Context,
     sink: &mut MachBuffer,
     state: &EmitState,
-    depth: u32,
     insts: &[Inst],
-    after: MachLabel,
 ) -> Result<(), EmitError>
     requires room { HasRoom sink.old }
     requires keep { AllKeepNominal insts.now }
-    ensures { Emits flags sink.old sink.new after.0 depth state.now.nominal state.now.nominal
+    ensures { Emits context.flags sink.old sink.new context.after.0 context.depth
+        state.now.nominal state.now.nominal
         (wholes state.now insts.now) result }
 {
     for inst in insts {
-        emit_step(flags, sink, state, depth, inst, after)?;
+        emit_step(context, sink, state, inst)?;
     }
     Ok(())
 }
@@ -414,77 +419,72 @@ pub fn load_result(def: &CallRetPair) -> Option<Inst>
 
 // The load of a result that comes back on the stack, where no cause refuses it; one whose type has no load is refused.
 fn emit_result(
-    flags: IsaFlags,
+    context: Context,
     sink: &mut MachBuffer,
     state: &EmitState,
-    depth: u32,
     def: &CallRetPair,
-    after: MachLabel,
 ) -> Result<(), EmitError>
     requires { HasRoom sink.old }
-    ensures { Emits flags sink.old sink.new after.0 depth state.now.nominal state.now.nominal
+    ensures { Emits context.flags sink.old sink.new context.after.0 context.depth
+        state.now.nominal state.now.nominal
         (load_before state.now def.now.vreg def.now.location []) result }
 {
     let RetLocation::Stack(_, _) = def.location else {
         return Ok(());
     };
     match load_result(def) {
-        Some(load) => emit_step(flags, sink, state, depth, &load, after),
+        Some(load) => emit_step(context, sink, state, &load),
         None => Err(EmitError::BadOperator),
     }
 }
 
 // The loads of a call's results, one by one.
 fn emit_results(
-    flags: IsaFlags,
+    context: Context,
     sink: &mut MachBuffer,
     state: &EmitState,
-    depth: u32,
     defs: &[CallRetPair],
-    after: MachLabel,
 ) -> Result<(), EmitError>
     requires { HasRoom sink.old }
-    ensures { Emits flags sink.old sink.new after.0 depth state.now.nominal state.now.nominal
+    ensures { Emits context.flags sink.old sink.new context.after.0 context.depth
+        state.now.nominal state.now.nominal
         (load_bodies state.now defs.now) result }
 {
     for def in defs {
-        emit_result(flags, sink, state, depth, def, after)?;
+        emit_result(context, sink, state, def)?;
     }
     Ok(())
 }
 
 // The loads of a call that isn't patchable.
 fn emit_loads(
-    flags: IsaFlags,
+    context: Context,
     sink: &mut MachBuffer,
     behind: &EmitState,
-    depth: u32,
     info: &CallInfo,
-    after: MachLabel,
 ) -> Result<(), EmitError>
     requires { HasRoom sink.old }
     ensures { (state : Emission) → behind.now ≡ behind_call state info.now.callee_pop_size
-        → Emits flags sink.old sink.new after.0 depth behind.now.nominal behind.now.nominal
-        (result_bodies state info.now) result }
+        → Emits context.flags sink.old sink.new context.after.0 context.depth
+        behind.now.nominal behind.now.nominal (result_bodies state info.now) result }
 {
     if info.patchable {
         Ok(())
     } else {
-        emit_results(flags, sink, behind, depth, &info.defs, after)
+        emit_results(context, sink, behind, &info.defs)
     }
 }
 
 // The jump to where a call with a try goes on.
 fn emit_continuation(
-    flags: IsaFlags,
+    context: Context,
     sink: &mut MachBuffer,
     state: &EmitState,
-    depth: u32,
     info: &Option<TryCallInfo>,
-    after: MachLabel,
 ) -> Result<(), EmitError>
     requires { HasRoom sink.old }
-    ensures { Emits flags sink.old sink.new after.0 depth state.now.nominal state.now.nominal
+    ensures { Emits context.flags sink.old sink.new context.after.0 context.depth
+        state.now.nominal state.now.nominal
         (continuation_bodies info.now) result }
 {
     match info {
@@ -492,7 +492,7 @@ fn emit_continuation(
             let jump = Inst::Jump {
                 dest: info.continuation,
             };
-            emit_step(flags, sink, state, depth, &jump, after)
+            emit_step(context, sink, state, &jump)
         }
         None => Ok(()),
     }
@@ -502,22 +502,20 @@ fn emit_continuation(
 /// be another one than the first cause.
 pub fn emit_call(
     alloc: Global,
-    flags: IsaFlags,
+    context: Context,
     sink: &mut MachBuffer,
     state: &EmitState,
-    depth: u32,
     link: Reg,
     info: &CallInfo,
-    after: MachLabel,
 ) -> Result<(), EmitError>
     requires { HasRoom sink.old }
-    ensures { EmitsOwn flags sink.old sink.new after.0 depth state.now.nominal
-        (leaves (call_bodies state.now link info.now) empty) result }
+    ensures { EmitsOwn context.flags sink.old sink.new context.after.0 context.depth
+        state.now.nominal (leaves (call_bodies state.now link info.now) empty) result }
 {
-    emit_call_step(alloc, sink, state, depth, &link, info)?;
+    emit_call_step(alloc, sink, state, context.depth, &link, info)?;
     let behind = behind_call(state, info.callee_pop_size);
-    emit_loads(flags, sink, &behind, depth, info, after)?;
-    emit_continuation(flags, sink, &behind, depth, &info.try_call_info, after)
+    emit_loads(context, sink, &behind, info)?;
+    emit_continuation(context, sink, &behind, &info.try_call_info)
 }
 
 // ---- a tail call
@@ -718,15 +716,14 @@ fn emit_tail_jump(sink: &mut MachBuffer, dest: &CallInstDest) -> Result<(), Emit
 /// An error may be another one than the first cause.
 pub fn emit_tail_call(
     alloc: Global,
-    flags: IsaFlags,
+    context: Context,
     sink: &mut MachBuffer,
     state: &EmitState,
-    depth: u32,
     info: &ReturnCallInfo<CallInstDest>,
-    after: MachLabel,
 ) -> Result<(), EmitError>
     requires { HasRoom sink.old }
-    ensures { EmitsOwn flags sink.old sink.new after.0 depth state.now.nominal
+    ensures { EmitsOwn context.flags sink.old sink.new context.after.0 context.depth
+        state.now.nominal
         (leaves (tail_bodies state.now info.now.callee_pop_size info.now.dest) empty) result }
 {
     let (insts, dest) = open_tail_call(
@@ -735,6 +732,6 @@ pub fn emit_tail_call(
         info.callee_pop_size,
         &info.dest,
     )?;
-    emit_steps(flags, sink, state, depth, &insts, after)?;
+    emit_steps(context, sink, state, &insts)?;
     emit_tail_jump(sink, &dest)
 }

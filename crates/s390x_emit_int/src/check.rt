@@ -21,10 +21,11 @@ ghost use Rattle.s390x_emit_int.specs.Totals.{IsCounted, Adds, code_limit};
 use crate::causes::instruction_cause;
 use crate::check_calls::{check_call, check_tail_call};
 use crate::composite::composite_size;
+use crate::context::Context;
 use crate::loaded::check_on_machine;
 use crate::stack::{advance, end_cause, mark_safepoint};
 use s390x_address::LIMIT;
-use s390x_base::{Code, EmitError};
+use s390x_base::{Code, EmitError, MachLabel};
 use s390x_buffer::MachBuffer;
 use s390x_emit_rows::{find_memory, find_single_instruction};
 use s390x_inst::{Block, EmitState, Inst, IsaFlags};
@@ -194,22 +195,21 @@ pub fn open_loop(t: Totals, depth: u32) -> Result<Totals, EmitError>
     }
 }
 
-/// The first cause among the members of a loop, inside so many loops, by the buffer's blocks and constants, or want of memory; or what they
-/// add. The state is then the one behind them.
+/// The first cause among the members of a loop, by the buffer's blocks and constants, or want of memory; or what they add. The state is then the one
+/// behind them.
 #[cycle(checking)]
 pub fn check_members(
     alloc: Global,
-    flags: IsaFlags,
+    context: Context,
     state: &mut EmitState,
     sink: &MachBuffer,
     t: Totals,
-    depth: u32,
     insts: &[Inst],
 ) -> Result<Totals, EmitError>
     requires { IsCounted t }
-    ensures { let members = members_of flags state.old insts.now in
-        let cause = tree_cause flags (declared_in sink.now) t.labels state.old.nominal depth
-        members in
+    ensures { let members = members_of context.flags state.old insts.now in
+        let cause = tree_cause context.flags (declared_in sink.now) t.labels state.old.nominal
+        context.depth members in
         MatchResult result
         (λ r. (cause ≡ None) × Adds t r (fresh_labels members) (tree_size members)
         × (state.new.nominal ≡ nominal_behind state.old.nominal members))
@@ -217,7 +217,7 @@ pub fn check_members(
 {
     let mut sum = t;
     for inst in insts {
-        sum = check_inst(alloc, flags, state, sink, sum, depth, inst)?;
+        sum = check_inst(alloc, context, state, sink, sum, inst)?;
         advance(state, inst)?;
     }
     Ok(sum)
@@ -227,49 +227,52 @@ pub fn check_members(
 #[cycle(checking)]
 pub fn check_inst(
     alloc: Global,
-    flags: IsaFlags,
+    context: Context,
     state: &EmitState,
     sink: &MachBuffer,
     t: Totals,
-    depth: u32,
     inst: &Inst,
 ) -> Result<Totals, EmitError>
     requires { IsCounted t }
-    ensures { ChecksTree flags (declared_in sink.now) t depth state.now.nominal
-        (member_of flags state.now inst.now) result }
+    ensures { ChecksTree context.flags (declared_in sink.now) t context.depth state.now.nominal
+        (member_of context.flags state.now inst.now) result }
 {
     match inst {
-        Inst::Loop { body, .. } => check_loop(alloc, flags, state, sink, t, depth, body),
-        Inst::Call { link, info } => check_call(flags, state, sink, t, depth, link.to_reg(), info),
-        Inst::ReturnCall { info } => check_tail_call(alloc, flags, state, sink, t, depth, info),
-        _ => check_on_machine(flags, state, sink, t, depth, inst),
+        Inst::Loop { body, .. } => check_loop(alloc, context, state, sink, t, body),
+        Inst::Call { link, info } => check_call(context, state, sink, t, link.to_reg(), info),
+        Inst::ReturnCall { info } => check_tail_call(alloc, context, state, sink, t, info),
+        _ => check_on_machine(context.flags, state, sink, t, context.depth, inst),
     }
 }
 
 #[cycle(checking)]
 fn check_loop(
     alloc: Global,
-    flags: IsaFlags,
+    context: Context,
     state: &EmitState,
     sink: &MachBuffer,
     t: Totals,
-    depth: u32,
     body: &[Inst],
 ) -> Result<Totals, EmitError>
     requires { IsCounted t }
-    ensures { let members = members_of flags (without_map state.now) body.now in
+    ensures { let members = members_of context.flags (without_map state.now) body.now in
         let cause = first_emit_cause
-        (first_emit_cause (nesting_cause depth) (numbers_cause t.labels 2))
-        (tree_cause flags (declared_in sink.now) (t.labels + 2) state.now.nominal (depth + 1)
-        members) in
+        (first_emit_cause (nesting_cause context.depth) (numbers_cause t.labels 2))
+        (tree_cause context.flags (declared_in sink.now) (t.labels + 2) state.now.nominal
+        (context.depth + 1) members) in
         MatchResult result
         (λ r. (cause ≡ None) × Adds t r (2 + fresh_labels members) (tree_size members + 6))
         (λ e. (e ≡ NoMemory) ⊎ (cause ≡ Some e)) }
 {
-    let opened = open_loop(t, depth)?;
+    let opened = open_loop(t, context.depth)?;
     let mut inside = *state;
     inside.clear_post_insn();
-    let inner = check_members(alloc, flags, &mut inside, sink, opened, depth + 1, body)?;
+    let around = Context {
+        flags: context.flags,
+        depth: context.depth + 1,
+        after: context.after,
+    };
+    let inner = check_members(alloc, around, &mut inside, sink, opened, body)?;
     Ok(add_bytes(inner, 6))
 }
 
@@ -290,10 +293,15 @@ fn check_block_members(
         × (state.new.nominal ≡ nominal_behind state.old.nominal members))
         (λ e. (e ≡ NoMemory) ⊎ (cause ≡ Some e)) }
 {
+    let outside = Context {
+        flags,
+        depth: 0,
+        after: MachLabel(0),
+    };
     let mut sum = t;
     for inst in insts {
         mark_safepoint(state, inst);
-        sum = check_inst(alloc, flags, state, sink, sum, 0, inst)?;
+        sum = check_inst(alloc, outside, state, sink, sum, inst)?;
         advance(state, inst)?;
     }
     Ok(sum)

@@ -11,175 +11,168 @@ ghost use Rattle.s390x_emit_int.specs.Totals.{IsCounted};
 
 use crate::calls::{behind_call, call_cause, call_size, load_result, open_tail_call};
 use crate::check::{Totals, add_bytes, check_leaf};
+use crate::context::Context;
 use s390x_base::{EmitError, Reg};
 use s390x_buffer::MachBuffer;
 use s390x_inst::{
-    CallInfo, CallInstDest, CallRetPair, EmitState, Inst, IsaFlags, MachInstEmitState, RetLocation,
+    CallInfo, CallInstDest, CallRetPair, EmitState, Inst, MachInstEmitState, RetLocation,
     ReturnCallInfo, TryCallInfo,
 };
 use std::alloc::Global;
 
 // The first cause of an instruction as one step, or what it adds.
 fn check_step(
-    flags: IsaFlags,
+    context: Context,
     state: &EmitState,
     sink: &MachBuffer,
     t: Totals,
-    depth: u32,
     inst: &Inst,
 ) -> Result<Totals, EmitError>
     requires { IsCounted t }
-    ensures { Checks flags (declared_in sink.now) t depth state.now.nominal
+    ensures { Checks context.flags (declared_in sink.now) t context.depth state.now.nominal
         (nominal_after state.now.nominal inst.now)
         (Whole (resolved_instruction state.now inst.now) ∷ []) result }
 {
-    check_leaf(flags, state, sink, t, depth, inst)
+    check_leaf(context.flags, state, sink, t, context.depth, inst)
 }
 
 // The first cause of instructions, each as a step, or what they add.
 fn check_steps(
-    flags: IsaFlags,
+    context: Context,
     state: &EmitState,
     sink: &MachBuffer,
     t: Totals,
-    depth: u32,
     insts: &[Inst],
 ) -> Result<Totals, EmitError>
     requires counted { IsCounted t }
     requires keep { AllKeepNominal insts.now }
-    ensures { Checks flags (declared_in sink.now) t depth state.now.nominal state.now.nominal
-        (wholes state.now insts.now) result }
+    ensures { Checks context.flags (declared_in sink.now) t context.depth state.now.nominal
+        state.now.nominal (wholes state.now insts.now) result }
 {
     let mut sum = t;
     for inst in insts {
-        sum = check_step(flags, state, sink, sum, depth, inst)?;
+        sum = check_step(context, state, sink, sum, inst)?;
     }
     Ok(sum)
 }
 
 // The first cause of the load of a result that comes back on the stack; one whose type has no load is refused.
 fn check_result(
-    flags: IsaFlags,
+    context: Context,
     state: &EmitState,
     sink: &MachBuffer,
     t: Totals,
-    depth: u32,
     def: &CallRetPair,
 ) -> Result<Totals, EmitError>
     requires { IsCounted t }
-    ensures { Checks flags (declared_in sink.now) t depth state.now.nominal state.now.nominal
-        (load_before state.now def.now.vreg def.now.location []) result }
+    ensures { Checks context.flags (declared_in sink.now) t context.depth state.now.nominal
+        state.now.nominal (load_before state.now def.now.vreg def.now.location []) result }
 {
     let RetLocation::Stack(_, _) = def.location else {
         return Ok(t);
     };
     match load_result(def) {
-        Some(load) => check_step(flags, state, sink, t, depth, &load),
+        Some(load) => check_step(context, state, sink, t, &load),
         None => Err(EmitError::BadOperator),
     }
 }
 
 // The first cause of the loads of a call's results, or what they add.
 fn check_results(
-    flags: IsaFlags,
+    context: Context,
     state: &EmitState,
     sink: &MachBuffer,
     t: Totals,
-    depth: u32,
     defs: &[CallRetPair],
 ) -> Result<Totals, EmitError>
     requires { IsCounted t }
-    ensures { Checks flags (declared_in sink.now) t depth state.now.nominal state.now.nominal
-        (load_bodies state.now defs.now) result }
+    ensures { Checks context.flags (declared_in sink.now) t context.depth state.now.nominal
+        state.now.nominal (load_bodies state.now defs.now) result }
 {
     let mut sum = t;
     for def in defs {
-        sum = check_result(flags, state, sink, sum, depth, def)?;
+        sum = check_result(context, state, sink, sum, def)?;
     }
     Ok(sum)
 }
 
 // The same of a call that isn't patchable.
 fn check_loads(
-    flags: IsaFlags,
+    context: Context,
     behind: &EmitState,
     sink: &MachBuffer,
     t: Totals,
-    depth: u32,
     info: &CallInfo,
 ) -> Result<Totals, EmitError>
     requires { IsCounted t }
     ensures { (state : Emission) → behind.now ≡ behind_call state info.now.callee_pop_size
-        → Checks flags (declared_in sink.now) t depth behind.now.nominal behind.now.nominal
-        (result_bodies state info.now) result }
+        → Checks context.flags (declared_in sink.now) t context.depth behind.now.nominal
+        behind.now.nominal (result_bodies state info.now) result }
 {
     if info.patchable {
         Ok(t)
     } else {
-        check_results(flags, behind, sink, t, depth, &info.defs)
+        check_results(context, behind, sink, t, &info.defs)
     }
 }
 
 // The first cause of the jump to where a call with a try goes on, or what it adds.
 fn check_continuation(
-    flags: IsaFlags,
+    context: Context,
     state: &EmitState,
     sink: &MachBuffer,
     t: Totals,
-    depth: u32,
     info: &Option<TryCallInfo>,
 ) -> Result<Totals, EmitError>
     requires { IsCounted t }
-    ensures { Checks flags (declared_in sink.now) t depth state.now.nominal state.now.nominal
-        (continuation_bodies info.now) result }
+    ensures { Checks context.flags (declared_in sink.now) t context.depth state.now.nominal
+        state.now.nominal (continuation_bodies info.now) result }
 {
     match info {
         Some(info) => {
             let jump = Inst::Jump {
                 dest: info.continuation,
             };
-            check_step(flags, state, sink, t, depth, &jump)
+            check_step(context, state, sink, t, &jump)
         }
         None => Ok(t),
     }
 }
 
 /// The first cause of a call, the loads of its results and the jump of its try, or what they add. An error is the
-/// first cause of the call's code by these flags and at this state.
+/// first cause of the call's code in this context and at this state.
 pub fn check_call(
-    flags: IsaFlags,
+    context: Context,
     state: &EmitState,
     sink: &MachBuffer,
     t: Totals,
-    depth: u32,
     link: Reg,
     info: &CallInfo,
 ) -> Result<Totals, EmitError>
     requires { IsCounted t }
-    ensures { ChecksTree flags (declared_in sink.now) t depth state.now.nominal
+    ensures { ChecksTree context.flags (declared_in sink.now) t context.depth state.now.nominal
         (leaves (call_bodies state.now link info.now) empty) result }
 {
-    if let Some(error) = call_cause(sink.block_count(), state, depth, &link, info) {
+    if let Some(error) = call_cause(sink.block_count(), state, context.depth, &link, info) {
         return Err(error);
     }
     let called = add_bytes(t, call_size(&info.dest));
     let behind = behind_call(state, info.callee_pop_size);
-    let loaded = check_loads(flags, &behind, sink, called, depth, info)?;
-    check_continuation(flags, &behind, sink, loaded, depth, &info.try_call_info)
+    let loaded = check_loads(context, &behind, sink, called, info)?;
+    check_continuation(context, &behind, sink, loaded, &info.try_call_info)
 }
 
 /// The first cause of what takes the frame down before a tail call and of its jump, or want of memory; or what they add.
 pub fn check_tail_call(
     alloc: Global,
-    flags: IsaFlags,
+    context: Context,
     state: &EmitState,
     sink: &MachBuffer,
     t: Totals,
-    depth: u32,
     info: &ReturnCallInfo<CallInstDest>,
 ) -> Result<Totals, EmitError>
     requires { IsCounted t }
-    ensures { ChecksTree flags (declared_in sink.now) t depth state.now.nominal
+    ensures { ChecksTree context.flags (declared_in sink.now) t context.depth state.now.nominal
         (leaves (tail_bodies state.now info.now.callee_pop_size info.now.dest) empty) result }
 {
     let (insts, dest) = open_tail_call(
@@ -188,6 +181,6 @@ pub fn check_tail_call(
         info.callee_pop_size,
         &info.dest,
     )?;
-    let sum = check_steps(flags, state, sink, t, depth, &insts)?;
+    let sum = check_steps(context, state, sink, t, &insts)?;
     Ok(add_bytes(sum, call_size(&dest)))
 }

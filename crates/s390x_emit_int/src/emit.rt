@@ -20,6 +20,7 @@ ghost use Rattle.s390x_inst.specs.declared.state.IsaFlags.{IsaFlags};
 ghost use Rattle.s390x_typed_steps.specs.Stack.{state_after};
 
 use crate::check::{Totals, check_inst};
+use crate::context::Context;
 use crate::stack::advance;
 use crate::tree::emit_inst;
 use s390x_address::LIMIT;
@@ -95,33 +96,31 @@ pub fn put_with_trap(
     }
 }
 
-// What an instruction is refused by, of which emission was refused by an error, where so many labels and bytes were in use before: the first cause, or
-// want of memory.
-fn refusal(
+// The first cause of an instruction, where so many labels and bytes were in use before it, the length last; or want of memory.
+fn first_cause(
     alloc: Global,
     flags: IsaFlags,
     sink: &MachBuffer,
     state: &EmitState,
     used: Totals,
     inst: &Inst,
-    error: EmitError,
-) -> EmitError
-    requires counted { IsCounted used }
-    requires lacks { let step = member_of flags state.now inst.now in
-        first_emit_cause
-        (tree_cause flags (declared_in sink.now) used.labels state.now.nominal 0 step)
-        (unless (nat_lt (used.bytes + tree_size step) limit) LabelOutOfRange) ≡ None
-        → error ≡ NoMemory }
+) -> Option<EmitError>
+    requires { IsCounted used }
     ensures { let step = member_of flags state.now inst.now in
-        (result ≡ NoMemory)
-        ⊎ (first_emit_cause
+        let cause = first_emit_cause
         (tree_cause flags (declared_in sink.now) used.labels state.now.nominal 0 step)
-        (unless (nat_lt (used.bytes + tree_size step) limit) LabelOutOfRange) ≡ Some result) }
+        (unless (nat_lt (used.bytes + tree_size step) limit) LabelOutOfRange) in
+        (result ≡ Some NoMemory) ⊎ (cause ≡ result) }
 {
-    match check_inst(alloc, flags, state, sink, used, 0, inst) {
-        Ok(sum) if sum.bytes < LIMIT => error,
-        Ok(_) => EmitError::LabelOutOfRange,
-        Err(cause) => cause,
+    let outside = Context {
+        flags,
+        depth: 0,
+        after: MachLabel(0),
+    };
+    match check_inst(alloc, outside, state, sink, used, inst) {
+        Ok(sum) if sum.bytes < LIMIT => None,
+        Ok(_) => Some(EmitError::LabelOutOfRange),
+        Err(cause) => Some(cause),
     }
 }
 
@@ -148,7 +147,12 @@ fn emit_and_advance(
         (member_of flags state.old inst.now) → LacksMemory result }
     ensures kept { Extends sink.old sink.new }
 {
-    emit_inst(alloc, flags, sink, state, 0, inst, MachLabel(0))?;
+    let outside = Context {
+        flags,
+        depth: 0,
+        after: MachLabel(0),
+    };
+    emit_inst(alloc, outside, sink, state, inst)?;
     advance(state, inst)?;
     Ok(sink.cur_offset())
 }
@@ -177,7 +181,7 @@ fn emit_in(
     };
     match emit_and_advance(alloc, flags, sink, state, inst) {
         Ok(_) => Ok(()),
-        Err(error) => Err(refusal(alloc, flags, sink, state, used, inst, error)),
+        Err(error) => Err(first_cause(alloc, flags, sink, state, used, inst).unwrap_or(error)),
     }
 }
 

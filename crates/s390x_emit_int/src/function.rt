@@ -20,6 +20,7 @@ ghost use Rattle.s390x_emit_int.specs.Members.{block_members_of};
 ghost use Rattle.s390x_emit_int.specs.Room.{HasRoom, MembersPassed, TreePassed, LacksMemory};
 
 use crate::check::{Totals, check_block};
+use crate::context::Context;
 use crate::folding::folded_bytes;
 use crate::stack::{advance, end_cause, mark_safepoint};
 use crate::tree::emit_inst;
@@ -127,10 +128,15 @@ fn emit_block_members(
     ensures ranges { OnOk result (AllInRange (block_members_of flags state.old insts.now)) }
     ensures kept { Extends sink.old sink.new }
 {
+    let outside = Context {
+        flags,
+        depth: 0,
+        after: MachLabel(0),
+    };
     for inst in insts {
         sink.start_step()?;
         mark_safepoint(state, inst);
-        emit_inst(alloc, flags, sink, state, 0, inst, MachLabel(0))?;
+        emit_inst(alloc, outside, sink, state, inst)?;
         advance(state, inst)?;
     }
     Ok(())

@@ -14,12 +14,13 @@ ghost use Rattle.s390x_emit_int.specs.Room.{HasRoom, TreePassed, LacksMemory};
 
 use crate::calls::{emit_call, emit_tail_call};
 use crate::check::{Totals, open_loop};
+use crate::context::Context;
 use crate::leaf::put_branch;
 use crate::loaded::emit_on_machine;
 use crate::stack::advance;
-use s390x_base::{Cond, EmitError, MachLabel};
+use s390x_base::{Cond, EmitError};
 use s390x_buffer::MachBuffer;
-use s390x_inst::{EmitState, Inst, IsaFlags};
+use s390x_inst::{EmitState, Inst};
 use std::alloc::Global;
 
 // Why no loop can stand inside so many others: its nesting, or the numbers of its two labels.
@@ -35,37 +36,35 @@ fn loop_cause(sink: &MachBuffer, depth: u32) -> Option<EmitError>
     open_loop(used, depth).err()
 }
 
-/// Emits instructions in order, each with its step place, inside so many loops, where no cause refuses one; `after` is the label behind the innermost
-/// loop. The state is then the one behind them. An error may be another one than the first cause.
+/// Emits instructions in order, each with its step place, where no cause refuses one. The state is then the one behind them. An error may be another one
+/// than the first cause.
 #[cycle(members)]
 pub fn emit_members(
     alloc: Global,
-    flags: IsaFlags,
+    context: Context,
     sink: &mut MachBuffer,
     state: &mut EmitState,
-    depth: u32,
     insts: &[Inst],
-    after: MachLabel,
 ) -> Result<(), EmitError>
     requires { HasRoom sink.old }
     ensures answer { OnOk result
         (sink.new
         ≡ apply_all sink.old
-        (fragments (length sink.old.labels) after.0
-        (members_of flags state.old insts.now))) }
+        (fragments (length sink.old.labels) context.after.0
+        (members_of context.flags state.old insts.now))) }
     ensures cause { OnOk result
-        ((tree_cause flags (declared_in sink.old) (length sink.old.labels) state.old.nominal depth
-        (members_of flags state.old insts.now) ≡ None)
+        ((tree_cause context.flags (declared_in sink.old) (length sink.old.labels)
+        state.old.nominal context.depth (members_of context.flags state.old insts.now) ≡ None)
         × (state.new.nominal
-        ≡ nominal_behind state.old.nominal (members_of flags state.old insts.now))) }
-    ensures lacks { TreePassed flags sink.old after.0 state.old.nominal depth
-        (members_of flags state.old insts.now) → LacksMemory result }
-    ensures ranges { OnOk result (AllInRange (members_of flags state.old insts.now)) }
+        ≡ nominal_behind state.old.nominal (members_of context.flags state.old insts.now))) }
+    ensures lacks { TreePassed context.flags sink.old context.after.0 state.old.nominal
+        context.depth (members_of context.flags state.old insts.now) → LacksMemory result }
+    ensures ranges { OnOk result (AllInRange (members_of context.flags state.old insts.now)) }
     ensures kept { Extends sink.old sink.new }
 {
     for inst in insts {
         sink.start_step()?;
-        emit_inst(alloc, flags, sink, state, depth, inst, after)?;
+        emit_inst(alloc, context, sink, state, inst)?;
         advance(state, inst)?;
     }
     Ok(())
@@ -76,46 +75,46 @@ pub fn emit_members(
 #[inline(always)]
 pub fn emit_inst(
     alloc: Global,
-    flags: IsaFlags,
+    context: Context,
     sink: &mut MachBuffer,
     state: &EmitState,
-    depth: u32,
     inst: &Inst,
-    after: MachLabel,
 ) -> Result<(), EmitError>
     requires { HasRoom sink.old }
     ensures answer { OnOk result
         (sink.new
         ≡ apply_all sink.old
-        (own_fragments (length sink.old.labels) after.0
-        (member_of flags state.now inst.now))) }
+        (own_fragments (length sink.old.labels) context.after.0
+        (member_of context.flags state.now inst.now))) }
     ensures cause { OnOk result
-        (tree_cause flags (declared_in sink.old) (length sink.old.labels) state.now.nominal depth
-        (member_of flags state.now inst.now) ≡ None) }
-    ensures lacks { TreePassed flags sink.old after.0 state.now.nominal depth
-        (member_of flags state.now inst.now) → LacksMemory result }
-    ensures ranges { OnOk result (AllInRange (member_of flags state.now inst.now)) }
+        (tree_cause context.flags (declared_in sink.old) (length sink.old.labels)
+        state.now.nominal context.depth (member_of context.flags state.now inst.now) ≡ None) }
+    ensures lacks { TreePassed context.flags sink.old context.after.0 state.now.nominal
+        context.depth (member_of context.flags state.now inst.now) → LacksMemory result }
+    ensures ranges { OnOk result (AllInRange (member_of context.flags state.now inst.now)) }
     ensures kept { Extends sink.old sink.new }
 {
     match inst {
-        Inst::Loop { cond, body } => emit_loop(alloc, flags, sink, state, depth, *cond, body),
-        Inst::Call { link, info } => {
-            emit_call(alloc, flags, sink, state, depth, link.to_reg(), info, after)
-        }
-        Inst::ReturnCall { info } => {
-            emit_tail_call(alloc, flags, sink, state, depth, info, after)
-        }
-        _ => emit_on_machine(flags, sink, state, depth, inst, after),
+        Inst::Loop { cond, body } => emit_loop(alloc, context, sink, state, *cond, body),
+        Inst::Call { link, info } => emit_call(alloc, context, sink, state, link.to_reg(), info),
+        Inst::ReturnCall { info } => emit_tail_call(alloc, context, sink, state, info),
+        _ => emit_on_machine(
+            context.flags,
+            sink,
+            state,
+            context.depth,
+            inst,
+            context.after,
+        ),
     }
 }
 
 #[cycle(members)]
 fn emit_loop(
     alloc: Global,
-    flags: IsaFlags,
+    context: Context,
     sink: &mut MachBuffer,
     state: &EmitState,
-    depth: u32,
     cond: Cond,
     body: &[Inst],
 ) -> Result<(), EmitError>
@@ -124,19 +123,22 @@ fn emit_loop(
         (sink.new
         ≡ apply_all sink.old
         (own_fragments (length sink.old.labels) 0
-        (loop_node cond (members_of flags (without_map state.now) body.now) empty))) }
+        (loop_node cond (members_of context.flags (without_map state.now) body.now) empty))) }
     ensures cause { OnOk result
-        (tree_cause flags (declared_in sink.old) (length sink.old.labels) state.now.nominal depth
-        (loop_node cond (members_of flags (without_map state.now) body.now) empty) ≡ None) }
+        (tree_cause context.flags (declared_in sink.old) (length sink.old.labels)
+        state.now.nominal context.depth
+        (loop_node cond (members_of context.flags (without_map state.now) body.now) empty)
+        ≡ None) }
     ensures lacks { (after : ℕ)
-        → TreePassed flags sink.old after state.now.nominal depth
-        (loop_node cond (members_of flags (without_map state.now) body.now) empty)
+        → TreePassed context.flags sink.old after state.now.nominal context.depth
+        (loop_node cond (members_of context.flags (without_map state.now) body.now) empty)
         → LacksMemory result }
     ensures ranges { OnOk result
-        (AllInRange (loop_node cond (members_of flags (without_map state.now) body.now) empty)) }
+        (AllInRange
+        (loop_node cond (members_of context.flags (without_map state.now) body.now) empty)) }
     ensures kept { Extends sink.old sink.new }
 {
-    if let Some(error) = loop_cause(sink, depth) {
+    if let Some(error) = loop_cause(sink, context.depth) {
         return Err(error);
     }
     let mask = cond.bits();
@@ -145,7 +147,12 @@ fn emit_loop(
     sink.bind_label(start)?;
     let mut inside = *state;
     inside.clear_post_insn();
-    emit_members(alloc, flags, sink, &mut inside, depth + 1, body, end)?;
+    let around = Context {
+        flags: context.flags,
+        depth: context.depth + 1,
+        after: end,
+    };
+    emit_members(alloc, around, sink, &mut inside, body)?;
     sink.start_step()?;
     put_branch(sink, mask, start)?;
     sink.bind_label(end)

@@ -10,7 +10,7 @@ ghost use Rattle.s390x_typed_steps.specs.SingleCode.{code_where, single_code};
 ghost use Rattle.s390x_typed_steps.specs.SingleInstruction.{single_instruction, single_with, two_operands, rotated_row};
 ghost use Rattle.s390x_emit_rows.specs.SingleInstruction.{opcode_of, takes_general};
 
-use crate::codes::{selected, shifted, short_where, three_operands, two_operands};
+use crate::codes::{BitRange, selected, shifted, short_where, three_operands, two_operands};
 use crate::opcode::ShortOpcode;
 use crate::registers::{is_even_pair, is_reused, three_general, two_general};
 use s390x_address::general;
@@ -70,21 +70,20 @@ pub fn rotated_row(
     rd: &Writable<Reg>,
     ri: &Reg,
     rn: &Reg,
-    start: u8,
-    end: u8,
+    bits: BitRange,
     amount: i8,
 ) -> Option<Result<Code, EmitError>>
     ensures { result
         ≡ single_code
         (single_with (reuses rd.now ri.now && is_general rn.now)
-        (rotated_row (Some (rotate_then op)) (number_of rd.now) (number_of rn.now) start end
-        start (rotation amount))) }
+        (rotated_row (Some (rotate_then op)) (number_of rd.now) (number_of rn.now) bits.start
+        bits.end bits.start (rotation amount))) }
 {
     let output = rd.to_reg();
     let rotated = rotation(amount);
-    if start < 64 && end < 64 {
+    if bits.start < 64 && bits.end < 64 {
         let valid = is_reused(&output, ri) && general(rn);
-        Some(selected(valid, rotate_opcode(op), output, *rn, start, end, rotated))
+        Some(selected(valid, rotate_opcode(op), output, *rn, bits, rotated))
     } else {
         None
     }
@@ -97,28 +96,23 @@ pub fn tested_row(
     op: RxSBGOp,
     rd: &Reg,
     rn: &Reg,
-    start: u8,
-    end: u8,
+    bits: BitRange,
     amount: i8,
 ) -> Option<Result<Code, EmitError>>
     ensures { result
         ≡ single_code
         (single_with (is_general rd.now && is_general rn.now)
-        (rotated_row (rotate_then_test op) (number_of rd.now) (number_of rn.now) start end
-        (start + 128) (rotation amount))) }
+        (rotated_row (rotate_then_test op) (number_of rd.now) (number_of rn.now) bits.start
+        bits.end (bits.start + 128) (rotation amount))) }
 {
     let opcode = test_opcode(op)?;
     let rotated = rotation(amount);
-    if start < 64 && end < 64 {
-        Some(selected(
-            two_general(rd, rn),
-            opcode,
-            *rd,
-            *rn,
-            start + 128,
-            end,
-            rotated,
-        ))
+    if bits.start < 64 && bits.end < 64 {
+        let tested = BitRange {
+            start: bits.start + 128,
+            end: bits.end,
+        };
+        Some(selected(two_general(rd, rn), opcode, *rd, *rn, tested, rotated))
     } else {
         None
     }

@@ -169,6 +169,13 @@ pub fn conditional_halfword(
     }
 }
 
+/// The first and the last of the bits that a rotation selects, as a row has them.
+#[derive(Clone, Copy)]
+pub struct BitRange {
+    pub start: u8,
+    pub end: u8,
+}
+
 /// Two registers, and the bits that are selected of the second one once it is rotated. `BadRegister` comes where a
 /// register may not stand there.
 pub fn selected(
@@ -176,16 +183,16 @@ pub fn selected(
     opcode: u16,
     r1: Reg,
     r2: Reg,
-    first: u8,
-    end: u8,
+    bits: BitRange,
     rotated: u8,
 ) -> Result<Code, EmitError>
     requires { implies valid (is_general r1 && is_general r2) ≡ true }
     ensures { result
-        ≡ code_where valid (rie_f opcode (number_of r1) (number_of r2) first end rotated) }
+        ≡ code_where valid
+        (rie_f opcode (number_of r1) (number_of r2) bits.start bits.end rotated) }
 {
     if valid {
-        enc_rie_f(opcode, r1, r2, first, end, rotated)
+        enc_rie_f(opcode, r1, r2, bits.start, bits.end, rotated)
     } else {
         Err(EmitError::BadRegister)
     }

@@ -13,6 +13,7 @@ use crate::arithmetic::{
 use crate::bits::{
     half_opcode, pair_row, part_opcode, product_row, reused_low_row, rotated_row, shift, tested_row,
 };
+use crate::codes::BitRange;
 use crate::moves::{
     branch_nowhere, conditional_doubleword, conditional_row, conditional_word, extend_opcode,
     indexed_opcode, indexed_row, insert_access_row, insert_half, insert_part, load_access_row,
@@ -130,7 +131,13 @@ pub fn find_single_instruction(inst: &Inst) -> Option<Result<Code, EmitError>>
             start_bit,
             end_bit,
             rotate_amt,
-        } => rotated_row(*op, rd, ri, rn, *start_bit, *end_bit, *rotate_amt),
+        } => {
+            let bits = BitRange {
+                start: *start_bit,
+                end: *end_bit,
+            };
+            rotated_row(*op, rd, ri, rn, bits, *rotate_amt)
+        }
         Inst::RxSBGTest {
             op,
             rd,
@@ -138,7 +145,13 @@ pub fn find_single_instruction(inst: &Inst) -> Option<Result<Code, EmitError>>
             start_bit,
             end_bit,
             rotate_amt,
-        } => tested_row(*op, rd, rn, *start_bit, *end_bit, *rotate_amt),
+        } => {
+            let bits = BitRange {
+                start: *start_bit,
+                end: *end_bit,
+            };
+            tested_row(*op, rd, rn, bits, *rotate_amt)
+        }
         Inst::SMulWide { rd, rn, rm } => product_row(rd, rn, rm),
         Inst::UMulWide { rd, ri, rn } => reused_low_row(opcodes::MLGR, rd, ri, rn),
         Inst::Flogr { rd, rn } => pair_row(opcodes::FLOGR, rd, rn),

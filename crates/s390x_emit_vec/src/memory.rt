@@ -26,6 +26,13 @@ pub enum LaneAccess {
     StoreReversed,
 }
 
+/// An element of a vector register: how many bits it has, and its number from the left.
+#[derive(Clone, Copy)]
+pub struct Element {
+    pub size: u32,
+    pub lane: u8,
+}
+
 fn load_opcode(code: u8) -> u16
     ensures { result ≡ load_lane_opcode code }
 {
@@ -146,20 +153,21 @@ fn one_lane(
     valid: bool,
     register: Reg,
     code: Option<u8>,
-    size: u32,
-    lane: u8,
+    element: Element,
     operand: &MemArg,
 ) -> Option<MemoryInst>
     requires valid { valid ≡ true → is_vector register ≡ true }
-    requires size { IfSome code (λ _. 8 ≤ size) }
+    requires size { IfSome code (λ _. 8 ≤ element.size) }
     ensures row { option_map memory_instruction_of result
-        ≡ access_lane valid (lane_opcode access) (number_of register) code size lane operand.now }
+        ≡ access_lane valid (lane_opcode access) (number_of register) code element.size
+        element.lane operand.now }
     ensures encodes { IfSome result (λ x. may_encode x ≡ true) }
 {
     match code {
         Some(code) => {
-            if is_lane(size, lane) {
-                masked(valid, register, lane_opcode(access, code), lane, operand)
+            if is_lane(element.size, element.lane) {
+                let opcode = lane_opcode(access, code);
+                masked(valid, register, opcode, element.lane, operand)
             } else {
                 None
             }
@@ -175,18 +183,17 @@ fn reused_lane(
     register: Reg,
     input: Reg,
     code: Option<u8>,
-    size: u32,
-    lane: u8,
+    element: Element,
     operand: &MemArg,
 ) -> Option<MemoryInst>
-    requires { IfSome code (λ _. 8 ≤ size) }
+    requires { IfSome code (λ _. 8 ≤ element.size) }
     ensures row { option_map memory_instruction_of result
         ≡ access_lane (reuses_vector register input) (lane_opcode access) (number_of register) code
-        size lane operand.now }
+        element.size element.lane operand.now }
     ensures encodes { IfSome result (λ x. may_encode x ≡ true) }
 {
     let valid = reuses(&register, &input);
-    one_lane(access, valid, register, code, size, lane, operand)
+    one_lane(access, valid, register, code, element, operand)
 }
 
 // One element of a register.
@@ -194,18 +201,17 @@ fn lane_of(
     access: LaneAccess,
     register: Reg,
     code: Option<u8>,
-    size: u32,
-    lane: u8,
+    element: Element,
     operand: &MemArg,
 ) -> Option<MemoryInst>
-    requires { IfSome code (λ _. 8 ≤ size) }
+    requires { IfSome code (λ _. 8 ≤ element.size) }
     ensures row { option_map memory_instruction_of result
-        ≡ access_lane (is_vector register) (lane_opcode access) (number_of register) code size lane
-        operand.now }
+        ≡ access_lane (is_vector register) (lane_opcode access) (number_of register) code
+        element.size element.lane operand.now }
     ensures encodes { IfSome result (λ x. may_encode x ≡ true) }
 {
     let valid = vector(&register);
-    one_lane(access, valid, register, code, size, lane, operand)
+    one_lane(access, valid, register, code, element, operand)
 }
 
 // The leftmost word or doubleword of a register that is a float register too.
@@ -264,7 +270,8 @@ fn load_alone(size: u32, register: Reg, lane: u8, operand: &MemArg) -> Option<Me
         load_left(size, register, operand)
     } else {
         let code = element_code(size);
-        lane_of(LaneAccess::Load, register, code, size, lane, operand)
+        let element = Element { size, lane };
+        lane_of(LaneAccess::Load, register, code, element, operand)
     }
 }
 
@@ -278,7 +285,8 @@ fn store_lane(size: u32, register: Reg, lane: u8, operand: &MemArg) -> Option<Me
         store_left(size, register, operand)
     } else {
         let code = element_code(size);
-        lane_of(LaneAccess::Store, register, code, size, lane, operand)
+        let element = Element { size, lane };
+        lane_of(LaneAccess::Store, register, code, element, operand)
     }
 }
 
@@ -299,8 +307,10 @@ fn lane_memory(inst: &VecInst) -> Option<MemoryInst>
             rd.to_reg(),
             *ri,
             element_code(*size),
-            *size,
-            *lane_imm,
+            Element {
+                size: *size,
+                lane: *lane_imm,
+            },
             mem,
         ),
         VecInst::VecLoadLaneRev {
@@ -314,8 +324,10 @@ fn lane_memory(inst: &VecInst) -> Option<MemoryInst>
             rd.to_reg(),
             *ri,
             reversed_code(*size),
-            *size,
-            *lane_imm,
+            Element {
+                size: *size,
+                lane: *lane_imm,
+            },
             mem,
         ),
         VecInst::VecLoadLaneUndef {
@@ -333,8 +345,10 @@ fn lane_memory(inst: &VecInst) -> Option<MemoryInst>
             LaneAccess::LoadReversed,
             rd.to_reg(),
             reversed_code(*size),
-            *size,
-            *lane_imm,
+            Element {
+                size: *size,
+                lane: *lane_imm,
+            },
             mem,
         ),
         VecInst::VecStoreLane {
@@ -352,8 +366,10 @@ fn lane_memory(inst: &VecInst) -> Option<MemoryInst>
             LaneAccess::StoreReversed,
             *rd,
             reversed_code(*size),
-            *size,
-            *lane_imm,
+            Element {
+                size: *size,
+                lane: *lane_imm,
+            },
             mem,
         ),
         _ => None,

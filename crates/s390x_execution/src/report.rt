@@ -20,6 +20,13 @@ use s390x_machine::{Machine, Memory, code_at};
 use s390x_operations::{ConditionCode, StopKind};
 use std::alloc::{AllocError, Global};
 
+/// Code, and the address at which it stands.
+#[derive(Clone, Copy)]
+pub struct Located<'a> {
+    pub base: u64,
+    pub code: &'a MachBufferFinalized,
+}
+
 /// Executes a job's image, by at most so many steps, and tells how it went.
 ///
 /// The machine starts at the image's base with the job's registers; the memory has the job's regions, and the image over them.
@@ -44,15 +51,11 @@ pub fn run_text(
     let mut memory = start_memory(alloc, &job.memory, image)?;
     let mut machine = start_machine(image.base, &job.registers);
     let execution = execute(&mut machine, &mut memory, steps);
-    match reported(
-        alloc,
-        image.base,
+    let located = Located {
+        base: image.base,
         code,
-        &job.memory,
-        &execution,
-        &machine,
-        &memory,
-    ) {
+    };
+    match reported(alloc, located, &job.memory, &execution, &machine, &memory) {
         Ok(text) => Ok(text),
         Err(_) => Err(NoMemory),
     }
@@ -61,8 +64,7 @@ pub fn run_text(
 // The text of an execution that ended so.
 fn reported<M: Memory>(
     alloc: Global,
-    base: u64,
-    code: &MachBufferFinalized,
+    located: Located,
     regions: &[MemLine],
     execution: &Execution,
     machine: &Machine,
@@ -71,12 +73,12 @@ fn reported<M: Memory>(
     requires { AllHeld (M.held memory.now) regions.now }
     ensures { IfOk result
         (λ text. string_bytes text
-        ≡ execution_text base code.now regions.now execution.now
+        ≡ execution_text located.base located.code.now regions.now execution.now
         (state_of machine.now (M.held memory.now) (M.byte memory.now))) }
 {
     let mut out = String::new(alloc);
     put_went(&mut out, execution.went)?;
-    put_end(&mut out, base, code, execution.end)?;
+    put_end(&mut out, located.base, located.code, execution.end)?;
     put_status(&mut out, machine)?;
     put_contents(alloc, &mut out, regions, machine, memory)?;
     Ok(out)

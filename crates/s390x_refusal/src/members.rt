@@ -5,9 +5,9 @@ ghost use Rattle.s390x_typed_steps.specs.Causes.{declared_in};
 ghost use Rattle.s390x_refusal.specs.Members.{marked};
 ghost use Rattle.s390x_refusal.specs.Search.{IsChecked, IsFirstMember, IsPathAmong, IsPathTo, point_of};
 
-use s390x_base::{EmitError, NoMemory};
+use s390x_base::{EmitError, MachLabel, NoMemory};
 use s390x_buffer::MachBuffer;
-use s390x_emit_int::{Totals, advance, check_inst, mark_safepoint, open_loop};
+use s390x_emit_int::{Context, Totals, advance, check_inst, mark_safepoint, open_loop};
 use s390x_inst::{EmitState, Inst, IsaFlags};
 use std::alloc::Global;
 
@@ -62,7 +62,12 @@ fn check_member(
         labels: scope.labels,
         bytes: 0,
     };
-    match check_inst(alloc, flags, state, sink, before, scope.depth, inst) {
+    let context = Context {
+        flags,
+        depth: scope.depth,
+        after: MachLabel(0),
+    };
+    match check_inst(alloc, context, state, sink, before, inst) {
         Ok(behind) => {
             let Ok(()) = advance(state, inst) else {
                 unreachable!()

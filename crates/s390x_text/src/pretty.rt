@@ -11,6 +11,13 @@ use s390x_job_fields::number::put;
 use s390x_text_rows::{TextError, cond_name, put_simple};
 use std::alloc::{AllocError, Global};
 
+/// What stands around instructions: the machine's facilities, and how many loops they stand in.
+#[derive(Clone, Copy)]
+pub struct Context {
+    pub flags: IsaFlags,
+    pub depth: u32,
+}
+
 // Appends the text of an instruction that is no `Loop`.
 fn put_leaf(
     alloc: Global,
@@ -76,17 +83,16 @@ fn put_back(out: &mut String, is_empty: bool, cond: Cond) -> Result<(), AllocErr
 fn put_members(
     alloc: Global,
     out: &mut String,
-    flags: IsaFlags,
+    context: Context,
     state: &mut EmitState,
-    depth: u32,
     insts: &[Inst],
 ) -> Result<(), TextError>
     ensures answer { Prints result (string_bytes out.old) (string_bytes out.new)
-        (insts_text flags depth state.old insts.now) }
+        (insts_text context.flags context.depth state.old insts.now) }
     ensures after { IfOk result (λ _. state.new ≡ insts_after state.old insts.now) }
 {
     for inst in insts {
-        put_member(alloc, out, flags, state, depth, inst)?;
+        put_member(alloc, out, context, state, inst)?;
     }
     Ok(())
 }
@@ -96,16 +102,15 @@ fn put_members(
 fn put_member(
     alloc: Global,
     out: &mut String,
-    flags: IsaFlags,
+    context: Context,
     state: &mut EmitState,
-    depth: u32,
     inst: &Inst,
 ) -> Result<(), TextError>
     ensures answer { Prints result (string_bytes out.old) (string_bytes out.new)
-        (before_semicolon (inst_text flags depth state.old inst.now)) }
+        (before_semicolon (inst_text context.flags context.depth state.old inst.now)) }
     ensures after { IfOk result (λ _. state.new ≡ after state.old inst.now) }
 {
-    put_inst(alloc, out, flags, state, depth, inst)?;
+    put_inst(alloc, out, context, state, inst)?;
     put(out, " ; ")?;
     Ok(())
 }
@@ -115,43 +120,45 @@ fn put_member(
 fn put_loop(
     alloc: Global,
     out: &mut String,
-    flags: IsaFlags,
+    context: Context,
     state: &mut EmitState,
-    depth: u32,
     cond: Cond,
     body: &[Inst],
 ) -> Result<(), TextError>
     ensures answer { Prints result (string_bytes out.old) (string_bytes out.new)
-        (looped depth cond (length body.now == 0)
-        (insts_text flags (depth + 1) state.old body.now)) }
+        (looped context.depth cond (length body.now == 0)
+        (insts_text context.flags (context.depth + 1) state.old body.now)) }
     ensures after { IfOk result (λ _. state.new ≡ insts_after state.old body.now) }
 {
-    if depth >= 8 {
+    if context.depth >= 8 {
         return Err(TextError::NoRow);
     }
     put(out, "0: ")?;
-    put_members(alloc, out, flags, state, depth + 1, body)?;
+    let around = Context {
+        flags: context.flags,
+        depth: context.depth + 1,
+    };
+    put_members(alloc, out, around, state, body)?;
     put_back(out, body.is_empty(), cond)?;
     Ok(())
 }
 
-// Appends the text of an instruction inside so many loops.
+// Appends the text of an instruction in its context.
 #[cycle(members)]
 fn put_inst(
     alloc: Global,
     out: &mut String,
-    flags: IsaFlags,
+    context: Context,
     state: &mut EmitState,
-    depth: u32,
     inst: &Inst,
 ) -> Result<(), TextError>
     ensures answer { Prints result (string_bytes out.old) (string_bytes out.new)
-        (inst_text flags depth state.old inst.now) }
+        (inst_text context.flags context.depth state.old inst.now) }
     ensures after { IfOk result (λ _. state.new ≡ after state.old inst.now) }
 {
     match inst {
-        Inst::Loop { cond, body } => put_loop(alloc, out, flags, state, depth, *cond, body),
-        _ => put_one(alloc, out, flags, state, inst),
+        Inst::Loop { cond, body } => put_loop(alloc, out, context, state, *cond, body),
+        _ => put_one(alloc, out, context.flags, state, inst),
     }
 }
 
@@ -170,7 +177,11 @@ pub fn put_pretty(
         (inst_text info.now.isa_flags 0 state.old inst.now) }
     ensures after { IfOk result (λ _. state.new ≡ after state.old inst.now) }
 {
-    put_inst(alloc, out, info.isa_flags, state, 0, inst)
+    let outside = Context {
+        flags: info.isa_flags,
+        depth: 0,
+    };
+    put_inst(alloc, out, outside, state, inst)
 }
 
 /// The text of an instruction as emission puts it for the machine of `info`, in a state of emission; branches that the end of a block leaves away are
@@ -197,7 +208,11 @@ pub fn pretty_print_inst(
 {
     let mut behind = *state;
     let mut out = String::new(alloc);
-    put_inst(alloc, &mut out, info.isa_flags, &mut behind, 0, inst)?;
+    let outside = Context {
+        flags: info.isa_flags,
+        depth: 0,
+    };
+    put_inst(alloc, &mut out, outside, &mut behind, inst)?;
     *state = behind;
     Ok(out)
 }

@@ -6,7 +6,7 @@ use Rattle.s390x_emit_int.proofs.calls.emit_results.Goals as goal
 
 pub loop-def-init : goal.loop-def-init
 loop-def-init c = record {
-  goes = goes_same c.args.flags c.args.sink.now c.args.after.0 c.args.depth c.args.state.now.nominal (load_bodies c.args.state.now c.args.defs.now);
+  goes = goes_same c.args.context.flags c.args.sink.now c.args.context.after.0 c.args.context.depth c.args.state.now.nominal (load_bodies c.args.state.now c.args.defs.now);
   room = c.requires;
   kept = extends_same _;
 }
@@ -23,8 +23,8 @@ loop-def-preserved c =
     let own = c.in_ok-emit_result.ensures.reaches in
     let bs = load_before e c.def-item.result.vreg c.def-item.result.location [] in
     record {
-      goes = goes_step c.args.flags c.args.sink.now c.loop-def.sink c.emit_result.new.sink c.args.after.0 c.args.depth e.nominal e.nominal e.nominal bs (load_bodies e ds) (load_bodies e (drop k ds)) (load_bodies e (drop (k + 1) ds)) w c.loop-def.invariant.goes own refl;
-      room = goes_room c.args.flags c.loop-def.sink c.emit_result.new.sink c.args.after.0 c.args.depth e.nominal e.nominal bs own c.loop-def.invariant.room;
+      goes = goes_step c.args.context.flags c.args.sink.now c.loop-def.sink c.emit_result.new.sink c.args.context.after.0 c.args.context.depth e.nominal e.nominal e.nominal bs (load_bodies e ds) (load_bodies e (drop k ds)) (load_bodies e (drop (k + 1) ds)) w c.loop-def.invariant.goes own refl;
+      room = goes_room c.args.context.flags c.loop-def.sink c.emit_result.new.sink c.args.context.after.0 c.args.context.depth e.nominal e.nominal bs own c.loop-def.invariant.room;
       kept = extends_on _ _ _ c.loop-def.invariant.kept c.emit_result.ensures.kept;
     }
 
@@ -34,11 +34,11 @@ returns-in_err-emit_result c =
     let ds = c.args.defs.now in
     let k = c.loop-def.def-index in
     let w = loads_next e ds k c.def-item.result (omega arith) c.def-item.is in
-    goes_failed c.args.flags c.args.sink.now c.loop-def.sink c.emit_result.new.sink c.args.after.0 c.args.depth e.nominal e.nominal e.nominal e.nominal (load_before e c.def-item.result.vreg c.def-item.result.location []) (load_bodies e ds) (load_bodies e (drop k ds)) (load_bodies e (drop (k + 1) ds))
+    goes_failed c.args.context.flags c.args.sink.now c.loop-def.sink c.emit_result.new.sink c.args.context.after.0 c.args.context.depth e.nominal e.nominal e.nominal e.nominal (load_before e c.def-item.result.vreg c.def-item.result.location []) (load_bodies e ds) (load_bodies e (drop k ds)) (load_bodies e (drop (k + 1) ds))
     c.from_residual.result _ w c.loop-def.invariant.goes c.loop-def.invariant.kept c.in_err-emit_result.ensures c.from_residual.ensures.1
 
 pub returns : goal.returns
 returns c =
     let e = c.args.state.now in
     let ds = c.args.defs.now in
-    goes_done c.args.flags c.args.sink.now c.loop-def.sink c.args.after.0 c.args.depth e.nominal e.nominal (load_bodies e ds) (load_bodies e (drop c.loop-def.def-index ds)) _ (loads_drained e ds c.loop-def.def-index (omega arith)) c.loop-def.invariant.goes c.loop-def.invariant.kept
+    goes_done c.args.context.flags c.args.sink.now c.loop-def.sink c.args.context.after.0 c.args.context.depth e.nominal e.nominal (load_bodies e ds) (load_bodies e (drop c.loop-def.def-index ds)) _ (loads_drained e ds c.loop-def.def-index (omega arith)) c.loop-def.invariant.goes c.loop-def.invariant.kept

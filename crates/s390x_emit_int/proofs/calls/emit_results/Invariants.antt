@@ -7,7 +7,7 @@ use Rattle.s390x_emit_int.proofs.calls.emit_results.Given as goal
 
 abbrev pub invariant-loop-def : goal.invariant-loop-def
 invariant-loop-def l = record {
-  goes : Goes l.flags l.initial.sink l.sink l.after.0 l.depth l.state.nominal l.state.nominal (load_bodies l.state l.defs) (load_bodies l.state (drop l.def-index l.defs));
+  goes : Goes l.context.flags l.initial.sink l.sink l.context.after.0 l.context.depth l.state.nominal l.state.nominal (load_bodies l.state l.defs) (load_bodies l.state (drop l.def-index l.defs));
   room : HasRoom l.sink;
   kept : Extends l.initial.sink l.sink;
 }

@@ -8,7 +8,7 @@ use Rattle.s390x_emit_int.proofs.calls.emit_steps.Given as goal
 
 abbrev pub invariant-loop-inst : goal.invariant-loop-inst
 invariant-loop-inst l = record {
-  goes : Goes l.flags l.initial.sink l.sink l.after.0 l.depth l.state.nominal l.state.nominal (wholes l.state l.insts) (wholes l.state (drop l.inst-index l.insts));
+  goes : Goes l.context.flags l.initial.sink l.sink l.context.after.0 l.context.depth l.state.nominal l.state.nominal (wholes l.state l.insts) (wholes l.state (drop l.inst-index l.insts));
   keep : AllKeepNominal (drop l.inst-index l.insts);
   room : HasRoom l.sink;
   kept : Extends l.initial.sink l.sink;

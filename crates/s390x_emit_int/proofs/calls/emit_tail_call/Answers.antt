@@ -27,7 +27,7 @@ returns-in_err-insts c =
     let e = c.args.state.now in
     let info = c.args.info.now in
     let given = subst (λ l. (c.in_err-insts.field-0.0 ≡ NoMemory) ⊎ (tail_cause info.dest l.first_saved_gpr (loses_target l info.callee_pop_size info.dest) ≡ Some c.in_err-insts.field-0.0)) c.frame_layout.ensures c.in_err-insts.ensures in
-    opening_failed c.args.flags c.args.sink.now c.args.after.0 c.args.depth e.nominal info.dest e.layout.first_saved_gpr (loses_target e.layout info.callee_pop_size info.dest) (wholes e (epilogue e.layout info.callee_pop_size info.dest) ++ TailJump (jump_target info.dest) ∷ [])
+    opening_failed c.args.context.flags c.args.sink.now c.args.context.after.0 c.args.context.depth e.nominal info.dest e.layout.first_saved_gpr (loses_target e.layout info.callee_pop_size info.dest) (wholes e (epilogue e.layout info.callee_pop_size info.dest) ++ TailJump (jump_target info.dest) ∷ [])
     c.from_residual.result _ c.from_residual.ensures.1 given (extends_same _)
 
 pub returns-in_err-emit_steps : goal.returns-in_err-emit_steps
@@ -35,8 +35,8 @@ returns-in_err-emit_steps c =
     let e = c.args.state.now in
     let info = c.args.info.now in
     let is = c.deref.ensures.value ∙ c.in_ok-insts.ensures.1 ∙ ap (λ l. epilogue l info.callee_pop_size info.dest) c.frame_layout.ensures in
-    tail_steps_failed c.args.flags c.args.sink.now c.emit_steps.new.sink c.args.after.0 c.args.depth e.nominal info.dest e.layout.first_saved_gpr (loses_target e.layout info.callee_pop_size info.dest) (wholes e (epilogue e.layout info.callee_pop_size info.dest)) (TailJump (jump_target info.dest) ∷ [])
-    c.from_residual-in_err-emit_steps.result _ c.from_residual-in_err-emit_steps.ensures.1 (subst (λ l. Emits c.args.flags c.args.sink.now c.emit_steps.new.sink c.args.after.0 c.args.depth e.nominal e.nominal (wholes e l) (Err c.in_err-emit_steps.field-0.0)) is c.in_err-emit_steps.ensures)
+    tail_steps_failed c.args.context.flags c.args.sink.now c.emit_steps.new.sink c.args.context.after.0 c.args.context.depth e.nominal info.dest e.layout.first_saved_gpr (loses_target e.layout info.callee_pop_size info.dest) (wholes e (epilogue e.layout info.callee_pop_size info.dest)) (TailJump (jump_target info.dest) ∷ [])
+    c.from_residual-in_err-emit_steps.result _ c.from_residual-in_err-emit_steps.ensures.1 (subst (λ l. Emits c.args.context.flags c.args.sink.now c.emit_steps.new.sink c.args.context.after.0 c.args.context.depth e.nominal e.nominal (wholes e l) (Err c.in_err-emit_steps.field-0.0)) is c.in_err-emit_steps.ensures)
 
 pub returns : goal.returns
 returns c =
@@ -44,7 +44,7 @@ returns c =
     let info = c.args.info.now in
     let is = c.deref.ensures.value ∙ c.in_ok-insts.ensures.1 ∙ ap (λ l. epilogue l info.callee_pop_size info.dest) c.frame_layout.ensures in
     let none = subst (λ l. tail_cause info.dest l.first_saved_gpr (loses_target l info.callee_pop_size info.dest) ≡ None) c.frame_layout.ensures c.in_ok-insts.ensures.0 in
-    let jump = subst (λ d. Emits c.args.flags c.emit_steps.new.sink c.emit_tail_jump.new.sink c.args.after.0 c.args.depth e.nominal e.nominal (TailJump d ∷ []) c.emit_tail_jump.result) c.in_ok-insts.ensures.2 (c.emit_tail_jump.ensures c.args.flags c.args.after.0 c.args.depth e.nominal) in
-    let steps = subst (λ l. (rest : Tree) → Reaches c.args.flags c.args.sink.now c.emit_steps.new.sink c.args.after.0 c.args.depth e.nominal e.nominal (leaves (wholes e l) rest) rest) is c.in_ok-emit_steps.ensures.reaches in
-    tail_emits c.args.flags c.args.sink.now c.emit_steps.new.sink c.emit_tail_jump.new.sink c.args.after.0 c.args.depth e.nominal info.dest e.layout.first_saved_gpr (loses_target e.layout info.callee_pop_size info.dest) (wholes e (epilogue e.layout info.callee_pop_size info.dest)) (TailJump (jump_target info.dest) ∷ [])
+    let jump = subst (λ d. Emits c.args.context.flags c.emit_steps.new.sink c.emit_tail_jump.new.sink c.args.context.after.0 c.args.context.depth e.nominal e.nominal (TailJump d ∷ []) c.emit_tail_jump.result) c.in_ok-insts.ensures.2 (c.emit_tail_jump.ensures c.args.context.flags c.args.context.after.0 c.args.context.depth e.nominal) in
+    let steps = subst (λ l. (rest : Tree) → Reaches c.args.context.flags c.args.sink.now c.emit_steps.new.sink c.args.context.after.0 c.args.context.depth e.nominal e.nominal (leaves (wholes e l) rest) rest) is c.in_ok-emit_steps.ensures.reaches in
+    tail_emits c.args.context.flags c.args.sink.now c.emit_steps.new.sink c.emit_tail_jump.new.sink c.args.context.after.0 c.args.context.depth e.nominal info.dest e.layout.first_saved_gpr (loses_target e.layout info.callee_pop_size info.dest) (wholes e (epilogue e.layout info.callee_pop_size info.dest)) (TailJump (jump_target info.dest) ∷ [])
     c.emit_tail_jump.result none steps c.emit_steps.ensures.kept jump

@@ -20,8 +20,8 @@ check_members-loop-inst-preserved t c =
     let next = c.advance.new.state in
     let k = c.loop-inst.inst-index in
     let is = c.args.insts.now in
-    let g : GoesOn c.args.flags (declared_in c.args.sink.now) c.args.depth c.loop-inst.sum c.in_ok-sum.sum state.nominal next.nominal (members_of c.args.flags next (drop (k + 1) is)) (members_of c.args.flags state (drop k is)) = goes_on
-    state next c.args.flags (declared_in c.args.sink.now) c.args.depth c.loop-inst.sum _ is k c.inst-item.result (omega arith) c.inst-item.is
+    let g : GoesOn c.args.context.flags (declared_in c.args.sink.now) c.args.context.depth c.loop-inst.sum c.in_ok-sum.sum state.nominal next.nominal (members_of c.args.context.flags next (drop (k + 1) is)) (members_of c.args.context.flags state (drop k is)) = goes_on
+    state next c.args.context.flags (declared_in c.args.sink.now) c.args.context.depth c.loop-inst.sum _ is k c.inst-item.result (omega arith) c.inst-item.is
     c.in_ok-advance.ensures c.in_ok-sum.ensures.0 c.in_ok-sum.ensures.1 in
     record {
       cause = g.cause ∙ c.loop-inst.invariant.cause;
@@ -34,36 +34,36 @@ check_members-loop-inst-preserved t c =
 pub check_members-returns-in_err-sum : goal.check_members-returns-in_err-sum
 check_members-returns-in_err-sum t c =
     let p = err_from_is_err_and c.from_residual.result c.from_residual.ensures.1 in
-    rw (p.1, p.2) (or_cause_of c.in_err-sum.ensures (λ h. sym c.loop-inst.invariant.cause ∙ for_stops c.args.flags c.loop-inst.state (declared_in c.args.sink.now) c.args.depth c.loop-inst.sum.labels c.loop-inst.state.nominal c.in_err-sum.field-0.0 c.args.insts.now c.loop-inst.inst-index c.inst-item.result (omega arith) c.inst-item.is h))
+    rw (p.1, p.2) (or_cause_of c.in_err-sum.ensures (λ h. sym c.loop-inst.invariant.cause ∙ for_stops c.args.context.flags c.loop-inst.state (declared_in c.args.sink.now) c.args.context.depth c.loop-inst.sum.labels c.loop-inst.state.nominal c.in_err-sum.field-0.0 c.args.insts.now c.loop-inst.inst-index c.inst-item.result (omega arith) c.inst-item.is h))
 
 -- a member without a cause lets the sizes go on
 pub check_members-returns-in_err-advance : goal.check_members-returns-in_err-advance
 check_members-returns-in_err-advance t c =
-    let none = no_stack_cause c.args.flags c.loop-inst.state (declared_in c.args.sink.now) c.loop-inst.sum.labels c.loop-inst.state.nominal c.args.depth c.inst-item.result c.in_ok-sum.ensures.0 in
-    let some = c.in_err-advance.ensures.0 c.args.depth in
+    let none = no_stack_cause c.args.context.flags c.loop-inst.state (declared_in c.args.sink.now) c.loop-inst.sum.labels c.loop-inst.state.nominal c.args.context.depth c.inst-item.result c.in_ok-sum.ensures.0 in
+    let some = c.in_err-advance.ensures.0 c.args.context.depth in
     absurd (cc)
 
 pub check_inst-returns-in-Loop : goal.check_inst-returns-in-Loop
 check_inst-returns-in-Loop t c =
     let state = c.args.state.now in
-    loop_answer c.args.flags (declared_in c.args.sink.now) state.nominal c.args.depth c.args.t c.in-Loop.cond (member_of c.args.flags state c.args.inst.now) (members_of c.args.flags (without_map state) c.deref.result.now) c.check_loop.result
-    (ap (tree_for c.args.flags) (prepend_loop state c.args.inst.now c.in-Loop.cond c.in-Loop.body c.deref.result.now empty c.in-Loop.is c.deref.ensures.value)) c.check_loop.ensures
+    loop_answer c.args.context.flags (declared_in c.args.sink.now) state.nominal c.args.context.depth c.args.t c.in-Loop.cond (member_of c.args.context.flags state c.args.inst.now) (members_of c.args.context.flags (without_map state) c.deref.result.now) c.check_loop.result
+    (ap (tree_for c.args.context.flags) (prepend_loop state c.args.inst.now c.in-Loop.cond c.in-Loop.body c.deref.result.now empty c.in-Loop.is c.deref.ensures.value)) c.check_loop.ensures
 
 pub check_inst-returns-in_default : goal.check_inst-returns-in_default
 check_inst-returns-in_default t c =
     let state = c.args.state.now in
-    let g = alone c.args.flags state c.args.inst.now c.in_default.not-Loop c.in_default.not-Call c.in_default.not-ReturnCall in
-    subst (λ x. ChecksTree c.args.flags (declared_in c.args.sink.now) c.args.t c.args.depth state.nominal x c.check_on_machine.result) (sym g) c.check_on_machine.ensures
+    let g = alone c.args.context.flags state c.args.inst.now c.in_default.not-Loop c.in_default.not-Call c.in_default.not-ReturnCall in
+    subst (λ x. ChecksTree c.args.context.flags (declared_in c.args.sink.now) c.args.t c.args.context.depth state.nominal x c.check_on_machine.result) (sym g) c.check_on_machine.ensures
 
 -- the steps of calls are the same on each machine
 pub check_inst-returns-in-Call : goal.check_inst-returns-in-Call
 check_inst-returns-in-Call t c =
     let state = c.args.state.now in
-    let g = ap (member_of c.args.flags state) c.in-Call.is ∙ call_stays c.args.flags state c.in-Call.link c.in-Call.info ∙ ap (λ r. leaves (call_bodies state r c.in-Call.info) empty) (sym c.to_reg.ensures) in
-    subst (λ x. ChecksTree c.args.flags (declared_in c.args.sink.now) c.args.t c.args.depth state.nominal x c.check_call.result) (sym g) c.check_call.ensures
+    let g = ap (member_of c.args.context.flags state) c.in-Call.is ∙ call_stays c.args.context.flags state c.in-Call.link c.in-Call.info ∙ ap (λ r. leaves (call_bodies state r c.in-Call.info) empty) (sym c.to_reg.ensures) in
+    subst (λ x. ChecksTree c.args.context.flags (declared_in c.args.sink.now) c.args.t c.args.context.depth state.nominal x c.check_call.result) (sym g) c.check_call.ensures
 
 pub check_inst-returns-in-ReturnCall : goal.check_inst-returns-in-ReturnCall
 check_inst-returns-in-ReturnCall t c =
     let state = c.args.state.now in
-    let g = ap (member_of c.args.flags state) c.in-ReturnCall.is ∙ tail_stays c.args.flags state c.in-ReturnCall.info.callee_pop_size c.in-ReturnCall.info.dest in
-    subst (λ x. ChecksTree c.args.flags (declared_in c.args.sink.now) c.args.t c.args.depth state.nominal x c.check_tail_call.result) (sym g) c.check_tail_call.ensures
+    let g = ap (member_of c.args.context.flags state) c.in-ReturnCall.is ∙ tail_stays c.args.context.flags state c.in-ReturnCall.info.callee_pop_size c.in-ReturnCall.info.dest in
+    subst (λ x. ChecksTree c.args.context.flags (declared_in c.args.sink.now) c.args.t c.args.context.depth state.nominal x c.check_tail_call.result) (sym g) c.check_tail_call.ensures

@@ -7,9 +7,9 @@ use Rattle.s390x_emit_int.proofs.check.+checking.Given as goal
 
 abbrev pub invariant-check_members-loop-inst : goal.invariant-check_members-loop-inst
 invariant-check_members-loop-inst l = record {
-  cause : tree_cause l.flags (declared_in l.sink) l.sum.labels l.state.nominal l.depth (members_of l.flags l.state (drop l.inst-index l.insts)) ≡ tree_cause l.flags (declared_in l.sink) l.fn.t.labels l.initial.state.nominal l.depth (members_of l.flags l.initial.state l.insts);
-  labels : l.sum.labels + fresh_labels (members_of l.flags l.state (drop l.inst-index l.insts)) ≡ l.fn.t.labels + fresh_labels (members_of l.flags l.initial.state l.insts);
-  bytes : min code_limit (l.sum.bytes + tree_size (members_of l.flags l.state (drop l.inst-index l.insts))) ≡ min code_limit (l.fn.t.bytes + tree_size (members_of l.flags l.initial.state l.insts));
-  nominal : nominal_behind l.state.nominal (members_of l.flags l.state (drop l.inst-index l.insts)) ≡ nominal_behind l.initial.state.nominal (members_of l.flags l.initial.state l.insts);
+  cause : tree_cause l.context.flags (declared_in l.sink) l.sum.labels l.state.nominal l.context.depth (members_of l.context.flags l.state (drop l.inst-index l.insts)) ≡ tree_cause l.context.flags (declared_in l.sink) l.fn.t.labels l.initial.state.nominal l.context.depth (members_of l.context.flags l.initial.state l.insts);
+  labels : l.sum.labels + fresh_labels (members_of l.context.flags l.state (drop l.inst-index l.insts)) ≡ l.fn.t.labels + fresh_labels (members_of l.context.flags l.initial.state l.insts);
+  bytes : min code_limit (l.sum.bytes + tree_size (members_of l.context.flags l.state (drop l.inst-index l.insts))) ≡ min code_limit (l.fn.t.bytes + tree_size (members_of l.context.flags l.initial.state l.insts));
+  nominal : nominal_behind l.state.nominal (members_of l.context.flags l.state (drop l.inst-index l.insts)) ≡ nominal_behind l.initial.state.nominal (members_of l.context.flags l.initial.state l.insts);
   counted : IsCounted l.sum;
 }

@@ -8,7 +8,7 @@ use Rattle.s390x_emit_int.proofs.check_calls.check_steps.Given as goal
 
 abbrev pub invariant-loop-inst : goal.invariant-loop-inst
 invariant-loop-inst l = record {
-  goes : CountsOn l.flags (declared_in l.sink) l.fn.t l.sum l.depth l.state.nominal l.state.nominal (wholes l.state l.insts) (wholes l.state (drop l.inst-index l.insts));
+  goes : CountsOn l.context.flags (declared_in l.sink) l.fn.t l.sum l.context.depth l.state.nominal l.state.nominal (wholes l.state l.insts) (wholes l.state (drop l.inst-index l.insts));
   keep : AllKeepNominal (drop l.inst-index l.insts);
   counted : IsCounted l.sum;
 }

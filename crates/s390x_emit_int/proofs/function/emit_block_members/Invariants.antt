@@ -12,9 +12,9 @@ abbrev pub invariant-loop-inst : goal.invariant-loop-inst
 invariant-loop-inst l = record {
   kept : Extends l.initial.sink l.sink;
   room : HasRoom l.sink;
-  rest : apply_all l.sink (fragments (length l.sink.labels) 0 (block_members_of l.flags l.state (drop l.inst-index l.insts))) ≡ apply_all l.initial.sink (fragments (length l.initial.sink.labels) 0 (block_members_of l.flags l.initial.state l.insts));
-  cause : tree_cause l.flags (declared_in l.sink) (length l.sink.labels) l.state.nominal 0 (block_members_of l.flags l.state (drop l.inst-index l.insts)) ≡ tree_cause l.flags (declared_in l.initial.sink) (length l.initial.sink.labels) l.initial.state.nominal 0 (block_members_of l.flags l.initial.state l.insts);
-  nominal : nominal_behind l.state.nominal (block_members_of l.flags l.state (drop l.inst-index l.insts)) ≡ nominal_behind l.initial.state.nominal (block_members_of l.flags l.initial.state l.insts);
-  passed : TreePassed l.flags l.initial.sink 0 l.initial.state.nominal 0 (block_members_of l.flags l.initial.state l.insts) → TreePassed l.flags l.sink 0 l.state.nominal 0 (block_members_of l.flags l.state (drop l.inst-index l.insts));
-  ranges : AllInRange (block_members_of l.flags l.state (drop l.inst-index l.insts)) → AllInRange (block_members_of l.flags l.initial.state l.insts);
+  rest : apply_all l.sink (fragments (length l.sink.labels) 0 (block_members_of l.fn.flags l.state (drop l.inst-index l.insts))) ≡ apply_all l.initial.sink (fragments (length l.initial.sink.labels) 0 (block_members_of l.fn.flags l.initial.state l.insts));
+  cause : tree_cause l.fn.flags (declared_in l.sink) (length l.sink.labels) l.state.nominal 0 (block_members_of l.fn.flags l.state (drop l.inst-index l.insts)) ≡ tree_cause l.fn.flags (declared_in l.initial.sink) (length l.initial.sink.labels) l.initial.state.nominal 0 (block_members_of l.fn.flags l.initial.state l.insts);
+  nominal : nominal_behind l.state.nominal (block_members_of l.fn.flags l.state (drop l.inst-index l.insts)) ≡ nominal_behind l.initial.state.nominal (block_members_of l.fn.flags l.initial.state l.insts);
+  passed : TreePassed l.fn.flags l.initial.sink 0 l.initial.state.nominal 0 (block_members_of l.fn.flags l.initial.state l.insts) → TreePassed l.fn.flags l.sink 0 l.state.nominal 0 (block_members_of l.fn.flags l.state (drop l.inst-index l.insts));
+  ranges : AllInRange (block_members_of l.fn.flags l.state (drop l.inst-index l.insts)) → AllInRange (block_members_of l.fn.flags l.initial.state l.insts);
 }

@@ -24,94 +24,94 @@ use Rattle.s390x_emit_int.proofs.tree.+members.Goals as goal
 
 pub emit_inst-returns-in-Loop-clause-answer : goal.emit_inst-returns-in-Loop-clause-answer
 emit_inst-returns-in-Loop-clause-answer t c =
-    let g = ap (tree_for c.args.flags) (prepend_loop c.args.state.now c.args.inst.now c.in-Loop.cond c.in-Loop.body c.deref.result.now empty c.in-Loop.is c.deref.ensures.value) in
-    on_ok c.emit_loop.result c.emit_loop.ensures.answer (λ e. e ∙ ap (λ x. apply_all c.args.sink.now (own_fragments (length c.args.sink.now.labels) c.args.after.0 x)) (sym g))
+    let g = ap (tree_for c.args.context.flags) (prepend_loop c.args.state.now c.args.inst.now c.in-Loop.cond c.in-Loop.body c.deref.result.now empty c.in-Loop.is c.deref.ensures.value) in
+    on_ok c.emit_loop.result c.emit_loop.ensures.answer (λ e. e ∙ ap (λ x. apply_all c.args.sink.now (own_fragments (length c.args.sink.now.labels) c.args.context.after.0 x)) (sym g))
 
 pub emit_inst-returns-in-Loop-clause-ranges : goal.emit_inst-returns-in-Loop-clause-ranges
 emit_inst-returns-in-Loop-clause-ranges t c =
-    let g = ap (tree_for c.args.flags) (prepend_loop c.args.state.now c.args.inst.now c.in-Loop.cond c.in-Loop.body c.deref.result.now empty c.in-Loop.is c.deref.ensures.value) in
+    let g = ap (tree_for c.args.context.flags) (prepend_loop c.args.state.now c.args.inst.now c.in-Loop.cond c.in-Loop.body c.deref.result.now empty c.in-Loop.is c.deref.ensures.value) in
     on_ok c.emit_loop.result c.emit_loop.ensures.ranges (λ f. subst AllInRange (sym g) f)
 
 pub emit_inst-returns-in_default-clause-answer : goal.emit_inst-returns-in_default-clause-answer
 emit_inst-returns-in_default-clause-answer t c =
-    let g = alone c.args.flags c.args.state.now c.args.inst.now c.in_default.not-Loop c.in_default.not-Call c.in_default.not-ReturnCall in
-    on_ok c.emit_on_machine.result c.emit_on_machine.ensures.answer (λ e. e ∙ ap (λ x. apply_all c.args.sink.now (own_fragments (length c.args.sink.now.labels) c.args.after.0 x)) (sym g))
+    let g = alone c.args.context.flags c.args.state.now c.args.inst.now c.in_default.not-Loop c.in_default.not-Call c.in_default.not-ReturnCall in
+    on_ok c.emit_on_machine.result c.emit_on_machine.ensures.answer (λ e. e ∙ ap (λ x. apply_all c.args.sink.now (own_fragments (length c.args.sink.now.labels) c.args.context.after.0 x)) (sym g))
 
 pub emit_inst-returns-in_default-clause-ranges : goal.emit_inst-returns-in_default-clause-ranges
 emit_inst-returns-in_default-clause-ranges t c =
-    let g = alone c.args.flags c.args.state.now c.args.inst.now c.in_default.not-Loop c.in_default.not-Call c.in_default.not-ReturnCall in
+    let g = alone c.args.context.flags c.args.state.now c.args.inst.now c.in_default.not-Loop c.in_default.not-Call c.in_default.not-ReturnCall in
     on_ok c.emit_on_machine.result c.emit_on_machine.ensures.ranges (λ f. subst AllInRange (sym g) f)
 
 pub emit_inst-returns-in-Loop-clause-lacks : goal.emit_inst-returns-in-Loop-clause-lacks
 emit_inst-returns-in-Loop-clause-lacks t c =
-    let g = ap (tree_for c.args.flags) (prepend_loop c.args.state.now c.args.inst.now c.in-Loop.cond c.in-Loop.body c.deref.result.now empty c.in-Loop.is c.deref.ensures.value) in
-    λ p. c.emit_loop.ensures.lacks c.args.after.0 (subst (TreePassed c.args.flags c.args.sink.now c.args.after.0 c.args.state.now.nominal c.args.depth) g p)
+    let g = ap (tree_for c.args.context.flags) (prepend_loop c.args.state.now c.args.inst.now c.in-Loop.cond c.in-Loop.body c.deref.result.now empty c.in-Loop.is c.deref.ensures.value) in
+    λ p. c.emit_loop.ensures.lacks c.args.context.after.0 (subst (TreePassed c.args.context.flags c.args.sink.now c.args.context.after.0 c.args.state.now.nominal c.args.context.depth) g p)
 
 pub emit_inst-returns-in_default-clause-lacks : goal.emit_inst-returns-in_default-clause-lacks
 emit_inst-returns-in_default-clause-lacks t c =
-    let g = alone c.args.flags c.args.state.now c.args.inst.now c.in_default.not-Loop c.in_default.not-Call c.in_default.not-ReturnCall in
-    λ p. c.emit_on_machine.ensures.lacks (subst (TreePassed c.args.flags c.args.sink.now c.args.after.0 c.args.state.now.nominal c.args.depth) g p)
+    let g = alone c.args.context.flags c.args.state.now c.args.inst.now c.in_default.not-Loop c.in_default.not-Call c.in_default.not-ReturnCall in
+    λ p. c.emit_on_machine.ensures.lacks (subst (TreePassed c.args.context.flags c.args.sink.now c.args.context.after.0 c.args.state.now.nominal c.args.context.depth) g p)
 
 pub emit_inst-returns-in-Loop-clause-cause : goal.emit_inst-returns-in-Loop-clause-cause
 emit_inst-returns-in-Loop-clause-cause t c =
     let s = c.args.sink.now in
-    let g = ap (tree_for c.args.flags) (prepend_loop c.args.state.now c.args.inst.now c.in-Loop.cond c.in-Loop.body c.deref.result.now empty c.in-Loop.is c.deref.ensures.value) in
-    on_ok c.emit_loop.result c.emit_loop.ensures.cause (λ e. ap (tree_cause c.args.flags (declared_in s) (length s.labels) c.args.state.now.nominal c.args.depth) g ∙ e)
+    let g = ap (tree_for c.args.context.flags) (prepend_loop c.args.state.now c.args.inst.now c.in-Loop.cond c.in-Loop.body c.deref.result.now empty c.in-Loop.is c.deref.ensures.value) in
+    on_ok c.emit_loop.result c.emit_loop.ensures.cause (λ e. ap (tree_cause c.args.context.flags (declared_in s) (length s.labels) c.args.state.now.nominal c.args.context.depth) g ∙ e)
 
 pub emit_inst-returns-in_default-clause-cause : goal.emit_inst-returns-in_default-clause-cause
 emit_inst-returns-in_default-clause-cause t c =
     let s = c.args.sink.now in
-    let g = alone c.args.flags c.args.state.now c.args.inst.now c.in_default.not-Loop c.in_default.not-Call c.in_default.not-ReturnCall in
-    on_ok c.emit_on_machine.result c.emit_on_machine.ensures.cause (λ e. ap (tree_cause c.args.flags (declared_in s) (length s.labels) c.args.state.now.nominal c.args.depth) g ∙ e)
+    let g = alone c.args.context.flags c.args.state.now c.args.inst.now c.in_default.not-Loop c.in_default.not-Call c.in_default.not-ReturnCall in
+    on_ok c.emit_on_machine.result c.emit_on_machine.ensures.cause (λ e. ap (tree_cause c.args.context.flags (declared_in s) (length s.labels) c.args.state.now.nominal c.args.context.depth) g ∙ e)
 
 -- ---- calls, whose steps are the same on each machine
 
 pub emit_inst-returns-in-Call-clause-answer : goal.emit_inst-returns-in-Call-clause-answer
 emit_inst-returns-in-Call-clause-answer t c =
-    let g = ap (member_of c.args.flags c.args.state.now) c.in-Call.is ∙ call_stays c.args.flags c.args.state.now c.in-Call.link c.in-Call.info ∙ ap (λ r. leaves (call_bodies c.args.state.now r c.in-Call.info) empty) (sym c.to_reg.ensures) in
-    on_ok c.emit_call.result c.emit_call.ensures.answer (λ e. e ∙ ap (λ x. apply_all c.args.sink.now (own_fragments (length c.args.sink.now.labels) c.args.after.0 x)) (sym g))
+    let g = ap (member_of c.args.context.flags c.args.state.now) c.in-Call.is ∙ call_stays c.args.context.flags c.args.state.now c.in-Call.link c.in-Call.info ∙ ap (λ r. leaves (call_bodies c.args.state.now r c.in-Call.info) empty) (sym c.to_reg.ensures) in
+    on_ok c.emit_call.result c.emit_call.ensures.answer (λ e. e ∙ ap (λ x. apply_all c.args.sink.now (own_fragments (length c.args.sink.now.labels) c.args.context.after.0 x)) (sym g))
 
 pub emit_inst-returns-in-Call-clause-ranges : goal.emit_inst-returns-in-Call-clause-ranges
 emit_inst-returns-in-Call-clause-ranges t c =
-    let g = ap (member_of c.args.flags c.args.state.now) c.in-Call.is ∙ call_stays c.args.flags c.args.state.now c.in-Call.link c.in-Call.info ∙ ap (λ r. leaves (call_bodies c.args.state.now r c.in-Call.info) empty) (sym c.to_reg.ensures) in
+    let g = ap (member_of c.args.context.flags c.args.state.now) c.in-Call.is ∙ call_stays c.args.context.flags c.args.state.now c.in-Call.link c.in-Call.info ∙ ap (λ r. leaves (call_bodies c.args.state.now r c.in-Call.info) empty) (sym c.to_reg.ensures) in
     on_ok c.emit_call.result c.emit_call.ensures.ranges (λ f. subst AllInRange (sym g) f)
 
 pub emit_inst-returns-in-Call-clause-lacks : goal.emit_inst-returns-in-Call-clause-lacks
 emit_inst-returns-in-Call-clause-lacks t c =
-    let g = ap (member_of c.args.flags c.args.state.now) c.in-Call.is ∙ call_stays c.args.flags c.args.state.now c.in-Call.link c.in-Call.info ∙ ap (λ r. leaves (call_bodies c.args.state.now r c.in-Call.info) empty) (sym c.to_reg.ensures) in
-    λ p. c.emit_call.ensures.lacks (subst (TreePassed c.args.flags c.args.sink.now c.args.after.0 c.args.state.now.nominal c.args.depth) g p)
+    let g = ap (member_of c.args.context.flags c.args.state.now) c.in-Call.is ∙ call_stays c.args.context.flags c.args.state.now c.in-Call.link c.in-Call.info ∙ ap (λ r. leaves (call_bodies c.args.state.now r c.in-Call.info) empty) (sym c.to_reg.ensures) in
+    λ p. c.emit_call.ensures.lacks (subst (TreePassed c.args.context.flags c.args.sink.now c.args.context.after.0 c.args.state.now.nominal c.args.context.depth) g p)
 
 pub emit_inst-returns-in-Call-clause-cause : goal.emit_inst-returns-in-Call-clause-cause
 emit_inst-returns-in-Call-clause-cause t c =
     let s = c.args.sink.now in
-    let g = ap (member_of c.args.flags c.args.state.now) c.in-Call.is ∙ call_stays c.args.flags c.args.state.now c.in-Call.link c.in-Call.info ∙ ap (λ r. leaves (call_bodies c.args.state.now r c.in-Call.info) empty) (sym c.to_reg.ensures) in
-    on_ok c.emit_call.result c.emit_call.ensures.cause (λ e. ap (tree_cause c.args.flags (declared_in s) (length s.labels) c.args.state.now.nominal c.args.depth) g ∙ e)
+    let g = ap (member_of c.args.context.flags c.args.state.now) c.in-Call.is ∙ call_stays c.args.context.flags c.args.state.now c.in-Call.link c.in-Call.info ∙ ap (λ r. leaves (call_bodies c.args.state.now r c.in-Call.info) empty) (sym c.to_reg.ensures) in
+    on_ok c.emit_call.result c.emit_call.ensures.cause (λ e. ap (tree_cause c.args.context.flags (declared_in s) (length s.labels) c.args.state.now.nominal c.args.context.depth) g ∙ e)
 
 pub emit_inst-returns-in-ReturnCall-clause-answer : goal.emit_inst-returns-in-ReturnCall-clause-answer
 emit_inst-returns-in-ReturnCall-clause-answer t c =
-    let g = ap (member_of c.args.flags c.args.state.now) c.in-ReturnCall.is ∙ tail_stays c.args.flags c.args.state.now c.in-ReturnCall.info.callee_pop_size c.in-ReturnCall.info.dest in
-    on_ok c.emit_tail_call.result c.emit_tail_call.ensures.answer (λ e. e ∙ ap (λ x. apply_all c.args.sink.now (own_fragments (length c.args.sink.now.labels) c.args.after.0 x)) (sym g))
+    let g = ap (member_of c.args.context.flags c.args.state.now) c.in-ReturnCall.is ∙ tail_stays c.args.context.flags c.args.state.now c.in-ReturnCall.info.callee_pop_size c.in-ReturnCall.info.dest in
+    on_ok c.emit_tail_call.result c.emit_tail_call.ensures.answer (λ e. e ∙ ap (λ x. apply_all c.args.sink.now (own_fragments (length c.args.sink.now.labels) c.args.context.after.0 x)) (sym g))
 
 pub emit_inst-returns-in-ReturnCall-clause-ranges : goal.emit_inst-returns-in-ReturnCall-clause-ranges
 emit_inst-returns-in-ReturnCall-clause-ranges t c =
-    let g = ap (member_of c.args.flags c.args.state.now) c.in-ReturnCall.is ∙ tail_stays c.args.flags c.args.state.now c.in-ReturnCall.info.callee_pop_size c.in-ReturnCall.info.dest in
+    let g = ap (member_of c.args.context.flags c.args.state.now) c.in-ReturnCall.is ∙ tail_stays c.args.context.flags c.args.state.now c.in-ReturnCall.info.callee_pop_size c.in-ReturnCall.info.dest in
     on_ok c.emit_tail_call.result c.emit_tail_call.ensures.ranges (λ f. subst AllInRange (sym g) f)
 
 pub emit_inst-returns-in-ReturnCall-clause-lacks : goal.emit_inst-returns-in-ReturnCall-clause-lacks
 emit_inst-returns-in-ReturnCall-clause-lacks t c =
-    let g = ap (member_of c.args.flags c.args.state.now) c.in-ReturnCall.is ∙ tail_stays c.args.flags c.args.state.now c.in-ReturnCall.info.callee_pop_size c.in-ReturnCall.info.dest in
-    λ p. c.emit_tail_call.ensures.lacks (subst (TreePassed c.args.flags c.args.sink.now c.args.after.0 c.args.state.now.nominal c.args.depth) g p)
+    let g = ap (member_of c.args.context.flags c.args.state.now) c.in-ReturnCall.is ∙ tail_stays c.args.context.flags c.args.state.now c.in-ReturnCall.info.callee_pop_size c.in-ReturnCall.info.dest in
+    λ p. c.emit_tail_call.ensures.lacks (subst (TreePassed c.args.context.flags c.args.sink.now c.args.context.after.0 c.args.state.now.nominal c.args.context.depth) g p)
 
 pub emit_inst-returns-in-ReturnCall-clause-cause : goal.emit_inst-returns-in-ReturnCall-clause-cause
 emit_inst-returns-in-ReturnCall-clause-cause t c =
     let s = c.args.sink.now in
-    let g = ap (member_of c.args.flags c.args.state.now) c.in-ReturnCall.is ∙ tail_stays c.args.flags c.args.state.now c.in-ReturnCall.info.callee_pop_size c.in-ReturnCall.info.dest in
-    on_ok c.emit_tail_call.result c.emit_tail_call.ensures.cause (λ e. ap (tree_cause c.args.flags (declared_in s) (length s.labels) c.args.state.now.nominal c.args.depth) g ∙ e)
+    let g = ap (member_of c.args.context.flags c.args.state.now) c.in-ReturnCall.is ∙ tail_stays c.args.context.flags c.args.state.now c.in-ReturnCall.info.callee_pop_size c.in-ReturnCall.info.dest in
+    on_ok c.emit_tail_call.result c.emit_tail_call.ensures.cause (λ e. ap (tree_cause c.args.context.flags (declared_in s) (length s.labels) c.args.state.now.nominal c.args.context.depth) g ∙ e)
 
 pub emit_members-loop-inst-preserved : goal.emit_members-loop-inst-preserved
 emit_members-loop-inst-preserved t c =
-    let flags = c.args.flags in
-    let depth = c.args.depth in
+    let flags = c.args.context.flags in
+    let depth = c.args.context.depth in
     let is = c.args.insts.now in
     let k = c.loop-inst.inst-index in
     let here = c.loop-inst.state in
@@ -121,7 +121,7 @@ emit_members-loop-inst-preserved t c =
     let s = c.loop-inst.sink in
     let s1 = c.start_step.new.self in
     let s2 = c.emit_inst.new.sink in
-    let after = c.args.after.0 in
+    let after = c.args.context.after.0 in
     let lt : k < length is = omega arith in
     let e1 = c.in_ok-start_step.ensures.answer.1 in
     let e2 = c.in_ok-emit_inst.ensures.answer in
@@ -140,8 +140,8 @@ emit_members-returns-in_err-advance-clause-kept t c = extends_on _ _ _ c.loop-in
 
 pub emit_members-returns-in_err-advance-clause-lacks : goal.emit_members-returns-in_err-advance-clause-lacks
 emit_members-returns-in_err-advance-clause-lacks t c = λ p.
-    let none = member_stack c.loop-inst.state c.args.flags c.loop-inst.sink c.args.after.0 c.args.depth c.args.insts.now c.loop-inst.inst-index c.inst-item.result (omega arith) c.inst-item.is (c.loop-inst.invariant.passed p) in
-    let some = c.in_err-advance.ensures.0 c.args.depth in
+    let none = member_stack c.loop-inst.state c.args.context.flags c.loop-inst.sink c.args.context.after.0 c.args.context.depth c.args.insts.now c.loop-inst.inst-index c.inst-item.result (omega arith) c.inst-item.is (c.loop-inst.invariant.passed p) in
+    let some = c.in_err-advance.ensures.0 c.args.context.depth in
     absurd (cc)
 
 pub emit_members-returns-in_err-emit_inst-clause-kept : goal.emit_members-returns-in_err-emit_inst-clause-kept
@@ -152,7 +152,7 @@ emit_loop-bind_label-requires-2-clause-unbound t c =
     let inside = c.clear_post_insn.new.self in
     let l = loop_states c.args.sink.now c.get_label.new.self c.get_label-2.new.self c.bind_label.new.self c.emit_members.new.sink
     c.start_step.new.self c.put_branch.new.sink c.in_ok-start.start.0 c.in_ok-end.end.0 c.bits-mask.result
-    (members_of c.args.flags inside c.args.body.now) c.in_ok-start.ensures.answer.1 c.in_ok-start.ensures.answer.2 c.in_ok-end.ensures.answer.1
+    (members_of c.args.context.flags inside c.args.body.now) c.in_ok-start.ensures.answer.1 c.in_ok-start.ensures.answer.2 c.in_ok-end.ensures.answer.1
     c.in_ok-end.ensures.answer.2 c.in_ok-bind_label.ensures.answer.1 c.in_ok-emit_members.ensures.answer c.in_ok-start_step.ensures.answer.1
     c.in_ok-put_branch.ensures.answer in
     l.free
@@ -162,11 +162,11 @@ emit_loop-returns-clause-answer t c =
     let inside = c.clear_post_insn.new.self in
     let l = loop_states c.args.sink.now c.get_label.new.self c.get_label-2.new.self c.bind_label.new.self c.emit_members.new.sink
     c.start_step.new.self c.put_branch.new.sink c.in_ok-start.start.0 c.in_ok-end.end.0 c.bits-mask.result
-    (members_of c.args.flags inside c.args.body.now) c.in_ok-start.ensures.answer.1 c.in_ok-start.ensures.answer.2 c.in_ok-end.ensures.answer.1
+    (members_of c.args.context.flags inside c.args.body.now) c.in_ok-start.ensures.answer.1 c.in_ok-start.ensures.answer.2 c.in_ok-end.ensures.answer.1
     c.in_ok-end.ensures.answer.2 c.in_ok-bind_label.ensures.answer.1 c.in_ok-emit_members.ensures.answer c.in_ok-start_step.ensures.answer.1
     c.in_ok-put_branch.ensures.answer in
-    on_both _ c.bind_label-2.result c.bind_label-2.ensures.answer (λ p. l.after c.bind_label-2.new.self p.1 ∙ ap (λ m. apply_all c.args.sink.now (own_fragments (length c.args.sink.now.labels) 0 (loop_node m (members_of c.args.flags inside c.args.body.now) empty))) c.bits-mask.ensures.value
-    ∙ ap (λ (e : Emission). apply_all c.args.sink.now (own_fragments (length c.args.sink.now.labels) 0 (loop_node c.args.cond (members_of c.args.flags e c.args.body.now) empty))) c.clear_post_insn.ensures)
+    on_both _ c.bind_label-2.result c.bind_label-2.ensures.answer (λ p. l.context.after c.bind_label-2.new.self p.1 ∙ ap (λ m. apply_all c.args.sink.now (own_fragments (length c.args.sink.now.labels) 0 (loop_node m (members_of c.args.context.flags inside c.args.body.now) empty))) c.bits-mask.ensures.value
+    ∙ ap (λ (e : Emission). apply_all c.args.sink.now (own_fragments (length c.args.sink.now.labels) 0 (loop_node c.args.cond (members_of c.args.context.flags e c.args.body.now) empty))) c.clear_post_insn.ensures)
 
 pub emit_loop-returns-clause-kept : goal.emit_loop-returns-clause-kept
 emit_loop-returns-clause-kept t c =
@@ -177,17 +177,17 @@ emit_loop-returns-clause-kept t c =
 pub emit_members-returns-in_err-emit_inst-clause-lacks : goal.emit_members-returns-in_err-emit_inst-clause-lacks
 emit_members-returns-in_err-emit_inst-clause-lacks t c = λ p.
     lacks_again c.from_residual-in_err-emit_inst.result _ c.from_residual-in_err-emit_inst.ensures.1
-    (c.in_err-emit_inst.ensures.lacks (member_passed c.loop-inst.state c.args.flags c.loop-inst.sink c.start_step.new.self c.args.after.0 c.args.depth c.args.insts.now c.loop-inst.inst-index c.inst-item.result (omega arith) c.inst-item.is c.in_ok-start_step.ensures.answer.1 (c.loop-inst.invariant.passed p)))
+    (c.in_err-emit_inst.ensures.lacks (member_passed c.loop-inst.state c.args.context.flags c.loop-inst.sink c.start_step.new.self c.args.context.after.0 c.args.context.depth c.args.insts.now c.loop-inst.inst-index c.inst-item.result (omega arith) c.inst-item.is c.in_ok-start_step.ensures.answer.1 (c.loop-inst.invariant.passed p)))
 
 pub emit_loop-returns-in_err-start_step-clause-lacks : goal.emit_loop-returns-in_err-start_step-clause-lacks
 emit_loop-returns-in_err-start_step-clause-lacks t c = λ after p.
     let inside = c.clear_post_insn.new.self in
     let same : inside ≡ without_map c.args.state.now = c.clear_post_insn.ensures in
-    let q = subst (λ (e : Emission). TreePassed c.args.flags c.args.sink.now after e.nominal c.args.depth (loop_node c.args.cond (members_of c.args.flags e c.args.body.now) empty)) (sym same) p in
-    let l = loop_passed c.args.flags c.args.sink.now after inside.nominal c.args.depth c.args.cond (members_of c.args.flags inside c.args.body.now) q in
+    let q = subst (λ (e : Emission). TreePassed c.args.context.flags c.args.sink.now after e.nominal c.args.context.depth (loop_node c.args.cond (members_of c.args.context.flags e c.args.body.now) empty)) (sym same) p in
+    let l = loop_passed c.args.context.flags c.args.sink.now after inside.nominal c.args.context.depth c.args.cond (members_of c.args.context.flags inside c.args.body.now) q in
     lacks_again c.from_residual-in_err-start_step.result _ c.from_residual-in_err-start_step.ensures.1
     (fails_with_none _ _ (mark_none c.emit_members.new.sink (members_unpoisoned c.args.sink.now c.get_label.new.self c.get_label-2.new.self
-    c.bind_label.new.self c.emit_members.new.sink c.in_ok-start.start.0 c.in_ok-end.end.0 (members_of c.args.flags inside c.args.body.now)
+    c.bind_label.new.self c.emit_members.new.sink c.in_ok-start.start.0 c.in_ok-end.end.0 (members_of c.args.context.flags inside c.args.body.now)
     c.in_ok-start.ensures.answer.2 c.in_ok-end.ensures.answer.2 c.in_ok-bind_label.ensures.answer.1 c.in_ok-emit_members.ensures.answer
     ∙ l.unpoisoned)) c.in_err-start_step.ensures.answer.0)
 
@@ -195,12 +195,12 @@ pub emit_loop-returns-in_err-put_branch-clause-lacks : goal.emit_loop-returns-in
 emit_loop-returns-in_err-put_branch-clause-lacks t c = λ after p.
     let inside = c.clear_post_insn.new.self in
     let same : inside ≡ without_map c.args.state.now = c.clear_post_insn.ensures in
-    let q = subst (λ (e : Emission). TreePassed c.args.flags c.args.sink.now after e.nominal c.args.depth (loop_node c.args.cond (members_of c.args.flags e c.args.body.now) empty)) (sym same) p in
-    let l = loop_passed c.args.flags c.args.sink.now after inside.nominal c.args.depth c.args.cond (members_of c.args.flags inside c.args.body.now) q in
+    let q = subst (λ (e : Emission). TreePassed c.args.context.flags c.args.sink.now after e.nominal c.args.context.depth (loop_node c.args.cond (members_of c.args.context.flags e c.args.body.now) empty)) (sym same) p in
+    let l = loop_passed c.args.context.flags c.args.sink.now after inside.nominal c.args.context.depth c.args.cond (members_of c.args.context.flags inside c.args.body.now) q in
     let b = body_turns c.args.sink.now c.get_label.new.self c.get_label-2.new.self c.bind_label.new.self c.emit_members.new.sink c.start_step.new.self
-    c.in_ok-start.start.0 c.in_ok-end.end.0 (members_of c.args.flags inside c.args.body.now) c.in_ok-start.ensures.answer.2
+    c.in_ok-start.start.0 c.in_ok-end.end.0 (members_of c.args.context.flags inside c.args.body.now) c.in_ok-start.ensures.answer.2
     c.in_ok-end.ensures.answer.2 c.in_ok-bind_label.ensures.answer.1 c.in_ok-emit_members.ensures.answer c.in_ok-start_step.ensures.answer.1 in
-    lacks_again c.from_residual-in_err-put_branch.result _ c.from_residual-in_err-put_branch.ensures.1 (c.in_err-put_branch.ensures.lacks (back_passed c.args.flags c.args.sink.now c.start_step.new.self c.in_ok-start.start.0 inside.nominal c.args.depth (members_of c.args.flags inside c.args.body.now) l b c.in_ok-start.ensures.answer.1))
+    lacks_again c.from_residual-in_err-put_branch.result _ c.from_residual-in_err-put_branch.ensures.1 (c.in_err-put_branch.ensures.lacks (back_passed c.args.context.flags c.args.sink.now c.start_step.new.self c.in_ok-start.start.0 inside.nominal c.args.context.depth (members_of c.args.context.flags inside c.args.body.now) l b c.in_ok-start.ensures.answer.1))
 
 pub emit_loop-returns-in_err-put_branch-clause-kept : goal.emit_loop-returns-in_err-put_branch-clause-kept
 emit_loop-returns-in_err-put_branch-clause-kept t c =
@@ -224,12 +224,12 @@ pub emit_loop-returns-clause-lacks : goal.emit_loop-returns-clause-lacks
 emit_loop-returns-clause-lacks t c = λ after p.
     let inside = c.clear_post_insn.new.self in
     let same : inside ≡ without_map c.args.state.now = c.clear_post_insn.ensures in
-    let q = subst (λ (e : Emission). TreePassed c.args.flags c.args.sink.now after e.nominal c.args.depth (loop_node c.args.cond (members_of c.args.flags e c.args.body.now) empty)) (sym same) p in
-    let l = loop_passed c.args.flags c.args.sink.now after inside.nominal c.args.depth c.args.cond (members_of c.args.flags inside c.args.body.now) q in
+    let q = subst (λ (e : Emission). TreePassed c.args.context.flags c.args.sink.now after e.nominal c.args.context.depth (loop_node c.args.cond (members_of c.args.context.flags e c.args.body.now) empty)) (sym same) p in
+    let l = loop_passed c.args.context.flags c.args.sink.now after inside.nominal c.args.context.depth c.args.cond (members_of c.args.context.flags inside c.args.body.now) q in
     let b = body_turns c.args.sink.now c.get_label.new.self c.get_label-2.new.self c.bind_label.new.self c.emit_members.new.sink c.start_step.new.self
-    c.in_ok-start.start.0 c.in_ok-end.end.0 (members_of c.args.flags inside c.args.body.now) c.in_ok-start.ensures.answer.2
+    c.in_ok-start.start.0 c.in_ok-end.end.0 (members_of c.args.context.flags inside c.args.body.now) c.in_ok-start.ensures.answer.2
     c.in_ok-end.ensures.answer.2 c.in_ok-bind_label.ensures.answer.1 c.in_ok-emit_members.ensures.answer c.in_ok-start_step.ensures.answer.1 in
-    let end = end_below c.args.sink.now c.get_label.new.self c.start_step.new.self c.put_branch.new.sink c.bits-mask.result c.in_ok-start.start.0 c.in_ok-end.end.0 c.args.depth (members_of c.args.flags inside c.args.body.now) c.in_ok-start.ensures.answer.2 c.in_ok-end.ensures.answer.1 b c.in_ok-put_branch.ensures.answer in
+    let end = end_below c.args.sink.now c.get_label.new.self c.start_step.new.self c.put_branch.new.sink c.bits-mask.result c.in_ok-start.start.0 c.in_ok-end.end.0 c.args.context.depth (members_of c.args.context.flags inside c.args.body.now) c.in_ok-start.ensures.answer.2 c.in_ok-end.ensures.answer.1 b c.in_ok-put_branch.ensures.answer in
     lacks_call _ _ _ c.bind_label-2.result c.bind_label-2.ensures.answer (label_none c.put_branch.new.sink c.in_ok-end.end.0 (ap (λ x. x.failed) c.in_ok-put_branch.ensures.answer ∙ b.unpoisoned ∙ l.unpoisoned) end)
 
 pub emit_loop-returns-clause-cause : goal.emit_loop-returns-clause-cause
@@ -237,19 +237,19 @@ emit_loop-returns-clause-cause t c =
     let inside = c.clear_post_insn.new.self in
     let s = c.args.sink.now in
     let opens = sym c.loop_cause.ensures.cause ∙ c.in_default.is in
-    let none = loop_none c.args.flags s c.get_label.new.self c.get_label-2.new.self c.bind_label.new.self c.in_ok-start.start.0 inside.nominal c.args.depth c.args.cond (members_of c.args.flags inside c.args.body.now) c.in_ok-start.ensures.answer.2 c.in_ok-end.ensures.answer.2 c.in_ok-bind_label.ensures.answer.1 opens c.in_ok-emit_members.ensures.cause.0 in
-    on_both _ c.bind_label-2.result c.bind_label-2.ensures.answer (λ _. subst (λ (e : Emission). tree_cause c.args.flags (declared_in s) (length s.labels) e.nominal c.args.depth (loop_node c.args.cond (members_of c.args.flags e c.args.body.now) empty) ≡ None) c.clear_post_insn.ensures none)
+    let none = loop_none c.args.context.flags s c.get_label.new.self c.get_label-2.new.self c.bind_label.new.self c.in_ok-start.start.0 inside.nominal c.args.context.depth c.args.cond (members_of c.args.context.flags inside c.args.body.now) c.in_ok-start.ensures.answer.2 c.in_ok-end.ensures.answer.2 c.in_ok-bind_label.ensures.answer.1 opens c.in_ok-emit_members.ensures.cause.0 in
+    on_both _ c.bind_label-2.result c.bind_label-2.ensures.answer (λ _. subst (λ (e : Emission). tree_cause c.args.context.flags (declared_in s) (length s.labels) e.nominal c.args.context.depth (loop_node c.args.cond (members_of c.args.context.flags e c.args.body.now) empty) ≡ None) c.clear_post_insn.ensures none)
 
 pub emit_loop-returns-in_err-emit_members-clause-lacks : goal.emit_loop-returns-in_err-emit_members-clause-lacks
 emit_loop-returns-in_err-emit_members-clause-lacks t c = λ after p.
     let inside = c.clear_post_insn.new.self in
     let same : inside ≡ without_map c.args.state.now = c.clear_post_insn.ensures in
-    let q = subst (λ (e : Emission). TreePassed c.args.flags c.args.sink.now after e.nominal c.args.depth (loop_node c.args.cond (members_of c.args.flags e c.args.body.now) empty)) (sym same) p in
+    let q = subst (λ (e : Emission). TreePassed c.args.context.flags c.args.sink.now after e.nominal c.args.context.depth (loop_node c.args.cond (members_of c.args.context.flags e c.args.body.now) empty)) (sym same) p in
     let s = c.args.sink.now in
-    let l = loop_passed c.args.flags s after inside.nominal c.args.depth c.args.cond (members_of c.args.flags inside c.args.body.now) q in
+    let l = loop_passed c.args.context.flags s after inside.nominal c.args.context.depth c.args.cond (members_of c.args.context.flags inside c.args.body.now) q in
     let a = draw_turns s c.get_label.new.self c.in_ok-start.ensures.answer.2 in
     let b = draw_turns c.get_label.new.self c.get_label-2.new.self c.in_ok-end.ensures.answer.2 in
     let o = bind_turns c.get_label-2.new.self c.bind_label.new.self c.in_ok-start.start.0 c.in_ok-bind_label.ensures.answer.1 in
     let turns = turns_on _ _ _ _ _ _ _ (turns_on _ _ _ _ _ _ _ a b) o in
     let below : c.in_ok-end.end.0 < length c.bind_label.new.self.labels = omega (arith, c.in_ok-end.ensures.answer.1, b.labels, o.labels) in
-    lacks_again c.from_residual-in_err-emit_members.result _ c.from_residual-in_err-emit_members.ensures.1 (c.in_err-emit_members.ensures.lacks (inner_passed c.args.flags s c.bind_label.new.self inside.nominal c.args.depth c.in_ok-end.end.0 0 (members_of c.args.flags inside c.args.body.now) l turns below))
+    lacks_again c.from_residual-in_err-emit_members.result _ c.from_residual-in_err-emit_members.ensures.1 (c.in_err-emit_members.ensures.lacks (inner_passed c.args.context.flags s c.bind_label.new.self inside.nominal c.args.context.depth c.in_ok-end.end.0 0 (members_of c.args.context.flags inside c.args.body.now) l turns below))

@@ -12,9 +12,9 @@ abbrev pub invariant-emit_members-loop-inst : goal.invariant-emit_members-loop-i
 invariant-emit_members-loop-inst l = record {
   kept : Extends l.initial.sink l.sink;
   room : HasRoom l.sink;
-  rest : apply_all l.sink (fragments (length l.sink.labels) l.after.0 (members_of l.flags l.state (drop l.inst-index l.insts))) ≡ apply_all l.initial.sink (fragments (length l.initial.sink.labels) l.after.0 (members_of l.flags l.initial.state l.insts));
-  cause : tree_cause l.flags (declared_in l.sink) (length l.sink.labels) l.state.nominal l.depth (members_of l.flags l.state (drop l.inst-index l.insts)) ≡ tree_cause l.flags (declared_in l.initial.sink) (length l.initial.sink.labels) l.initial.state.nominal l.depth (members_of l.flags l.initial.state l.insts);
-  nominal : nominal_behind l.state.nominal (members_of l.flags l.state (drop l.inst-index l.insts)) ≡ nominal_behind l.initial.state.nominal (members_of l.flags l.initial.state l.insts);
-  passed : TreePassed l.flags l.initial.sink l.after.0 l.initial.state.nominal l.depth (members_of l.flags l.initial.state l.insts) → TreePassed l.flags l.sink l.after.0 l.state.nominal l.depth (members_of l.flags l.state (drop l.inst-index l.insts));
-  ranges : AllInRange (members_of l.flags l.state (drop l.inst-index l.insts)) → AllInRange (members_of l.flags l.initial.state l.insts);
+  rest : apply_all l.sink (fragments (length l.sink.labels) l.context.after.0 (members_of l.context.flags l.state (drop l.inst-index l.insts))) ≡ apply_all l.initial.sink (fragments (length l.initial.sink.labels) l.context.after.0 (members_of l.context.flags l.initial.state l.insts));
+  cause : tree_cause l.context.flags (declared_in l.sink) (length l.sink.labels) l.state.nominal l.context.depth (members_of l.context.flags l.state (drop l.inst-index l.insts)) ≡ tree_cause l.context.flags (declared_in l.initial.sink) (length l.initial.sink.labels) l.initial.state.nominal l.context.depth (members_of l.context.flags l.initial.state l.insts);
+  nominal : nominal_behind l.state.nominal (members_of l.context.flags l.state (drop l.inst-index l.insts)) ≡ nominal_behind l.initial.state.nominal (members_of l.context.flags l.initial.state l.insts);
+  passed : TreePassed l.context.flags l.initial.sink l.context.after.0 l.initial.state.nominal l.context.depth (members_of l.context.flags l.initial.state l.insts) → TreePassed l.context.flags l.sink l.context.after.0 l.state.nominal l.context.depth (members_of l.context.flags l.state (drop l.inst-index l.insts));
+  ranges : AllInRange (members_of l.context.flags l.state (drop l.inst-index l.insts)) → AllInRange (members_of l.context.flags l.initial.state l.insts);
 }

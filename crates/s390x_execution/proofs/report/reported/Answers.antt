@@ -9,5 +9,5 @@ returns g c =
     let held = g.M.Memory.held c.args.memory.now in
     let byte = g.M.Memory.byte c.args.memory.now in
     let t = state_of c.args.machine.now held byte in
-    four_parts (went_line c.args.execution.now.went) (execution_end_line c.args.base c.args.code.now c.args.execution.now.end) (status_lines t) (lines_text (content_lines c.args.regions.now t))
+    four_parts (went_line c.args.execution.now.went) (execution_end_line c.args.located.base c.args.located.code.now c.args.execution.now.end) (status_lines t) (lines_text (content_lines c.args.regions.now t))
     _ _ _ _ _ c.new-out.ensures.bytes c.in_ok-put_went.ensures c.in_ok-put_end.ensures (c.in_ok-put_status.ensures held byte) c.in_ok-put_contents.ensures
