@@ -1,5 +1,5 @@
 //! The machine rows of each operator on general registers (cranelift-codegen, `emit.rs`).
-ghost use Rattle.std.specs.Prelude.{◌≡◌};
+ghost use Rattle.std.specs.Prelude.{◌≡◌, ◌<◌, get_or, length};
 ghost use Rattle.s390x_typed_steps.specs.Opcodes.{alu_rows, cmp_rows, of_four, of_one, of_two, opcode_of_part, rotate_rows, shift_opcode, unary_two};
 
 use s390x_inst::{ALUOp, CmpOp, RxSBGOp, ShiftOp, UnaryOp};
@@ -187,11 +187,19 @@ pub const ROTATE_ROWS: [RotateRows; ROTATE_COUNT] = [
     RotateRows { change: opcodes::RXSBG, test: Some(opcodes::RXSBG) }, // Xor
 ];
 
+// The rows at a place of their table, which is long for a goal.
+fn alu_rows_at(rows: &[AluRows], place: usize) -> AluRows
+    requires { place < length rows.now }
+    ensures { (z : AluRows) → result ≡ get_or rows.now place z }
+{
+    rows[place]
+}
+
 /// The rows of an operator.
 pub fn rows_of_alu(op: ALUOp) -> AluRows
     ensures { result ≡ alu_rows op }
 {
-    ALU_ROWS[op as usize]
+    alu_rows_at(&ALU_ROWS, op as usize)
 }
 
 /// The rows of a comparison.

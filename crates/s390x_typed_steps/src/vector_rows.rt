@@ -1,5 +1,5 @@
 //! The machine row of each operator on vectors: its opcode and the code of its elements' size (cranelift-codegen, `emit.rs`).
-ghost use Rattle.std.specs.Prelude.{◌≡◌};
+ghost use Rattle.std.specs.Prelude.{◌≡◌, ◌<◌, get_or, length};
 ghost use Rattle.s390x_typed_steps.specs.VectorOpcodes.{binary_row, unary_row, shift_row, comparison_row, element_comparison_row};
 
 use crate::vector_opcode::VectorOpcode;
@@ -231,11 +231,19 @@ pub const VEC_ELEMENT_COMPARISON_ROWS: [VectorOpcode; VEC_ELEMENT_COMPARISON_COU
     VectorOpcode { opcode: opcodes::VECL, code: 4 }, // UCmp128
 ];
 
+// The row at a place of its table, which is long for a goal.
+fn row_at(rows: &[VectorOpcode], place: usize) -> VectorOpcode
+    requires { place < length rows.now }
+    ensures { (z : VectorOpcode) → result ≡ get_or rows.now place z }
+{
+    rows[place]
+}
+
 /// The row of an operator on two vectors.
 pub fn row_of_vec_binary(op: VecBinaryOp) -> VectorOpcode
     ensures { result ≡ binary_row op }
 {
-    VEC_BINARY_ROWS[op as usize]
+    row_at(&VEC_BINARY_ROWS, op as usize)
 }
 
 /// The row of an operator on one vector.
