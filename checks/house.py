@@ -15,7 +15,7 @@ os.chdir(os.path.join(os.path.dirname(os.path.abspath(__file__)), ".."))
 CLAUSE = re.compile(r"^\s*(requires|ensures|invariant|decreases)\b")
 FUNCTION = re.compile(r"^(\s*)(pub )?(?:const )?(?:unsafe )?(?:extern \"C\" )?fn (\w+)")
 # Their signatures are the original crate's.
-FIXED = re.compile(r"^(enc_\w+|mem_\w+_emit)$")
+FIXED = re.compile(r"^(enc_\w+|mem_(\w+_)?emit)$")
 
 
 def crates():

@@ -18,6 +18,8 @@ MULTIPLIER = 5
 CRATES = pathlib.Path(__file__).parent.parent / "crates"
 SOURCES = CRATES / "s390x_job_lines/src"
 VIEWS = CRATES / "s390x_inst/src"
+# The enums of s390x_job_lines/src/inst_name.rt, whose variants are spelled as they are named.
+GROUPS = ("IntegerName", "MemoryName", "ControlName", "VectorName")
 # The tables of s390x_job_lines/src/access_names.rt: the enum in whose order each is, and how ALL_NAMES writes a name of it.
 TABLES = {
     "LOAD_NAMES": ("load.rt", "LoadOp", "Load({})"),
@@ -28,25 +30,21 @@ TABLES = {
 
 
 def operators(file, enum):
-    source = (VIEWS / file).read_text()
+    source = file.read_text()
     table = source[source.index(f"pub enum {enum} {{"):]
     return re.findall(r"\n    (\w+),", table[:table.index("}")])
 
 
 def written_names():
     """Each name's text, with how ALL_NAMES writes it."""
-    source = (SOURCES / "inst_name.rt").read_text() + (SOURCES / "name.rt").read_text()
-    names = {text: written(name) for name, text in re.findall(r'(\w+Name::\w+) => "(\w+)"', source)}
+    names = {text: name for name, text in re.findall(r'LineName::(\w+) => "(\w+)"', (SOURCES / "name.rt").read_text())}
+    for group in GROUPS:
+        names |= {name: f"{group.removesuffix('Name')}({name})" for name in operators(SOURCES / "inst_name.rt", group)}
     accesses = (SOURCES / "access_names.rt").read_text()
     for table, (file, enum, form) in TABLES.items():
         texts = re.findall(r'    "(\w+)",', re.search(rf"const {table}: .*?\];", accesses, re.S)[0])
-        names |= {text: form.format(name) for name, text in zip(operators(file, enum), texts, strict=True)}
+        names |= {text: form.format(name) for name, text in zip(operators(VIEWS / file, enum), texts, strict=True)}
     return names
-
-
-def written(name):
-    group, item = name.split("::")
-    return item if group == "LineName" else f"{group.removesuffix('Name')}({item})"
 
 
 def mix(name):

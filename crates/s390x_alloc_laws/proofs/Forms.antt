@@ -19,7 +19,7 @@ use Rattle.s390x_inst.proofs.Transfers.{Transfer, LoadOf, StoreOf, as_transfer, 
 use Rattle.s390x_inst.proofs.Wholes.{the_whole}
 use Rattle.s390x_inst.specs.declared.args.MemArg.{MemArg}
 use Rattle.s390x_inst.specs.declared.inst.Inst.{Inst}
-use Rattle.s390x_inst.specs.declared.inst.Inst.TheVariants.{Loop', Call, ReturnCall, Ret, AllocateArgs}
+use Rattle.s390x_inst.specs.declared.inst.Inst.TheVariants as I
 use Rattle.s390x_operands.specs.Requests.{items_of, scratch_request, used, defined, reused, range_requests, fixed_use, fixed_def}
 use Rattle.s390x_rows.specs.declared.opcodes.TheConstants as opcodes
 use Rattle.s390x_typed_steps.specs.Memory.{address_form, layout_rows, load_memory, access_elements, reversed_code, load_lane_opcode, load_reversed_opcode, load_left, vector_memory, operate, compare_and_swap, load_and_operate}
@@ -31,17 +31,7 @@ use Rattle.s390x_typed_steps.specs.Opcodes.{logical_indexed_opcode, rotate_then,
 use Rattle.s390x_typed_steps.specs.Storage.{alu_rx, alu_rxy, atomic_rsy}
 use Rattle.s390x_typed_steps.specs.SingleInstruction.{halfword_row, indexed_row, rotated_row, three_halfword_row, three_row, two_row, unary_row, word_row}
 use Rattle.s390x_typed_steps.specs.MachineInstruction.{rie_g, rrf_cde, rsy, vrr_a}
-use Rattle.s390x_inst.specs.declared.vec_inst.VecInst.TheVariants.{VecRRR, VecRR, VecShiftRR, VecSelect, VecPermute, VecBlend, VecEvaluate, VecPermuteDWImm, VecIntCmp, VecIntCmpS, VecIntEltCmp, VecMov, FpuMove32, FpuMove64}
-use Rattle.s390x_inst.specs.declared.vec_inst.VecInst.TheVariants.{MovToVec128, VecImmByteMask, VecImmBitMask, VecImmReplicate, VecInsertLaneUndef, VecExtractLane, VecInsertLaneImmUndef, VecReplicateLane, VecInsertLane, VecInsertLaneImm, FpuCMov32, FpuCMov64, VecCMov, VecEltRev}
-use Rattle.s390x_inst.specs.declared.vec_inst.VecInst.TheVariants.{VecInt128SCmpHi, VecInt128UCmpHi}
-use Rattle.s390x_inst.specs.declared.vec_inst.VecInst.TheVariants.{VecLoadReplicate, VecLoadReplicateRev, VecLoadLane, VecLoadLaneRev, VecLoadLaneUndef, VecLoadLaneRevUndef, VecStoreLane, VecStoreLaneRev}
-use Rattle.s390x_inst.specs.declared.inst.Inst.TheVariants.{AluRR, AluRRR, AluRRSImm16, AluRSImm16, AluRSImm32, AluRUImm16Shifted, AluRUImm32, AluRUImm32Shifted, AluRX, AtomicCas32, AtomicCas64, CMov32, CMov32SImm16, CMov64}
-use Rattle.s390x_inst.specs.declared.inst.Inst.TheVariants.{CMov64SImm16, CmpRR, CmpRSImm16, CmpRSImm32, CmpRUImm32, CmpRX, CmpTrapRR, CmpTrapRSImm16, CmpTrapRUImm16, CondBr, CondBreak, Debugtrap, DummyUse, Extend}
-use Rattle.s390x_inst.specs.declared.inst.Inst.TheVariants.{Fence, Flogr, Insert64UImm16Shifted, Insert64UImm32Shifted, InsertAR, Jump}
-use Rattle.s390x_inst.specs.declared.inst.Inst.TheVariants.{LoadAR, LoadAddr, LoadIndexedAddr, LoadLogicalIndexedAddr, Mov32, Mov32Imm, Mov32SImm16}
-use Rattle.s390x_inst.specs.declared.inst.Inst.TheVariants.{Mov64, Mov64SImm16, Mov64SImm32, Mov64UImm16Shifted, Mov64UImm32Shifted, MovPReg, Nop0, Nop2, RxSBG, RxSBGTest, SDivMod32, SDivMod64, SMulWide, SequencePoint}
-use Rattle.s390x_inst.specs.declared.inst.Inst.TheVariants.{ShiftRR, StoreImm16, StoreImm32SExt16, StoreImm64SExt16, StoreImm8, Trap, TrapIf}
-use Rattle.s390x_inst.specs.declared.inst.Inst.TheVariants.{UDivMod32, UDivMod64, UMulWide, UnaryRR, Vector, IndirectBr, JTSequence, LoadSymbolReloc, LabelAddress, Args, Rets, LoadMultiple64, StoreMultiple64, AtomicRmw}
+use Rattle.s390x_inst.specs.declared.vec_inst.VecInst.TheVariants as V
 use Rattle.s390x_operands.specs.declared.constraint.Reported.TheVariants.{Fixed}
 use Rattle.s390x_operands.specs.Operands.{leaf_requests}
 use Rattle.s390x_inst.specs.Portions.{first_portion}
@@ -101,299 +91,299 @@ kept_transfer P L (LoadOf l) s m g h = kept_load P L l.op l.rd l.mem s m g h
 kept_transfer P L (StoreOf t) s m g h = kept_store P L t.op t.rd t.mem s m g h
 
 -- a load or a store of a whole vector register: the clauses without `Straight` are a copy for each other layout
-kept_whole : (P : Place) (L : Layout) (direction : Direction) (layout : WholeLayout) (rd : Reg) (mem : MemArg) (s : List Reg) → MayStand (Vector (whole_instruction direction layout rd mem)) → MeetsEach s (items_of (leaf_requests (Vector (whole_instruction direction layout rd mem)))) s → portion_refusal P (portion_at (first_portion (Vector (whole_instruction direction layout rd mem))) s).0 ≡ None →
-    BothKeep L (loaded_range (Vector (whole_instruction direction layout rd mem)) ++ outputs (items_of (leaf_requests (Vector (whole_instruction direction layout rd mem)))) s) (portion_kind L P.state (portion_at (first_portion (Vector (whole_instruction direction layout rd mem))) s).0) (portion_loaded_kind L P.state (portion_at (first_portion (Vector (whole_instruction direction layout rd mem))) s).0)
+kept_whole : (P : Place) (L : Layout) (direction : Direction) (layout : WholeLayout) (rd : Reg) (mem : MemArg) (s : List Reg) → MayStand (I.Vector (whole_instruction direction layout rd mem)) → MeetsEach s (items_of (leaf_requests (I.Vector (whole_instruction direction layout rd mem)))) s → portion_refusal P (portion_at (first_portion (I.Vector (whole_instruction direction layout rd mem))) s).0 ≡ None →
+    BothKeep L (loaded_range (I.Vector (whole_instruction direction layout rd mem)) ++ outputs (items_of (leaf_requests (I.Vector (whole_instruction direction layout rd mem)))) s) (portion_kind L P.state (portion_at (first_portion (I.Vector (whole_instruction direction layout rd mem))) s).0) (portion_loaded_kind L P.state (portion_at (first_portion (I.Vector (whole_instruction direction layout rd mem))) s).0)
 kept_whole P L Load Straight rd mem s m g h =
-    load_kept P L is_vector vector_target vector_written defined defined_output defined_passed (λ a x. Vector (whole_instruction Load Straight a x)) (λ a x. access_elements (layout_rows Straight).load_opcode a (Some (layout_rows Straight).mask) x) (λ a x v. vector_valid (is_vector a) x (access_elements (layout_rows Straight).load_opcode a (Some (layout_rows Straight).mask) x) (elements_accessed (layout_rows Straight).load_opcode a (Some (layout_rows Straight).mask) x) v) (λ a x. (refl, refl))
-    (λ a x changed f free. accessed L changed (operand_step (Vector (whole_instruction Load Straight a (resolved P.state x)))) (λ address r. f) free) rd mem s m.0 g h
+    load_kept P L is_vector vector_target vector_written defined defined_output defined_passed (λ a x. I.Vector (whole_instruction Load Straight a x)) (λ a x. access_elements (layout_rows Straight).load_opcode a (Some (layout_rows Straight).mask) x) (λ a x v. vector_valid (is_vector a) x (access_elements (layout_rows Straight).load_opcode a (Some (layout_rows Straight).mask) x) (elements_accessed (layout_rows Straight).load_opcode a (Some (layout_rows Straight).mask) x) v) (λ a x. (refl, refl))
+    (λ a x changed f free. accessed L changed (operand_step (I.Vector (whole_instruction Load Straight a (resolved P.state x)))) (λ address r. f) free) rd mem s m.0 g h
 kept_whole P L Load layout rd mem s m g h =
-    load_kept P L is_vector vector_target vector_written defined defined_output defined_passed (λ a x. Vector (whole_instruction Load layout a x)) (λ a x. access_elements (layout_rows layout).load_opcode a (Some (layout_rows layout).mask) x) (λ a x v. vector_valid (is_vector a) x (access_elements (layout_rows layout).load_opcode a (Some (layout_rows layout).mask) x) (elements_accessed (layout_rows layout).load_opcode a (Some (layout_rows layout).mask) x) v) (λ a x. (refl, refl))
-    (λ a x changed f free. accessed L changed (operand_step (Vector (whole_instruction Load layout a (resolved P.state x)))) (λ address r. f) free) rd mem s m.0 g h
-kept_whole P L Store Straight rd mem s m g h = store_kept P L (λ a x. Vector (whole_instruction Store Straight a x)) (λ a x changed f free. accessed L changed (operand_step (Vector (whole_instruction Store Straight a (resolved P.state x)))) (λ address r. f) free) rd mem s g
-kept_whole P L Store layout rd mem s m g h = store_kept P L (λ a x. Vector (whole_instruction Store layout a x)) (λ a x changed f free. accessed L changed (operand_step (Vector (whole_instruction Store layout a (resolved P.state x)))) (λ address r. f) free) rd mem s g
+    load_kept P L is_vector vector_target vector_written defined defined_output defined_passed (λ a x. I.Vector (whole_instruction Load layout a x)) (λ a x. access_elements (layout_rows layout).load_opcode a (Some (layout_rows layout).mask) x) (λ a x v. vector_valid (is_vector a) x (access_elements (layout_rows layout).load_opcode a (Some (layout_rows layout).mask) x) (elements_accessed (layout_rows layout).load_opcode a (Some (layout_rows layout).mask) x) v) (λ a x. (refl, refl))
+    (λ a x changed f free. accessed L changed (operand_step (I.Vector (whole_instruction Load layout a (resolved P.state x)))) (λ address r. f) free) rd mem s m.0 g h
+kept_whole P L Store Straight rd mem s m g h = store_kept P L (λ a x. I.Vector (whole_instruction Store Straight a x)) (λ a x changed f free. accessed L changed (operand_step (I.Vector (whole_instruction Store Straight a (resolved P.state x)))) (λ address r. f) free) rd mem s g
+kept_whole P L Store layout rd mem s m g h = store_kept P L (λ a x. I.Vector (whole_instruction Store layout a x)) (λ a x changed f free. accessed L changed (operand_step (I.Vector (whole_instruction Store layout a (resolved P.state x)))) (λ address r. f) free) rd mem s g
 
 -- the last two clauses are a copy for each load and store of a vector register and of another one
 pub kept : (P : Place) (L : Layout) (i : Inst) (s : List Reg) → MayStand i → MeetsEach s (items_of (leaf_requests i)) s → portion_refusal P (portion_at (first_portion i) s).0 ≡ None →
     BothKeep L (loaded_range i ++ outputs (items_of (leaf_requests i)) s) (portion_kind L P.state (portion_at (first_portion i) s).0) (portion_loaded_kind L P.state (portion_at (first_portion i) s).0)
-kept P L (LoadIndexedAddr rd base index offset size) s m g h =
-    kept3 P L defined defined_output is_general general_target general_written (λ rd base index. LoadIndexedAddr rd base index offset size) is_general is_general (λ rd base index. indexed_row (indexed_opcode size) (number_of rd) (number_of base) (number_of index) (low_displacement offset))
+kept P L (I.LoadIndexedAddr rd base index offset size) s m g h =
+    kept3 P L defined defined_output is_general general_target general_written (λ rd base index. I.LoadIndexedAddr rd base index offset size) is_general is_general (λ rd base index. indexed_row (indexed_opcode size) (number_of rd) (number_of base) (number_of index) (low_displacement offset))
     (λ rd base index. refl) (λ rd base index changed f. does L changed (havocs (number_of rd)) no_code (λ r. f)) rd base index (used base ∷ used index ∷ []) s m.0 g h
-kept P L (LoadLogicalIndexedAddr rd base index offset size) s m g h =
-    kept3 P L defined defined_output is_general general_target general_written (λ rd base index. LoadLogicalIndexedAddr rd base index offset size) is_general is_general
+kept P L (I.LoadLogicalIndexedAddr rd base index offset size) s m g h =
+    kept3 P L defined defined_output is_general general_target general_written (λ rd base index. I.LoadLogicalIndexedAddr rd base index offset size) is_general is_general
     (λ rd base index. indexed_row (logical_indexed_opcode size) (number_of rd) (number_of base) (number_of index) (low_displacement offset)) (λ rd base index. refl)
     (λ rd base index changed f. does L changed (havocs (number_of rd)) no_code (λ r. f)) rd base index (used base ∷ used index ∷ []) s m.0 g h
-kept P L (Mov64 rd rm) s m g h =
-    kept2 P L defined defined_output is_general general_target general_written (λ rd rm. Mov64 rd rm) is_general (λ rd rm. two_row (Some opcodes.LGR) (number_of rd) (number_of rm)) (λ rd rm. refl)
+kept P L (I.Mov64 rd rm) s m g h =
+    kept2 P L defined defined_output is_general general_target general_written (λ rd rm. I.Mov64 rd rm) is_general (λ rd rm. two_row (Some opcodes.LGR) (number_of rd) (number_of rm)) (λ rd rm. refl)
     (λ rd rm changed f. does L changed (computes Kept (on_doublewords Move) (number_of rd) (number_of rd) (number_of rm)) no_code (λ r. f)) rd rm (used rm ∷ []) s m.0 g h
-kept P L (Mov32 rd rm) s m g h =
-    kept2 P L defined defined_output is_general general_target general_written (λ rd rm. Mov32 rd rm) is_general (λ rd rm. two_row (Some opcodes.LR) (number_of rd) (number_of rm)) (λ rd rm. refl)
+kept P L (I.Mov32 rd rm) s m g h =
+    kept2 P L defined defined_output is_general general_target general_written (λ rd rm. I.Mov32 rd rm) is_general (λ rd rm. two_row (Some opcodes.LR) (number_of rd) (number_of rm)) (λ rd rm. refl)
     (λ rd rm changed f. does L changed (computes Kept (on_words Move) (number_of rd) (number_of rd) (number_of rm)) no_code (λ r. f)) rd rm (used rm ∷ []) s m.0 g h
-kept P L (Mov32Imm rd imm) s m g h =
-    kept1 P L defined defined_output is_general general_target general_written (λ rd. Mov32Imm rd imm) (λ rd. word_row (Some opcodes.IILF) (number_of rd) (low_word (pos imm))) (λ rd. refl)
+kept P L (I.Mov32Imm rd imm) s m g h =
+    kept1 P L defined defined_output is_general general_target general_written (λ rd. I.Mov32Imm rd imm) (λ rd. word_row (Some opcodes.IILF) (number_of rd) (low_word (pos imm))) (λ rd. refl)
     (λ rd changed f. does L changed (computes_immediate Kept (on_words Move) (number_of rd) (number_of rd) (low_word (pos imm))) no_code (λ r. f)) rd [] s m g h
-kept P L (Mov32SImm16 rd imm) s m g h =
-    kept1 P L defined defined_output is_general general_target general_written (λ rd. Mov32SImm16 rd imm) (λ rd. halfword_row (Some opcodes.LHI) (number_of rd) (low_halfword imm)) (λ rd. refl)
+kept P L (I.Mov32SImm16 rd imm) s m g h =
+    kept1 P L defined defined_output is_general general_target general_written (λ rd. I.Mov32SImm16 rd imm) (λ rd. halfword_row (Some opcodes.LHI) (number_of rd) (low_halfword imm)) (λ rd. refl)
     (λ rd changed f. does L changed (computes_immediate Kept (on_immediate (on_words Move) signed_halfword) (number_of rd) (number_of rd) (low_halfword imm)) no_code (λ r. f)) rd [] s m g h
-kept P L (Mov64SImm16 rd imm) s m g h =
-    kept1 P L defined defined_output is_general general_target general_written (λ rd. Mov64SImm16 rd imm) (λ rd. halfword_row (Some opcodes.LGHI) (number_of rd) (low_halfword imm)) (λ rd. refl)
+kept P L (I.Mov64SImm16 rd imm) s m g h =
+    kept1 P L defined defined_output is_general general_target general_written (λ rd. I.Mov64SImm16 rd imm) (λ rd. halfword_row (Some opcodes.LGHI) (number_of rd) (low_halfword imm)) (λ rd. refl)
     (λ rd changed f. does L changed (computes_immediate Kept (on_immediate (on_doublewords Move) signed_halfword) (number_of rd) (number_of rd) (low_halfword imm)) no_code (λ r. f)) rd [] s m g h
-kept P L (Mov64SImm32 rd imm) s m g h =
-    kept1 P L defined defined_output is_general general_target general_written (λ rd. Mov64SImm32 rd imm) (λ rd. word_row (Some opcodes.LGFI) (number_of rd) (low_word imm)) (λ rd. refl)
+kept P L (I.Mov64SImm32 rd imm) s m g h =
+    kept1 P L defined defined_output is_general general_target general_written (λ rd. I.Mov64SImm32 rd imm) (λ rd. word_row (Some opcodes.LGFI) (number_of rd) (low_word imm)) (λ rd. refl)
     (λ rd changed f. does L changed (computes_immediate Kept (on_immediate (on_doublewords Move) signed_word) (number_of rd) (number_of rd) (low_word imm)) no_code (λ r. f)) rd [] s m g h
-kept P L (Mov64UImm16Shifted rd imm) s m g h =
-    kept1 P L defined defined_output is_general general_target general_written (λ rd. Mov64UImm16Shifted rd imm) (λ rd. halfword_row (load_part imm.shift) (number_of rd) (low_halfword (pos imm.bits))) (λ rd. refl)
+kept P L (I.Mov64UImm16Shifted rd imm) s m g h =
+    kept1 P L defined defined_output is_general general_target general_written (λ rd. I.Mov64UImm16Shifted rd imm) (λ rd. halfword_row (load_part imm.shift) (number_of rd) (low_halfword (pos imm.bits))) (λ rd. refl)
     (λ rd changed f. does L changed (computes_immediate Kept (on_doublewords Move) (number_of rd) (number_of rd) (at_part imm.shift (low_halfword (pos imm.bits)))) no_code (λ r. f)) rd [] s m g h
-kept P L (Mov64UImm32Shifted rd imm) s m g h =
-    kept1 P L defined defined_output is_general general_target general_written (λ rd. Mov64UImm32Shifted rd imm) (λ rd. word_row (load_half imm.shift) (number_of rd) (low_word (pos imm.bits))) (λ rd. refl)
+kept P L (I.Mov64UImm32Shifted rd imm) s m g h =
+    kept1 P L defined defined_output is_general general_target general_written (λ rd. I.Mov64UImm32Shifted rd imm) (λ rd. word_row (load_half imm.shift) (number_of rd) (low_word (pos imm.bits))) (λ rd. refl)
     (λ rd changed f. does L changed (computes_immediate Kept (on_doublewords Move) (number_of rd) (number_of rd) (at_half imm.shift (low_word (pos imm.bits)))) no_code (λ r. f)) rd [] s m g h
-kept P L (Insert64UImm16Shifted rd ri imm) s m g h =
-    kept_reuse1 P L is_general general_target general_written (λ rd ri. Insert64UImm16Shifted rd ri imm) (λ rd ri. halfword_row (insert_part imm.shift) (number_of rd) (low_halfword (pos imm.bits))) (λ rd ri. refl)
+kept P L (I.Insert64UImm16Shifted rd ri imm) s m g h =
+    kept_reuse1 P L is_general general_target general_written (λ rd ri. I.Insert64UImm16Shifted rd ri imm) (λ rd ri. halfword_row (insert_part imm.shift) (number_of rd) (low_halfword (pos imm.bits))) (λ rd ri. refl)
     (λ rd ri changed f. does L changed (computes_immediate Kept (on_selected Select.Insert (part_mask imm.shift)) (number_of rd) (number_of rd) (at_part imm.shift (low_halfword (pos imm.bits)))) no_code (λ r. f)) rd ri (used ri ∷ []) s m.0 g h
-kept P L (Insert64UImm32Shifted rd ri imm) s m g h =
-    kept_reuse1 P L is_general general_target general_written (λ rd ri. Insert64UImm32Shifted rd ri imm) (λ rd ri. word_row (insert_half imm.shift) (number_of rd) (low_word (pos imm.bits))) (λ rd ri. refl)
+kept P L (I.Insert64UImm32Shifted rd ri imm) s m g h =
+    kept_reuse1 P L is_general general_target general_written (λ rd ri. I.Insert64UImm32Shifted rd ri imm) (λ rd ri. word_row (insert_half imm.shift) (number_of rd) (low_word (pos imm.bits))) (λ rd ri. refl)
     (λ rd ri changed f. does L changed (computes_immediate Kept (inserts_half imm.shift) (number_of rd) (number_of rd) (at_half imm.shift (low_word (pos imm.bits)))) no_code (λ r. f)) rd ri (used ri ∷ []) s m.0 g h
-kept P L (CMov32 rd mask ri rm) s m g h =
-    kept_reuse2 P L is_general general_target general_written (λ rd ri rm. CMov32 rd mask ri rm) is_general (λ rd ri rm. Some (rrf_cde opcodes.LOCR (number_of rd) (number_of rm) (four_bits mask) 0)) (λ rd ri rm. refl)
+kept P L (I.CMov32 rd mask ri rm) s m g h =
+    kept_reuse2 P L is_general general_target general_written (λ rd ri rm. I.CMov32 rd mask ri rm) is_general (λ rd ri rm. Some (rrf_cde opcodes.LOCR (number_of rd) (number_of rm) (four_bits mask) 0)) (λ rd ri rm. refl)
     (λ rd ri rm changed f. does L changed (moves_where Word unsigned_word (four_bits mask) (number_of rd) (number_of rm)) no_code (λ r. moves_written Word unsigned_word (four_bits mask) (number_of rd) (number_of rm) r changed f)) rd ri rm (used ri ∷ used rm ∷ []) s m.0 g h
-kept P L (CMov64 rd mask ri rm) s m g h =
-    kept_reuse2 P L is_general general_target general_written (λ rd ri rm. CMov64 rd mask ri rm) is_general (λ rd ri rm. Some (rrf_cde opcodes.LOCGR (number_of rd) (number_of rm) (four_bits mask) 0)) (λ rd ri rm. refl)
+kept P L (I.CMov64 rd mask ri rm) s m g h =
+    kept_reuse2 P L is_general general_target general_written (λ rd ri rm. I.CMov64 rd mask ri rm) is_general (λ rd ri rm. Some (rrf_cde opcodes.LOCGR (number_of rd) (number_of rm) (four_bits mask) 0)) (λ rd ri rm. refl)
     (λ rd ri rm changed f. does L changed (moves_where Doubleword doubleword (four_bits mask) (number_of rd) (number_of rm)) no_code (λ r. moves_written Doubleword doubleword (four_bits mask) (number_of rd) (number_of rm) r changed f)) rd ri rm (used ri ∷ used rm ∷ []) s m.0 g h
-kept P L (CMov32SImm16 rd mask ri imm) s m g h =
-    kept_reuse1 P L is_general general_target general_written (λ rd ri. CMov32SImm16 rd mask ri imm) (λ rd ri. Some (rie_g opcodes.LOCHI (number_of rd) (low_halfword imm) (four_bits mask))) (λ rd ri. refl)
+kept P L (I.CMov32SImm16 rd mask ri imm) s m g h =
+    kept_reuse1 P L is_general general_target general_written (λ rd ri. I.CMov32SImm16 rd mask ri imm) (λ rd ri. Some (rie_g opcodes.LOCHI (number_of rd) (low_halfword imm) (four_bits mask))) (λ rd ri. refl)
     (λ rd ri changed f. does L changed (moves_immediate_where Word (four_bits mask) (number_of rd) (low_halfword imm)) no_code (λ r. moves_immediate_written Word (four_bits mask) (number_of rd) (low_halfword imm) r changed f)) rd ri (used ri ∷ []) s m.0 g h
-kept P L (CMov64SImm16 rd mask ri imm) s m g h =
-    kept_reuse1 P L is_general general_target general_written (λ rd ri. CMov64SImm16 rd mask ri imm) (λ rd ri. Some (rie_g opcodes.LOCGHI (number_of rd) (low_halfword imm) (four_bits mask))) (λ rd ri. refl)
+kept P L (I.CMov64SImm16 rd mask ri imm) s m g h =
+    kept_reuse1 P L is_general general_target general_written (λ rd ri. I.CMov64SImm16 rd mask ri imm) (λ rd ri. Some (rie_g opcodes.LOCGHI (number_of rd) (low_halfword imm) (four_bits mask))) (λ rd ri. refl)
     (λ rd ri changed f. does L changed (moves_immediate_where Doubleword (four_bits mask) (number_of rd) (low_halfword imm)) no_code (λ r. moves_immediate_written Doubleword (four_bits mask) (number_of rd) (low_halfword imm) r changed f)) rd ri (used ri ∷ []) s m.0 g h
-kept P L (Extend rd rn signed from to) s m g h =
-    kept2 P L defined defined_output is_general general_target general_written (λ rd rn. Extend rd rn signed from to) is_general (λ rd rn. two_row (extend_two signed from to) (number_of rd) (number_of rn)) (λ rd rn. refl)
+kept P L (I.Extend rd rn signed from to) s m g h =
+    kept2 P L defined defined_output is_general general_target general_written (λ rd rn. I.Extend rd rn signed from to) is_general (λ rd rn. two_row (extend_two signed from to) (number_of rd) (number_of rn)) (λ rd rn. refl)
     (λ rd rn changed f. does L changed (computes Kept (extension signed from to) (number_of rd) (number_of rd) (number_of rn)) no_code (λ r. f)) rd rn (used rn ∷ []) s m.0 g h
-kept P L (AluRRR op rd rn rm) s m g h =
-    kept3 P L defined defined_output is_general general_target general_written (λ rd rn rm. AluRRR op rd rn rm) is_general is_general (λ rd rn rm. three_row (alu_three op) (alu_two op) (number_of rd) (number_of rn) (number_of rm)) (λ rd rn rm. refl)
+kept P L (I.AluRRR op rd rn rm) s m g h =
+    kept3 P L defined defined_output is_general general_target general_written (λ rd rn rm. I.AluRRR op rd rn rm) is_general is_general (λ rd rn rm. three_row (alu_three op) (alu_two op) (number_of rd) (number_of rn) (number_of rm)) (λ rd rn rm. refl)
     (λ rd rn rm changed f. does L changed (computes (alu_three_rule op) (alu_computation op) (number_of rd) (number_of rn) (number_of rm)) no_code (λ r. f)) rd rn rm (used rn ∷ used rm ∷ []) s m.0 g h
-kept P L (AluRRSImm16 op rd rn imm) s m g h =
-    kept2 P L defined defined_output is_general general_target general_written (λ rd rn. AluRRSImm16 op rd rn imm) is_general (λ rd rn. three_halfword_row (alu_three_halfword op) (alu_halfword op) (number_of rd) (number_of rn) (low_halfword imm)) (λ rd rn. refl)
+kept P L (I.AluRRSImm16 op rd rn imm) s m g h =
+    kept2 P L defined defined_output is_general general_target general_written (λ rd rn. I.AluRRSImm16 op rd rn imm) is_general (λ rd rn. three_halfword_row (alu_three_halfword op) (alu_halfword op) (number_of rd) (number_of rn) (low_halfword imm)) (λ rd rn. refl)
     (λ rd rn changed f. does L changed (computes_immediate (alu_two_rule op) (on_immediate (alu_computation op) signed_halfword) (number_of rd) (number_of rn) (low_halfword imm)) no_code (λ r. f)) rd rn (used rn ∷ []) s m.0 g h
-kept P L (AluRR op rd ri rm) s m g h =
-    kept_reuse2 P L is_general general_target general_written (λ rd ri rm. AluRR op rd ri rm) is_general (λ rd ri rm. two_row (alu_two op) (number_of rd) (number_of rm)) (λ rd ri rm. refl)
+kept P L (I.AluRR op rd ri rm) s m g h =
+    kept_reuse2 P L is_general general_target general_written (λ rd ri rm. I.AluRR op rd ri rm) is_general (λ rd ri rm. two_row (alu_two op) (number_of rd) (number_of rm)) (λ rd ri rm. refl)
     (λ rd ri rm changed f. does L changed (computes (alu_two_rule op) (alu_computation op) (number_of rd) (number_of rd) (number_of rm)) no_code (λ r. f)) rd ri rm (used ri ∷ used rm ∷ []) s m.0 g h
-kept P L (AluRSImm16 op rd ri imm) s m g h =
-    kept_reuse1 P L is_general general_target general_written (λ rd ri. AluRSImm16 op rd ri imm) (λ rd ri. halfword_row (alu_halfword op) (number_of rd) (low_halfword imm)) (λ rd ri. refl)
+kept P L (I.AluRSImm16 op rd ri imm) s m g h =
+    kept_reuse1 P L is_general general_target general_written (λ rd ri. I.AluRSImm16 op rd ri imm) (λ rd ri. halfword_row (alu_halfword op) (number_of rd) (low_halfword imm)) (λ rd ri. refl)
     (λ rd ri changed f. does L changed (computes_immediate (alu_two_rule op) (on_immediate (alu_computation op) signed_halfword) (number_of rd) (number_of rd) (low_halfword imm)) no_code (λ r. f)) rd ri (used ri ∷ []) s m.0 g h
-kept P L (AluRSImm32 op rd ri imm) s m g h =
-    kept_reuse1 P L is_general general_target general_written (λ rd ri. AluRSImm32 op rd ri imm) (λ rd ri. word_row (alu_signed_word op) (number_of rd) (low_word imm)) (λ rd ri. refl)
+kept P L (I.AluRSImm32 op rd ri imm) s m g h =
+    kept_reuse1 P L is_general general_target general_written (λ rd ri. I.AluRSImm32 op rd ri imm) (λ rd ri. word_row (alu_signed_word op) (number_of rd) (low_word imm)) (λ rd ri. refl)
     (λ rd ri changed f. does L changed (computes_immediate (alu_two_rule op) (on_immediate (alu_computation op) signed_word) (number_of rd) (number_of rd) (low_word imm)) no_code (λ r. f)) rd ri (used ri ∷ []) s m.0 g h
-kept P L (AluRUImm32 op rd ri imm) s m g h =
-    kept_reuse1 P L is_general general_target general_written (λ rd ri. AluRUImm32 op rd ri imm) (λ rd ri. word_row (alu_unsigned_word op) (number_of rd) (low_word (pos imm))) (λ rd ri. refl)
+kept P L (I.AluRUImm32 op rd ri imm) s m g h =
+    kept_reuse1 P L is_general general_target general_written (λ rd ri. I.AluRUImm32 op rd ri imm) (λ rd ri. word_row (alu_unsigned_word op) (number_of rd) (low_word (pos imm))) (λ rd ri. refl)
     (λ rd ri changed f. does L changed (computes_immediate (alu_two_rule op) (on_immediate (alu_computation op) unsigned_word) (number_of rd) (number_of rd) (low_word (pos imm))) no_code (λ r. f)) rd ri (used ri ∷ []) s m.0 g h
-kept P L (AluRUImm16Shifted op rd ri imm) s m g h =
-    kept_reuse1 P L is_general general_target general_written (λ rd ri. AluRUImm16Shifted op rd ri imm) (λ rd ri. halfword_row (alu_part op imm.shift) (number_of rd) (low_halfword (pos imm.bits))) (λ rd ri. refl)
+kept P L (I.AluRUImm16Shifted op rd ri imm) s m g h =
+    kept_reuse1 P L is_general general_target general_written (λ rd ri. I.AluRUImm16Shifted op rd ri imm) (λ rd ri. halfword_row (alu_part op imm.shift) (number_of rd) (low_halfword (pos imm.bits))) (λ rd ri. refl)
     (λ rd ri changed f. does L changed (computes_immediate Set (on_selected (part_operator op) (part_mask imm.shift)) (number_of rd) (number_of rd) (at_part imm.shift (low_halfword (pos imm.bits)))) no_code (λ r. f)) rd ri (used ri ∷ []) s m.0 g h
-kept P L (AluRUImm32Shifted op rd ri imm) s m g h =
-    kept_reuse1 P L is_general general_target general_written (λ rd ri. AluRUImm32Shifted op rd ri imm) (λ rd ri. word_row (alu_half op imm.shift) (number_of rd) (low_word (pos imm.bits))) (λ rd ri. refl)
+kept P L (I.AluRUImm32Shifted op rd ri imm) s m g h =
+    kept_reuse1 P L is_general general_target general_written (λ rd ri. I.AluRUImm32Shifted op rd ri imm) (λ rd ri. word_row (alu_half op imm.shift) (number_of rd) (low_word (pos imm.bits))) (λ rd ri. refl)
     (λ rd ri changed f. does L changed (computes_immediate Set (on_selected (part_operator op) (half_mask imm.shift)) (number_of rd) (number_of rd) (at_half imm.shift (low_word (pos imm.bits)))) no_code (λ r. f)) rd ri (used ri ∷ []) s m.0 g h
-kept P L (ShiftRR op rd rn amount register) s m g h =
-    kept3 P L defined defined_output is_general general_target general_written (λ rd rn register. ShiftRR op rd rn amount register) is_general is_general (λ rd rn register. Some (rsy (shift_opcode op) (number_of rd) (number_of rn) (number_of register) (low_byte amount))) (λ rd rn register. refl)
+kept P L (I.ShiftRR op rd rn amount register) s m g h =
+    kept3 P L defined defined_output is_general general_target general_written (λ rd rn register. I.ShiftRR op rd rn amount register) is_general is_general (λ rd rn register. Some (rsy (shift_opcode op) (number_of rd) (number_of rn) (number_of register) (low_byte amount))) (λ rd rn register. refl)
     (λ rd rn register changed f. does L changed (shifts op (number_of rd) (number_of rn) (number_of register) (low_byte amount)) no_code (λ r. f)) rd rn register (used rn ∷ used register ∷ []) s m.0 g h
-kept P L (RxSBG op rd ri rn start end amount) s m g h =
-    kept_reuse2 P L is_general general_target general_written (λ rd ri rn. RxSBG op rd ri rn start end amount) is_general (λ rd ri rn. rotated_row (Some (rotate_then op)) (number_of rd) (number_of rn) start end start (rotation amount)) (λ rd ri rn. refl)
+kept P L (I.RxSBG op rd ri rn start end amount) s m g h =
+    kept_reuse2 P L is_general general_target general_written (λ rd ri rn. I.RxSBG op rd ri rn start end amount) is_general (λ rd ri rn. rotated_row (Some (rotate_then op)) (number_of rd) (number_of rn) start end start (rotation amount)) (λ rd ri rn. refl)
     (λ rd ri rn changed f. does L changed (rotates_into op (number_of rd) (number_of rn) start end (rotation amount)) no_code (λ r. f)) rd ri rn (used ri ∷ used rn ∷ []) s m.0 g h
-kept P L (RxSBGTest op rd rn start end amount) s m g h = does L _ (rotates_to_test op (number_of (register_at rd s)) (number_of (register_at rn (after rd s))) start end (rotation amount)) no_code (λ r q a. tt)
-kept P L (UnaryRR op rd rn) s m g h =
-    kept2 P L defined defined_output is_general general_target general_written (λ rd rn. UnaryRR op rd rn) is_general (λ rd rn. unary_row op (number_of rd) (number_of rn)) (λ rd rn. refl)
+kept P L (I.RxSBGTest op rd rn start end amount) s m g h = does L _ (rotates_to_test op (number_of (register_at rd s)) (number_of (register_at rn (after rd s))) start end (rotation amount)) no_code (λ r q a. tt)
+kept P L (I.UnaryRR op rd rn) s m g h =
+    kept2 P L defined defined_output is_general general_target general_written (λ rd rn. I.UnaryRR op rd rn) is_general (λ rd rn. unary_row op (number_of rd) (number_of rn)) (λ rd rn. refl)
     (λ rd rn changed f. does L changed (computes (unary_rule op) (unary_computation op) (number_of rd) (number_of rd) (number_of rn)) no_code (λ r. f)) rd rn (used rn ∷ []) s m.0 g h
-kept P L (CmpRR op rn rm) s m g h = does L _ (compares (comparison op) (number_of (register_at rn s)) (number_of (register_at rm (after rn s)))) no_code (λ r q a. tt)
-kept P L (CmpRSImm16 op rn imm) s m g h = does L _ (compares_immediate (compares_on_immediate (comparison op) signed_halfword) (number_of (register_at rn s)) (low_halfword imm)) no_code (λ r q a. tt)
-kept P L (CmpRSImm32 op rn imm) s m g h = does L _ (compares_immediate (compares_on_immediate (comparison op) signed_word) (number_of (register_at rn s)) (low_word imm)) no_code (λ r q a. tt)
-kept P L (CmpRUImm32 op rn imm) s m g h = does L _ (compares_immediate (compares_on_immediate (comparison op) unsigned_word) (number_of (register_at rn s)) (low_word (pos imm))) no_code (λ r q a. tt)
-kept P L (CmpTrapRR op rn rm mask code) s m g h = does L _ (compares_and_traps (comparison op) (number_of (register_at rn s)) (number_of (register_at rm (after rn s))) (four_bits mask)) (comparison_code code) (λ r q a. tt)
-kept P L (CmpTrapRSImm16 op rn imm mask code) s m g h = does L _ (compares_immediate_and_traps (comparison op) (number_of (register_at rn s)) (low_halfword imm) (four_bits mask)) (comparison_code code) (λ r q a. tt)
-kept P L (CmpTrapRUImm16 op rn imm mask code) s m g h = does L _ (compares_immediate_and_traps (comparison op) (number_of (register_at rn s)) (low_halfword (pos imm)) (four_bits mask)) (comparison_code code) (λ r q a. tt)
-kept P L (LoadAR rd ar) s m g h = kept1_and P L defined defined_output is_general general_target general_written (λ d. LoadAR d ar) (is_access ar) (λ d. two_row (Some opcodes.EAR) (number_of d) (four_bits ar)) (λ d. refl) (λ rd changed f. does L changed (copies_access (number_of rd) (four_bits ar)) no_code (λ r. f)) rd [] s m g h
-kept P L (InsertAR rd ri ar) s m g h =
-    kept_reuse1_and P L is_general general_target general_written (λ d i. InsertAR d i ar) (is_access ar) (λ d i. two_row (Some opcodes.EAR) (number_of d) (four_bits ar)) (λ d i. refl)
+kept P L (I.CmpRR op rn rm) s m g h = does L _ (compares (comparison op) (number_of (register_at rn s)) (number_of (register_at rm (after rn s)))) no_code (λ r q a. tt)
+kept P L (I.CmpRSImm16 op rn imm) s m g h = does L _ (compares_immediate (compares_on_immediate (comparison op) signed_halfword) (number_of (register_at rn s)) (low_halfword imm)) no_code (λ r q a. tt)
+kept P L (I.CmpRSImm32 op rn imm) s m g h = does L _ (compares_immediate (compares_on_immediate (comparison op) signed_word) (number_of (register_at rn s)) (low_word imm)) no_code (λ r q a. tt)
+kept P L (I.CmpRUImm32 op rn imm) s m g h = does L _ (compares_immediate (compares_on_immediate (comparison op) unsigned_word) (number_of (register_at rn s)) (low_word (pos imm))) no_code (λ r q a. tt)
+kept P L (I.CmpTrapRR op rn rm mask code) s m g h = does L _ (compares_and_traps (comparison op) (number_of (register_at rn s)) (number_of (register_at rm (after rn s))) (four_bits mask)) (comparison_code code) (λ r q a. tt)
+kept P L (I.CmpTrapRSImm16 op rn imm mask code) s m g h = does L _ (compares_immediate_and_traps (comparison op) (number_of (register_at rn s)) (low_halfword imm) (four_bits mask)) (comparison_code code) (λ r q a. tt)
+kept P L (I.CmpTrapRUImm16 op rn imm mask code) s m g h = does L _ (compares_immediate_and_traps (comparison op) (number_of (register_at rn s)) (low_halfword (pos imm)) (four_bits mask)) (comparison_code code) (λ r q a. tt)
+kept P L (I.LoadAR rd ar) s m g h = kept1_and P L defined defined_output is_general general_target general_written (λ d. I.LoadAR d ar) (is_access ar) (λ d. two_row (Some opcodes.EAR) (number_of d) (four_bits ar)) (λ d. refl) (λ rd changed f. does L changed (copies_access (number_of rd) (four_bits ar)) no_code (λ r. f)) rd [] s m g h
+kept P L (I.InsertAR rd ri ar) s m g h =
+    kept_reuse1_and P L is_general general_target general_written (λ d i. I.InsertAR d i ar) (is_access ar) (λ d i. two_row (Some opcodes.EAR) (number_of d) (four_bits ar)) (λ d i. refl)
     (λ rd ri changed f. does L changed (copies_access (number_of rd) (four_bits ar)) no_code (λ r. f)) rd ri (used ri ∷ []) s m.0 g h
-kept P L (MovPReg rd rm) s m g h =
-    kept1_and P L defined defined_output is_general general_target general_written (λ d. MovPReg d rm) (is_general (Real rm)) (λ d. two_row (Some opcodes.LGR) (number_of d) (number_of (Real rm))) (λ d. refl)
+kept P L (I.MovPReg rd rm) s m g h =
+    kept1_and P L defined defined_output is_general general_target general_written (λ d. I.MovPReg d rm) (is_general (Real rm)) (λ d. two_row (Some opcodes.LGR) (number_of d) (number_of (Real rm))) (λ d. refl)
     (λ rd changed f. does L changed (computes Kept (on_doublewords Move) (number_of rd) (number_of rd) (number_of (Real rm))) no_code (λ r. f)) rd (Some (Fixed rm) ∷ []) s m.0 g h
-kept P L (SMulWide rd rn rm) s m g h =
+kept P L (I.SMulWide rd rn rm) s m g h =
     does L _ (multiplies_signed (number_of (pair_at rd (after rm (after rn s))).hi) (number_of (register_at rn s)) (number_of (register_at rm (after rn s)))) no_code
     (λ r. behind_two rn rm (fixed_def rd.hi 2 ∷ fixed_def rd.lo 3 ∷ []) s g (pair_targets (number_of (pair_at rd (after rm (after rn s))).hi)) (λ k. pair_listed rd [] s (after rm (after rn s)) k))
-kept P L (Flogr rd rn) s m g h = does L _ (finds_leftmost (number_of (pair_at rd (after rn s)).hi) (number_of (register_at rn s))) no_code (λ r. behind_one rn (fixed_def rd.hi 2 ∷ fixed_def rd.lo 3 ∷ []) s g (pair_targets (number_of (pair_at rd (after rn s)).hi)) (λ k. pair_listed rd [] s (after rn s) k))
-kept P L (UMulWide rd ri rn) s m g h =
+kept P L (I.Flogr rd rn) s m g h = does L _ (finds_leftmost (number_of (pair_at rd (after rn s)).hi) (number_of (register_at rn s))) no_code (λ r. behind_one rn (fixed_def rd.hi 2 ∷ fixed_def rd.lo 3 ∷ []) s g (pair_targets (number_of (pair_at rd (after rn s)).hi)) (λ k. pair_listed rd [] s (after rn s) k))
+kept P L (I.UMulWide rd ri rn) s m g h =
     does L _ (multiplies_logical (number_of (pair_at rd (after rn s)).hi) (number_of (register_at rn s))) no_code
     (λ r. behind_one rn (fixed_def rd.hi 2 ∷ fixed_def rd.lo 3 ∷ fixed_use ri 3 ∷ []) s g (pair_targets (number_of (pair_at rd (after rn s)).hi)) (λ k. pair_listed rd (fixed_use ri 3 ∷ []) s (after rn s) k))
-kept P L (SDivMod32 rd ri rn) s m g h =
+kept P L (I.SDivMod32 rd ri rn) s m g h =
     does L _ (divides_signed Bits32 (number_of (pair_at rd (after rn s)).hi) (number_of (register_at rn s))) division_code
     (λ r. behind_one rn (fixed_def rd.hi 2 ∷ fixed_def rd.lo 3 ∷ fixed_use ri 3 ∷ []) s g (pair_targets (number_of (pair_at rd (after rn s)).hi)) (λ k. pair_listed rd (fixed_use ri 3 ∷ []) s (after rn s) k))
-kept P L (SDivMod64 rd ri rn) s m g h =
+kept P L (I.SDivMod64 rd ri rn) s m g h =
     does L _ (divides_signed Bits64 (number_of (pair_at rd (after rn s)).hi) (number_of (register_at rn s))) division_code
     (λ r. behind_one rn (fixed_def rd.hi 2 ∷ fixed_def rd.lo 3 ∷ fixed_use ri 3 ∷ []) s g (pair_targets (number_of (pair_at rd (after rn s)).hi)) (λ k. pair_listed rd (fixed_use ri 3 ∷ []) s (after rn s) k))
-kept P L (UDivMod32 rd ri rn) s m g h =
+kept P L (I.UDivMod32 rd ri rn) s m g h =
     does L _ (divides_logical Word (number_of (pair_at rd (after rn s)).hi) (number_of (register_at rn s))) division_code
     (λ r. behind_one rn (fixed_def rd.hi 2 ∷ fixed_def rd.lo 3 ∷ fixed_use ri.hi 2 ∷ fixed_use ri.lo 3 ∷ []) s g (pair_targets (number_of (pair_at rd (after rn s)).hi)) (λ k. pair_listed rd (fixed_use ri.hi 2 ∷ fixed_use ri.lo 3 ∷ []) s (after rn s) k))
-kept P L (UDivMod64 rd ri rn) s m g h =
+kept P L (I.UDivMod64 rd ri rn) s m g h =
     does L _ (divides_logical Doubleword (number_of (pair_at rd (after rn s)).hi) (number_of (register_at rn s))) division_code
     (λ r. behind_one rn (fixed_def rd.hi 2 ∷ fixed_def rd.lo 3 ∷ fixed_use ri.hi 2 ∷ fixed_use ri.lo 3 ∷ []) s g (pair_targets (number_of (pair_at rd (after rn s)).hi)) (λ k. pair_listed rd (fixed_use ri.hi 2 ∷ fixed_use ri.lo 3 ∷ []) s (after rn s) k))
-kept P L (Vector (VecRRR op rd rn rm)) s m g h =
-    kept3 P L defined defined_output is_vector vector_target vector_written (λ rd rn rm. Vector (VecRRR op rd rn rm)) is_vector is_vector (λ rd rn rm. vector_row (VecRRR op rd rn rm)) (λ rd rn rm. refl)
+kept P L (I.Vector (V.VecRRR op rd rn rm)) s m g h =
+    kept3 P L defined defined_output is_vector vector_target vector_written (λ rd rn rm. I.Vector (V.VecRRR op rd rn rm)) is_vector is_vector (λ rd rn rm. vector_row (V.VecRRR op rd rn rm)) (λ rd rn rm. refl)
     (λ rd rn rm changed f. does L changed (computes_two_vectors (binary_operation op) (number_of rd) (number_of rn) (number_of rm)) (cond (is_division op) division_code no_code) (λ r. f)) rd rn rm (used rn ∷ used rm ∷ []) s m.0 g h
-kept P L (Vector (VecRR op rd rn)) s m g h =
-    kept2 P L defined defined_output is_vector vector_target vector_written (λ rd rn. Vector (VecRR op rd rn)) is_vector (λ rd rn. vector_row (VecRR op rd rn)) (λ rd rn. refl)
+kept P L (I.Vector (V.VecRR op rd rn)) s m g h =
+    kept2 P L defined defined_output is_vector vector_target vector_written (λ rd rn. I.Vector (V.VecRR op rd rn)) is_vector (λ rd rn. vector_row (V.VecRR op rd rn)) (λ rd rn. refl)
     (λ rd rn changed f. does L changed (computes_one_vector (unary_operation op) (number_of rd) (number_of rn)) no_code (λ r. f)) rd rn (used rn ∷ []) s m.0 g h
-kept P L (Vector (VecShiftRR op rd rn amount register)) s m g h =
-    kept3 P L defined defined_output is_vector vector_target vector_written (λ rd rn register. Vector (VecShiftRR op rd rn amount register)) is_vector is_general (λ rd rn register. vector_row (VecShiftRR op rd rn amount register)) (λ rd rn register. refl)
+kept P L (I.Vector (V.VecShiftRR op rd rn amount register)) s m g h =
+    kept3 P L defined defined_output is_vector vector_target vector_written (λ rd rn register. I.Vector (V.VecShiftRR op rd rn amount register)) is_vector is_general (λ rd rn register. vector_row (V.VecShiftRR op rd rn amount register)) (λ rd rn register. refl)
     (λ rd rn register changed f. does L changed (shifts_vector (shift_operator op) (shifted_elements op) (number_of rd) (number_of rn) (number_of register) (low_byte amount)) no_code (λ r. f)) rd rn register (used rn ∷ used register ∷ []) s m.0 g h
-kept P L (Vector (VecSelect rd rn rm ra)) s m g h =
-    kept4 P L defined defined_output is_vector vector_target vector_written (λ rd rn rm ra. Vector (VecSelect rd rn rm ra)) is_vector is_vector is_vector (λ rd rn rm ra. vector_row (VecSelect rd rn rm ra)) (λ rd rn rm ra. refl)
+kept P L (I.Vector (V.VecSelect rd rn rm ra)) s m g h =
+    kept4 P L defined defined_output is_vector vector_target vector_written (λ rd rn rm ra. I.Vector (V.VecSelect rd rn rm ra)) is_vector is_vector is_vector (λ rd rn rm ra. vector_row (V.VecSelect rd rn rm ra)) (λ rd rn rm ra. refl)
     (λ rd rn rm ra changed f. does L changed (computes_three_vectors Lanes.Select (number_of rd) (number_of rn) (number_of rm) (number_of ra)) no_code (λ r. f)) rd rn rm ra (used rn ∷ used rm ∷ used ra ∷ []) s m.0 g h
-kept P L (Vector (VecPermute rd rn rm ra)) s m g h =
-    kept4 P L defined defined_output is_vector vector_target vector_written (λ rd rn rm ra. Vector (VecPermute rd rn rm ra)) is_vector is_vector is_vector (λ rd rn rm ra. vector_row (VecPermute rd rn rm ra)) (λ rd rn rm ra. refl)
+kept P L (I.Vector (V.VecPermute rd rn rm ra)) s m g h =
+    kept4 P L defined defined_output is_vector vector_target vector_written (λ rd rn rm ra. I.Vector (V.VecPermute rd rn rm ra)) is_vector is_vector is_vector (λ rd rn rm ra. vector_row (V.VecPermute rd rn rm ra)) (λ rd rn rm ra. refl)
     (λ rd rn rm ra changed f. does L changed (computes_three_vectors Lanes.Permute (number_of rd) (number_of rn) (number_of rm) (number_of ra)) no_code (λ r. f)) rd rn rm ra (used rn ∷ used rm ∷ used ra ∷ []) s m.0 g h
-kept P L (Vector (VecBlend rd rn rm ra)) s m g h =
-    kept4 P L defined defined_output is_vector vector_target vector_written (λ rd rn rm ra. Vector (VecBlend rd rn rm ra)) is_vector is_vector is_vector (λ rd rn rm ra. vector_row (VecBlend rd rn rm ra)) (λ rd rn rm ra. refl)
+kept P L (I.Vector (V.VecBlend rd rn rm ra)) s m g h =
+    kept4 P L defined defined_output is_vector vector_target vector_written (λ rd rn rm ra. I.Vector (V.VecBlend rd rn rm ra)) is_vector is_vector is_vector (λ rd rn rm ra. vector_row (V.VecBlend rd rn rm ra)) (λ rd rn rm ra. refl)
     (λ rd rn rm ra changed f. does L changed (computes_three_vectors Lanes.Blend (number_of rd) (number_of rn) (number_of rm) (number_of ra)) no_code (λ r. f)) rd rn rm ra (used rn ∷ used rm ∷ used ra ∷ []) s m.0 g h
-kept P L (Vector (VecEvaluate imm rd rn rm ra)) s m g h =
-    kept4 P L defined defined_output is_vector vector_target vector_written (λ rd rn rm ra. Vector (VecEvaluate imm rd rn rm ra)) is_vector is_vector is_vector (λ rd rn rm ra. vector_row (VecEvaluate imm rd rn rm ra)) (λ rd rn rm ra. refl)
+kept P L (I.Vector (V.VecEvaluate imm rd rn rm ra)) s m g h =
+    kept4 P L defined defined_output is_vector vector_target vector_written (λ rd rn rm ra. I.Vector (V.VecEvaluate imm rd rn rm ra)) is_vector is_vector is_vector (λ rd rn rm ra. vector_row (V.VecEvaluate imm rd rn rm ra)) (λ rd rn rm ra. refl)
     (λ rd rn rm ra changed f. does L changed (computes_three_vectors (Lanes.Evaluate (low_byte imm)) (number_of rd) (number_of rn) (number_of rm) (number_of ra)) no_code (λ r. f)) rd rn rm ra (used rn ∷ used rm ∷ used ra ∷ []) s m.0 g h
-kept P L (Vector (VecPermuteDWImm rd rn rm first second)) s m g h =
-    kept3 P L defined defined_output is_vector vector_target vector_written (λ rd rn rm. Vector (VecPermuteDWImm rd rn rm first second)) is_vector is_vector (λ rd rn rm. vector_row (VecPermuteDWImm rd rn rm first second)) (λ rd rn rm. refl)
+kept P L (I.Vector (V.VecPermuteDWImm rd rn rm first second)) s m g h =
+    kept3 P L defined defined_output is_vector vector_target vector_written (λ rd rn rm. I.Vector (V.VecPermuteDWImm rd rn rm first second)) is_vector is_vector (λ rd rn rm. vector_row (V.VecPermuteDWImm rd rn rm first second)) (λ rd rn rm. refl)
     (λ rd rn rm changed f. does L changed (computes_two_vectors (Lanes.PermuteDoublewords first second) (number_of rd) (number_of rn) (number_of rm)) no_code (λ r. f)) rd rn rm (used rn ∷ used rm ∷ []) s m.0 g h
-kept P L (Vector (VecIntCmp op rd rn rm)) s m g h =
-    kept3 P L defined defined_output is_vector vector_target vector_written (λ rd rn rm. Vector (VecIntCmp op rd rn rm)) is_vector is_vector (λ rd rn rm. vector_row (VecIntCmp op rd rn rm)) (λ rd rn rm. refl)
+kept P L (I.Vector (V.VecIntCmp op rd rn rm)) s m g h =
+    kept3 P L defined defined_output is_vector vector_target vector_written (λ rd rn rm. I.Vector (V.VecIntCmp op rd rn rm)) is_vector is_vector (λ rd rn rm. vector_row (V.VecIntCmp op rd rn rm)) (λ rd rn rm. refl)
     (λ rd rn rm changed f. does L changed (computes_two_vectors (comparison_operation op false) (number_of rd) (number_of rn) (number_of rm)) no_code (λ r. f)) rd rn rm (used rn ∷ used rm ∷ []) s m.0 g h
-kept P L (Vector (VecIntCmpS op rd rn rm)) s m g h =
-    kept3 P L defined defined_output is_vector vector_target vector_written (λ rd rn rm. Vector (VecIntCmpS op rd rn rm)) is_vector is_vector (λ rd rn rm. vector_row (VecIntCmpS op rd rn rm)) (λ rd rn rm. refl)
+kept P L (I.Vector (V.VecIntCmpS op rd rn rm)) s m g h =
+    kept3 P L defined defined_output is_vector vector_target vector_written (λ rd rn rm. I.Vector (V.VecIntCmpS op rd rn rm)) is_vector is_vector (λ rd rn rm. vector_row (V.VecIntCmpS op rd rn rm)) (λ rd rn rm. refl)
     (λ rd rn rm changed f. does L changed (computes_two_vectors (comparison_operation op true) (number_of rd) (number_of rn) (number_of rm)) no_code (λ r. f)) rd rn rm (used rn ∷ used rm ∷ []) s m.0 g h
-kept P L (Vector (VecIntEltCmp op rn rm)) s m g h = (comparing_keeps L _ op (number_of (register_at rn s)) (number_of (register_at rm (after rn s))), nothing L _)
-kept P L (Vector (VecMov rd rn)) s m g h =
-    kept2 P L defined defined_output is_vector vector_target vector_written (λ rd rn. Vector (VecMov rd rn)) is_vector (λ rd rn. vector_row (VecMov rd rn)) (λ rd rn. refl)
+kept P L (I.Vector (V.VecIntEltCmp op rn rm)) s m g h = (comparing_keeps L _ op (number_of (register_at rn s)) (number_of (register_at rm (after rn s))), nothing L _)
+kept P L (I.Vector (V.VecMov rd rn)) s m g h =
+    kept2 P L defined defined_output is_vector vector_target vector_written (λ rd rn. I.Vector (V.VecMov rd rn)) is_vector (λ rd rn. vector_row (V.VecMov rd rn)) (λ rd rn. refl)
     (λ rd rn changed f. does L changed (computes_one_vector Lanes.Move (number_of rd) (number_of rn)) no_code (λ r. f)) rd rn (used rn ∷ []) s m.0 g h
-kept P L (Vector (FpuMove32 rd rn)) s m g h =
-    kept2 P L defined defined_output is_vector vector_target vector_written (λ rd rn. Vector (FpuMove32 rd rn)) is_vector (λ rd rn. vector_row (FpuMove32 rd rn)) (λ rd rn. refl)
+kept P L (I.Vector (V.FpuMove32 rd rn)) s m g h =
+    kept2 P L defined defined_output is_vector vector_target vector_written (λ rd rn. I.Vector (V.FpuMove32 rd rn)) is_vector (λ rd rn. vector_row (V.FpuMove32 rd rn)) (λ rd rn. refl)
     (λ rd rn changed f. does L changed (moves_left ElementSize.Word (number_of rd) (number_of rn)) no_code (λ r. f)) rd rn (used rn ∷ []) s m.0 g h
-kept P L (Vector (FpuMove64 rd rn)) s m g h =
-    kept2 P L defined defined_output is_vector vector_target vector_written (λ rd rn. Vector (FpuMove64 rd rn)) is_vector (λ rd rn. vector_row (FpuMove64 rd rn)) (λ rd rn. refl)
+kept P L (I.Vector (V.FpuMove64 rd rn)) s m g h =
+    kept2 P L defined defined_output is_vector vector_target vector_written (λ rd rn. I.Vector (V.FpuMove64 rd rn)) is_vector (λ rd rn. vector_row (V.FpuMove64 rd rn)) (λ rd rn. refl)
     (λ rd rn changed f. does L changed (moves_left ElementSize.Doubleword (number_of rd) (number_of rn)) no_code (λ r. f)) rd rn (used rn ∷ []) s m.0 g h
-kept P L (Vector (MovToVec128 rd rn rm)) s m g h =
-    kept3 P L defined defined_output is_vector vector_target vector_written (λ rd rn rm. Vector (MovToVec128 rd rn rm)) is_general is_general (λ rd rn rm. vector_row (MovToVec128 rd rn rm)) (λ rd rn rm. refl)
+kept P L (I.Vector (V.MovToVec128 rd rn rm)) s m g h =
+    kept3 P L defined defined_output is_vector vector_target vector_written (λ rd rn rm. I.Vector (V.MovToVec128 rd rn rm)) is_general is_general (λ rd rn rm. vector_row (V.MovToVec128 rd rn rm)) (λ rd rn rm. refl)
     (λ rd rn rm changed f. does L changed (joins_registers (number_of rd) (number_of rn) (number_of rm)) no_code (λ r. f)) rd rn rm (used rn ∷ used rm ∷ []) s m.0 g h
-kept P L (Vector (VecImmByteMask rd mask)) s m g h =
-    kept1 P L defined defined_output is_vector vector_target vector_written (λ rd. Vector (VecImmByteMask rd mask)) (λ rd. vector_row (VecImmByteMask rd mask)) (λ rd. refl)
+kept P L (I.Vector (V.VecImmByteMask rd mask)) s m g h =
+    kept1 P L defined defined_output is_vector vector_target vector_written (λ rd. I.Vector (V.VecImmByteMask rd mask)) (λ rd. vector_row (V.VecImmByteMask rd mask)) (λ rd. refl)
     (λ rd changed f. does L changed (generates_vector (Lanes.ByteMask (low_halfword (pos mask))) (number_of rd)) no_code (λ r. f)) rd [] s m g h
-kept P L (Vector (VecImmBitMask size rd start end)) s m g h =
-    kept1 P L defined defined_output is_vector vector_target vector_written (λ rd. Vector (VecImmBitMask size rd start end)) (λ rd. vector_row (VecImmBitMask size rd start end)) (λ rd. refl)
+kept P L (I.Vector (V.VecImmBitMask size rd start end)) s m g h =
+    kept1 P L defined defined_output is_vector vector_target vector_written (λ rd. I.Vector (V.VecImmBitMask size rd start end)) (λ rd. vector_row (V.VecImmBitMask size rd start end)) (λ rd. refl)
     (λ rd changed f. does L changed (generates_vector (Lanes.BitMask (elements_of size) start end) (number_of rd)) no_code (λ r. f)) rd [] s m g h
-kept P L (Vector (VecImmReplicate size rd imm)) s m g h =
-    kept1 P L defined defined_output is_vector vector_target vector_written (λ rd. Vector (VecImmReplicate size rd imm)) (λ rd. vector_row (VecImmReplicate size rd imm)) (λ rd. refl)
+kept P L (I.Vector (V.VecImmReplicate size rd imm)) s m g h =
+    kept1 P L defined defined_output is_vector vector_target vector_written (λ rd. I.Vector (V.VecImmReplicate size rd imm)) (λ rd. vector_row (V.VecImmReplicate size rd imm)) (λ rd. refl)
     (λ rd changed f. does L changed (generates_vector (Lanes.ReplicateImmediate (elements_of size) (low_halfword imm)) (number_of rd)) no_code (λ r. f)) rd [] s m g h
-kept P L (Vector (VecInsertLaneUndef size rd rn lane base)) s m g h =
-    kept3 P L defined defined_output is_vector vector_target vector_written (λ rd rn base. Vector (VecInsertLaneUndef size rd rn lane base)) is_general is_general (λ rd rn base. vector_row (VecInsertLaneUndef size rd rn lane base)) (λ rd rn base. refl)
+kept P L (I.Vector (V.VecInsertLaneUndef size rd rn lane base)) s m g h =
+    kept3 P L defined defined_output is_vector vector_target vector_written (λ rd rn base. I.Vector (V.VecInsertLaneUndef size rd rn lane base)) is_general is_general (λ rd rn base. vector_row (V.VecInsertLaneUndef size rd rn lane base)) (λ rd rn base. refl)
     (λ rd rn base changed f. does L changed (inserts_lane_alone (elements_of size) (number_of rd) (number_of rn) (number_of base) lane) no_code (λ r. inserts_alone_written (elements_of size) (number_of rd) (number_of rn) (number_of base) lane r changed f)) rd rn base (used rn ∷ used base ∷ []) s m.0
     g h
-kept P L (Vector (VecExtractLane size rd rn lane base)) s m g h =
-    kept3 P L defined defined_output is_general general_target general_written (λ rd rn base. Vector (VecExtractLane size rd rn lane base)) is_vector is_general (λ rd rn base. vector_row (VecExtractLane size rd rn lane base)) (λ rd rn base. refl)
+kept P L (I.Vector (V.VecExtractLane size rd rn lane base)) s m g h =
+    kept3 P L defined defined_output is_general general_target general_written (λ rd rn base. I.Vector (V.VecExtractLane size rd rn lane base)) is_vector is_general (λ rd rn base. vector_row (V.VecExtractLane size rd rn lane base)) (λ rd rn base. refl)
     (λ rd rn base changed f. does L changed (extracts_lane (elements_of size) (number_of rd) (number_of rn) (number_of base) lane) no_code (λ r. extracts_written (elements_of size) (number_of rd) (number_of rn) (number_of base) lane r changed f)) rd rn base (used rn ∷ used base ∷ []) s m.0 g h
-kept P L (Vector (VecInsertLaneImmUndef size rd imm lane)) s m g h =
-    kept1 P L defined defined_output is_vector vector_target vector_written (λ rd. Vector (VecInsertLaneImmUndef size rd imm lane)) (λ rd. vector_row (VecInsertLaneImmUndef size rd imm lane)) (λ rd. refl)
+kept P L (I.Vector (V.VecInsertLaneImmUndef size rd imm lane)) s m g h =
+    kept1 P L defined defined_output is_vector vector_target vector_written (λ rd. I.Vector (V.VecInsertLaneImmUndef size rd imm lane)) (λ rd. vector_row (V.VecInsertLaneImmUndef size rd imm lane)) (λ rd. refl)
     (λ rd changed f. does L changed (inserts_immediate_alone (elements_of size) (number_of rd) (low_halfword imm) lane) no_code (λ r. f)) rd [] s m g h
-kept P L (Vector (VecReplicateLane size rd rn lane)) s m g h =
-    kept2 P L defined defined_output is_vector vector_target vector_written (λ rd rn. Vector (VecReplicateLane size rd rn lane)) is_vector (λ rd rn. vector_row (VecReplicateLane size rd rn lane)) (λ rd rn. refl)
+kept P L (I.Vector (V.VecReplicateLane size rd rn lane)) s m g h =
+    kept2 P L defined defined_output is_vector vector_target vector_written (λ rd rn. I.Vector (V.VecReplicateLane size rd rn lane)) is_vector (λ rd rn. vector_row (V.VecReplicateLane size rd rn lane)) (λ rd rn. refl)
     (λ rd rn changed f. does L changed (computes_one_vector (Lanes.Replicate (elements_of size) lane) (number_of rd) (number_of rn)) no_code (λ r. f)) rd rn (used rn ∷ []) s m.0 g h
-kept P L (AluRX op rd ri mem) s m g h =
-    load_kept2 P L is_general general_target general_written reused reused_output reused_passed (λ d i x. AluRX op d i x) (λ d i x. operate (is_some (alu_rx op) || is_some (alu_rxy op)) (alu_rx op) (alu_rxy op) d i x)
+kept P L (I.AluRX op rd ri mem) s m g h =
+    load_kept2 P L is_general general_target general_written reused reused_output reused_passed (λ d i x. I.AluRX op d i x) (λ d i x. operate (is_some (alu_rx op) || is_some (alu_rxy op)) (alu_rx op) (alu_rxy op) d i x)
     (λ d i x v. alike_first is_general d i (operate_valid (is_some (alu_rx op) || is_some (alu_rxy op)) (alu_rx op) (alu_rxy op) d i x v)) (λ d i x. (refl, refl))
-    (λ d i x changed f free. accessed L changed (operand_step (AluRX op d i (resolved P.state x))) (λ address r. f) free) rd ri mem s m.0 g h
-kept P L (AtomicCas32 rd ri rn mem) s m g h =
-    swap_kept P L (λ d i n x. AtomicCas32 d i n x) (compare_and_swap (Some opcodes.CS) opcodes.CSY) (λ d i n x v. alike_first is_general d i (and_left (reuses d i) (is_general n) (and_left (reuses d i && is_general n) (operand_general x) v))) (λ d i n x. (refl, refl))
-    (λ d i n x changed f free. accessed L changed (operand_step (AtomicCas32 d i n (resolved P.state x))) (λ address r. f) free) general_written rd ri rn mem s m.0 g h
-kept P L (AtomicCas64 rd ri rn mem) s m g h =
-    swap_kept P L (λ d i n x. AtomicCas64 d i n x) (compare_and_swap None opcodes.CSG) (λ d i n x v. alike_first is_general d i (and_left (reuses d i) (is_general n) (and_left (reuses d i && is_general n) (operand_general x) v))) (λ d i n x. (refl, refl))
-    (λ d i n x changed f free. accessed L changed (operand_step (AtomicCas64 d i n (resolved P.state x))) (λ address r. f) free) general_written rd ri rn mem s m.0 g h
-kept P L (Jump dest) s m g h = (jump_keeps L _ dest.0, nothing L _)
-kept P L (CondBr taken not_taken mask) s m g h = (choice_keeps L _ mask taken.0 not_taken.0, nothing L _)
-kept P L (CondBreak mask) s m g h = (nothing L _, nothing L _)
-kept P L Nop0 s m g h = (silence L _, nothing L _)
-kept P L Nop2 s m g h = does L _ idles no_code (λ r q a. tt)
-kept P L Fence s m g h = does L _ idles no_code (λ r q a. tt)
-kept P L (Trap code) s m g h = (trap_keeps L _ code, nothing L _)
-kept P L (TrapIf mask code) s m g h = (trap_where_keeps L _ mask code, nothing L _)
-kept P L Debugtrap s m g h = (debug_keeps L _, nothing L _)
-kept P L SequencePoint s m g h = (silence L _, nothing L _)
-kept P L (DummyUse reg) s m g h = (silence L _, nothing L _)
-kept P L (CmpRX op rn mem) s m g h = store_kept P L (λ a x. CmpRX op a x) (λ a x changed f free. accessed L changed (operand_step (CmpRX op a (resolved P.state x))) (λ address r. f) free) rn mem s g
-kept P L (StoreImm8 imm mem) s m g h = accessed L _ (operand_step (StoreImm8 imm (resolved P.state (memory_at mem s).0))) (λ address r q a. tt) (memory_listed mem s s g)
-kept P L (StoreImm16 imm mem) s m g h = accessed L _ (operand_step (StoreImm16 imm (resolved P.state (memory_at mem s).0))) (λ address r q a. tt) (memory_listed mem s s g)
-kept P L (StoreImm32SExt16 imm mem) s m g h = accessed L _ (operand_step (StoreImm32SExt16 imm (resolved P.state (memory_at mem s).0))) (λ address r q a. tt) (memory_listed mem s s g)
-kept P L (StoreImm64SExt16 imm mem) s m g h = accessed L _ (operand_step (StoreImm64SExt16 imm (resolved P.state (memory_at mem s).0))) (λ address r q a. tt) (memory_listed mem s s g)
-kept P L (LoadAddr rd mem) s m g h =
-    load_kept P L is_general general_target general_written defined defined_output defined_passed (λ a x. LoadAddr a x) (λ rd mem. Some (record { form = address_form rd; operand = mem; accesses = false; operands_valid = is_general rd; reads_scratch = false }))
-    (λ a m v. and_left (is_general a) (operand_general m) v) (λ a x. (refl, refl)) (λ a x changed f free. accessed L changed (operand_step (LoadAddr a (resolved P.state x))) (λ address r. f) free) rd mem s m.0 g h
-kept P L (LoadMultiple64 (Real p) (Real q) mem) s m g h = load_range_kept P L (Real p) (Real q) mem s (λ changed f free. accessed L changed (operand_step (LoadMultiple64 (Real p) (Real q) (resolved P.state (memory_at mem s).0))) (λ address r. f) free) (refl, refl) g h
-kept P L (LoadMultiple64 (Real p) (Virtual n c) mem) s m g h = absurd m.0
-kept P L (LoadMultiple64 (Virtual n c) last mem) s m g h = absurd m.0
-kept P L (StoreMultiple64 rt rt2 mem) s m g h = accessed L _ (operand_step (StoreMultiple64 rt rt2 (resolved P.state (memory_at mem s).0))) (λ address r q a. tt) (memory_scratch mem (range_requests rt rt2) s s g)
-kept P L (AtomicRmw op rd rn mem) s m g h =
-    load_kept2 P L is_general general_target general_written defined defined_output defined_passed (λ d n x. AtomicRmw op d n x) (λ d n x. load_and_operate (atomic_rsy op) d n x) (λ d n x v. change_valid (atomic_rsy op) d n x v) (λ d n x. (refl, refl))
-    (λ d n x changed f free. accessed L changed (operand_step (AtomicRmw op d n (resolved P.state x))) (λ address r. f) free) rd rn mem s m.0 g h
-kept P L (IndirectBr rn targets) s m g h = (branch_keeps L _ (number_of (register_at rn s)) targets.items, nothing L _)
-kept P L (JTSequence ridx other mask targets) s m g h = (table_keeps L _ (number_of (register_at ridx s)) mask other.0 targets.items (behind_one ridx (scratch_request ∷ []) s g scratch_target (λ k. scratch_listed [] (after ridx s))), nothing L _)
-kept P L (LoadSymbolReloc rd reloc) s m g h = relocation_kept P L rd reloc s m g h
-kept P L (LabelAddress dst label) s m g h = label_kept P L dst label s m g h
-kept P L (Args args) s m g h = (silence L _, nothing L _)
-kept P L (Rets rets) s m g h = (silence L _, nothing L _)
-kept P L (Vector (VecInsertLane size rd ri rn lane base)) s m g h =
-    kept_reuse3 P L is_vector vector_target vector_written (λ d i n b. Vector (VecInsertLane size d i n lane b)) is_general is_general (λ d i n b. vector_row (VecInsertLane size d i n lane b)) (λ d i n b. refl)
+    (λ d i x changed f free. accessed L changed (operand_step (I.AluRX op d i (resolved P.state x))) (λ address r. f) free) rd ri mem s m.0 g h
+kept P L (I.AtomicCas32 rd ri rn mem) s m g h =
+    swap_kept P L (λ d i n x. I.AtomicCas32 d i n x) (compare_and_swap (Some opcodes.CS) opcodes.CSY) (λ d i n x v. alike_first is_general d i (and_left (reuses d i) (is_general n) (and_left (reuses d i && is_general n) (operand_general x) v))) (λ d i n x. (refl, refl))
+    (λ d i n x changed f free. accessed L changed (operand_step (I.AtomicCas32 d i n (resolved P.state x))) (λ address r. f) free) general_written rd ri rn mem s m.0 g h
+kept P L (I.AtomicCas64 rd ri rn mem) s m g h =
+    swap_kept P L (λ d i n x. I.AtomicCas64 d i n x) (compare_and_swap None opcodes.CSG) (λ d i n x v. alike_first is_general d i (and_left (reuses d i) (is_general n) (and_left (reuses d i && is_general n) (operand_general x) v))) (λ d i n x. (refl, refl))
+    (λ d i n x changed f free. accessed L changed (operand_step (I.AtomicCas64 d i n (resolved P.state x))) (λ address r. f) free) general_written rd ri rn mem s m.0 g h
+kept P L (I.Jump dest) s m g h = (jump_keeps L _ dest.0, nothing L _)
+kept P L (I.CondBr taken not_taken mask) s m g h = (choice_keeps L _ mask taken.0 not_taken.0, nothing L _)
+kept P L (I.CondBreak mask) s m g h = (nothing L _, nothing L _)
+kept P L I.Nop0 s m g h = (silence L _, nothing L _)
+kept P L I.Nop2 s m g h = does L _ idles no_code (λ r q a. tt)
+kept P L I.Fence s m g h = does L _ idles no_code (λ r q a. tt)
+kept P L (I.Trap code) s m g h = (trap_keeps L _ code, nothing L _)
+kept P L (I.TrapIf mask code) s m g h = (trap_where_keeps L _ mask code, nothing L _)
+kept P L I.Debugtrap s m g h = (debug_keeps L _, nothing L _)
+kept P L I.SequencePoint s m g h = (silence L _, nothing L _)
+kept P L (I.DummyUse reg) s m g h = (silence L _, nothing L _)
+kept P L (I.CmpRX op rn mem) s m g h = store_kept P L (λ a x. I.CmpRX op a x) (λ a x changed f free. accessed L changed (operand_step (I.CmpRX op a (resolved P.state x))) (λ address r. f) free) rn mem s g
+kept P L (I.StoreImm8 imm mem) s m g h = accessed L _ (operand_step (I.StoreImm8 imm (resolved P.state (memory_at mem s).0))) (λ address r q a. tt) (memory_listed mem s s g)
+kept P L (I.StoreImm16 imm mem) s m g h = accessed L _ (operand_step (I.StoreImm16 imm (resolved P.state (memory_at mem s).0))) (λ address r q a. tt) (memory_listed mem s s g)
+kept P L (I.StoreImm32SExt16 imm mem) s m g h = accessed L _ (operand_step (I.StoreImm32SExt16 imm (resolved P.state (memory_at mem s).0))) (λ address r q a. tt) (memory_listed mem s s g)
+kept P L (I.StoreImm64SExt16 imm mem) s m g h = accessed L _ (operand_step (I.StoreImm64SExt16 imm (resolved P.state (memory_at mem s).0))) (λ address r q a. tt) (memory_listed mem s s g)
+kept P L (I.LoadAddr rd mem) s m g h =
+    load_kept P L is_general general_target general_written defined defined_output defined_passed (λ a x. I.LoadAddr a x) (λ rd mem. Some (record { form = address_form rd; operand = mem; accesses = false; operands_valid = is_general rd; reads_scratch = false }))
+    (λ a m v. and_left (is_general a) (operand_general m) v) (λ a x. (refl, refl)) (λ a x changed f free. accessed L changed (operand_step (I.LoadAddr a (resolved P.state x))) (λ address r. f) free) rd mem s m.0 g h
+kept P L (I.LoadMultiple64 (Real p) (Real q) mem) s m g h = load_range_kept P L (Real p) (Real q) mem s (λ changed f free. accessed L changed (operand_step (I.LoadMultiple64 (Real p) (Real q) (resolved P.state (memory_at mem s).0))) (λ address r. f) free) (refl, refl) g h
+kept P L (I.LoadMultiple64 (Real p) (Virtual n c) mem) s m g h = absurd m.0
+kept P L (I.LoadMultiple64 (Virtual n c) last mem) s m g h = absurd m.0
+kept P L (I.StoreMultiple64 rt rt2 mem) s m g h = accessed L _ (operand_step (I.StoreMultiple64 rt rt2 (resolved P.state (memory_at mem s).0))) (λ address r q a. tt) (memory_scratch mem (range_requests rt rt2) s s g)
+kept P L (I.AtomicRmw op rd rn mem) s m g h =
+    load_kept2 P L is_general general_target general_written defined defined_output defined_passed (λ d n x. I.AtomicRmw op d n x) (λ d n x. load_and_operate (atomic_rsy op) d n x) (λ d n x v. change_valid (atomic_rsy op) d n x v) (λ d n x. (refl, refl))
+    (λ d n x changed f free. accessed L changed (operand_step (I.AtomicRmw op d n (resolved P.state x))) (λ address r. f) free) rd rn mem s m.0 g h
+kept P L (I.IndirectBr rn targets) s m g h = (branch_keeps L _ (number_of (register_at rn s)) targets.items, nothing L _)
+kept P L (I.JTSequence ridx other mask targets) s m g h = (table_keeps L _ (number_of (register_at ridx s)) mask other.0 targets.items (behind_one ridx (scratch_request ∷ []) s g scratch_target (λ k. scratch_listed [] (after ridx s))), nothing L _)
+kept P L (I.LoadSymbolReloc rd reloc) s m g h = relocation_kept P L rd reloc s m g h
+kept P L (I.LabelAddress dst label) s m g h = label_kept P L dst label s m g h
+kept P L (I.Args args) s m g h = (silence L _, nothing L _)
+kept P L (I.Rets rets) s m g h = (silence L _, nothing L _)
+kept P L (I.Vector (V.VecInsertLane size rd ri rn lane base)) s m g h =
+    kept_reuse3 P L is_vector vector_target vector_written (λ d i n b. I.Vector (V.VecInsertLane size d i n lane b)) is_general is_general (λ d i n b. vector_row (V.VecInsertLane size d i n lane b)) (λ d i n b. refl)
     (λ rd ri rn base changed f. does L changed (inserts_lane (elements_of size) (number_of rd) (number_of rn) (number_of base) lane) no_code (λ r. inserts_written (elements_of size) (number_of rd) (number_of rn) (number_of base) lane r changed f)) rd ri rn base (used ri ∷ used rn ∷ used base ∷ []) s
     m.0 g h
-kept P L (Vector (VecInsertLaneImm size rd ri imm lane)) s m g h =
-    kept_reuse1 P L is_vector vector_target vector_written (λ d i. Vector (VecInsertLaneImm size d i imm lane)) (λ d i. vector_row (VecInsertLaneImm size d i imm lane)) (λ d i. refl)
+kept P L (I.Vector (V.VecInsertLaneImm size rd ri imm lane)) s m g h =
+    kept_reuse1 P L is_vector vector_target vector_written (λ d i. I.Vector (V.VecInsertLaneImm size d i imm lane)) (λ d i. vector_row (V.VecInsertLaneImm size d i imm lane)) (λ d i. refl)
     (λ rd ri changed f. does L changed (generates_vector (Lanes.InsertImmediate (elements_of size) (low_halfword imm) lane) (number_of rd)) no_code (λ r. f)) rd ri (used ri ∷ []) s m.0 g h
-kept P L (Vector (FpuCMov32 rd mask ri rm)) s m g h =
-    kept_reuse2 P L is_vector vector_target vector_written (λ d i n. Vector (FpuCMov32 d mask i n)) is_vector (λ d i n. Some (move_left_row opcodes.LER (number_of d) (number_of n))) (λ d i n. refl)
+kept P L (I.Vector (V.FpuCMov32 rd mask ri rm)) s m g h =
+    kept_reuse2 P L is_vector vector_target vector_written (λ d i n. I.Vector (V.FpuCMov32 d mask i n)) is_vector (λ d i n. Some (move_left_row opcodes.LER (number_of d) (number_of n))) (λ d i n. refl)
     (λ rd ri rm changed f. (condition_keeps L changed (four_bits mask) (moves_left ElementSize.Word (number_of rd) (number_of rm)) (λ r. f), nothing L changed)) rd ri rm (used ri ∷ used rm ∷ []) s m.0 g h
-kept P L (Vector (FpuCMov64 rd mask ri rm)) s m g h =
-    kept_reuse2 P L is_vector vector_target vector_written (λ d i n. Vector (FpuCMov64 d mask i n)) is_vector (λ d i n. Some (move_left_row opcodes.LDR (number_of d) (number_of n))) (λ d i n. refl)
+kept P L (I.Vector (V.FpuCMov64 rd mask ri rm)) s m g h =
+    kept_reuse2 P L is_vector vector_target vector_written (λ d i n. I.Vector (V.FpuCMov64 d mask i n)) is_vector (λ d i n. Some (move_left_row opcodes.LDR (number_of d) (number_of n))) (λ d i n. refl)
     (λ rd ri rm changed f. (condition_keeps L changed (four_bits mask) (moves_left ElementSize.Doubleword (number_of rd) (number_of rm)) (λ r. f), nothing L changed)) rd ri rm (used ri ∷ used rm ∷ []) s m.0 g h
-kept P L (Vector (VecCMov rd mask ri rm)) s m g h =
-    kept_reuse2 P L is_vector vector_target vector_written (λ d i n. Vector (VecCMov d mask i n)) is_vector (λ d i n. Some (vrr_a opcodes.VLR (number_of d) (number_of n) 0)) (λ d i n. refl)
+kept P L (I.Vector (V.VecCMov rd mask ri rm)) s m g h =
+    kept_reuse2 P L is_vector vector_target vector_written (λ d i n. I.Vector (V.VecCMov d mask i n)) is_vector (λ d i n. Some (vrr_a opcodes.VLR (number_of d) (number_of n) 0)) (λ d i n. refl)
     (λ rd ri rm changed f. (condition_keeps L changed (four_bits mask) (computes_one_vector Lanes.Move (number_of rd) (number_of rm)) (λ r. f), nothing L changed)) rd ri rm (used ri ∷ used rm ∷ []) s m.0 g h
-kept P L (Vector (VecEltRev count rd rn)) s m g h =
-    kept2 P L defined defined_output is_vector vector_target vector_written (λ rd rn. Vector (VecEltRev count rd rn)) is_vector (λ rd rn. first_row (reversing_rows count (number_of rd) (number_of rn))) (λ rd rn. reverse_single P count rd rn)
+kept P L (I.Vector (V.VecEltRev count rd rn)) s m g h =
+    kept2 P L defined defined_output is_vector vector_target vector_written (λ rd rn. I.Vector (V.VecEltRev count rd rn)) is_vector (λ rd rn. first_row (reversing_rows count (number_of rd) (number_of rn))) (λ rd rn. reverse_single P count rd rn)
     (λ rd rn changed f. does L changed (reverses_elements (elements_of (128 / count)) (number_of rd) (number_of rn)) no_code (λ r. f)) rd rn (used rn ∷ []) s m.0 g h
-kept P L (Vector (VecInt128SCmpHi tmp rn rm)) s m g h =
-    kept3 P L defined defined_output is_vector vector_target vector_written (λ d n m. Vector (VecInt128SCmpHi d n m)) is_vector is_vector (λ d n m. Some (vrr_a opcodes.VEC (number_of m) (number_of n) 3)) (λ d n m. refl)
+kept P L (I.Vector (V.VecInt128SCmpHi tmp rn rm)) s m g h =
+    kept3 P L defined defined_output is_vector vector_target vector_written (λ d n m. I.Vector (V.VecInt128SCmpHi d n m)) is_vector is_vector (λ d n m. Some (vrr_a opcodes.VEC (number_of m) (number_of n) 3)) (λ d n m. refl)
     (λ d n m changed f. (comparison_keeps L changed Signed (number_of d) (number_of n) (number_of m) f, nothing L changed)) tmp rn rm (used rn ∷ used rm ∷ []) s m.0 g h
-kept P L (Vector (VecInt128UCmpHi tmp rn rm)) s m g h =
-    kept3 P L defined defined_output is_vector vector_target vector_written (λ d n m. Vector (VecInt128UCmpHi d n m)) is_vector is_vector (λ d n m. Some (vrr_a opcodes.VECL (number_of m) (number_of n) 3)) (λ d n m. refl)
+kept P L (I.Vector (V.VecInt128UCmpHi tmp rn rm)) s m g h =
+    kept3 P L defined defined_output is_vector vector_target vector_written (λ d n m. I.Vector (V.VecInt128UCmpHi d n m)) is_vector is_vector (λ d n m. Some (vrr_a opcodes.VECL (number_of m) (number_of n) 3)) (λ d n m. refl)
     (λ d n m changed f. (comparison_keeps L changed Unsigned (number_of d) (number_of n) (number_of m) f, nothing L changed)) tmp rn rm (used rn ∷ used rm ∷ []) s m.0 g h
-kept P L (Vector (VecLoadReplicate size rd mem)) s m g h =
-    load_kept P L is_vector vector_target vector_written defined defined_output defined_passed (λ a x. Vector (VecLoadReplicate size a x)) (λ a x. access_elements opcodes.VLREP a (element_code size) x) (λ a x v. vector_valid (is_vector a) x (access_elements opcodes.VLREP a (element_code size) x) (elements_accessed opcodes.VLREP a (element_code size) x) v)
-    (λ a x. (refl, refl)) (λ a x changed f free. accessed L changed (operand_step (Vector (VecLoadReplicate size a (resolved P.state x)))) (λ address r. f) free) rd mem s m.0 g h
-kept P L (Vector (VecLoadReplicateRev size rd mem)) s m g h =
-    load_kept P L is_vector vector_target vector_written defined defined_output defined_passed (λ a x. Vector (VecLoadReplicateRev size a x)) (λ a x. access_elements opcodes.VLBRREP a (reversed_code size) x) (λ a x v. vector_valid (is_vector a) x (access_elements opcodes.VLBRREP a (reversed_code size) x) (elements_accessed opcodes.VLBRREP a (reversed_code size) x) v)
-    (λ a x. (refl, refl)) (λ a x changed f free. accessed L changed (operand_step (Vector (VecLoadReplicateRev size a (resolved P.state x)))) (λ address r. f) free) rd mem s m.0 g h
-kept P L (Vector (VecLoadLane size rd ri mem lane)) s m g h =
-    load_kept2 P L is_vector vector_target vector_written reused reused_output reused_passed (λ d i x. Vector (VecLoadLane size d i x lane)) (λ d i x. vector_memory (VecLoadLane size d i x lane))
-    (λ d i x v. alike_first is_vector d i (vector_valid (reuses_vector d i) x (vector_memory (VecLoadLane size d i x lane)) (lane_accessed (reuses_vector d i) (λ c. load_lane_opcode c) (number_of d) (element_code size) size lane x) v)) (λ d i x. (refl, refl))
-    (λ d i x changed f free. accessed L changed (operand_step (Vector (VecLoadLane size d i (resolved P.state x) lane))) (λ address r. f) free) rd ri mem s m.0 g h
-kept P L (Vector (VecLoadLaneRev size rd ri mem lane)) s m g h =
-    load_kept2 P L is_vector vector_target vector_written reused reused_output reused_passed (λ d i x. Vector (VecLoadLaneRev size d i x lane)) (λ d i x. vector_memory (VecLoadLaneRev size d i x lane))
-    (λ d i x v. alike_first is_vector d i (vector_valid (reuses_vector d i) x (vector_memory (VecLoadLaneRev size d i x lane)) (lane_accessed (reuses_vector d i) (λ c. load_reversed_opcode c) (number_of d) (reversed_code size) size lane x) v)) (λ d i x. (refl, refl))
-    (λ d i x changed f free. accessed L changed (operand_step (Vector (VecLoadLaneRev size d i (resolved P.state x) lane))) (λ address r. f) free) rd ri mem s m.0 g h
-kept P L (Vector (VecLoadLaneUndef size rd mem lane)) s m g h =
-    load_kept P L is_vector vector_target vector_written defined defined_output defined_passed (λ a x. Vector (VecLoadLaneUndef size a x lane)) (λ a x. vector_memory (VecLoadLaneUndef size a x lane))
-    (λ a x v. vector_valid (is_vector a) x (vector_memory (VecLoadLaneUndef size a x lane)) (left_accessed (λ z r. load_left z r) (λ c. load_lane_opcode c) a size lane x) v) (λ a x. (refl, refl))
-    (λ a x changed f free. accessed L changed (operand_step (Vector (VecLoadLaneUndef size a (resolved P.state x) lane))) (λ address r. f) free) rd mem s m.0 g h
-kept P L (Vector (VecStoreLane size rd mem lane)) s m g h = store_kept P L (λ a x. Vector (VecStoreLane size a x lane)) (λ a x changed f free. accessed L changed (operand_step (Vector (VecStoreLane size a (resolved P.state x) lane))) (λ address r. f) free) rd mem s g
-kept P L (Vector (VecLoadLaneRevUndef size rd mem lane)) s m g h =
-    load_kept P L is_vector vector_target vector_written defined defined_output defined_passed (λ a x. Vector (VecLoadLaneRevUndef size a x lane)) (λ a x. vector_memory (VecLoadLaneRevUndef size a x lane))
-    (λ a x v. vector_valid (is_vector a) x (vector_memory (VecLoadLaneRevUndef size a x lane)) (lane_accessed (is_vector a) (λ c. load_reversed_opcode c) (number_of a) (reversed_code size) size lane x) v) (λ a x. (refl, refl))
-    (λ a x changed f free. accessed L changed (operand_step (Vector (VecLoadLaneRevUndef size a (resolved P.state x) lane))) (λ address r. f) free) rd mem s m.0 g h
-kept P L (Vector (VecStoreLaneRev size rd mem lane)) s m g h = store_kept P L (λ a x. Vector (VecStoreLaneRev size a x lane)) (λ a x changed f free. accessed L changed (operand_step (Vector (VecStoreLaneRev size a (resolved P.state x) lane))) (λ address r. f) free) rd mem s g
-kept P L (Loop' mask body all) s m g h = absurd m
-kept P L (Call link info) s m g h = absurd m
-kept P L (ReturnCall info) s m g h = absurd m
-kept P L (Ret link) s m g h = absurd m
-kept P L (AllocateArgs size) s m g h = absurd m
-kept P L (Vector v) s m g h = let w : WholeAccess = the_whole (as_whole v) refl in kept_whole P L w.direction w.layout w.rd w.mem s m g h
+kept P L (I.Vector (V.VecLoadReplicate size rd mem)) s m g h =
+    load_kept P L is_vector vector_target vector_written defined defined_output defined_passed (λ a x. I.Vector (V.VecLoadReplicate size a x)) (λ a x. access_elements opcodes.VLREP a (element_code size) x) (λ a x v. vector_valid (is_vector a) x (access_elements opcodes.VLREP a (element_code size) x) (elements_accessed opcodes.VLREP a (element_code size) x) v)
+    (λ a x. (refl, refl)) (λ a x changed f free. accessed L changed (operand_step (I.Vector (V.VecLoadReplicate size a (resolved P.state x)))) (λ address r. f) free) rd mem s m.0 g h
+kept P L (I.Vector (V.VecLoadReplicateRev size rd mem)) s m g h =
+    load_kept P L is_vector vector_target vector_written defined defined_output defined_passed (λ a x. I.Vector (V.VecLoadReplicateRev size a x)) (λ a x. access_elements opcodes.VLBRREP a (reversed_code size) x) (λ a x v. vector_valid (is_vector a) x (access_elements opcodes.VLBRREP a (reversed_code size) x) (elements_accessed opcodes.VLBRREP a (reversed_code size) x) v)
+    (λ a x. (refl, refl)) (λ a x changed f free. accessed L changed (operand_step (I.Vector (V.VecLoadReplicateRev size a (resolved P.state x)))) (λ address r. f) free) rd mem s m.0 g h
+kept P L (I.Vector (V.VecLoadLane size rd ri mem lane)) s m g h =
+    load_kept2 P L is_vector vector_target vector_written reused reused_output reused_passed (λ d i x. I.Vector (V.VecLoadLane size d i x lane)) (λ d i x. vector_memory (V.VecLoadLane size d i x lane))
+    (λ d i x v. alike_first is_vector d i (vector_valid (reuses_vector d i) x (vector_memory (V.VecLoadLane size d i x lane)) (lane_accessed (reuses_vector d i) (λ c. load_lane_opcode c) (number_of d) (element_code size) size lane x) v)) (λ d i x. (refl, refl))
+    (λ d i x changed f free. accessed L changed (operand_step (I.Vector (V.VecLoadLane size d i (resolved P.state x) lane))) (λ address r. f) free) rd ri mem s m.0 g h
+kept P L (I.Vector (V.VecLoadLaneRev size rd ri mem lane)) s m g h =
+    load_kept2 P L is_vector vector_target vector_written reused reused_output reused_passed (λ d i x. I.Vector (V.VecLoadLaneRev size d i x lane)) (λ d i x. vector_memory (V.VecLoadLaneRev size d i x lane))
+    (λ d i x v. alike_first is_vector d i (vector_valid (reuses_vector d i) x (vector_memory (V.VecLoadLaneRev size d i x lane)) (lane_accessed (reuses_vector d i) (λ c. load_reversed_opcode c) (number_of d) (reversed_code size) size lane x) v)) (λ d i x. (refl, refl))
+    (λ d i x changed f free. accessed L changed (operand_step (I.Vector (V.VecLoadLaneRev size d i (resolved P.state x) lane))) (λ address r. f) free) rd ri mem s m.0 g h
+kept P L (I.Vector (V.VecLoadLaneUndef size rd mem lane)) s m g h =
+    load_kept P L is_vector vector_target vector_written defined defined_output defined_passed (λ a x. I.Vector (V.VecLoadLaneUndef size a x lane)) (λ a x. vector_memory (V.VecLoadLaneUndef size a x lane))
+    (λ a x v. vector_valid (is_vector a) x (vector_memory (V.VecLoadLaneUndef size a x lane)) (left_accessed (λ z r. load_left z r) (λ c. load_lane_opcode c) a size lane x) v) (λ a x. (refl, refl))
+    (λ a x changed f free. accessed L changed (operand_step (I.Vector (V.VecLoadLaneUndef size a (resolved P.state x) lane))) (λ address r. f) free) rd mem s m.0 g h
+kept P L (I.Vector (V.VecStoreLane size rd mem lane)) s m g h = store_kept P L (λ a x. I.Vector (V.VecStoreLane size a x lane)) (λ a x changed f free. accessed L changed (operand_step (I.Vector (V.VecStoreLane size a (resolved P.state x) lane))) (λ address r. f) free) rd mem s g
+kept P L (I.Vector (V.VecLoadLaneRevUndef size rd mem lane)) s m g h =
+    load_kept P L is_vector vector_target vector_written defined defined_output defined_passed (λ a x. I.Vector (V.VecLoadLaneRevUndef size a x lane)) (λ a x. vector_memory (V.VecLoadLaneRevUndef size a x lane))
+    (λ a x v. vector_valid (is_vector a) x (vector_memory (V.VecLoadLaneRevUndef size a x lane)) (lane_accessed (is_vector a) (λ c. load_reversed_opcode c) (number_of a) (reversed_code size) size lane x) v) (λ a x. (refl, refl))
+    (λ a x changed f free. accessed L changed (operand_step (I.Vector (V.VecLoadLaneRevUndef size a (resolved P.state x) lane))) (λ address r. f) free) rd mem s m.0 g h
+kept P L (I.Vector (V.VecStoreLaneRev size rd mem lane)) s m g h = store_kept P L (λ a x. I.Vector (V.VecStoreLaneRev size a x lane)) (λ a x changed f free. accessed L changed (operand_step (I.Vector (V.VecStoreLaneRev size a (resolved P.state x) lane))) (λ address r. f) free) rd mem s g
+kept P L (I.Loop' mask body all) s m g h = absurd m
+kept P L (I.Call link info) s m g h = absurd m
+kept P L (I.ReturnCall info) s m g h = absurd m
+kept P L (I.Ret link) s m g h = absurd m
+kept P L (I.AllocateArgs size) s m g h = absurd m
+kept P L (I.Vector v) s m g h = let w : WholeAccess = the_whole (as_whole v) refl in kept_whole P L w.direction w.layout w.rd w.mem s m g h
 kept P L i s m g h = kept_transfer P L (the_transfer (as_transfer i) refl) s m g h

@@ -12,7 +12,7 @@ use Rattle.s390x_inst.specs.Portions.{Portion, closing, first_portion, portions}
 use Rattle.s390x_inst.specs.declared.calls.CallInstDest.{CallInstDest}
 use Rattle.s390x_inst.specs.declared.calls.TryCallInfo.{TryCallInfo}
 use Rattle.s390x_inst.specs.declared.inst.Inst.{Inst}
-use Rattle.s390x_inst.specs.declared.inst.Inst.TheVariants.{Loop', Jump, CondBr, IndirectBr, JTSequence, Ret, ReturnCall, Trap, TrapIf, Debugtrap, Call, Args, Rets, Nop0, DummyUse, SequencePoint, Vector}
+use Rattle.s390x_inst.specs.declared.inst.Inst.TheVariants as I
 use Rattle.s390x_inst.specs.declared.state.FrameLayout.{FrameLayout}
 use Rattle.s390x_inst.specs.declared.vec_inst.VecInst.{VecInst}
 use Rattle.s390x_inst.specs.declared.vec_inst.VecInst.TheVariants.{VecInt128SCmpHi, VecInt128UCmpHi}
@@ -162,23 +162,23 @@ composes L v = performs_where L (conditional_operation v)
 
 -- the last clause is a copy for each that is left
 kind_goes : (L : Layout) (e : Emission) (i : Inst) (s : List Reg) → Led L (ending i) (portion_kind L e (portion_at (first_portion i) s).0)
-kind_goes L e (Loop' mask body all) s = refuses L falls
-kind_goes L e (Jump dest) s = jumps L dest
-kind_goes L e (CondBr taken not_taken mask) s = chooses L mask taken not_taken
-kind_goes L e (IndirectBr rn targets) s = branches L (number_of (register_at rn s)) targets.items
-kind_goes L e (JTSequence ridx other mask targets) s = looks_up L (number_of (register_at ridx s)) mask other targets.items
-kind_goes L e (Ret link) s = returns L (number_of link)
-kind_goes L e (ReturnCall info) s = refuses L leaves
-kind_goes L e (Trap code) s = traps_always L code
-kind_goes L e (TrapIf mask code) s = traps_where L mask code
-kind_goes L e Debugtrap s = stops L
-kind_goes L e (Call link info) s = refuses L falls
-kind_goes L e (Args args) s = keeps_silent L
-kind_goes L e (Rets rets) s = keeps_silent L
-kind_goes L e Nop0 s = keeps_silent L
-kind_goes L e (DummyUse reg) s = keeps_silent L
-kind_goes L e SequencePoint s = keeps_silent L
-kind_goes L e (Vector v) s = ordinary L (resolved_instruction e (assigned_operator (Vector v) s).0) (composes L (resolved_vector e (assigned_vector v s).0))
+kind_goes L e (I.Loop' mask body all) s = refuses L falls
+kind_goes L e (I.Jump dest) s = jumps L dest
+kind_goes L e (I.CondBr taken not_taken mask) s = chooses L mask taken not_taken
+kind_goes L e (I.IndirectBr rn targets) s = branches L (number_of (register_at rn s)) targets.items
+kind_goes L e (I.JTSequence ridx other mask targets) s = looks_up L (number_of (register_at ridx s)) mask other targets.items
+kind_goes L e (I.Ret link) s = returns L (number_of link)
+kind_goes L e (I.ReturnCall info) s = refuses L leaves
+kind_goes L e (I.Trap code) s = traps_always L code
+kind_goes L e (I.TrapIf mask code) s = traps_where L mask code
+kind_goes L e I.Debugtrap s = stops L
+kind_goes L e (I.Call link info) s = refuses L falls
+kind_goes L e (I.Args args) s = keeps_silent L
+kind_goes L e (I.Rets rets) s = keeps_silent L
+kind_goes L e I.Nop0 s = keeps_silent L
+kind_goes L e (I.DummyUse reg) s = keeps_silent L
+kind_goes L e I.SequencePoint s = keeps_silent L
+kind_goes L e (I.Vector v) s = ordinary L (resolved_instruction e (assigned_operator (I.Vector v) s).0) (composes L (resolved_vector e (assigned_vector v s).0))
 kind_goes L e i s = ordinary L (resolved_instruction e (assigned_operator i s).0) (refuses L falls)
 
 -- its operand's address is loaded first
@@ -186,17 +186,17 @@ loads_first : (L : Layout) (i : Inst) → Led L falls (loaded_kind L i)
 loads_first L i = either_performs L (performed_by L (option_map loaded_step (operand_step i))) Unsupported (refuses L falls)
 
 loaded_goes : (L : Layout) (e : Emission) (i : Inst) (s : List Reg) → Led L (ending i) (portion_loaded_kind L e (portion_at (first_portion i) s).0)
-loaded_goes L e (Loop' mask body all) s = refuses L falls
-loaded_goes L e (Jump dest) s = refuses L (leads_to (dest ∷ []))
-loaded_goes L e (CondBr taken not_taken mask) s = refuses L (leads_to (taken ∷ not_taken ∷ []))
-loaded_goes L e (IndirectBr rn targets) s = refuses L (leads_to targets.items)
-loaded_goes L e (JTSequence ridx other mask targets) s = refuses L (leads_to (other ∷ targets.items))
-loaded_goes L e (Ret link) s = refuses L leaves
-loaded_goes L e (ReturnCall info) s = refuses L leaves
-loaded_goes L e (Trap code) s = refuses L leaves
-loaded_goes L e (Call link info) s = refuses L falls
-loaded_goes L e (Args args) s = refuses L falls
-loaded_goes L e (Rets rets) s = refuses L falls
+loaded_goes L e (I.Loop' mask body all) s = refuses L falls
+loaded_goes L e (I.Jump dest) s = refuses L (leads_to (dest ∷ []))
+loaded_goes L e (I.CondBr taken not_taken mask) s = refuses L (leads_to (taken ∷ not_taken ∷ []))
+loaded_goes L e (I.IndirectBr rn targets) s = refuses L (leads_to targets.items)
+loaded_goes L e (I.JTSequence ridx other mask targets) s = refuses L (leads_to (other ∷ targets.items))
+loaded_goes L e (I.Ret link) s = refuses L leaves
+loaded_goes L e (I.ReturnCall info) s = refuses L leaves
+loaded_goes L e (I.Trap code) s = refuses L leaves
+loaded_goes L e (I.Call link info) s = refuses L falls
+loaded_goes L e (I.Args args) s = refuses L falls
+loaded_goes L e (I.Rets rets) s = refuses L falls
 loaded_goes L e i s = loads_first L (resolved_instruction e (assigned_operator i s).0)
 
 -- ---- what an instruction becomes
@@ -206,11 +206,11 @@ head_or p [] = p
 head_or p (q ∷ qs) = q
 
 head_is : (j : Inst) → head_or closing (portions j) ≡ first_portion j
-head_is (Loop' mask body all) = refl
+head_is (I.Loop' mask body all) = refl
 head_is j = refl
 
 head_given : (i : Inst) (s : List Reg) → head_or closing (assigned (portions i) s).0 ≡ (portion_at (first_portion i) s).0
-head_given (Loop' mask body all) s = refl
+head_given (I.Loop' mask body all) s = refl
 head_given i s = refl
 
 becomes : (i j : Inst) (s : List Reg) → IsAssigned i s j → first_portion j ≡ (portion_at (first_portion i) s).0
@@ -286,6 +286,6 @@ no_handlers e link info h = no_labels e.layout e.stack_map info.try_call_info in
 
 pub jumps_lead : JumpsLead
 jumps_lead e L k dest c at = (
-  record { registers = []; instruction = Jump dest; assigned = refl; state = e; step = Plain (Jump dest); stands = at; own = refl },
+  record { registers = []; instruction = I.Jump dest; assigned = refl; state = e; step = Plain (I.Jump dest); stands = at; own = refl },
   subst (λ o. KindStep L (kind_of_step L o) k c (At (L.first_step dest.0)) c) (sym at) (refl, refl),
 )

@@ -6,15 +6,14 @@ use Rattle.s390x_base.specs.declared.regs.Reg.{Reg}
 use Rattle.s390x_inst.specs.Loads.{as_load, by_load}
 use Rattle.s390x_inst.specs.declared.args.MemArg.{MemArg}
 use Rattle.s390x_inst.specs.declared.inst.Inst.{Inst}
-use Rattle.s390x_inst.specs.declared.inst.Inst.TheVariants.{Loop', AluRX, CmpRX, StoreImm8, StoreImm16, StoreImm32SExt16, StoreImm64SExt16}
-use Rattle.s390x_inst.specs.declared.inst.Inst.TheVariants.{LoadMultiple64, StoreMultiple64, LoadAddr, AtomicRmw, AtomicCas32, AtomicCas64, Vector}
+use Rattle.s390x_inst.specs.declared.inst.Inst.TheVariants as I
 use Rattle.s390x_inst.specs.declared.load.Load.{Load}
 use Rattle.s390x_inst.specs.declared.store.Store.{Store}
 use Rattle.s390x_inst.specs.declared.whole.WholeAccess.{WholeAccess}
 use Rattle.s390x_inst.specs.Stores.{as_store, by_store}
 use Rattle.s390x_inst.specs.Wholes.{as_whole, by_whole}
 use Rattle.s390x_inst.specs.declared.vec_inst.VecInst.{VecInst}
-use Rattle.s390x_inst.specs.declared.vec_inst.VecInst.TheVariants.{VecLoadReplicate, VecLoadReplicateRev, VecLoadLane, VecLoadLaneRev, VecLoadLaneUndef, VecLoadLaneRevUndef, VecStoreLane, VecStoreLaneRev}
+use Rattle.s390x_inst.specs.declared.vec_inst.VecInst.TheVariants as V
 use Rattle.s390x_rows.specs.declared.opcodes.TheConstants as opcodes
 use Rattle.s390x_typed_steps.specs.Memory.{MemoryInstruction, VrxForm, operate, load_and_operate, access_elements, access_lane, access_vector, load_lane_opcode, load_left, load_memory, load_reversed_opcode, is_left_lane, other_memory, reversed_code, store_memory, whole_memory, store_lane_opcode, store_left, store_reversed_opcode}
 use Rattle.s390x_typed_steps.specs.Memory.{vector_memory as step_vector}
@@ -48,18 +47,18 @@ whole_seen None = tt
 whole_seen (Some w) = refl
 
 vector_seen : (v : VecInst) → IsOperandOf (step_vector v) (vector_memory v)
-vector_seen (VecLoadReplicate size rd mem) = elements_seen opcodes.VLREP rd (element_code size) mem
-vector_seen (VecLoadReplicateRev size rd mem) = elements_seen opcodes.VLBRREP rd (reversed_code size) mem
-vector_seen (VecLoadLane size rd ri mem lane) = lane_seen (reuses_vector rd ri) load_lane_opcode (number_of rd) (element_code size) size lane mem
-vector_seen (VecLoadLaneRev size rd ri mem lane) = lane_seen (reuses_vector rd ri) load_reversed_opcode (number_of rd) (reversed_code size) size lane mem
-vector_seen (VecLoadLaneUndef size rd mem lane) =
+vector_seen (V.VecLoadReplicate size rd mem) = elements_seen opcodes.VLREP rd (element_code size) mem
+vector_seen (V.VecLoadReplicateRev size rd mem) = elements_seen opcodes.VLBRREP rd (reversed_code size) mem
+vector_seen (V.VecLoadLane size rd ri mem lane) = lane_seen (reuses_vector rd ri) load_lane_opcode (number_of rd) (element_code size) size lane mem
+vector_seen (V.VecLoadLaneRev size rd ri mem lane) = lane_seen (reuses_vector rd ri) load_reversed_opcode (number_of rd) (reversed_code size) size lane mem
+vector_seen (V.VecLoadLaneUndef size rd mem lane) =
     either_seen (is_left_lane size lane (number_of rd)) (access_vector (is_vector rd) (load_left size (number_of rd)) mem) (access_lane (is_vector rd) load_lane_opcode (number_of rd) (element_code size) size lane mem) (Some mem) refl
     (lane_seen (is_vector rd) load_lane_opcode (number_of rd) (element_code size) size lane mem)
-vector_seen (VecLoadLaneRevUndef size rd mem lane) = lane_seen (is_vector rd) load_reversed_opcode (number_of rd) (reversed_code size) size lane mem
-vector_seen (VecStoreLane size rd mem lane) =
+vector_seen (V.VecLoadLaneRevUndef size rd mem lane) = lane_seen (is_vector rd) load_reversed_opcode (number_of rd) (reversed_code size) size lane mem
+vector_seen (V.VecStoreLane size rd mem lane) =
     either_seen (is_left_lane size lane (number_of rd)) (access_vector (is_vector rd) (store_left size (number_of rd)) mem) (access_lane (is_vector rd) store_lane_opcode (number_of rd) (element_code size) size lane mem) (Some mem) refl
     (lane_seen (is_vector rd) store_lane_opcode (number_of rd) (element_code size) size lane mem)
-vector_seen (VecStoreLaneRev size rd mem lane) = lane_seen (is_vector rd) store_reversed_opcode (number_of rd) (reversed_code size) size lane mem
+vector_seen (V.VecStoreLaneRev size rd mem lane) = lane_seen (is_vector rd) store_reversed_opcode (number_of rd) (reversed_code size) size lane mem
 vector_seen v = whole_seen (as_whole v)
 
 store_seen : (o : Option Store) → IsOperandOf (by_store store_memory None o) (by_store (λ (s : Store). Some s.mem) None o)
@@ -67,20 +66,20 @@ store_seen None = tt
 store_seen (Some s) = refl
 
 other_seen : (i : Inst) → IsOperandOf (other_memory i) (other_operand i)
-other_seen (AluRX op rd ri mem) = operate_seen (is_some (alu_rx op) || is_some (alu_rxy op)) (alu_rx op) (alu_rxy op) rd ri mem
-other_seen (CmpRX op rn mem) = refl
-other_seen (StoreImm8 imm mem) = refl
-other_seen (StoreImm16 imm mem) = refl
-other_seen (StoreImm32SExt16 imm mem) = refl
-other_seen (StoreImm64SExt16 imm mem) = refl
-other_seen (LoadMultiple64 rt rt2 mem) = refl
-other_seen (StoreMultiple64 rt rt2 mem) = refl
-other_seen (LoadAddr rd mem) = refl
-other_seen (AtomicRmw op rd rn mem) = change_seen (atomic_rsy op) rd rn mem
-other_seen (AtomicCas32 rd ri rn mem) = refl
-other_seen (AtomicCas64 rd ri rn mem) = refl
-other_seen (Vector v) = vector_seen v
-other_seen (Loop' mask body all) = tt
+other_seen (I.AluRX op rd ri mem) = operate_seen (is_some (alu_rx op) || is_some (alu_rxy op)) (alu_rx op) (alu_rxy op) rd ri mem
+other_seen (I.CmpRX op rn mem) = refl
+other_seen (I.StoreImm8 imm mem) = refl
+other_seen (I.StoreImm16 imm mem) = refl
+other_seen (I.StoreImm32SExt16 imm mem) = refl
+other_seen (I.StoreImm64SExt16 imm mem) = refl
+other_seen (I.LoadMultiple64 rt rt2 mem) = refl
+other_seen (I.StoreMultiple64 rt rt2 mem) = refl
+other_seen (I.LoadAddr rd mem) = refl
+other_seen (I.AtomicRmw op rd rn mem) = change_seen (atomic_rsy op) rd rn mem
+other_seen (I.AtomicCas32 rd ri rn mem) = refl
+other_seen (I.AtomicCas64 rd ri rn mem) = refl
+other_seen (I.Vector v) = vector_seen v
+other_seen (I.Loop' mask body all) = tt
 other_seen i = store_seen (as_store i)
 
 loaded_or : (i : Inst) (o : Option Load) → IsOperandOf (other_memory i) (other_operand i) → IsOperandOf (by_load load_memory (other_memory i) o) (by_load (λ (l : Load). Some l.mem) (other_operand i) o)

@@ -13,22 +13,13 @@ use Rattle.s390x_inst.specs.declared.args.MemArg.TheVariants.{BXD12, BXD20, RegO
 use Rattle.s390x_inst.specs.declared.calls.ArgPair.{ArgPair}
 use Rattle.s390x_inst.specs.declared.calls.RetPair.{RetPair}
 use Rattle.s390x_inst.specs.declared.inst.Inst.{Inst}
-use Rattle.s390x_inst.specs.declared.inst.Inst.TheVariants.{IndirectBr, JTSequence, Call, ReturnCall, LoadSymbolReloc, LabelAddress, Args, Rets, DummyUse, Vector}
-use Rattle.s390x_inst.specs.declared.inst.Inst.TheVariants.{StoreImm8, StoreImm16, StoreImm32SExt16, StoreImm64SExt16, LoadMultiple64, StoreMultiple64, LoadAddr, LoadIndexedAddr, LoadLogicalIndexedAddr, AtomicRmw}
-use Rattle.s390x_inst.specs.declared.inst.Inst.TheVariants.{AtomicCas32, AtomicCas64, Mov64, MovPReg, Mov32, Mov32Imm, Mov32SImm16, Mov64SImm16, Mov64SImm32, Mov64UImm16Shifted, Mov64UImm32Shifted, Insert64UImm16Shifted, Insert64UImm32Shifted, CMov32}
-use Rattle.s390x_inst.specs.declared.inst.Inst.TheVariants.{CMov64, CMov32SImm16, CMov64SImm16, Extend, LoadAR, InsertAR, AluRRR, AluRRSImm16, AluRR, AluRX, AluRSImm16, AluRSImm32, AluRUImm32, AluRUImm16Shifted}
-use Rattle.s390x_inst.specs.declared.inst.Inst.TheVariants.{AluRUImm32Shifted, SMulWide, UMulWide, SDivMod32, SDivMod64, UDivMod32, UDivMod64, Flogr, ShiftRR, RxSBG, RxSBGTest, UnaryRR, CmpRR, CmpRX}
-use Rattle.s390x_inst.specs.declared.inst.Inst.TheVariants.{CmpRSImm16, CmpRSImm32, CmpRUImm32, CmpTrapRR, CmpTrapRSImm16, CmpTrapRUImm16, Jump, CondBr, CondBreak, Nop0, Nop2, Fence, Trap, TrapIf}
-use Rattle.s390x_inst.specs.declared.inst.Inst.TheVariants.{Debugtrap, SequencePoint}
+use Rattle.s390x_inst.specs.declared.inst.Inst.TheVariants as I
 use Rattle.s390x_inst.specs.declared.state.IsaFlags.{IsaFlags}
 use Rattle.s390x_inst.specs.Loads.{as_load, by_load}
 use Rattle.s390x_inst.specs.Stores.{as_store, by_store}
 use Rattle.s390x_inst.specs.Wholes.{as_whole, by_whole}
 use Rattle.s390x_inst.specs.declared.vec_inst.VecInst.{VecInst}
-use Rattle.s390x_inst.specs.declared.vec_inst.VecInst.TheVariants.{VecRRR, VecRR, VecShiftRR, VecSelect, VecPermute, VecBlend, VecEvaluate, VecPermuteDWImm, VecIntCmp, VecIntCmpS, VecIntEltCmp, VecInt128SCmpHi, VecInt128UCmpHi, VecMov}
-use Rattle.s390x_inst.specs.declared.vec_inst.VecInst.TheVariants.{FpuMove32, FpuMove64, FpuCMov32, FpuCMov64, VecCMov, MovToVec128, VecImmByteMask, VecImmBitMask, VecImmReplicate, VecInsertLane, VecInsertLaneUndef, VecExtractLane, VecInsertLaneImm, VecInsertLaneImmUndef}
-use Rattle.s390x_inst.specs.declared.vec_inst.VecInst.TheVariants.{VecReplicateLane, VecEltRev}
-use Rattle.s390x_inst.specs.declared.vec_inst.VecInst.TheVariants.{VecLoadReplicate, VecLoadReplicateRev, VecLoadLane, VecLoadLaneRev, VecLoadLaneUndef, VecLoadLaneRevUndef, VecStoreLane, VecStoreLaneRev}
+use Rattle.s390x_inst.specs.declared.vec_inst.VecInst.TheVariants as V
 use Rattle.s390x_operands.specs.Meets.{Meets}
 use Rattle.s390x_operands.specs.Operands.{operands}
 use Rattle.s390x_operands.specs.declared.constraint.Reported.{Reported}
@@ -80,44 +71,44 @@ IsFreeRange first last = ⊥
 
 -- of a vector instruction that is no load or store of a whole register
 abbrev pub PartMayStand : VecInst → Type 0
-PartMayStand (VecRRR op rd rn rm) = IsVirtual rd × IsVirtual rn × IsVirtual rm
-PartMayStand (VecRR op rd rn) = IsVirtual rd × IsVirtual rn
-PartMayStand (VecShiftRR shift_op rd rn shift_imm shift_reg) = IsVirtual rd × IsVirtual rn × MayAddress shift_reg
-PartMayStand (VecSelect rd rn rm ra) = IsVirtual rd × IsVirtual rn × IsVirtual rm × IsVirtual ra
-PartMayStand (VecPermute rd rn rm ra) = IsVirtual rd × IsVirtual rn × IsVirtual rm × IsVirtual ra
-PartMayStand (VecBlend rd rn rm ra) = IsVirtual rd × IsVirtual rn × IsVirtual rm × IsVirtual ra
-PartMayStand (VecEvaluate imm rd rn rm ra) = IsVirtual rd × IsVirtual rn × IsVirtual rm × IsVirtual ra
-PartMayStand (VecPermuteDWImm rd rn rm idx1 idx2) = IsVirtual rd × IsVirtual rn × IsVirtual rm
-PartMayStand (VecIntCmp op rd rn rm) = IsVirtual rd × IsVirtual rn × IsVirtual rm
-PartMayStand (VecIntCmpS op rd rn rm) = IsVirtual rd × IsVirtual rn × IsVirtual rm
-PartMayStand (VecIntEltCmp op rn rm) = IsVirtual rn × IsVirtual rm
-PartMayStand (VecInt128SCmpHi tmp rn rm) = IsVirtual tmp × IsVirtual rn × IsVirtual rm
-PartMayStand (VecInt128UCmpHi tmp rn rm) = IsVirtual tmp × IsVirtual rn × IsVirtual rm
-PartMayStand (VecMov rd rn) = IsVirtual rd × IsVirtual rn
-PartMayStand (FpuMove32 rd rn) = IsVirtual rd × IsVirtual rn
-PartMayStand (FpuMove64 rd rn) = IsVirtual rd × IsVirtual rn
-PartMayStand (FpuCMov32 rd cond ri rm) = IsVirtual rd × IsVirtual ri × IsVirtual rm
-PartMayStand (FpuCMov64 rd cond ri rm) = IsVirtual rd × IsVirtual ri × IsVirtual rm
-PartMayStand (VecCMov rd cond ri rm) = IsVirtual rd × IsVirtual ri × IsVirtual rm
-PartMayStand (MovToVec128 rd rn rm) = IsVirtual rd × IsVirtual rn × IsVirtual rm
-PartMayStand (VecImmByteMask rd mask) = IsVirtual rd
-PartMayStand (VecImmBitMask size rd start_bit end_bit) = IsVirtual rd
-PartMayStand (VecImmReplicate size rd imm) = IsVirtual rd
-PartMayStand (VecInsertLane size rd ri rn lane_imm lane_reg) = IsVirtual rd × IsVirtual ri × IsVirtual rn × MayAddress lane_reg
-PartMayStand (VecInsertLaneUndef size rd rn lane_imm lane_reg) = IsVirtual rd × IsVirtual rn × MayAddress lane_reg
-PartMayStand (VecExtractLane size rd rn lane_imm lane_reg) = IsVirtual rd × IsVirtual rn × MayAddress lane_reg
-PartMayStand (VecInsertLaneImm size rd ri imm lane_imm) = IsVirtual rd × IsVirtual ri
-PartMayStand (VecInsertLaneImmUndef size rd imm lane_imm) = IsVirtual rd
-PartMayStand (VecReplicateLane size rd rn lane_imm) = IsVirtual rd × IsVirtual rn
-PartMayStand (VecEltRev lane_count rd rn) = IsVirtual rd × IsVirtual rn
-PartMayStand (VecLoadReplicate size rd mem) = IsVirtual rd × MemoryMayStand mem
-PartMayStand (VecLoadReplicateRev size rd mem) = IsVirtual rd × MemoryMayStand mem
-PartMayStand (VecLoadLane size rd ri mem lane_imm) = IsVirtual rd × IsVirtual ri × MemoryMayStand mem
-PartMayStand (VecLoadLaneRev size rd ri mem lane_imm) = IsVirtual rd × IsVirtual ri × MemoryMayStand mem
-PartMayStand (VecLoadLaneUndef size rd mem lane_imm) = IsVirtual rd × MemoryMayStand mem
-PartMayStand (VecLoadLaneRevUndef size rd mem lane_imm) = IsVirtual rd × MemoryMayStand mem
-PartMayStand (VecStoreLane size rd mem lane_imm) = IsVirtual rd × MemoryMayStand mem
-PartMayStand (VecStoreLaneRev size rd mem lane_imm) = IsVirtual rd × MemoryMayStand mem
+PartMayStand (V.VecRRR op rd rn rm) = IsVirtual rd × IsVirtual rn × IsVirtual rm
+PartMayStand (V.VecRR op rd rn) = IsVirtual rd × IsVirtual rn
+PartMayStand (V.VecShiftRR shift_op rd rn shift_imm shift_reg) = IsVirtual rd × IsVirtual rn × MayAddress shift_reg
+PartMayStand (V.VecSelect rd rn rm ra) = IsVirtual rd × IsVirtual rn × IsVirtual rm × IsVirtual ra
+PartMayStand (V.VecPermute rd rn rm ra) = IsVirtual rd × IsVirtual rn × IsVirtual rm × IsVirtual ra
+PartMayStand (V.VecBlend rd rn rm ra) = IsVirtual rd × IsVirtual rn × IsVirtual rm × IsVirtual ra
+PartMayStand (V.VecEvaluate imm rd rn rm ra) = IsVirtual rd × IsVirtual rn × IsVirtual rm × IsVirtual ra
+PartMayStand (V.VecPermuteDWImm rd rn rm idx1 idx2) = IsVirtual rd × IsVirtual rn × IsVirtual rm
+PartMayStand (V.VecIntCmp op rd rn rm) = IsVirtual rd × IsVirtual rn × IsVirtual rm
+PartMayStand (V.VecIntCmpS op rd rn rm) = IsVirtual rd × IsVirtual rn × IsVirtual rm
+PartMayStand (V.VecIntEltCmp op rn rm) = IsVirtual rn × IsVirtual rm
+PartMayStand (V.VecInt128SCmpHi tmp rn rm) = IsVirtual tmp × IsVirtual rn × IsVirtual rm
+PartMayStand (V.VecInt128UCmpHi tmp rn rm) = IsVirtual tmp × IsVirtual rn × IsVirtual rm
+PartMayStand (V.VecMov rd rn) = IsVirtual rd × IsVirtual rn
+PartMayStand (V.FpuMove32 rd rn) = IsVirtual rd × IsVirtual rn
+PartMayStand (V.FpuMove64 rd rn) = IsVirtual rd × IsVirtual rn
+PartMayStand (V.FpuCMov32 rd cond ri rm) = IsVirtual rd × IsVirtual ri × IsVirtual rm
+PartMayStand (V.FpuCMov64 rd cond ri rm) = IsVirtual rd × IsVirtual ri × IsVirtual rm
+PartMayStand (V.VecCMov rd cond ri rm) = IsVirtual rd × IsVirtual ri × IsVirtual rm
+PartMayStand (V.MovToVec128 rd rn rm) = IsVirtual rd × IsVirtual rn × IsVirtual rm
+PartMayStand (V.VecImmByteMask rd mask) = IsVirtual rd
+PartMayStand (V.VecImmBitMask size rd start_bit end_bit) = IsVirtual rd
+PartMayStand (V.VecImmReplicate size rd imm) = IsVirtual rd
+PartMayStand (V.VecInsertLane size rd ri rn lane_imm lane_reg) = IsVirtual rd × IsVirtual ri × IsVirtual rn × MayAddress lane_reg
+PartMayStand (V.VecInsertLaneUndef size rd rn lane_imm lane_reg) = IsVirtual rd × IsVirtual rn × MayAddress lane_reg
+PartMayStand (V.VecExtractLane size rd rn lane_imm lane_reg) = IsVirtual rd × IsVirtual rn × MayAddress lane_reg
+PartMayStand (V.VecInsertLaneImm size rd ri imm lane_imm) = IsVirtual rd × IsVirtual ri
+PartMayStand (V.VecInsertLaneImmUndef size rd imm lane_imm) = IsVirtual rd
+PartMayStand (V.VecReplicateLane size rd rn lane_imm) = IsVirtual rd × IsVirtual rn
+PartMayStand (V.VecEltRev lane_count rd rn) = IsVirtual rd × IsVirtual rn
+PartMayStand (V.VecLoadReplicate size rd mem) = IsVirtual rd × MemoryMayStand mem
+PartMayStand (V.VecLoadReplicateRev size rd mem) = IsVirtual rd × MemoryMayStand mem
+PartMayStand (V.VecLoadLane size rd ri mem lane_imm) = IsVirtual rd × IsVirtual ri × MemoryMayStand mem
+PartMayStand (V.VecLoadLaneRev size rd ri mem lane_imm) = IsVirtual rd × IsVirtual ri × MemoryMayStand mem
+PartMayStand (V.VecLoadLaneUndef size rd mem lane_imm) = IsVirtual rd × MemoryMayStand mem
+PartMayStand (V.VecLoadLaneRevUndef size rd mem lane_imm) = IsVirtual rd × MemoryMayStand mem
+PartMayStand (V.VecStoreLane size rd mem lane_imm) = IsVirtual rd × MemoryMayStand mem
+PartMayStand (V.VecStoreLaneRev size rd mem lane_imm) = IsVirtual rd × MemoryMayStand mem
 PartMayStand v = ⊥
 
 abbrev pub VectorMayStand : VecInst → Type 0
@@ -125,84 +116,84 @@ VectorMayStand v = by_whole (λ w. IsVirtual w.rd × MemoryMayStand w.mem) (Part
 
 -- All other registers are virtual. A `Loop`, a call and an allocation of arguments aren't meant, and the register of a `Ret` isn't reported.
 abbrev pub OtherMayStand : Inst → Type 0
-OtherMayStand (IndirectBr rn targets) = IsVirtual rn
-OtherMayStand (JTSequence ridx default default_cond targets) = IsVirtual ridx
-OtherMayStand (Call link info) = ⊥
-OtherMayStand (ReturnCall info) = ⊥
-OtherMayStand (LoadSymbolReloc rd symbol_reloc) = IsVirtual rd
-OtherMayStand (LabelAddress dst label) = IsVirtual dst
-OtherMayStand (Args args) = All MayTakeIn args.items
-OtherMayStand (Rets rets) = All MayHandBack rets.items
-OtherMayStand (DummyUse reg) = IsVirtual reg
-OtherMayStand (Vector v) = VectorMayStand v
-OtherMayStand (StoreImm8 imm mem) = MemoryMayStand mem
-OtherMayStand (StoreImm16 imm mem) = MemoryMayStand mem
-OtherMayStand (StoreImm32SExt16 imm mem) = MemoryMayStand mem
-OtherMayStand (StoreImm64SExt16 imm mem) = MemoryMayStand mem
-OtherMayStand (LoadMultiple64 rt rt2 mem) = IsFreeRange rt rt2 × MemoryMayStand mem
-OtherMayStand (StoreMultiple64 rt rt2 mem) = IsFreeRange rt rt2 × MemoryMayStand mem
-OtherMayStand (LoadAddr rd mem) = IsVirtual rd × MemoryMayStand mem
-OtherMayStand (LoadIndexedAddr rd base index offset size) = IsVirtual rd × MayAddress base × MayAddress index
-OtherMayStand (LoadLogicalIndexedAddr rd base index offset size) = IsVirtual rd × MayAddress base × MayAddress index
-OtherMayStand (AtomicRmw alu_op rd rn mem) = IsVirtual rd × IsVirtual rn × MemoryMayStand mem
-OtherMayStand (AtomicCas32 rd ri rn mem) = IsVirtual rd × IsVirtual ri × IsVirtual rn × MemoryMayStand mem
-OtherMayStand (AtomicCas64 rd ri rn mem) = IsVirtual rd × IsVirtual ri × IsVirtual rn × MemoryMayStand mem
-OtherMayStand (Mov64 rd rm) = IsVirtual rd × IsVirtual rm
-OtherMayStand (MovPReg rd rm) = IsVirtual rd × (rm ≡ general 1 → ⊥)
-OtherMayStand (Mov32 rd rm) = IsVirtual rd × IsVirtual rm
-OtherMayStand (Mov32Imm rd imm) = IsVirtual rd
-OtherMayStand (Mov32SImm16 rd imm) = IsVirtual rd
-OtherMayStand (Mov64SImm16 rd imm) = IsVirtual rd
-OtherMayStand (Mov64SImm32 rd imm) = IsVirtual rd
-OtherMayStand (Mov64UImm16Shifted rd imm) = IsVirtual rd
-OtherMayStand (Mov64UImm32Shifted rd imm) = IsVirtual rd
-OtherMayStand (Insert64UImm16Shifted rd ri imm) = IsVirtual rd × IsVirtual ri
-OtherMayStand (Insert64UImm32Shifted rd ri imm) = IsVirtual rd × IsVirtual ri
-OtherMayStand (CMov32 rd cond ri rm) = IsVirtual rd × IsVirtual ri × IsVirtual rm
-OtherMayStand (CMov64 rd cond ri rm) = IsVirtual rd × IsVirtual ri × IsVirtual rm
-OtherMayStand (CMov32SImm16 rd cond ri imm) = IsVirtual rd × IsVirtual ri
-OtherMayStand (CMov64SImm16 rd cond ri imm) = IsVirtual rd × IsVirtual ri
-OtherMayStand (Extend rd rn signed from_bits to_bits) = IsVirtual rd × IsVirtual rn
-OtherMayStand (LoadAR rd ar) = IsVirtual rd
-OtherMayStand (InsertAR rd ri ar) = IsVirtual rd × IsVirtual ri
-OtherMayStand (AluRRR alu_op rd rn rm) = IsVirtual rd × IsVirtual rn × IsVirtual rm
-OtherMayStand (AluRRSImm16 alu_op rd rn imm) = IsVirtual rd × IsVirtual rn
-OtherMayStand (AluRR alu_op rd ri rm) = IsVirtual rd × IsVirtual ri × IsVirtual rm
-OtherMayStand (AluRX alu_op rd ri mem) = IsVirtual rd × IsVirtual ri × MemoryMayStand mem
-OtherMayStand (AluRSImm16 alu_op rd ri imm) = IsVirtual rd × IsVirtual ri
-OtherMayStand (AluRSImm32 alu_op rd ri imm) = IsVirtual rd × IsVirtual ri
-OtherMayStand (AluRUImm32 alu_op rd ri imm) = IsVirtual rd × IsVirtual ri
-OtherMayStand (AluRUImm16Shifted alu_op rd ri imm) = IsVirtual rd × IsVirtual ri
-OtherMayStand (AluRUImm32Shifted alu_op rd ri imm) = IsVirtual rd × IsVirtual ri
-OtherMayStand (SMulWide rd rn rm) = IsVirtual rn × IsVirtual rm × IsNotScratch rd.hi × IsNotScratch rd.lo
-OtherMayStand (UMulWide rd ri rn) = IsVirtual rn × IsNotScratch rd.hi × IsNotScratch rd.lo × IsNotScratch ri
-OtherMayStand (SDivMod32 rd ri rn) = IsVirtual rn × IsNotScratch rd.hi × IsNotScratch rd.lo × IsNotScratch ri
-OtherMayStand (SDivMod64 rd ri rn) = IsVirtual rn × IsNotScratch rd.hi × IsNotScratch rd.lo × IsNotScratch ri
-OtherMayStand (UDivMod32 rd ri rn) = IsVirtual rn × IsNotScratch rd.hi × IsNotScratch rd.lo × IsNotScratch ri.hi × IsNotScratch ri.lo
-OtherMayStand (UDivMod64 rd ri rn) = IsVirtual rn × IsNotScratch rd.hi × IsNotScratch rd.lo × IsNotScratch ri.hi × IsNotScratch ri.lo
-OtherMayStand (Flogr rd rn) = IsVirtual rn × IsNotScratch rd.hi × IsNotScratch rd.lo
-OtherMayStand (ShiftRR shift_op rd rn shift_imm shift_reg) = IsVirtual rd × IsVirtual rn × MayAddress shift_reg
-OtherMayStand (RxSBG op rd ri rn start_bit end_bit rotate_amt) = IsVirtual rd × IsVirtual ri × IsVirtual rn
-OtherMayStand (RxSBGTest op rd rn start_bit end_bit rotate_amt) = IsVirtual rd × IsVirtual rn
-OtherMayStand (UnaryRR op rd rn) = IsVirtual rd × IsVirtual rn
-OtherMayStand (CmpRR op rn rm) = IsVirtual rn × IsVirtual rm
-OtherMayStand (CmpRX op rn mem) = IsVirtual rn × MemoryMayStand mem
-OtherMayStand (CmpRSImm16 op rn imm) = IsVirtual rn
-OtherMayStand (CmpRSImm32 op rn imm) = IsVirtual rn
-OtherMayStand (CmpRUImm32 op rn imm) = IsVirtual rn
-OtherMayStand (CmpTrapRR op rn rm cond trap_code) = IsVirtual rn × IsVirtual rm
-OtherMayStand (CmpTrapRSImm16 op rn imm cond trap_code) = IsVirtual rn
-OtherMayStand (CmpTrapRUImm16 op rn imm cond trap_code) = IsVirtual rn
-OtherMayStand (Jump dest) = ⊤
-OtherMayStand (CondBr taken not_taken mask) = ⊤
-OtherMayStand (CondBreak mask) = ⊤
-OtherMayStand Nop0 = ⊤
-OtherMayStand Nop2 = ⊤
-OtherMayStand Fence = ⊤
-OtherMayStand (Trap code) = ⊤
-OtherMayStand (TrapIf mask code) = ⊤
-OtherMayStand Debugtrap = ⊤
-OtherMayStand SequencePoint = ⊤
+OtherMayStand (I.IndirectBr rn targets) = IsVirtual rn
+OtherMayStand (I.JTSequence ridx default default_cond targets) = IsVirtual ridx
+OtherMayStand (I.Call link info) = ⊥
+OtherMayStand (I.ReturnCall info) = ⊥
+OtherMayStand (I.LoadSymbolReloc rd symbol_reloc) = IsVirtual rd
+OtherMayStand (I.LabelAddress dst label) = IsVirtual dst
+OtherMayStand (I.Args args) = All MayTakeIn args.items
+OtherMayStand (I.Rets rets) = All MayHandBack rets.items
+OtherMayStand (I.DummyUse reg) = IsVirtual reg
+OtherMayStand (I.Vector v) = VectorMayStand v
+OtherMayStand (I.StoreImm8 imm mem) = MemoryMayStand mem
+OtherMayStand (I.StoreImm16 imm mem) = MemoryMayStand mem
+OtherMayStand (I.StoreImm32SExt16 imm mem) = MemoryMayStand mem
+OtherMayStand (I.StoreImm64SExt16 imm mem) = MemoryMayStand mem
+OtherMayStand (I.LoadMultiple64 rt rt2 mem) = IsFreeRange rt rt2 × MemoryMayStand mem
+OtherMayStand (I.StoreMultiple64 rt rt2 mem) = IsFreeRange rt rt2 × MemoryMayStand mem
+OtherMayStand (I.LoadAddr rd mem) = IsVirtual rd × MemoryMayStand mem
+OtherMayStand (I.LoadIndexedAddr rd base index offset size) = IsVirtual rd × MayAddress base × MayAddress index
+OtherMayStand (I.LoadLogicalIndexedAddr rd base index offset size) = IsVirtual rd × MayAddress base × MayAddress index
+OtherMayStand (I.AtomicRmw alu_op rd rn mem) = IsVirtual rd × IsVirtual rn × MemoryMayStand mem
+OtherMayStand (I.AtomicCas32 rd ri rn mem) = IsVirtual rd × IsVirtual ri × IsVirtual rn × MemoryMayStand mem
+OtherMayStand (I.AtomicCas64 rd ri rn mem) = IsVirtual rd × IsVirtual ri × IsVirtual rn × MemoryMayStand mem
+OtherMayStand (I.Mov64 rd rm) = IsVirtual rd × IsVirtual rm
+OtherMayStand (I.MovPReg rd rm) = IsVirtual rd × (rm ≡ general 1 → ⊥)
+OtherMayStand (I.Mov32 rd rm) = IsVirtual rd × IsVirtual rm
+OtherMayStand (I.Mov32Imm rd imm) = IsVirtual rd
+OtherMayStand (I.Mov32SImm16 rd imm) = IsVirtual rd
+OtherMayStand (I.Mov64SImm16 rd imm) = IsVirtual rd
+OtherMayStand (I.Mov64SImm32 rd imm) = IsVirtual rd
+OtherMayStand (I.Mov64UImm16Shifted rd imm) = IsVirtual rd
+OtherMayStand (I.Mov64UImm32Shifted rd imm) = IsVirtual rd
+OtherMayStand (I.Insert64UImm16Shifted rd ri imm) = IsVirtual rd × IsVirtual ri
+OtherMayStand (I.Insert64UImm32Shifted rd ri imm) = IsVirtual rd × IsVirtual ri
+OtherMayStand (I.CMov32 rd cond ri rm) = IsVirtual rd × IsVirtual ri × IsVirtual rm
+OtherMayStand (I.CMov64 rd cond ri rm) = IsVirtual rd × IsVirtual ri × IsVirtual rm
+OtherMayStand (I.CMov32SImm16 rd cond ri imm) = IsVirtual rd × IsVirtual ri
+OtherMayStand (I.CMov64SImm16 rd cond ri imm) = IsVirtual rd × IsVirtual ri
+OtherMayStand (I.Extend rd rn signed from_bits to_bits) = IsVirtual rd × IsVirtual rn
+OtherMayStand (I.LoadAR rd ar) = IsVirtual rd
+OtherMayStand (I.InsertAR rd ri ar) = IsVirtual rd × IsVirtual ri
+OtherMayStand (I.AluRRR alu_op rd rn rm) = IsVirtual rd × IsVirtual rn × IsVirtual rm
+OtherMayStand (I.AluRRSImm16 alu_op rd rn imm) = IsVirtual rd × IsVirtual rn
+OtherMayStand (I.AluRR alu_op rd ri rm) = IsVirtual rd × IsVirtual ri × IsVirtual rm
+OtherMayStand (I.AluRX alu_op rd ri mem) = IsVirtual rd × IsVirtual ri × MemoryMayStand mem
+OtherMayStand (I.AluRSImm16 alu_op rd ri imm) = IsVirtual rd × IsVirtual ri
+OtherMayStand (I.AluRSImm32 alu_op rd ri imm) = IsVirtual rd × IsVirtual ri
+OtherMayStand (I.AluRUImm32 alu_op rd ri imm) = IsVirtual rd × IsVirtual ri
+OtherMayStand (I.AluRUImm16Shifted alu_op rd ri imm) = IsVirtual rd × IsVirtual ri
+OtherMayStand (I.AluRUImm32Shifted alu_op rd ri imm) = IsVirtual rd × IsVirtual ri
+OtherMayStand (I.SMulWide rd rn rm) = IsVirtual rn × IsVirtual rm × IsNotScratch rd.hi × IsNotScratch rd.lo
+OtherMayStand (I.UMulWide rd ri rn) = IsVirtual rn × IsNotScratch rd.hi × IsNotScratch rd.lo × IsNotScratch ri
+OtherMayStand (I.SDivMod32 rd ri rn) = IsVirtual rn × IsNotScratch rd.hi × IsNotScratch rd.lo × IsNotScratch ri
+OtherMayStand (I.SDivMod64 rd ri rn) = IsVirtual rn × IsNotScratch rd.hi × IsNotScratch rd.lo × IsNotScratch ri
+OtherMayStand (I.UDivMod32 rd ri rn) = IsVirtual rn × IsNotScratch rd.hi × IsNotScratch rd.lo × IsNotScratch ri.hi × IsNotScratch ri.lo
+OtherMayStand (I.UDivMod64 rd ri rn) = IsVirtual rn × IsNotScratch rd.hi × IsNotScratch rd.lo × IsNotScratch ri.hi × IsNotScratch ri.lo
+OtherMayStand (I.Flogr rd rn) = IsVirtual rn × IsNotScratch rd.hi × IsNotScratch rd.lo
+OtherMayStand (I.ShiftRR shift_op rd rn shift_imm shift_reg) = IsVirtual rd × IsVirtual rn × MayAddress shift_reg
+OtherMayStand (I.RxSBG op rd ri rn start_bit end_bit rotate_amt) = IsVirtual rd × IsVirtual ri × IsVirtual rn
+OtherMayStand (I.RxSBGTest op rd rn start_bit end_bit rotate_amt) = IsVirtual rd × IsVirtual rn
+OtherMayStand (I.UnaryRR op rd rn) = IsVirtual rd × IsVirtual rn
+OtherMayStand (I.CmpRR op rn rm) = IsVirtual rn × IsVirtual rm
+OtherMayStand (I.CmpRX op rn mem) = IsVirtual rn × MemoryMayStand mem
+OtherMayStand (I.CmpRSImm16 op rn imm) = IsVirtual rn
+OtherMayStand (I.CmpRSImm32 op rn imm) = IsVirtual rn
+OtherMayStand (I.CmpRUImm32 op rn imm) = IsVirtual rn
+OtherMayStand (I.CmpTrapRR op rn rm cond trap_code) = IsVirtual rn × IsVirtual rm
+OtherMayStand (I.CmpTrapRSImm16 op rn imm cond trap_code) = IsVirtual rn
+OtherMayStand (I.CmpTrapRUImm16 op rn imm cond trap_code) = IsVirtual rn
+OtherMayStand (I.Jump dest) = ⊤
+OtherMayStand (I.CondBr taken not_taken mask) = ⊤
+OtherMayStand (I.CondBreak mask) = ⊤
+OtherMayStand I.Nop0 = ⊤
+OtherMayStand I.Nop2 = ⊤
+OtherMayStand I.Fence = ⊤
+OtherMayStand (I.Trap code) = ⊤
+OtherMayStand (I.TrapIf mask code) = ⊤
+OtherMayStand I.Debugtrap = ⊤
+OtherMayStand I.SequencePoint = ⊤
 OtherMayStand i = ⊥
 
 -- the same of each instruction

@@ -22,7 +22,8 @@ use Rattle.s390x_tool.specs.Replies.{Found}
 use Rattle.s390x_tool.specs.declared.status.Status.TheVariants as status
 use Rattle.s390x_tool.proofs.Completing.{read_less, read_whole}
 use Rattle.s390x_tool.proofs.SameJob.{same_cause, same_code, same_symbols}
-use Rattle.s390x_binary_tool.proofs.Joining.{coded, same_duplicate, same_objects, same_refused}
+use Rattle.s390x_tool.proofs.SameMembers.{same_duplicate, same_refused}
+use Rattle.s390x_binary_tool.proofs.Joining.{coded, same_objects}
 use Rattle.s390x_binary_tool.specs.Accepted.{AreObjectFunctions, IsAccepted, IsHexCode, IsJobWithImage, IsLinkableJob, IsObjectJob, IsSomeSource, IsUnrefused, IsValidJob}
 use Rattle.s390x_binary_tool.specs.Assemble.{IsAssembleAnswer}
 use Rattle.s390x_binary_tool.specs.Disassemble.{IsDisassembleAnswer}

@@ -1,27 +1,24 @@
 -- From the object of several functions to the answer to `objects`.
-use Rattle.std.proofs.Common.{◌≡◌, ◌⊎◌, inl, inr, ℕ, zero, suc, ◌+◌, ◌<◌, List, [], ◌∷◌, ◌++◌, length, get_or, take, map, Some, None, refl, sym, ap, ap₂, ◌∙◌, arith, subst, cond}
+use Rattle.std.proofs.Common.{◌≡◌, ◌⊎◌, inl, inr, ℕ, zero, suc, ◌+◌, ◌<◌, List, [], ◌∷◌, ◌++◌, length, get_or, take, map, Some, None, refl, sym, ap, ◌∙◌, arith, subst}
 use Rattle.std.specs.Prelude.{codes, ◌≢◌}
-use Rattle.s390x_base.specs.declared.ir.ExternalName.{ExternalName}
 use Rattle.s390x_bundle.specs.Bundled.{duplicate_of}
-use Rattle.s390x_bundle.specs.Emitted.{IsEmitted, emit_cause, first_refused, refused_or}
-use Rattle.s390x_bundle.specs.Names.{duplicate_in, first_duplicate, is_among, line_among, name_or, names_of}
+use Rattle.s390x_bundle.specs.Emitted.{IsEmitted, first_refused}
 use Rattle.s390x_bundle.specs.declared.error.BundleError.{BundleError}
 use Rattle.s390x_bundle.specs.declared.error.BundleError.TheVariants as cause
 use Rattle.s390x_bundle.specs.declared.member.Member.{Member}
 use Rattle.s390x_job_bundle.specs.Text.{AreFunctions, AreFunctionsOf, SameFunctions}
 use Rattle.s390x_job_bundle.specs.declared.named_job.NamedJob.{NamedJob}
-use Rattle.s390x_buffer.specs.declared.entries.MachBufferFinalized.{MachBufferFinalized}
 use Rattle.s390x_elf.specs.Names.{symbol_name}
 use Rattle.s390x_elf.specs.Members.{IsLinkedAsMembers, IsObjectOfMembers, members_cause}
 use Rattle.s390x_elf.specs.declared.error.ObjectError.{ObjectError}
 use Rattle.s390x_elf.specs.declared.error.ObjectError.TheVariants as kind
 use Rattle.s390x_elf.specs.declared.members.ObjectMember.{ObjectMember}
-use Rattle.s390x_tool.specs.Answers.{IsCodeOfJob}
 use Rattle.s390x_tool.specs.Bundled.{IsBundleRefusal, member_of}
 use Rattle.s390x_tool.specs.Lines.{line}
 use Rattle.s390x_tool.specs.declared.status.Status.{Status}
 use Rattle.s390x_tool.specs.declared.status.Status.TheVariants as status
-use Rattle.s390x_tool.proofs.SameJob.{same_cause, same_code, same_symbols}
+use Rattle.s390x_tool.proofs.SameJob.{same_code}
+use Rattle.s390x_tool.proofs.SameMembers.{members, code_of_job, member_emitted}
 use Rattle.s390x_binary_tool.specs.Object.{IsObjectRefusal}
 use Rattle.s390x_binary_tool.specs.Objects.{AreObjectMembers, HasNoCodes, IsObjectMember, IsObjectsAnswer, IsObjectsReply}
 use Rattle.s390x_binary_tool.specs.declared.status.BinaryStatus.{BinaryStatus}
@@ -77,42 +74,6 @@ objects_answer input fs ms (Shared s) text are is reply = absurd reply
 
 -- ---- functions with the same lines
 
-abbrev members : List NamedJob → List Member
-members fs = map member_of fs
-
-same_names : (fs gs : List NamedJob) → SameFunctions fs gs → names_of (members fs) ≡ names_of (members gs)
-same_names [] [] same = refl
-same_names [] (g ∷ gs) same = absurd same
-same_names (f ∷ fs) [] same = absurd same
-same_names (f ∷ fs) (g ∷ gs) same = ap₂ (λ x xs. x ∷ xs) same.0 (same_names fs gs same.2)
-
-same_duplicates : (names earlier : List ExternalName) (fs gs : List NamedJob) → AreFunctions fs → AreFunctions gs → SameFunctions fs gs → first_duplicate names earlier (members fs) ≡ first_duplicate names earlier (members gs)
-same_duplicates names earlier [] [] a b same = refl
-same_duplicates names earlier [] (g ∷ gs) a b same = absurd same
-same_duplicates names earlier (f ∷ fs) [] a b same = absurd same
-same_duplicates names earlier (f ∷ fs) (g ∷ gs) a b same =
-    let s = same_symbols f.job g.job a.1 b.1 same.1 in
-    ap₂ (λ n ss. name_or (cond (is_among earlier n) (Some n) (line_among names ss)) (first_duplicate names (earlier ++ n ∷ []) (members fs))) same.0 s
-    ∙ ap (λ o. name_or (duplicate_in names earlier (member_of g)) o) (same_duplicates names (earlier ++ g.name ∷ []) fs gs a.2 b.2 same.2)
-
--- the same name comes twice
-pub same_duplicate : (fs gs : List NamedJob) → AreFunctions fs → AreFunctions gs → SameFunctions fs gs → duplicate_of (members fs) ≡ duplicate_of (members gs)
-same_duplicate fs gs a b same = ap (λ ns. first_duplicate ns [] (members fs)) (same_names fs gs same) ∙ same_duplicates (names_of (members gs)) [] fs gs a b same
-
--- emission refuses the same one first
-pub same_refused : (fs gs : List NamedJob) → AreFunctions fs → AreFunctions gs → SameFunctions fs gs → first_refused (members fs) ≡ first_refused (members gs)
-same_refused [] [] a b same = refl
-same_refused [] (g ∷ gs) a b same = absurd same
-same_refused (f ∷ fs) [] a b same = absurd same
-same_refused (f ∷ fs) (g ∷ gs) a b same =
-    ap₂ (λ n o. refused_or n o (first_refused (members fs))) same.0 (same_cause f.job g.job a.1 b.1 same.1) ∙ ap (λ o. refused_or g.name (emit_cause (member_of g)) o) (same_refused fs gs a.2 b.2 same.2)
-
-code_of_job : (f : NamedJob) (code : MachBufferFinalized) → IsEmitted (member_of f) code → IsCodeOfJob f.job code
-code_of_job f code h = record { valid = h.valid; ranges = h.ranges; emitted = h.finished }
-
-emitted_code : (f : NamedJob) (code : MachBufferFinalized) → IsCodeOfJob f.job code → IsEmitted (member_of f) code
-emitted_code f code h = record { valid = h.valid; finished = h.emitted; ranges = h.ranges }
-
 same_object : (f g : NamedJob) (o : ObjectMember) → (code : IsEmitted (member_of f) o.code → IsEmitted (member_of g) o.code) → f.name ≡ g.name → IsObjectMember (member_of f) o → IsObjectMember (member_of g) o
 same_object f g o code name h = record { named = h.named ∙ ap symbol_name name; emitted = code h.emitted }
 
@@ -123,7 +84,7 @@ same_objects [] (g ∷ gs) os a b same h = absurd same
 same_objects (f ∷ fs) [] os a b same h = absurd same
 same_objects (f ∷ fs) (g ∷ gs) [] a b same h = absurd h
 same_objects (f ∷ fs) (g ∷ gs) (o ∷ os) a b same h =
-    (same_object f g o (λ is. emitted_code g o.code (same_code f.job g.job o.code a.1 b.1 same.1 (code_of_job f o.code is))) same.0 h.0, same_objects fs gs os a.2 b.2 same.2 h.1)
+    (same_object f g o (λ is. member_emitted g o.code (same_code f.job g.job o.code a.1 b.1 same.1 (code_of_job f o.code is))) same.0 h.0, same_objects fs gs os a.2 b.2 same.2 h.1)
 
 -- members without a name that comes twice, none of which emission refuses, have codes
 pub coded : (ms : List Member) (e : BundleError) → duplicate_of ms ≡ None → first_refused ms ≡ None → e ≢ cause.NoMemory → HasNoCodes ms e → ⊥

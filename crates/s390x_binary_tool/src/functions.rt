@@ -1,11 +1,10 @@
 //! The reply to the command `objects`.
-ghost use Rattle.std.specs.Prelude.{◌≡◌, ◌<◌, IfOk, MatchResult, None, length, map, string_bytes};
+ghost use Rattle.std.specs.Prelude.{◌≡◌, ◌<◌, IfOk, MatchResult, None, length, string_bytes};
 ghost use Rattle.std.specs.Cow.{cow_slice_items};
 ghost use Rattle.s390x_bundle.specs.Bundled.{duplicate_of};
 ghost use Rattle.s390x_bundle.specs.Emitted.{HasNoCode, IsEmitted, emit_cause, first_refused, refused_or};
 ghost use Rattle.s390x_job_bundle.specs.Text.{AreFunctionsOf};
 ghost use Rattle.s390x_elf.specs.Names.{symbol_name};
-ghost use Rattle.s390x_tool.specs.Bundled.{member_of};
 ghost use Rattle.s390x_tool.specs.Ends.{too_many};
 ghost use Rattle.s390x_binary_tool.specs.Objects.{AreObjectMembers, HasNoCodes, IsObjectMember, IsObjectsAnswer, IsObjectsReply};
 
@@ -17,7 +16,7 @@ use s390x_bundle::{BundleError, Member, duplicate_name};
 use s390x_elf::ObjectMember;
 use s390x_emit_int::emit_function;
 use s390x_job_bundle::{BundleTextError, NamedJob, read_bundle};
-use s390x_tool::{bundle_refused, no_memory, syntax};
+use s390x_tool::{bundle_refused, members_of, no_memory, syntax};
 use std::alloc::{AllocError, Global};
 
 /// The answer to `objects` and its whole input.
@@ -41,27 +40,6 @@ fn objects_of_functions(alloc: Global, input: &[u8], functions: Vec<NamedJob>) -
         Ok(members) => objects_of_members(alloc, &members),
         Err(_) => shared(no_memory()),
     }
-}
-
-// The function as a member.
-fn member(function: NamedJob) -> Member
-    ensures { result ≡ member_of function }
-{
-    let job = function.job;
-    Member {
-        name: function.name,
-        function: job.function,
-        info: job.info,
-        state: job.state,
-        symbols: job.symbols,
-    }
-}
-
-// The functions as members.
-fn members_of(alloc: Global, functions: Vec<NamedJob>) -> Result<Vec<Member>, AllocError>
-    ensures { IfOk result (λ members. members.items ≡ map member_of functions.items) }
-{
-    functions.into_iter().map(member).collect(alloc)
 }
 
 // The reply to members.

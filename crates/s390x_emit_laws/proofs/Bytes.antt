@@ -8,7 +8,7 @@ use Rattle.s390x_inst.specs.declared.args.MemArg.{MemArg}
 use Rattle.s390x_inst.specs.declared.args.MemArg.TheVariants.{BXD12, BXD20, Label, Constant, Symbol}
 use Rattle.s390x_inst.specs.declared.calls.CallInstDest.TheVariants.{Direct, Indirect}
 use Rattle.s390x_inst.specs.declared.inst.Inst.{Inst}
-use Rattle.s390x_inst.specs.declared.inst.Inst.TheVariants.{Jump, CondBr, IndirectBr, Ret, JTSequence, Nop0, LabelAddress, LoadSymbolReloc, Trap, TrapIf, Debugtrap, Args, Rets, DummyUse, SequencePoint, Vector}
+use Rattle.s390x_inst.specs.declared.inst.Inst.TheVariants as I
 use Rattle.s390x_inst.specs.declared.vec_inst.VecInst.{VecInst}
 use Rattle.s390x_inst.specs.declared.vec_inst.VecInst.TheVariants.{VecEltRev, VecInt128SCmpHi, VecInt128UCmpHi}
 use Rattle.s390x_format.specs.Formats.{length_of}
@@ -146,22 +146,22 @@ composite_some v valid e = under_some (move_under v) valid e
 -- ---- the others
 
 branch_silent : (L : Layout) (i : Inst) → IsValidBranch L i → None_of (branch_parts i) → step_kind L (Plain i) ≡ Silent
-branch_silent L (Jump dest) valid e = absurd (omega (arith, e))
-branch_silent L (CondBr taken not_taken mask) valid e = absurd (omega (arith, e))
-branch_silent L (IndirectBr rn targets) valid e = absurd (row_some Rr _ e)
-branch_silent L (Ret link) valid e = absurd (row_some Rr _ e)
-branch_silent L (JTSequence ridx other mask targets) valid e = absurd (omega (arith, e))
-branch_silent L Nop0 valid e = refl
-branch_silent L (Args args) valid e = refl
-branch_silent L (Rets rets) valid e = refl
-branch_silent L (DummyUse reg) valid e = refl
-branch_silent L SequencePoint valid e = refl
-branch_silent L (LabelAddress dst label) valid e = absurd (omega (arith, e))
-branch_silent L (LoadSymbolReloc rd reloc) valid e = absurd (row_some RiB _ e)
-branch_silent L (Trap code) valid e = absurd (row_some E _ e)
-branch_silent L (TrapIf mask code) valid e = absurd (row_some RilC _ e)
-branch_silent L Debugtrap valid e = absurd (row_some E _ e)
-branch_silent L (Vector v) valid e = absurd (composite_some v valid e)
+branch_silent L (I.Jump dest) valid e = absurd (omega (arith, e))
+branch_silent L (I.CondBr taken not_taken mask) valid e = absurd (omega (arith, e))
+branch_silent L (I.IndirectBr rn targets) valid e = absurd (row_some Rr _ e)
+branch_silent L (I.Ret link) valid e = absurd (row_some Rr _ e)
+branch_silent L (I.JTSequence ridx other mask targets) valid e = absurd (omega (arith, e))
+branch_silent L I.Nop0 valid e = refl
+branch_silent L (I.Args args) valid e = refl
+branch_silent L (I.Rets rets) valid e = refl
+branch_silent L (I.DummyUse reg) valid e = refl
+branch_silent L I.SequencePoint valid e = refl
+branch_silent L (I.LabelAddress dst label) valid e = absurd (omega (arith, e))
+branch_silent L (I.LoadSymbolReloc rd reloc) valid e = absurd (row_some RiB _ e)
+branch_silent L (I.Trap code) valid e = absurd (row_some E _ e)
+branch_silent L (I.TrapIf mask code) valid e = absurd (row_some RilC _ e)
+branch_silent L I.Debugtrap valid e = absurd (row_some E _ e)
+branch_silent L (I.Vector v) valid e = absurd (composite_some v valid e)
 branch_silent L _ valid e = absurd valid
 
 whole_silent : (L : Layout) (i : Inst) → IsValidInstruction L i → step_size (Plain i) ≡ 0 → step_kind L (Plain i) ≡ Silent

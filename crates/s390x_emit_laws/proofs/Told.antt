@@ -13,14 +13,9 @@ use Rattle.s390x_inst.specs.declared.store.StoreOp.TheVariants as StoreOps
 use Rattle.s390x_inst.specs.Stores.{store_instruction}
 use Rattle.s390x_inst.proofs.Transfers.{Transfer, LoadOf, StoreOf, as_transfer, by_transfer}
 use Rattle.s390x_inst.specs.declared.inst.Inst.{Inst}
-use Rattle.s390x_inst.specs.declared.inst.Inst.TheVariants.{Loop', CondBreak, Call, ReturnCall}
-use Rattle.s390x_inst.specs.declared.inst.Inst.TheVariants.{AluRRR, AluRR, UnaryRR, CmpRR, Mov64, MovPReg, Mov32, AluRRSImm16, AluRSImm16, AluRSImm32, AluRUImm32, CmpRSImm16, CmpRSImm32, CmpRUImm32, Mov32Imm, Mov32SImm16, Mov64SImm16, Mov64SImm32, AluRUImm16Shifted, AluRUImm32Shifted, Mov64UImm16Shifted, Mov64UImm32Shifted, Insert64UImm16Shifted, Insert64UImm32Shifted, Extend, LoadAR, InsertAR, ShiftRR}
-use Rattle.s390x_inst.specs.declared.inst.Inst.TheVariants.{RxSBG, RxSBGTest, SMulWide, UMulWide, Flogr, SDivMod32, SDivMod64, UDivMod32, UDivMod64, CmpTrapRR, CmpTrapRSImm16, CmpTrapRUImm16, CMov32, CMov64, CMov32SImm16, CMov64SImm16, LoadIndexedAddr, LoadLogicalIndexedAddr, AllocateArgs, Fence, Nop2, LabelAddress, LoadSymbolReloc, AluRX, CmpRX}
-use Rattle.s390x_inst.specs.declared.inst.Inst.TheVariants.{LoadAddr, StoreImm8, StoreImm16, StoreImm32SExt16, StoreImm64SExt16, LoadMultiple64, StoreMultiple64, AtomicRmw, AtomicCas32}
-use Rattle.s390x_inst.specs.declared.inst.Inst.TheVariants.{AtomicCas64, Jump, CondBr, IndirectBr, Ret, JTSequence, Nop0, Args, Rets, DummyUse, SequencePoint, Trap, TrapIf, Debugtrap, Vector}
+use Rattle.s390x_inst.specs.declared.inst.Inst.TheVariants as I
 use Rattle.s390x_inst.specs.declared.vec_inst.VecInst.{VecInst}
-use Rattle.s390x_inst.specs.declared.vec_inst.VecInst.TheVariants.{VecRRR, VecRR, VecSelect, VecPermute, VecBlend, VecIntCmp, VecIntCmpS, VecIntEltCmp, VecMov, VecShiftRR, VecEvaluate, VecPermuteDWImm, MovToVec128, VecImmByteMask, VecImmReplicate, VecImmBitMask, VecReplicateLane, VecInsertLaneImm, VecInsertLaneImmUndef, VecInsertLane, VecInsertLaneUndef, VecExtractLane, FpuMove32, FpuMove64, VecEltRev, FpuCMov32, FpuCMov64, VecCMov}
-use Rattle.s390x_inst.specs.declared.vec_inst.VecInst.TheVariants.{VecInt128SCmpHi, VecInt128UCmpHi, VecLoadReplicate, VecLoadReplicateRev, VecLoadLane, VecLoadLaneRev, VecLoadLaneUndef, VecLoadLaneRevUndef, VecStoreLane, VecStoreLaneRev}
+use Rattle.s390x_inst.specs.declared.vec_inst.VecInst.TheVariants as V
 use Rattle.s390x_rows.specs.declared.opcodes.TheConstants as opcodes
 use Rattle.s390x_typed_steps.proofs.RelativeRows.{alu_none, locked_none, vector_none}
 use Rattle.s390x_typed_steps.specs.Memory.{load_rows, store_rows, without_relative, StorageForm, RxForm, MemoryInstruction, loaded_memory, operate, load_and_operate, access_vector, access_elements, access_lane, reversed_code, load_lane_opcode, store_lane_opcode, load_reversed_opcode, store_reversed_opcode, is_left_lane, load_left, store_left}
@@ -33,32 +28,36 @@ use Rattle.s390x_typed_steps.specs.VectorInstruction.{is_vector, is_lane, reuses
 use Rattle.s390x_machine.specs.CodeAt.{IsValidInstruction, IsValidStep, ValidMemoryOr}
 use Rattle.s390x_machine.specs.Layout.{Layout}
 use Rattle.s390x_machine.specs.Storage.{OperandStep, operand_address, operand_step, loaded_step}
-use Rattle.s390x_machine.specs.StepKinds.{Unsupported, performed, performed_at, performed_by, kind_or, branch_kind, instruction_kind, loaded_kind, step_kind}
+use Rattle.s390x_machine.specs.StepKinds.{StepKind, Unsupported, Performed, performed, performed_at, performed_by, kind_or, branch_kind, instruction_kind, loaded_kind, step_kind}
 
 -- ---- operands in memory
 
 -- an operand that isn't one of the frame has an address
-address_told : (L : Layout) (o : OperandStep) (m : MemArg) → OperandInRange m → kind_or (performed_at o (operand_address L m)) Unsupported ≡ Unsupported → ⊥
-address_told L o (BXD12 base index disp flags) range e = absurd (cc)
-address_told L o (BXD20 base index disp flags) range e = absurd (cc)
-address_told L o (Label target) range e = absurd (cc)
-address_told L o (Constant constant) range e = absurd (cc)
-address_told L o (Symbol name offset flags) range e = absurd (cc)
-address_told L o (RegOffset reg off flags) range e = absurd (cc)
-address_told L o (InitialSPOffset off) range e = range
-address_told L o (IncomingArgOffset off) range e = range
-address_told L o (OutgoingArgOffset off) range e = range
-address_told L o (SlotOffset off) range e = range
-address_told L o (SpillOffset off) range e = range
+address_told : (L : Layout) (o : OperandStep) (m : MemArg) (others : StepKind) → OperandInRange m → kind_or (performed_at o (operand_address L m)) others ≡ Unsupported → ⊥
+address_told L o (BXD12 base index disp flags) others range e = absurd (cc)
+address_told L o (BXD20 base index disp flags) others range e = absurd (cc)
+address_told L o (Label target) others range e = absurd (cc)
+address_told L o (Constant constant) others range e = absurd (cc)
+address_told L o (Symbol name offset flags) others range e = absurd (cc)
+address_told L o (RegOffset reg off flags) others range e = absurd (cc)
+address_told L o (InitialSPOffset off) others range e = range
+address_told L o (IncomingArgOffset off) others range e = range
+address_told L o (OutgoingArgOffset off) others range e = range
+address_told L o (SlotOffset off) others range e = range
+address_told L o (SpillOffset off) others range e = range
 
-access_told : (L : Layout) (i : Inst) (o : OperandStep) → operand_step i ≡ Some o → performed L i ≡ None → branch_kind i ≡ Unsupported → OperandInRange o.operand → instruction_kind L i ≡ Unsupported → ⊥
-access_told L i o is none others range e =
-    let kind : instruction_kind L i ≡ kind_or (performed_by L (Some o)) Unsupported =
-    ap (λ p. kind_or p (kind_or (performed_by L (operand_step i)) (branch_kind i))) none ∙ ap (λ q. kind_or (performed_by L q) (branch_kind i)) is ∙ ap (λ b. kind_or (performed_by L (Some o)) b) others in
-    address_told L o o.operand range (sym kind ∙ e)
+-- what isn't told by an operation isn't told by what stands behind it
+behind : (p : Option Performed) (others : StepKind) → kind_or p others ≡ Unsupported → others ≡ Unsupported
+behind None others e = e
+behind (Some x) others e = absurd (cc)
+
+access_told : (L : Layout) (i : Inst) (o : OperandStep) → operand_step i ≡ Some o → OperandInRange o.operand → instruction_kind L i ≡ Unsupported → ⊥
+access_told L i o is range e =
+    address_told L o o.operand (branch_kind i) range
+    (subst (λ q. kind_or (performed_by L q) (branch_kind i) ≡ Unsupported) is (behind (performed L i) (kind_or (performed_by L (operand_step i)) (branch_kind i)) e))
 
 loaded_told : (L : Layout) (i : Inst) (o : OperandStep) → operand_step i ≡ Some o → OperandInRange o.operand → loaded_kind L i ≡ Unsupported → ⊥
-loaded_told L i o is range e = address_told L (loaded_step o) o.operand range (sym (ap (λ q. kind_or (performed_by L (option_map loaded_step q)) Unsupported) is) ∙ e)
+loaded_told L i o is range e = address_told L (loaded_step o) o.operand Unsupported range (sym (ap (λ q. kind_or (performed_by L (option_map loaded_step q)) Unsupported) is) ∙ e)
 
 operated : (L : Layout) (t : Bool) (rx_opcode rxy_opcode : Option ℕ) (rd ri : Reg) (mem : MemArg) → ValidMemoryOr L (operate t rx_opcode rxy_opcode rd ri mem) ⊥ → OperandInRange mem
 operated L true rx_opcode rxy_opcode rd ri mem valid = valid.range
@@ -91,132 +90,55 @@ refused L o e valid = subst (λ m. ValidMemoryOr L m ⊥) e valid
 
 -- ---- all of them
 
--- the last clause is a copy for each load and store of a whole register
-told_vector : (L : Layout) (v : VecInst) → IsValidInstruction L (Vector v) → instruction_kind L (Vector v) ≡ Unsupported → ⊥
-told_vector L (VecRRR op rd rn rm) valid e = absurd (cc)
-told_vector L (VecRR op rd rn) valid e = absurd (cc)
-told_vector L (VecSelect rd rn rm ra) valid e = absurd (cc)
-told_vector L (VecPermute rd rn rm ra) valid e = absurd (cc)
-told_vector L (VecBlend rd rn rm ra) valid e = absurd (cc)
-told_vector L (VecIntCmp op rd rn rm) valid e = absurd (cc)
-told_vector L (VecIntCmpS op rd rn rm) valid e = absurd (cc)
-told_vector L (VecIntEltCmp op rn rm) valid e = absurd (cc)
-told_vector L (VecMov rd rn) valid e = absurd (cc)
-told_vector L (VecShiftRR op rd rn amount register) valid e = absurd (cc)
-told_vector L (VecEvaluate imm rd rn rm ra) valid e = absurd (cc)
-told_vector L (VecPermuteDWImm rd rn rm first second) valid e = absurd (cc)
-told_vector L (MovToVec128 rd rn rm) valid e = absurd (cc)
-told_vector L (VecImmByteMask rd mask) valid e = absurd (cc)
-told_vector L (VecImmReplicate size rd imm) valid e = absurd (cc)
-told_vector L (VecImmBitMask size rd start end) valid e = absurd (cc)
-told_vector L (VecReplicateLane size rd rn lane) valid e = absurd (cc)
-told_vector L (VecInsertLaneImm size rd ri imm lane) valid e = absurd (cc)
-told_vector L (VecInsertLaneImmUndef size rd imm lane) valid e = absurd (cc)
-told_vector L (VecInsertLane size rd ri rn lane base) valid e = absurd (cc)
-told_vector L (VecInsertLaneUndef size rd rn lane base) valid e = absurd (cc)
-told_vector L (VecExtractLane size rd rn lane base) valid e = absurd (cc)
-told_vector L (FpuMove32 rd rn) valid e = absurd (cc)
-told_vector L (FpuMove64 rd rn) valid e = absurd (cc)
-told_vector L (VecEltRev count rd rn) valid e = absurd (cc)
-told_vector L (FpuCMov32 rd mask ri rm) valid e = absurd (cc)
-told_vector L (FpuCMov64 rd mask ri rm) valid e = absurd (cc)
-told_vector L (VecCMov rd mask ri rm) valid e = absurd (cc)
-told_vector L (VecInt128SCmpHi tmp rn rm) valid e = absurd (cc)
-told_vector L (VecInt128UCmpHi tmp rn rm) valid e = absurd (cc)
-told_vector L (VecLoadReplicate size rd mem) valid e = access_told L (Vector (VecLoadReplicate size rd mem)) _ refl refl refl (elements L opcodes.VLREP rd (element_code size) mem valid) e
-told_vector L (VecLoadReplicateRev size rd mem) valid e = access_told L (Vector (VecLoadReplicateRev size rd mem)) _ refl refl refl (elements L opcodes.VLBRREP rd (reversed_code size) mem valid) e
-told_vector L (VecLoadLane size rd ri mem lane) valid e = access_told L (Vector (VecLoadLane size rd ri mem lane)) _ refl refl refl (one_lane L (reuses_vector rd ri) load_lane_opcode (number_of rd) (element_code size) size lane mem valid) e
-told_vector L (VecLoadLaneRev size rd ri mem lane) valid e = access_told L (Vector (VecLoadLaneRev size rd ri mem lane)) _ refl refl refl (one_lane L (reuses_vector rd ri) load_reversed_opcode (number_of rd) (reversed_code size) size lane mem valid) e
-told_vector L (VecLoadLaneUndef size rd mem lane) valid e = access_told L (Vector (VecLoadLaneUndef size rd mem lane)) _ refl refl refl (left_lane L (is_left_lane size lane (number_of rd)) (is_vector rd) (load_left size (number_of rd)) load_lane_opcode (number_of rd) (element_code size) size lane mem valid) e
-told_vector L (VecLoadLaneRevUndef size rd mem lane) valid e = access_told L (Vector (VecLoadLaneRevUndef size rd mem lane)) _ refl refl refl (one_lane L (is_vector rd) load_reversed_opcode (number_of rd) (reversed_code size) size lane mem valid) e
-told_vector L (VecStoreLane size rd mem lane) valid e = access_told L (Vector (VecStoreLane size rd mem lane)) _ refl refl refl (left_lane L (is_left_lane size lane (number_of rd)) (is_vector rd) (store_left size (number_of rd)) store_lane_opcode (number_of rd) (element_code size) size lane mem valid) e
-told_vector L (VecStoreLaneRev size rd mem lane) valid e = access_told L (Vector (VecStoreLaneRev size rd mem lane)) _ refl refl refl (one_lane L (is_vector rd) store_reversed_opcode (number_of rd) (reversed_code size) size lane mem valid) e
-told_vector L v valid e = access_told L (Vector v) _ refl refl refl valid.range e
+abbrev IsTold : StepKind → Type 0
+IsTold Unsupported = ⊥
+IsTold k = Unit {0}
 
--- the last clause is a copy for each load and store of one register
+-- of an instruction without an operand in memory its kind is told, and of one with an operand that lies in its range
+abbrev ToldOr : Option OperandStep → StepKind → Type 0
+ToldOr None k = IsTold k
+ToldOr (Some o) k = Unit {0}
+
+abbrev RangeOf : Option OperandStep → Type 0
+RangeOf None = Unit {0}
+RangeOf (Some o) = OperandInRange o.operand
+
+-- the last clause of each is a copy for each other instruction
+told_vector : (L : Layout) (v : VecInst) → ToldOr (operand_step (I.Vector v)) (instruction_kind L (I.Vector v))
+told_vector L (V.VecRR op rd rn) = tt
+told_vector L v = tt
+
+told_otherwise : (L : Layout) (i : Inst) → IsValidInstruction L i → ToldOr (operand_step i) (instruction_kind L i)
+told_otherwise L (I.Loop' mask body all) valid = absurd valid
+told_otherwise L (I.CondBreak mask) valid = absurd valid
+told_otherwise L (I.Call link info) valid = absurd valid
+told_otherwise L (I.ReturnCall info) valid = absurd valid
+told_otherwise L (I.Vector v) valid = told_vector L v
+told_otherwise L i valid = tt
+
+ranged_vector : (L : Layout) (v : VecInst) → IsValidInstruction L (I.Vector v) → RangeOf (operand_step (I.Vector v))
+ranged_vector L (V.VecLoadReplicate size rd mem) valid = elements L opcodes.VLREP rd (element_code size) mem valid
+ranged_vector L (V.VecLoadReplicateRev size rd mem) valid = elements L opcodes.VLBRREP rd (reversed_code size) mem valid
+ranged_vector L (V.VecLoadLane size rd ri mem lane) valid = one_lane L (reuses_vector rd ri) load_lane_opcode (number_of rd) (element_code size) size lane mem valid
+ranged_vector L (V.VecLoadLaneRev size rd ri mem lane) valid = one_lane L (reuses_vector rd ri) load_reversed_opcode (number_of rd) (reversed_code size) size lane mem valid
+ranged_vector L (V.VecLoadLaneUndef size rd mem lane) valid = left_lane L (is_left_lane size lane (number_of rd)) (is_vector rd) (load_left size (number_of rd)) load_lane_opcode (number_of rd) (element_code size) size lane mem valid
+ranged_vector L (V.VecLoadLaneRevUndef size rd mem lane) valid = one_lane L (is_vector rd) load_reversed_opcode (number_of rd) (reversed_code size) size lane mem valid
+ranged_vector L (V.VecStoreLane size rd mem lane) valid = left_lane L (is_left_lane size lane (number_of rd)) (is_vector rd) (store_left size (number_of rd)) store_lane_opcode (number_of rd) (element_code size) size lane mem valid
+ranged_vector L (V.VecStoreLaneRev size rd mem lane) valid = one_lane L (is_vector rd) store_reversed_opcode (number_of rd) (reversed_code size) size lane mem valid
+ranged_vector L v valid = assumption
+
+ranged : (L : Layout) (i : Inst) → IsValidInstruction L i → RangeOf (operand_step i)
+ranged L (I.AluRX op rd ri mem) valid = operated L (is_some (alu_rx op) || is_some (alu_rxy op)) (alu_rx op) (alu_rxy op) rd ri mem valid
+ranged L (I.AtomicRmw op rd rn mem) valid = locked L (atomic_rsy op) rd rn mem valid
+ranged L (I.Vector v) valid = ranged_vector L v valid
+ranged L i valid = assumption
+
+told_by : (L : Layout) (i : Inst) (o : Option OperandStep) → operand_step i ≡ o → ToldOr o (instruction_kind L i) → RangeOf o → instruction_kind L i ≡ Unsupported → ⊥
+told_by L i None is told range e = subst IsTold e told
+told_by L i (Some o) is told range e = access_told L i o is range e
+
 told_instruction : (L : Layout) (i : Inst) → IsValidInstruction L i → instruction_kind L i ≡ Unsupported → ⊥
-told_instruction L (AluRRR op rd rn rm) valid e = absurd (cc)
-told_instruction L (AluRR op rd ri rm) valid e = absurd (cc)
-told_instruction L (UnaryRR op rd rn) valid e = absurd (cc)
-told_instruction L (CmpRR op rn rm) valid e = absurd (cc)
-told_instruction L (Mov64 rd rm) valid e = absurd (cc)
-told_instruction L (MovPReg rd rm) valid e = absurd (cc)
-told_instruction L (Mov32 rd rm) valid e = absurd (cc)
-told_instruction L (AluRRSImm16 op rd rn imm) valid e = absurd (cc)
-told_instruction L (AluRSImm16 op rd ri imm) valid e = absurd (cc)
-told_instruction L (AluRSImm32 op rd ri imm) valid e = absurd (cc)
-told_instruction L (AluRUImm32 op rd ri imm) valid e = absurd (cc)
-told_instruction L (CmpRSImm16 op rn imm) valid e = absurd (cc)
-told_instruction L (CmpRSImm32 op rn imm) valid e = absurd (cc)
-told_instruction L (CmpRUImm32 op rn imm) valid e = absurd (cc)
-told_instruction L (Mov32Imm rd imm) valid e = absurd (cc)
-told_instruction L (Mov32SImm16 rd imm) valid e = absurd (cc)
-told_instruction L (Mov64SImm16 rd imm) valid e = absurd (cc)
-told_instruction L (Mov64SImm32 rd imm) valid e = absurd (cc)
-told_instruction L (AluRUImm16Shifted op rd ri imm) valid e = absurd (cc)
-told_instruction L (AluRUImm32Shifted op rd ri imm) valid e = absurd (cc)
-told_instruction L (Mov64UImm16Shifted rd imm) valid e = absurd (cc)
-told_instruction L (Mov64UImm32Shifted rd imm) valid e = absurd (cc)
-told_instruction L (Insert64UImm16Shifted rd ri imm) valid e = absurd (cc)
-told_instruction L (Insert64UImm32Shifted rd ri imm) valid e = absurd (cc)
-told_instruction L (Extend rd rn signed from to) valid e = absurd (cc)
-told_instruction L (LoadAR rd ar) valid e = absurd (cc)
-told_instruction L (InsertAR rd ri ar) valid e = absurd (cc)
-told_instruction L (ShiftRR op rd rn amount register) valid e = absurd (cc)
-told_instruction L (RxSBG op rd ri rn first last amount) valid e = absurd (cc)
-told_instruction L (RxSBGTest op rd rn first last amount) valid e = absurd (cc)
-told_instruction L (SMulWide rd rn rm) valid e = absurd (cc)
-told_instruction L (UMulWide rd ri rn) valid e = absurd (cc)
-told_instruction L (Flogr rd rn) valid e = absurd (cc)
-told_instruction L (SDivMod32 rd ri rn) valid e = absurd (cc)
-told_instruction L (SDivMod64 rd ri rn) valid e = absurd (cc)
-told_instruction L (UDivMod32 rd ri rn) valid e = absurd (cc)
-told_instruction L (UDivMod64 rd ri rn) valid e = absurd (cc)
-told_instruction L (CmpTrapRR op rn rm mask code) valid e = absurd (cc)
-told_instruction L (CmpTrapRSImm16 op rn imm mask code) valid e = absurd (cc)
-told_instruction L (CmpTrapRUImm16 op rn imm mask code) valid e = absurd (cc)
-told_instruction L (CMov32 rd mask ri rm) valid e = absurd (cc)
-told_instruction L (CMov64 rd mask ri rm) valid e = absurd (cc)
-told_instruction L (CMov32SImm16 rd mask ri imm) valid e = absurd (cc)
-told_instruction L (CMov64SImm16 rd mask ri imm) valid e = absurd (cc)
-told_instruction L (LoadIndexedAddr rd base index offset size) valid e = absurd (cc)
-told_instruction L (LoadLogicalIndexedAddr rd base index offset size) valid e = absurd (cc)
-told_instruction L (AllocateArgs size) valid e = absurd (cc)
-told_instruction L Fence valid e = absurd (cc)
-told_instruction L Nop2 valid e = absurd (cc)
-told_instruction L (LabelAddress dst label) valid e = absurd (cc)
-told_instruction L (LoadSymbolReloc rd reloc) valid e = absurd (cc)
-told_instruction L (AluRX op rd ri mem) valid e = access_told L (AluRX op rd ri mem) _ refl refl refl (operated L (is_some (alu_rx op) || is_some (alu_rxy op)) (alu_rx op) (alu_rxy op) rd ri mem valid) e
-told_instruction L (CmpRX op rn mem) valid e = access_told L (CmpRX op rn mem) _ refl refl refl valid.range e
-told_instruction L (LoadAddr rd mem) valid e = access_told L (LoadAddr rd mem) _ refl refl refl valid.range e
-told_instruction L (StoreImm8 imm mem) valid e = access_told L (StoreImm8 imm mem) _ refl refl refl valid.range e
-told_instruction L (StoreImm16 imm mem) valid e = access_told L (StoreImm16 imm mem) _ refl refl refl valid.range e
-told_instruction L (StoreImm32SExt16 imm mem) valid e = access_told L (StoreImm32SExt16 imm mem) _ refl refl refl valid.range e
-told_instruction L (StoreImm64SExt16 imm mem) valid e = access_told L (StoreImm64SExt16 imm mem) _ refl refl refl valid.range e
-told_instruction L (LoadMultiple64 rt rt2 mem) valid e = access_told L (LoadMultiple64 rt rt2 mem) _ refl refl refl valid.range e
-told_instruction L (StoreMultiple64 rt rt2 mem) valid e = access_told L (StoreMultiple64 rt rt2 mem) _ refl refl refl valid.range e
-told_instruction L (AtomicRmw op rd rn mem) valid e = access_told L (AtomicRmw op rd rn mem) _ refl refl refl (locked L (atomic_rsy op) rd rn mem valid) e
-told_instruction L (AtomicCas32 rd ri rn mem) valid e = access_told L (AtomicCas32 rd ri rn mem) _ refl refl refl valid.range e
-told_instruction L (AtomicCas64 rd ri rn mem) valid e = access_told L (AtomicCas64 rd ri rn mem) _ refl refl refl valid.range e
-told_instruction L (Jump dest) valid e = absurd (cc)
-told_instruction L (CondBr taken not_taken mask) valid e = absurd (cc)
-told_instruction L (IndirectBr rn targets) valid e = absurd (cc)
-told_instruction L (Ret link) valid e = absurd (cc)
-told_instruction L (JTSequence ridx other mask targets) valid e = absurd (cc)
-told_instruction L Nop0 valid e = absurd (cc)
-told_instruction L (Args args) valid e = absurd (cc)
-told_instruction L (Rets rets) valid e = absurd (cc)
-told_instruction L (DummyUse reg) valid e = absurd (cc)
-told_instruction L SequencePoint valid e = absurd (cc)
-told_instruction L (Trap code) valid e = absurd (cc)
-told_instruction L (TrapIf mask code) valid e = absurd (cc)
-told_instruction L Debugtrap valid e = absurd (cc)
-told_instruction L (Vector v) valid e = told_vector L v valid e
-told_instruction L (Loop' mask body all) valid e = absurd valid
-told_instruction L (CondBreak mask) valid e = absurd valid
-told_instruction L (Call link info) valid e = absurd valid
-told_instruction L (ReturnCall info) valid e = absurd valid
-told_instruction L i valid e = access_told L i _ refl refl refl valid.range e
+told_instruction L i valid e = told_by L i (operand_step i) refl (told_otherwise L i valid) (ranged L i valid) e
 
 row_range : (L : Layout) (register : ℕ) (short long relative : Option ℕ) (general reads : Bool) (mem : MemArg) →
     ValidMemoryOr L (without_relative (Some (record { form = RxForm register short long relative; operand = mem; accesses = true; operands_valid = general; reads_scratch = reads }))) ⊥ → OperandInRange mem
@@ -240,10 +162,10 @@ told_loaded_or L i (Some (LoadOf l)) valid e = told_load_loaded L l.op l.rd l.me
 told_loaded_or L i (Some (StoreOf s)) valid e = told_store_loaded L s.op s.rd s.mem valid e
 
 told_loaded : (L : Layout) (i : Inst) → ValidMemoryOr L (loaded_memory i) ⊥ → loaded_kind L i ≡ Unsupported → ⊥
-told_loaded L (CmpRX op rn mem) valid e = loaded_told L (CmpRX op rn mem) _ refl valid.range e
-told_loaded L (AluRX op rd ri mem) valid e = refused L (loaded_memory (AluRX op rd ri mem)) (alu_none (is_some (alu_rx op) || is_some (alu_rxy op)) (alu_rx op) (alu_rxy op) rd ri mem) valid
-told_loaded L (AtomicRmw op rd rn mem) valid e = refused L (loaded_memory (AtomicRmw op rd rn mem)) (locked_none (atomic_rsy op) rd rn mem) valid
-told_loaded L (Vector v) valid e = refused L (loaded_memory (Vector v)) (vector_none v) valid
+told_loaded L (I.CmpRX op rn mem) valid e = loaded_told L (I.CmpRX op rn mem) _ refl valid.range e
+told_loaded L (I.AluRX op rd ri mem) valid e = refused L (loaded_memory (I.AluRX op rd ri mem)) (alu_none (is_some (alu_rx op) || is_some (alu_rxy op)) (alu_rx op) (alu_rxy op) rd ri mem) valid
+told_loaded L (I.AtomicRmw op rd rn mem) valid e = refused L (loaded_memory (I.AtomicRmw op rd rn mem)) (locked_none (atomic_rsy op) rd rn mem) valid
+told_loaded L (I.Vector v) valid e = refused L (loaded_memory (I.Vector v)) (vector_none v) valid
 told_loaded L i valid e = told_loaded_or L i (as_transfer i) valid e
 
 pub told : (L : Layout) (s : Step) → IsValidStep L s → step_kind L s ≡ Unsupported → ⊥

@@ -1,12 +1,9 @@
 -- The instructions that are register work.
 use Rattle.std.proofs.Common.{◌≡◌, ℕ, None, Bool, true, false, if◌then◌else◌, nat_lt, not, IsTrue, refl, sym, true≢false}
 use Rattle.s390x_inst.specs.declared.inst.Inst.{Inst}
-use Rattle.s390x_inst.specs.declared.inst.Inst.TheVariants.{AluRRR, AluRRSImm16, AluRR, AluRSImm16, AluRSImm32, AluRUImm32, AluRUImm16Shifted, AluRUImm32Shifted, SMulWide, UMulWide, Flogr, ShiftRR, RxSBG, RxSBGTest, UnaryRR, CmpRR, CmpRSImm16, CmpRSImm32, CmpRUImm32}
-use Rattle.s390x_inst.specs.declared.inst.Inst.TheVariants.{Mov64, MovPReg, Mov32, Mov32Imm, Mov32SImm16, Mov64SImm16, Mov64SImm32, Mov64UImm16Shifted, Mov64UImm32Shifted, Insert64UImm16Shifted, Insert64UImm32Shifted, CMov32, CMov64, CMov32SImm16, CMov64SImm16, Extend, LoadAR, InsertAR, Vector}
-use Rattle.s390x_inst.specs.declared.inst.Inst.TheVariants.{LoadIndexedAddr, LoadLogicalIndexedAddr, LabelAddress, LoadSymbolReloc, AllocateArgs, Fence, Nop0, Nop2, Args, Rets, DummyUse, SequencePoint}
+use Rattle.s390x_inst.specs.declared.inst.Inst.TheVariants as I
 use Rattle.s390x_inst.specs.declared.vec_inst.VecInst.{VecInst}
-use Rattle.s390x_inst.specs.declared.vec_inst.VecInst.TheVariants.{VecRRR, VecRR, VecShiftRR, VecSelect, VecPermute, VecBlend, VecEvaluate, VecPermuteDWImm, VecIntCmp, VecIntCmpS, VecIntEltCmp, VecMov, FpuMove32, FpuMove64, MovToVec128, VecImmByteMask, VecImmBitMask, VecImmReplicate, VecInsertLane, VecInsertLaneUndef, VecExtractLane, VecInsertLaneImm, VecInsertLaneImmUndef, VecReplicateLane}
-use Rattle.s390x_inst.specs.declared.vec_inst.VecInst.TheVariants.{VecInt128SCmpHi, VecInt128UCmpHi, VecEltRev, VecCMov, FpuCMov32, FpuCMov64}
+use Rattle.s390x_inst.specs.declared.vec_inst.VecInst.TheVariants as V
 use Rattle.s390x_inst.specs.declared.vec_ops.VecBinaryOp.{VecBinaryOp}
 use Rattle.s390x_inst.specs.declared.vec_ops.VecBinaryOp.TheVariants as B
 use Rattle.s390x_inst.specs.declared.vec_ops.VecUnaryOp.{VecUnaryOp}
@@ -35,7 +32,7 @@ use Rattle.s390x_machine.specs.Computations.{Second, with_rule, computes_immedia
 use Rattle.s390x_machine.specs.VectorSteps.{elements_of, element_index}
 use Rattle.s390x_machine.specs.Layout.{Layout}
 use Rattle.s390x_machine.specs.Operands.{performed_where, value_in}
-use Rattle.s390x_machine.specs.StepKinds.{instruction_kind}
+use Rattle.s390x_machine.specs.StepKinds.{StepKind, instruction_kind}
 use Rattle.s390x_machine.specs.VectorOperations.{binary_operation, unary_operation, comparison_operation, element_comparison}
 use Rattle.s390x_machine.proofs.VectorSteps.{computed_vector, is_divide}
 use Rattle.s390x_interference.specs.Retry.{StaysInRegisters, IsRegisterWork}
@@ -100,88 +97,60 @@ immediate_moves_stay size mask d bits r =
 
 -- ---- instructions
 
-vector_work : (L : Layout) (v : VecInst) → is_vector_work v ≡ true → IsRegisterWork (instruction_kind L (Vector v))
-vector_work L (VecRRR op rd rn rm) h = λ r. vector_stays (binary_operation op) _ _ _ _ _ (never_binary op h)
-vector_work L (VecRR op rd rn) h = λ r. vector_stays (unary_operation op) _ _ _ _ _ (never_unary op)
-vector_work L (VecShiftRR op rd rn amount register) h = λ r. plain _ refl refl (λ kind by. true≢false (sym by.1))
-vector_work L (VecSelect rd rn rm ra) h = λ r. plain _ refl refl (λ kind by. true≢false (sym by.1))
-vector_work L (VecPermute rd rn rm ra) h = λ r. plain _ refl refl (λ kind by. true≢false (sym by.1))
-vector_work L (VecBlend rd rn rm ra) h = λ r. plain _ refl refl (λ kind by. true≢false (sym by.1))
-vector_work L (VecEvaluate imm rd rn rm ra) h = λ r. plain _ refl refl (λ kind by. true≢false (sym by.1))
-vector_work L (VecPermuteDWImm rd rn rm first second) h = λ r. plain _ refl refl (λ kind by. true≢false (sym by.1))
-vector_work L (VecIntCmp op rd rn rm) h = λ r. vector_stays (comparison_operation op false) _ _ _ _ _ (never_comparison op false)
-vector_work L (VecIntCmpS op rd rn rm) h = λ r. vector_stays (comparison_operation op true) _ _ _ _ _ (never_comparison op true)
-vector_work L (VecIntEltCmp op rn rm) h = λ r. vector_stays (element_comparison op) _ _ _ _ _ (never_element op)
-vector_work L (VecMov rd rn) h = λ r. plain _ refl refl (λ kind by. true≢false (sym by.1))
-vector_work L (FpuMove32 rd rn) h = λ r. plain _ refl refl (λ kind by. by)
-vector_work L (FpuMove64 rd rn) h = λ r. plain _ refl refl (λ kind by. by)
-vector_work L (MovToVec128 rd rn rm) h = λ r. plain _ refl refl (λ kind by. by)
-vector_work L (VecImmByteMask rd mask) h = λ r. plain _ refl refl (λ kind by. true≢false (sym by.1))
-vector_work L (VecImmBitMask size rd start end) h = λ r. plain _ refl refl (λ kind by. true≢false (sym by.1))
-vector_work L (VecImmReplicate size rd imm) h = λ r. plain _ refl refl (λ kind by. true≢false (sym by.1))
-vector_work L (VecInsertLane size rd ri rn lane base) h = λ r. put_stays (nat_lt (element_index r (number_of base) lane) (lane_count (elements_of size))) _ _ _ _ _
-vector_work L (VecInsertLaneUndef size rd rn lane base) h = λ r. put_stays (nat_lt (element_index r (number_of base) lane) (lane_count (elements_of size))) _ _ _ _ _
-vector_work L (VecExtractLane size rd rn lane base) h = λ r. extract_stays (nat_lt (element_index r (number_of base) lane) (lane_count (elements_of size))) (number_of rd) _ r
-vector_work L (VecInsertLaneImm size rd ri imm lane) h = λ r. plain _ refl refl (λ kind by. true≢false (sym by.1))
-vector_work L (VecInsertLaneImmUndef size rd imm lane) h = λ r. plain _ refl refl (λ kind by. by)
-vector_work L (VecReplicateLane size rd rn lane) h = λ r. plain _ refl refl (λ kind by. true≢false (sym by.1))
-vector_work L (VecInt128SCmpHi tmp rn rm) h = tt
-vector_work L (VecInt128UCmpHi tmp rn rm) h = tt
-vector_work L (VecEltRev count rd rn) h = λ r. plain _ refl refl (λ kind by. by)
-vector_work L (VecCMov rd mask ri rm) h = λ r. plain _ refl refl (λ kind by. true≢false (sym by.1))
-vector_work L (FpuCMov32 rd mask ri rm) h = λ r. plain _ refl refl (λ kind by. by)
-vector_work L (FpuCMov64 rd mask ri rm) h = λ r. plain _ refl refl (λ kind by. by)
+vector_work : (L : Layout) (v : VecInst) → is_vector_work v ≡ true → IsRegisterWork (instruction_kind L (I.Vector v))
+vector_work L (V.VecRRR op rd rn rm) h = λ r. vector_stays (binary_operation op) _ _ _ _ _ (never_binary op h)
+vector_work L (V.VecRR op rd rn) h = λ r. vector_stays (unary_operation op) _ _ _ _ _ (never_unary op)
+vector_work L (V.VecShiftRR op rd rn amount register) h = λ r. plain _ refl refl (λ kind by. true≢false (sym by.1))
+vector_work L (V.VecSelect rd rn rm ra) h = λ r. plain _ refl refl (λ kind by. true≢false (sym by.1))
+vector_work L (V.VecPermute rd rn rm ra) h = λ r. plain _ refl refl (λ kind by. true≢false (sym by.1))
+vector_work L (V.VecBlend rd rn rm ra) h = λ r. plain _ refl refl (λ kind by. true≢false (sym by.1))
+vector_work L (V.VecEvaluate imm rd rn rm ra) h = λ r. plain _ refl refl (λ kind by. true≢false (sym by.1))
+vector_work L (V.VecPermuteDWImm rd rn rm first second) h = λ r. plain _ refl refl (λ kind by. true≢false (sym by.1))
+vector_work L (V.VecIntCmp op rd rn rm) h = λ r. vector_stays (comparison_operation op false) _ _ _ _ _ (never_comparison op false)
+vector_work L (V.VecIntCmpS op rd rn rm) h = λ r. vector_stays (comparison_operation op true) _ _ _ _ _ (never_comparison op true)
+vector_work L (V.VecIntEltCmp op rn rm) h = λ r. vector_stays (element_comparison op) _ _ _ _ _ (never_element op)
+vector_work L (V.VecMov rd rn) h = λ r. plain _ refl refl (λ kind by. true≢false (sym by.1))
+vector_work L (V.FpuMove32 rd rn) h = λ r. plain _ refl refl (λ kind by. by)
+vector_work L (V.FpuMove64 rd rn) h = λ r. plain _ refl refl (λ kind by. by)
+vector_work L (V.MovToVec128 rd rn rm) h = λ r. plain _ refl refl (λ kind by. by)
+vector_work L (V.VecImmByteMask rd mask) h = λ r. plain _ refl refl (λ kind by. true≢false (sym by.1))
+vector_work L (V.VecImmBitMask size rd start end) h = λ r. plain _ refl refl (λ kind by. true≢false (sym by.1))
+vector_work L (V.VecImmReplicate size rd imm) h = λ r. plain _ refl refl (λ kind by. true≢false (sym by.1))
+vector_work L (V.VecInsertLane size rd ri rn lane base) h = λ r. put_stays (nat_lt (element_index r (number_of base) lane) (lane_count (elements_of size))) _ _ _ _ _
+vector_work L (V.VecInsertLaneUndef size rd rn lane base) h = λ r. put_stays (nat_lt (element_index r (number_of base) lane) (lane_count (elements_of size))) _ _ _ _ _
+vector_work L (V.VecExtractLane size rd rn lane base) h = λ r. extract_stays (nat_lt (element_index r (number_of base) lane) (lane_count (elements_of size))) (number_of rd) _ r
+vector_work L (V.VecInsertLaneImm size rd ri imm lane) h = λ r. plain _ refl refl (λ kind by. true≢false (sym by.1))
+vector_work L (V.VecInsertLaneImmUndef size rd imm lane) h = λ r. plain _ refl refl (λ kind by. by)
+vector_work L (V.VecReplicateLane size rd rn lane) h = λ r. plain _ refl refl (λ kind by. true≢false (sym by.1))
+vector_work L (V.VecInt128SCmpHi tmp rn rm) h = tt
+vector_work L (V.VecInt128UCmpHi tmp rn rm) h = tt
+vector_work L (V.VecEltRev count rd rn) h = λ r. plain _ refl refl (λ kind by. by)
+vector_work L (V.VecCMov rd mask ri rm) h = λ r. plain _ refl refl (λ kind by. true≢false (sym by.1))
+vector_work L (V.FpuCMov32 rd mask ri rm) h = λ r. plain _ refl refl (λ kind by. by)
+vector_work L (V.FpuCMov64 rd mask ri rm) h = λ r. plain _ refl refl (λ kind by. by)
 vector_work L _ h = absurd (true≢false (sym h))
 
+-- what the list has is register work; of any other nothing is said
+abbrev WorkIf : Bool → StepKind → Type 0
+WorkIf true k = IsRegisterWork k
+WorkIf false k = Unit {0}
+
+work_if : (listed : Bool) (k : StepKind) → (listed ≡ true → IsRegisterWork k) → WorkIf listed k
+work_if true k work = work refl
+work_if false k work = tt
+
+work_of : (listed : Bool) (k : StepKind) → WorkIf listed k → listed ≡ true → IsRegisterWork k
+work_of true k work h = work
+work_of false k work h = absurd (true≢false (sym h))
+
+-- the last clause is a copy for each other instruction
+work : (L : Layout) (i : Inst) → WorkIf (is_register_work i) (instruction_kind L i)
+work L (I.CMov32 rd mask ri rm) = moves_stay Word unsigned_word (four_bits mask) (number_of rd) (number_of rm)
+work L (I.CMov64 rd mask ri rm) = moves_stay Doubleword doubleword (four_bits mask) (number_of rd) (number_of rm)
+work L (I.CMov32SImm16 rd mask ri imm) = immediate_moves_stay Word (four_bits mask) (number_of rd) (low_halfword imm)
+work L (I.CMov64SImm16 rd mask ri imm) = immediate_moves_stay Doubleword (four_bits mask) (number_of rd) (low_halfword imm)
+work L (I.Vector v) = work_if (is_vector_work v) (instruction_kind L (I.Vector v)) (vector_work L v)
+work L i = assumption
+
 pub register_work : (L : Layout) (i : Inst) → IsTrue (is_register_work i) → IsRegisterWork (instruction_kind L i)
-register_work L (AluRRR op rd rn rm) h = λ r. plain _ refl refl (λ kind by. by)
-register_work L (AluRRSImm16 op rd rn imm) h = λ r. plain _ refl refl (λ kind by. by)
-register_work L (AluRR op rd ri rm) h = λ r. plain _ refl refl (λ kind by. by)
-register_work L (AluRSImm16 op rd ri imm) h = λ r. plain _ refl refl (λ kind by. by)
-register_work L (AluRSImm32 op rd ri imm) h = λ r. plain _ refl refl (λ kind by. by)
-register_work L (AluRUImm32 op rd ri imm) h = λ r. plain _ refl refl (λ kind by. by)
-register_work L (AluRUImm16Shifted op rd ri imm) h = λ r. plain _ refl refl (λ kind by. by)
-register_work L (AluRUImm32Shifted op rd ri imm) h = λ r. plain _ refl refl (λ kind by. by)
-register_work L (SMulWide rd rn rm) h = λ r. plain _ refl refl (λ kind by. by)
-register_work L (UMulWide rd ri rn) h = λ r. plain _ refl refl (λ kind by. by)
-register_work L (Flogr rd rn) h = λ r. plain _ refl refl (λ kind by. by)
-register_work L (ShiftRR op rd rn amount register) h = λ r. plain _ refl refl (λ kind by. by)
-register_work L (RxSBG op rd ri rn first last amount) h = λ r. plain _ refl refl (λ kind by. by)
-register_work L (RxSBGTest op rd rn first last amount) h = λ r. plain _ refl refl (λ kind by. by)
-register_work L (UnaryRR op rd rn) h = λ r. plain _ refl refl (λ kind by. by)
-register_work L (CmpRR op rn rm) h = λ r. plain _ refl refl (λ kind by. by)
-register_work L (CmpRSImm16 op rn imm) h = λ r. plain _ refl refl (λ kind by. by)
-register_work L (CmpRSImm32 op rn imm) h = λ r. plain _ refl refl (λ kind by. by)
-register_work L (CmpRUImm32 op rn imm) h = λ r. plain _ refl refl (λ kind by. by)
-register_work L (Mov64 rd rm) h = λ r. plain _ refl refl (λ kind by. by)
-register_work L (MovPReg rd rm) h = λ r. plain _ refl refl (λ kind by. by)
-register_work L (Mov32 rd rm) h = λ r. plain _ refl refl (λ kind by. by)
-register_work L (Mov32Imm rd imm) h = λ r. plain _ refl refl (λ kind by. by)
-register_work L (Mov32SImm16 rd imm) h = λ r. plain _ refl refl (λ kind by. by)
-register_work L (Mov64SImm16 rd imm) h = λ r. plain _ refl refl (λ kind by. by)
-register_work L (Mov64SImm32 rd imm) h = λ r. plain _ refl refl (λ kind by. by)
-register_work L (Mov64UImm16Shifted rd imm) h = λ r. plain _ refl refl (λ kind by. by)
-register_work L (Mov64UImm32Shifted rd imm) h = λ r. plain _ refl refl (λ kind by. by)
-register_work L (Insert64UImm16Shifted rd ri imm) h = λ r. plain _ refl refl (λ kind by. by)
-register_work L (Insert64UImm32Shifted rd ri imm) h = λ r. plain _ refl refl (λ kind by. by)
-register_work L (CMov32 rd mask ri rm) h = moves_stay Word unsigned_word (four_bits mask) (number_of rd) (number_of rm)
-register_work L (CMov64 rd mask ri rm) h = moves_stay Doubleword doubleword (four_bits mask) (number_of rd) (number_of rm)
-register_work L (CMov32SImm16 rd mask ri imm) h = immediate_moves_stay Word (four_bits mask) (number_of rd) (low_halfword imm)
-register_work L (CMov64SImm16 rd mask ri imm) h = immediate_moves_stay Doubleword (four_bits mask) (number_of rd) (low_halfword imm)
-register_work L (Extend rd rn signed from to) h = λ r. plain _ refl refl (λ kind by. by)
-register_work L (LoadAR rd ar) h = λ r. plain _ refl refl (λ kind by. by)
-register_work L (InsertAR rd ri ar) h = λ r. plain _ refl refl (λ kind by. by)
-register_work L (LoadIndexedAddr rd base index offset size) h = λ r. plain _ refl refl (λ kind by. by)
-register_work L (LoadLogicalIndexedAddr rd base index offset size) h = λ r. plain _ refl refl (λ kind by. by)
-register_work L (LabelAddress dst label) h = λ r. plain _ refl refl (λ kind by. by)
-register_work L (LoadSymbolReloc rd reloc) h = λ r. plain _ refl refl (λ kind by. by)
-register_work L (AllocateArgs size) h = λ r. plain _ refl refl (λ kind by. by)
-register_work L Fence h = λ r. plain _ refl refl (λ kind by. by)
-register_work L Nop0 h = tt
-register_work L Nop2 h = λ r. plain _ refl refl (λ kind by. by)
-register_work L (Args args) h = tt
-register_work L (Rets rets) h = tt
-register_work L (DummyUse reg) h = tt
-register_work L SequencePoint h = tt
-register_work L (Vector v) h = vector_work L v h
-register_work L _ h = absurd (true≢false (sym h))
+register_work L i h = work_of (is_register_work i) (instruction_kind L i) (work L i) h

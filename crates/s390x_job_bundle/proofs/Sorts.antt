@@ -69,128 +69,73 @@ loop_text [] h = absurd cc
 loop_text (FFlags f ∷ fs) h = absurd cc
 loop_text (f ∷ fs) h = refl
 
-opens_integer : (n : IntegerName) (fs : List Field) → bytes_eq (take 5 (integer_text n ++ spelled fs)) (codes "Loop ") ≡ false
-opens_integer IntegerIs.AluRRR fs = refl
-opens_integer n fs = refl
+-- no line that begins with this word opens a loop, closes one or ends the job
+abbrev Other : List ℕ → Type 0
+Other w = (fs : List Field) →
+    (bytes_eq (take 5 (w ++ spelled fs)) (codes "Loop ") ≡ false) × (bytes_eq (w ++ spelled fs) (codes "endloop") ≡ false) × (bytes_eq (w ++ spelled fs) (codes "end") ≡ false)
 
-opens_load : (op : LoadOp) (fs : List Field) → bytes_eq (take 5 (load_name_text op ++ spelled fs)) (codes "Loop ") ≡ false
-opens_load LoadOps.Load32 fs = refl
-opens_load op fs = refl
+integer_other : (n : IntegerName) → Other (integer_text n)
+integer_other IntegerIs.AluRRR = λ fs. (refl, refl, refl)
+integer_other n = λ fs. (refl, refl, refl)
 
-opens_store : (op : StoreOp) (fs : List Field) → bytes_eq (take 5 (store_name_text op ++ spelled fs)) (codes "Loop ") ≡ false
-opens_store StoreOps.Store64 fs = refl
-opens_store op fs = refl
+load_other : (op : LoadOp) → Other (load_name_text op)
+load_other LoadOps.Load32 = λ fs. (refl, refl, refl)
+load_other op = λ fs. (refl, refl, refl)
 
-opens_memory : (n : MemoryName) (fs : List Field) → bytes_eq (take 5 (memory_name_text n ++ spelled fs)) (codes "Loop ") ≡ false
-opens_memory MemoryIs.LoadAddr fs = refl
-opens_memory n fs = refl
+store_other : (op : StoreOp) → Other (store_name_text op)
+store_other StoreOps.Store64 = λ fs. (refl, refl, refl)
+store_other op = λ fs. (refl, refl, refl)
 
-opens_control : (n : ControlName) (fs : List Field) → bytes_eq (take 5 (control_text n ++ spelled fs)) (codes "Loop ") ≡ false
-opens_control ControlIs.Fence fs = refl
-opens_control n fs = refl
+memory_other : (n : MemoryName) → Other (memory_name_text n)
+memory_other MemoryIs.LoadAddr = λ fs. (refl, refl, refl)
+memory_other n = λ fs. (refl, refl, refl)
 
-opens_vector : (n : VectorName) (fs : List Field) → bytes_eq (take 5 (vector_name_text n ++ spelled fs)) (codes "Loop ") ≡ false
-opens_vector VectorIs.VecRRR fs = refl
-opens_vector n fs = refl
+control_other : (n : ControlName) → Other (control_text n)
+control_other ControlIs.Fence = λ fs. (refl, refl, refl)
+control_other n = λ fs. (refl, refl, refl)
 
-opens_whole : (direction : Direction) (layout : WholeLayout) (fs : List Field) → bytes_eq (take 5 (whole_name_text direction layout ++ spelled fs)) (codes "Loop ") ≡ false
-opens_whole Directions.Load Layouts.Straight fs = refl
-opens_whole Directions.Load layout fs = refl
-opens_whole Directions.Store Layouts.Straight fs = refl
-opens_whole Directions.Store layout fs = refl
+vector_other : (n : VectorName) → Other (vector_name_text n)
+vector_other VectorIs.VecRRR = λ fs. (refl, refl, refl)
+vector_other n = λ fs. (refl, refl, refl)
+
+whole_other : (direction : Direction) (layout : WholeLayout) → Other (whole_name_text direction layout)
+whole_other Directions.Load Layouts.Straight = λ fs. (refl, refl, refl)
+whole_other Directions.Load layout = λ fs. (refl, refl, refl)
+whole_other Directions.Store Layouts.Straight = λ fs. (refl, refl, refl)
+whole_other Directions.Store layout = λ fs. (refl, refl, refl)
 
 opens_named : (n : LineName) (fs : List Field) → kinds n ≡ kinds_of fs → bytes_eq (take 5 (name_text n ++ spelled fs)) (codes "Loop ") ≡ is_opening (named n)
 opens_named N.Loop fs h = loop_text fs h
-opens_named (N.Integer n) fs h = opens_integer n fs
-opens_named (N.Load op) fs h = opens_load op fs
-opens_named (N.Store op) fs h = opens_store op fs
-opens_named (N.Memory n) fs h = opens_memory n fs
-opens_named (N.Control n) fs h = opens_control n fs
-opens_named (N.Vector n) fs h = opens_vector n fs
-opens_named (N.Whole direction layout) fs h = opens_whole direction layout fs
+opens_named (N.Integer n) fs h = (integer_other n fs).0
+opens_named (N.Load op) fs h = (load_other op fs).0
+opens_named (N.Store op) fs h = (store_other op fs).0
+opens_named (N.Memory n) fs h = (memory_other n fs).0
+opens_named (N.Control n) fs h = (control_other n fs).0
+opens_named (N.Vector n) fs h = (vector_other n fs).0
+opens_named (N.Whole direction layout) fs h = (whole_other direction layout fs).0
 opens_named n fs h = refl
-
-closes_integer : (n : IntegerName) (fs : List Field) → bytes_eq (integer_text n ++ spelled fs) (codes "endloop") ≡ false
-closes_integer IntegerIs.AluRRR fs = refl
-closes_integer n fs = refl
-
-closes_load : (op : LoadOp) (fs : List Field) → bytes_eq (load_name_text op ++ spelled fs) (codes "endloop") ≡ false
-closes_load LoadOps.Load32 fs = refl
-closes_load op fs = refl
-
-closes_store : (op : StoreOp) (fs : List Field) → bytes_eq (store_name_text op ++ spelled fs) (codes "endloop") ≡ false
-closes_store StoreOps.Store64 fs = refl
-closes_store op fs = refl
-
-closes_memory : (n : MemoryName) (fs : List Field) → bytes_eq (memory_name_text n ++ spelled fs) (codes "endloop") ≡ false
-closes_memory MemoryIs.LoadAddr fs = refl
-closes_memory n fs = refl
-
-closes_control : (n : ControlName) (fs : List Field) → bytes_eq (control_text n ++ spelled fs) (codes "endloop") ≡ false
-closes_control ControlIs.Fence fs = refl
-closes_control n fs = refl
-
-closes_vector : (n : VectorName) (fs : List Field) → bytes_eq (vector_name_text n ++ spelled fs) (codes "endloop") ≡ false
-closes_vector VectorIs.VecRRR fs = refl
-closes_vector n fs = refl
-
-closes_whole : (direction : Direction) (layout : WholeLayout) (fs : List Field) → bytes_eq (whole_name_text direction layout ++ spelled fs) (codes "endloop") ≡ false
-closes_whole Directions.Load Layouts.Straight fs = refl
-closes_whole Directions.Load layout fs = refl
-closes_whole Directions.Store Layouts.Straight fs = refl
-closes_whole Directions.Store layout fs = refl
 
 closes_named : (n : LineName) (fs : List Field) → kinds n ≡ kinds_of fs → bytes_eq (name_text n ++ spelled fs) (codes "endloop") ≡ is_closing (named n)
 closes_named N.EndLoopLine fs h = ap (λ gs. bytes_eq (name_text N.EndLoopLine ++ spelled gs) (codes "endloop")) (no_fields fs h)
 closes_named N.EndLine fs h = ap (λ gs. bytes_eq (name_text N.EndLine ++ spelled gs) (codes "endloop")) (no_fields fs h)
-closes_named (N.Integer n) fs h = closes_integer n fs
-closes_named (N.Load op) fs h = closes_load op fs
-closes_named (N.Store op) fs h = closes_store op fs
-closes_named (N.Memory n) fs h = closes_memory n fs
-closes_named (N.Control n) fs h = closes_control n fs
-closes_named (N.Vector n) fs h = closes_vector n fs
-closes_named (N.Whole direction layout) fs h = closes_whole direction layout fs
+closes_named (N.Integer n) fs h = (integer_other n fs).1
+closes_named (N.Load op) fs h = (load_other op fs).1
+closes_named (N.Store op) fs h = (store_other op fs).1
+closes_named (N.Memory n) fs h = (memory_other n fs).1
+closes_named (N.Control n) fs h = (control_other n fs).1
+closes_named (N.Vector n) fs h = (vector_other n fs).1
+closes_named (N.Whole direction layout) fs h = (whole_other direction layout fs).1
 closes_named n fs h = refl
-
-ends_integer : (n : IntegerName) (fs : List Field) → bytes_eq (integer_text n ++ spelled fs) (codes "end") ≡ false
-ends_integer IntegerIs.AluRRR fs = refl
-ends_integer n fs = refl
-
-ends_load : (op : LoadOp) (fs : List Field) → bytes_eq (load_name_text op ++ spelled fs) (codes "end") ≡ false
-ends_load LoadOps.Load32 fs = refl
-ends_load op fs = refl
-
-ends_store : (op : StoreOp) (fs : List Field) → bytes_eq (store_name_text op ++ spelled fs) (codes "end") ≡ false
-ends_store StoreOps.Store64 fs = refl
-ends_store op fs = refl
-
-ends_memory : (n : MemoryName) (fs : List Field) → bytes_eq (memory_name_text n ++ spelled fs) (codes "end") ≡ false
-ends_memory MemoryIs.LoadAddr fs = refl
-ends_memory n fs = refl
-
-ends_control : (n : ControlName) (fs : List Field) → bytes_eq (control_text n ++ spelled fs) (codes "end") ≡ false
-ends_control ControlIs.Fence fs = refl
-ends_control n fs = refl
-
-ends_vector : (n : VectorName) (fs : List Field) → bytes_eq (vector_name_text n ++ spelled fs) (codes "end") ≡ false
-ends_vector VectorIs.VecRRR fs = refl
-ends_vector n fs = refl
-
-ends_whole : (direction : Direction) (layout : WholeLayout) (fs : List Field) → bytes_eq (whole_name_text direction layout ++ spelled fs) (codes "end") ≡ false
-ends_whole Directions.Load Layouts.Straight fs = refl
-ends_whole Directions.Load layout fs = refl
-ends_whole Directions.Store Layouts.Straight fs = refl
-ends_whole Directions.Store layout fs = refl
 
 ends_named : (n : LineName) (fs : List Field) → kinds n ≡ kinds_of fs → bytes_eq (name_text n ++ spelled fs) (codes "end") ≡ is_ending (named n)
 ends_named N.EndLine fs h = ap (λ gs. bytes_eq (name_text N.EndLine ++ spelled gs) (codes "end")) (no_fields fs h)
-ends_named (N.Integer n) fs h = ends_integer n fs
-ends_named (N.Load op) fs h = ends_load op fs
-ends_named (N.Store op) fs h = ends_store op fs
-ends_named (N.Memory n) fs h = ends_memory n fs
-ends_named (N.Control n) fs h = ends_control n fs
-ends_named (N.Vector n) fs h = ends_vector n fs
-ends_named (N.Whole direction layout) fs h = ends_whole direction layout fs
+ends_named (N.Integer n) fs h = (integer_other n fs).2
+ends_named (N.Load op) fs h = (load_other op fs).2
+ends_named (N.Store op) fs h = (store_other op fs).2
+ends_named (N.Memory n) fs h = (memory_other n fs).2
+ends_named (N.Control n) fs h = (control_other n fs).2
+ends_named (N.Vector n) fs h = (vector_other n fs).2
+ends_named (N.Whole direction layout) fs h = (whole_other direction layout fs).2
 ends_named n fs h = refl
 
 -- ---- by its class

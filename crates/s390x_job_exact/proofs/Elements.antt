@@ -1,5 +1,5 @@
 -- Lists, element by element.
-use Rattle.std.proofs.Common.{◌≡◌, ℕ, ◌<◌, List, [], ◌∷◌, ◌++◌, length, refl, sym, ap, ◌∙◌, arith, append_assoc}
+use Rattle.std.proofs.Common.{◌≡◌, ℕ, ◌<◌, List, [], ◌∷◌, ◌++◌, length, sym, ap, ◌∙◌, arith, append_assoc}
 use Rattle.std.proofs.lemmas.List.{append-nil, length-append}
 use Rattle.s390x_job_fields.specs.Lists.{AllItems, more_text, open_text}
 use Rattle.s390x_job_exact.specs.Exact.{TakesElement, TakesElements, TakesList}
@@ -31,8 +31,8 @@ module _ {A : Type 0} (spelling : A → List ℕ) (IsIn : A → Type 0) where
       omega (arith, ap length e, ap length h.taken, length-append (spelling h.element) u)
 
   -- no element
-  pub nothing : (xs : List A) (s : List ℕ) → xs ≡ [] → TakesElements spelling IsIn [] xs s s
-  nothing xs s e = rw e (record { in_range = tt; taken = refl })
+  pub nothing : (xs : List A) (s t : List ℕ) → xs ≡ [] → s ≡ 32 ∷ 91 ∷ 93 ∷ t → TakesList spelling IsIn xs s t
+  nothing xs s t e f = rw e (record { in_range = tt; taken = f })
 
   -- the first element
   pub first : (xs : List A) (s t : List ℕ) → TakesElement spelling IsIn [] xs s t → TakesElements spelling IsIn [] xs s t

@@ -145,11 +145,15 @@ impl<'a> ExactCursor<'a> {
         Some(SymbolReloc::Absolute { name, offset })
     }
 
-    /// Takes a calling convention.
+    /// Takes a calling convention, of which `SystemV` alone begins with `S`.
+    #[inline(always)]
     pub fn convention(&mut self) -> Option<CallConv>
         ensures { IfSome result (λ c. Takes (FConvention c) self.old self.new) }
     {
-        self.operator(CONVENTION_NAMES, CallConv::Fast)
+        match self.rest() {
+            [_, b'S', ..] => self.spelled(CallConv::SystemV),
+            _ => self.operator(CONVENTION_NAMES, CallConv::Fast),
+        }
     }
 
     /// Takes that a call has no handlers.

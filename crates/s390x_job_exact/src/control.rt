@@ -9,6 +9,7 @@ ghost use Rattle.s390x_job_lines.specs.Instructions.{inst_line};
 ghost use Rattle.s390x_job_exact.specs.Exact.{AreFields, TakesAll};
 
 use crate::cursor::ExactCursor;
+use crate::rows::{take_fields, take_rows};
 use s390x_base::{PRegSet, Reg, Writable};
 use s390x_inst::{
     CallArgPair, CallConv, CallInfo, CallInstDest, CallRetPair, Inst, ReturnCallInfo, TryCallInfo,
@@ -39,39 +40,14 @@ fn bare(name: ControlName, cursor: &mut ExactCursor) -> Option<Inst>
 fn simple(name: ControlName, cursor: &mut ExactCursor) -> Option<Inst>
     ensures { IfSome result (λ x. AreFields (LineName.Control name) (inst_line x) cursor.old) }
 {
-    match name {
-        ControlName::Jump => {
-            let dest = cursor.label()?;
-            cursor.end()?;
-            Some(Inst::Jump { dest })
-        }
-        ControlName::Ret => {
-            let link = cursor.reg()?;
-            cursor.end()?;
-            Some(Inst::Ret { link })
-        }
-        ControlName::Trap => {
-            let trap_code = cursor.trap_code()?;
-            cursor.end()?;
-            Some(Inst::Trap { trap_code })
-        }
-        ControlName::CondBreak => {
-            let cond = cursor.cond()?;
-            cursor.end()?;
-            Some(Inst::CondBreak { cond })
-        }
-        ControlName::AllocateArgs => {
-            let size = cursor.u32()?;
-            cursor.end()?;
-            Some(Inst::AllocateArgs { size })
-        }
-        ControlName::DummyUse => {
-            let reg = cursor.reg()?;
-            cursor.end()?;
-            Some(Inst::DummyUse { reg })
-        }
-        _ => None,
-    }
+    take_rows!((ControlName, name, cursor, {})
+        Jump { dest: label }
+        Ret { link: reg }
+        Trap { trap_code: trap_code }
+        CondBreak { cond: cond }
+        AllocateArgs { size: u32 }
+        DummyUse { reg: reg }
+    )
 }
 
 #[tactic(auto, using(crate::proofs::Lines::two))]
@@ -80,10 +56,7 @@ fn trap_if(cursor: &mut ExactCursor) -> Option<Inst>
     ensures { IfSome result
         (λ x. AreFields (LineName.Control ControlName.TrapIf) (inst_line x) cursor.old) }
 {
-    let cond = cursor.cond()?;
-    let trap_code = cursor.trap_code()?;
-    cursor.end()?;
-    Some(Inst::TrapIf { cond, trap_code })
+    take_fields!(TrapIf, cursor, {}, cond: cond, trap_code: trap_code)
 }
 
 #[tactic(auto, using(crate::proofs::Lines::three))]
@@ -92,15 +65,7 @@ fn branch(cursor: &mut ExactCursor) -> Option<Inst>
     ensures { IfSome result
         (λ x. AreFields (LineName.Control ControlName.CondBr) (inst_line x) cursor.old) }
 {
-    let taken = cursor.label()?;
-    let not_taken = cursor.label()?;
-    let cond = cursor.cond()?;
-    cursor.end()?;
-    Some(Inst::CondBr {
-        taken,
-        not_taken,
-        cond,
-    })
+    take_fields!(CondBr, cursor, {}, taken: label, not_taken: label, cond: cond)
 }
 
 /// Takes the fields of an address in a register.

@@ -223,6 +223,16 @@ impl<'a> ExactCursor<'a> {
         self.word(names, other)
     }
 
+    /// Takes the word that spells this value, behind a space.
+    #[inline(always)]
+    pub fn spelled<T: Word>(&mut self, value: T) -> Option<T>
+        ensures { IfSome result (λ o. self.old ≡ 32 ∷ (T.spelling o ++ self.new)) }
+    {
+        self.byte(b' ')?;
+        self.text(value.text().as_bytes())?;
+        Some(value)
+    }
+
     /// Takes an operation on integers.
     pub fn alu(&mut self) -> Option<ALUOp>
         ensures { IfSome result (λ o. Takes (FAlu o) self.old self.new) }

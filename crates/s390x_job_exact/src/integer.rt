@@ -4,6 +4,7 @@ ghost use Rattle.s390x_job_lines.specs.Instructions.{inst_line};
 ghost use Rattle.s390x_job_exact.specs.Exact.{AreFields};
 
 use crate::cursor::ExactCursor;
+use crate::rows::{take_fields, take_rows};
 use s390x_inst::Inst;
 use s390x_job_lines::{IntegerName, LineName};
 
@@ -16,24 +17,10 @@ fn alu_three(name: IntegerName, cursor: &mut ExactCursor) -> Option<Inst>
     let alu_op = cursor.alu()?;
     let rd = cursor.written()?;
     let rn = cursor.reg()?;
-    match name {
-        IntegerName::AluRRR => {
-            let rm = cursor.reg()?;
-            cursor.end()?;
-            Some(Inst::AluRRR { alu_op, rd, rn, rm })
-        }
-        IntegerName::AluRRSImm16 => {
-            let imm = cursor.i16()?;
-            cursor.end()?;
-            Some(Inst::AluRRSImm16 {
-                alu_op,
-                rd,
-                rn,
-                imm,
-            })
-        }
-        _ => None,
-    }
+    take_rows!((IntegerName, name, cursor, { alu_op, rd, rn })
+        AluRRR { rm: reg }
+        AluRRSImm16 { imm: i16 }
+    )
 }
 
 /// Takes the fields of an operation whose output is its first input, with a register or memory.
@@ -45,24 +32,10 @@ fn alu_two(name: IntegerName, cursor: &mut ExactCursor) -> Option<Inst>
     let alu_op = cursor.alu()?;
     let rd = cursor.written()?;
     let ri = cursor.reg()?;
-    match name {
-        IntegerName::AluRR => {
-            let rm = cursor.reg()?;
-            cursor.end()?;
-            Some(Inst::AluRR { alu_op, rd, ri, rm })
-        }
-        IntegerName::AluRX => {
-            let mem = cursor.memory()?;
-            cursor.end()?;
-            Some(Inst::AluRX {
-                alu_op,
-                rd,
-                ri,
-                mem,
-            })
-        }
-        _ => None,
-    }
+    take_rows!((IntegerName, name, cursor, { alu_op, rd, ri })
+        AluRR { rm: reg }
+        AluRX { mem: memory }
+    )
 }
 
 /// Takes the fields of an operation whose output is its first input, with a number.
@@ -74,59 +47,13 @@ fn alu_immediate(name: IntegerName, cursor: &mut ExactCursor) -> Option<Inst>
     let alu_op = cursor.alu()?;
     let rd = cursor.written()?;
     let ri = cursor.reg()?;
-    match name {
-        IntegerName::AluRSImm16 => {
-            let imm = cursor.i16()?;
-            cursor.end()?;
-            Some(Inst::AluRSImm16 {
-                alu_op,
-                rd,
-                ri,
-                imm,
-            })
-        }
-        IntegerName::AluRSImm32 => {
-            let imm = cursor.i32()?;
-            cursor.end()?;
-            Some(Inst::AluRSImm32 {
-                alu_op,
-                rd,
-                ri,
-                imm,
-            })
-        }
-        IntegerName::AluRUImm32 => {
-            let imm = cursor.u32()?;
-            cursor.end()?;
-            Some(Inst::AluRUImm32 {
-                alu_op,
-                rd,
-                ri,
-                imm,
-            })
-        }
-        IntegerName::AluRUImm16Shifted => {
-            let imm = cursor.shifted16()?;
-            cursor.end()?;
-            Some(Inst::AluRUImm16Shifted {
-                alu_op,
-                rd,
-                ri,
-                imm,
-            })
-        }
-        IntegerName::AluRUImm32Shifted => {
-            let imm = cursor.shifted32()?;
-            cursor.end()?;
-            Some(Inst::AluRUImm32Shifted {
-                alu_op,
-                rd,
-                ri,
-                imm,
-            })
-        }
-        _ => None,
-    }
+    take_rows!((IntegerName, name, cursor, { alu_op, rd, ri })
+        AluRSImm16 { imm: i16 }
+        AluRSImm32 { imm: i32 }
+        AluRUImm32 { imm: u32 }
+        AluRUImm16Shifted { imm: shifted16 }
+        AluRUImm32Shifted { imm: shifted32 }
+    )
 }
 
 /// Takes the fields of an instruction of this name, where they are a comparison, a register and one more field.
@@ -137,34 +64,13 @@ fn compare(name: IntegerName, cursor: &mut ExactCursor) -> Option<Inst>
 {
     let op = cursor.cmp()?;
     let rn = cursor.reg()?;
-    match name {
-        IntegerName::CmpRR => {
-            let rm = cursor.reg()?;
-            cursor.end()?;
-            Some(Inst::CmpRR { op, rn, rm })
-        }
-        IntegerName::CmpRX => {
-            let mem = cursor.memory()?;
-            cursor.end()?;
-            Some(Inst::CmpRX { op, rn, mem })
-        }
-        IntegerName::CmpRSImm16 => {
-            let imm = cursor.i16()?;
-            cursor.end()?;
-            Some(Inst::CmpRSImm16 { op, rn, imm })
-        }
-        IntegerName::CmpRSImm32 => {
-            let imm = cursor.i32()?;
-            cursor.end()?;
-            Some(Inst::CmpRSImm32 { op, rn, imm })
-        }
-        IntegerName::CmpRUImm32 => {
-            let imm = cursor.u32()?;
-            cursor.end()?;
-            Some(Inst::CmpRUImm32 { op, rn, imm })
-        }
-        _ => None,
-    }
+    take_rows!((IntegerName, name, cursor, { op, rn })
+        CmpRR { rm: reg }
+        CmpRX { mem: memory }
+        CmpRSImm16 { imm: i16 }
+        CmpRSImm32 { imm: i32 }
+        CmpRUImm32 { imm: u32 }
+    )
 }
 
 /// Takes the fields of an instruction of this name, where they are a register and one more field.
@@ -174,49 +80,16 @@ fn moved(name: IntegerName, cursor: &mut ExactCursor) -> Option<Inst>
     ensures { IfSome result (λ x. AreFields (LineName.Integer name) (inst_line x) cursor.old) }
 {
     let rd = cursor.written()?;
-    match name {
-        IntegerName::Mov64 => {
-            let rm = cursor.reg()?;
-            cursor.end()?;
-            Some(Inst::Mov64 { rd, rm })
-        }
-        IntegerName::Mov32 => {
-            let rm = cursor.reg()?;
-            cursor.end()?;
-            Some(Inst::Mov32 { rd, rm })
-        }
-        IntegerName::Mov32Imm => {
-            let imm = cursor.u32()?;
-            cursor.end()?;
-            Some(Inst::Mov32Imm { rd, imm })
-        }
-        IntegerName::Mov32SImm16 => {
-            let imm = cursor.i16()?;
-            cursor.end()?;
-            Some(Inst::Mov32SImm16 { rd, imm })
-        }
-        IntegerName::Mov64SImm16 => {
-            let imm = cursor.i16()?;
-            cursor.end()?;
-            Some(Inst::Mov64SImm16 { rd, imm })
-        }
-        IntegerName::Mov64SImm32 => {
-            let imm = cursor.i32()?;
-            cursor.end()?;
-            Some(Inst::Mov64SImm32 { rd, imm })
-        }
-        IntegerName::Mov64UImm16Shifted => {
-            let imm = cursor.shifted16()?;
-            cursor.end()?;
-            Some(Inst::Mov64UImm16Shifted { rd, imm })
-        }
-        IntegerName::Mov64UImm32Shifted => {
-            let imm = cursor.shifted32()?;
-            cursor.end()?;
-            Some(Inst::Mov64UImm32Shifted { rd, imm })
-        }
-        _ => None,
-    }
+    take_rows!((IntegerName, name, cursor, { rd })
+        Mov64 { rm: reg }
+        Mov32 { rm: reg }
+        Mov32Imm { imm: u32 }
+        Mov32SImm16 { imm: i16 }
+        Mov64SImm16 { imm: i16 }
+        Mov64SImm32 { imm: i32 }
+        Mov64UImm16Shifted { imm: shifted16 }
+        Mov64UImm32Shifted { imm: shifted32 }
+    )
 }
 
 /// Takes the fields of a shift.
@@ -226,19 +99,7 @@ fn shift(cursor: &mut ExactCursor) -> Option<Inst>
     ensures { IfSome result
         (λ x. AreFields (LineName.Integer IntegerName.ShiftRR) (inst_line x) cursor.old) }
 {
-    let shift_op = cursor.shift_op()?;
-    let rd = cursor.written()?;
-    let rn = cursor.reg()?;
-    let shift_imm = cursor.u8()?;
-    let shift_reg = cursor.reg()?;
-    cursor.end()?;
-    Some(Inst::ShiftRR {
-        shift_op,
-        rd,
-        rn,
-        shift_imm,
-        shift_reg,
-    })
+    take_fields!(ShiftRR, cursor, {}, shift_op: shift_op, rd: written, rn: reg, shift_imm: u8, shift_reg: reg)
 }
 
 /// Takes the fields of an operation on one register.
@@ -248,11 +109,7 @@ fn unary(cursor: &mut ExactCursor) -> Option<Inst>
     ensures { IfSome result
         (λ x. AreFields (LineName.Integer IntegerName.UnaryRR) (inst_line x) cursor.old) }
 {
-    let op = cursor.unary()?;
-    let rd = cursor.written()?;
-    let rn = cursor.reg()?;
-    cursor.end()?;
-    Some(Inst::UnaryRR { op, rd, rn })
+    take_fields!(UnaryRR, cursor, {}, op: unary, rd: written, rn: reg)
 }
 
 /// Takes the fields of a conditional move.
@@ -264,29 +121,12 @@ fn conditional(name: IntegerName, cursor: &mut ExactCursor) -> Option<Inst>
     let rd = cursor.written()?;
     let cond = cursor.cond()?;
     let ri = cursor.reg()?;
-    match name {
-        IntegerName::CMov32 => {
-            let rm = cursor.reg()?;
-            cursor.end()?;
-            Some(Inst::CMov32 { rd, cond, ri, rm })
-        }
-        IntegerName::CMov64 => {
-            let rm = cursor.reg()?;
-            cursor.end()?;
-            Some(Inst::CMov64 { rd, cond, ri, rm })
-        }
-        IntegerName::CMov32SImm16 => {
-            let imm = cursor.i16()?;
-            cursor.end()?;
-            Some(Inst::CMov32SImm16 { rd, cond, ri, imm })
-        }
-        IntegerName::CMov64SImm16 => {
-            let imm = cursor.i16()?;
-            cursor.end()?;
-            Some(Inst::CMov64SImm16 { rd, cond, ri, imm })
-        }
-        _ => None,
-    }
+    take_rows!((IntegerName, name, cursor, { rd, cond, ri })
+        CMov32 { rm: reg }
+        CMov64 { rm: reg }
+        CMov32SImm16 { imm: i16 }
+        CMov64SImm16 { imm: i16 }
+    )
 }
 
 /// Takes the fields of an extension.
@@ -296,19 +136,7 @@ fn extend(cursor: &mut ExactCursor) -> Option<Inst>
     ensures { IfSome result
         (λ x. AreFields (LineName.Integer IntegerName.Extend) (inst_line x) cursor.old) }
 {
-    let rd = cursor.written()?;
-    let rn = cursor.reg()?;
-    let signed = cursor.truth()?;
-    let from_bits = cursor.u8()?;
-    let to_bits = cursor.u8()?;
-    cursor.end()?;
-    Some(Inst::Extend {
-        rd,
-        rn,
-        signed,
-        from_bits,
-        to_bits,
-    })
+    take_fields!(Extend, cursor, {}, rd: written, rn: reg, signed: truth, from_bits: u8, to_bits: u8)
 }
 
 /// Takes the fields of an instruction of this name, where it is a less frequent one.

@@ -11,6 +11,7 @@ mod list;
 mod memory;
 mod number;
 mod operand;
+mod rows;
 mod vector;
 
 pub use line::exact_line;

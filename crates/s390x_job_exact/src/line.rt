@@ -9,20 +9,63 @@ use crate::cursor::ExactCursor;
 use crate::integer::integer;
 use crate::memory::{load, memory, store, whole};
 use crate::vector::vector;
-use s390x_inst::Inst;
-use s390x_job_fields::marks::front;
+use s390x_inst::{Direction, Inst, LoadOp, StoreOp, WholeLayout};
+use s390x_job_fields::marks::before;
 use s390x_job_fields::word::Word;
-use s390x_job_lines::{LineName, candidate};
+use s390x_job_lines::{ControlName, IntegerName, LineName, VectorName, candidate};
 use std::alloc::Global;
 
-/// Takes the name of a line.
+/// Takes this name, whose text is known.
+#[inline(always)]
+fn named(cursor: &mut ExactCursor, text: &[u8], name: LineName) -> Option<LineName>
+    requires { text.now ≡ name_text name }
+    ensures { IfSome result (λ n. cursor.old ≡ name_text n ++ cursor.new) }
+{
+    cursor.text(text)?;
+    Some(name)
+}
+
+/// Takes the name of a line, which is looked for.
+#[inline(always)]
+fn found_name(cursor: &mut ExactCursor) -> Option<LineName>
+    ensures { IfSome result (λ n. cursor.old ≡ name_text n ++ cursor.new) }
+{
+    let name = candidate(before(cursor.rest(), b' '));
+    cursor.text(name.text().as_bytes())?;
+    Some(name)
+}
+
+/// Takes the name of a line. A few letters tell those that compiled code has most.
 #[inline(always)]
 fn line_name(cursor: &mut ExactCursor) -> Option<LineName>
     ensures { IfSome result (λ n. cursor.old ≡ name_text n ++ cursor.new) }
 {
-    let name = candidate(front(cursor.rest()));
-    cursor.text(name.text().as_bytes())?;
-    Some(name)
+    match cursor.rest() {
+        [b'V', _, _, b'R', b'R', b'R', ..] => {
+            named(cursor, b"VecRRR", LineName::Vector(VectorName::VecRRR))
+        }
+        [b'V', _, _, b'L', _, _, _, b' ', ..] => named(
+            cursor,
+            b"VecLoad",
+            LineName::Whole(Direction::Load, WholeLayout::Straight),
+        ),
+        [b'V', _, _, b'S', _, _, _, _, b' ', ..] => named(
+            cursor,
+            b"VecStore",
+            LineName::Whole(Direction::Store, WholeLayout::Straight),
+        ),
+        [b'C', b'a', ..] => named(cursor, b"Call", LineName::Control(ControlName::Call)),
+        [b'A', _, _, b'R', b'R', b'R', ..] => {
+            named(cursor, b"AluRRR", LineName::Integer(IntegerName::AluRRR))
+        }
+        [b'L', _, _, _, b'6', _, b' ', ..] => {
+            named(cursor, b"Load64", LineName::Load(LoadOp::Load64))
+        }
+        [b'S', _, _, _, _, b'6', _, b' ', ..] => {
+            named(cursor, b"Store64", LineName::Store(StoreOp::Store64))
+        }
+        _ => found_name(cursor),
+    }
 }
 
 /// Takes the fields of an instruction of this name, where it is a frequent one.

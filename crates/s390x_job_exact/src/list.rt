@@ -80,28 +80,36 @@ fn elements<T: ExactElement + Drop>(cursor: &mut ExactCursor, items: &mut Vec<T>
     more(cursor, items)
 }
 
-/// Takes the elements of a list.
+/// Takes a list without elements.
 #[tactic(auto, using(crate::proofs::Elements::nothing))]
-fn inside<T: ExactElement + Drop>(cursor: &mut ExactCursor, items: &mut Vec<T>) -> Option<()>
-    requires { items.old.items ≡ [] }
-    ensures { IfSome result
-        (λ _. TakesElements T.spelling T.IsIn [] items.new.items cursor.old cursor.new) }
+#[inline(always)]
+fn empty<T: ExactElement + Drop>(cursor: &mut ExactCursor, alloc: Global) -> Option<Vec<T>>
+    ensures { IfSome result (λ v. TakesList T.spelling T.IsIn v.items cursor.old cursor.new) }
 {
-    match cursor.rest() {
-        [b']', ..] => Some(()),
-        _ => elements(cursor, items),
-    }
+    cursor.text(b" []")?;
+    Some(Vec::new(alloc))
 }
 
-/// Takes a list; none also where there is no memory.
+/// Takes a list that isn't empty; none also where there is no memory.
 #[tactic(auto, using(crate::proofs::Elements::closed))]
 #[inline(never)]
-pub fn list<T: ExactElement + Drop>(cursor: &mut ExactCursor, alloc: Global) -> Option<Vec<T>>
+fn filled<T: ExactElement + Drop>(cursor: &mut ExactCursor, alloc: Global) -> Option<Vec<T>>
     ensures { IfSome result (λ v. TakesList T.spelling T.IsIn v.items cursor.old cursor.new) }
 {
     let mut items = Vec::new(alloc);
     cursor.text(b" [")?;
-    inside(cursor, &mut items)?;
+    elements(cursor, &mut items)?;
     cursor.byte(b']')?;
     Some(items)
+}
+
+/// Takes a list; none also where there is no memory.
+#[inline(always)]
+pub fn list<T: ExactElement + Drop>(cursor: &mut ExactCursor, alloc: Global) -> Option<Vec<T>>
+    ensures { IfSome result (λ v. TakesList T.spelling T.IsIn v.items cursor.old cursor.new) }
+{
+    match cursor.rest() {
+        [_, _, b']', ..] => empty(cursor, alloc),
+        _ => filled(cursor, alloc),
+    }
 }

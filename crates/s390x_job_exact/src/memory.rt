@@ -4,6 +4,7 @@ ghost use Rattle.s390x_job_lines.specs.Instructions.{inst_line};
 ghost use Rattle.s390x_job_exact.specs.Exact.{AreFields};
 
 use crate::cursor::ExactCursor;
+use crate::rows::{take_fields, take_rows};
 use s390x_inst::{Direction, Inst, LoadOp, StoreOp, WholeAccess, WholeLayout};
 use s390x_job_lines::{LineName, MemoryName};
 
@@ -14,10 +15,7 @@ fn address(cursor: &mut ExactCursor) -> Option<Inst>
     ensures { IfSome result
         (λ x. AreFields (LineName.Memory MemoryName.LoadAddr) (inst_line x) cursor.old) }
 {
-    let rd = cursor.written()?;
-    let mem = cursor.memory()?;
-    cursor.end()?;
-    Some(Inst::LoadAddr { rd, mem })
+    take_fields!(LoadAddr, cursor, {}, rd: written, mem: memory)
 }
 
 /// Takes the fields of a store of a number.
@@ -26,33 +24,12 @@ fn address(cursor: &mut ExactCursor) -> Option<Inst>
 fn store_number(name: MemoryName, cursor: &mut ExactCursor) -> Option<Inst>
     ensures { IfSome result (λ x. AreFields (LineName.Memory name) (inst_line x) cursor.old) }
 {
-    match name {
-        MemoryName::StoreImm8 => {
-            let imm = cursor.u8()?;
-            let mem = cursor.memory()?;
-            cursor.end()?;
-            Some(Inst::StoreImm8 { imm, mem })
-        }
-        MemoryName::StoreImm16 => {
-            let imm = cursor.i16()?;
-            let mem = cursor.memory()?;
-            cursor.end()?;
-            Some(Inst::StoreImm16 { imm, mem })
-        }
-        MemoryName::StoreImm32SExt16 => {
-            let imm = cursor.i16()?;
-            let mem = cursor.memory()?;
-            cursor.end()?;
-            Some(Inst::StoreImm32SExt16 { imm, mem })
-        }
-        MemoryName::StoreImm64SExt16 => {
-            let imm = cursor.i16()?;
-            let mem = cursor.memory()?;
-            cursor.end()?;
-            Some(Inst::StoreImm64SExt16 { imm, mem })
-        }
-        _ => None,
-    }
+    take_rows!((MemoryName, name, cursor, {})
+        StoreImm8 { imm: u8, mem: memory }
+        StoreImm16 { imm: i16, mem: memory }
+        StoreImm32SExt16 { imm: i16, mem: memory }
+        StoreImm64SExt16 { imm: i16, mem: memory }
+    )
 }
 
 /// Takes the fields of an instruction of this name, where it is a frequent one.

@@ -4,6 +4,7 @@ ghost use Rattle.s390x_job_lines.specs.Instructions.{inst_line};
 ghost use Rattle.s390x_job_exact.specs.Exact.{AreFields};
 
 use crate::cursor::ExactCursor;
+use crate::rows::take_vector_fields;
 use s390x_inst::{Inst, VecInst};
 use s390x_job_lines::{LineName, VectorName};
 
@@ -14,12 +15,7 @@ fn binary(cursor: &mut ExactCursor) -> Option<Inst>
     ensures { IfSome result
         (λ x. AreFields (LineName.Vector VectorName.VecRRR) (inst_line x) cursor.old) }
 {
-    let op = cursor.vec_binary()?;
-    let rd = cursor.written()?;
-    let rn = cursor.reg()?;
-    let rm = cursor.reg()?;
-    cursor.end()?;
-    Some(Inst::Vector(VecInst::VecRRR { op, rd, rn, rm }))
+    take_vector_fields!(VecRRR, cursor, op: vec_binary, rd: written, rn: reg, rm: reg)
 }
 
 /// Takes the fields of an operation on one vector.
@@ -29,11 +25,7 @@ fn unary(cursor: &mut ExactCursor) -> Option<Inst>
     ensures { IfSome result
         (λ x. AreFields (LineName.Vector VectorName.VecRR) (inst_line x) cursor.old) }
 {
-    let op = cursor.vec_unary()?;
-    let rd = cursor.written()?;
-    let rn = cursor.reg()?;
-    cursor.end()?;
-    Some(Inst::Vector(VecInst::VecRR { op, rd, rn }))
+    take_vector_fields!(VecRR, cursor, op: vec_unary, rd: written, rn: reg)
 }
 
 /// Takes the fields of a shift of a vector.
@@ -43,19 +35,7 @@ fn shift(cursor: &mut ExactCursor) -> Option<Inst>
     ensures { IfSome result
         (λ x. AreFields (LineName.Vector VectorName.VecShiftRR) (inst_line x) cursor.old) }
 {
-    let shift_op = cursor.vec_shift_op()?;
-    let rd = cursor.written()?;
-    let rn = cursor.reg()?;
-    let shift_imm = cursor.u8()?;
-    let shift_reg = cursor.reg()?;
-    cursor.end()?;
-    Some(Inst::Vector(VecInst::VecShiftRR {
-        shift_op,
-        rd,
-        rn,
-        shift_imm,
-        shift_reg,
-    }))
+    take_vector_fields!(VecShiftRR, cursor, shift_op: vec_shift_op, rd: written, rn: reg, shift_imm: u8, shift_reg: reg)
 }
 
 /// Takes the fields of a comparison of vectors.
@@ -65,12 +45,7 @@ fn compare(cursor: &mut ExactCursor) -> Option<Inst>
     ensures { IfSome result
         (λ x. AreFields (LineName.Vector VectorName.VecIntCmp) (inst_line x) cursor.old) }
 {
-    let op = cursor.vec_compare()?;
-    let rd = cursor.written()?;
-    let rn = cursor.reg()?;
-    let rm = cursor.reg()?;
-    cursor.end()?;
-    Some(Inst::Vector(VecInst::VecIntCmp { op, rd, rn, rm }))
+    take_vector_fields!(VecIntCmp, cursor, op: vec_compare, rd: written, rn: reg, rm: reg)
 }
 
 /// Takes the fields of a comparison of vectors that sets the condition code.
@@ -80,12 +55,7 @@ fn compare_all(cursor: &mut ExactCursor) -> Option<Inst>
     ensures { IfSome result
         (λ x. AreFields (LineName.Vector VectorName.VecIntCmpS) (inst_line x) cursor.old) }
 {
-    let op = cursor.vec_compare()?;
-    let rd = cursor.written()?;
-    let rn = cursor.reg()?;
-    let rm = cursor.reg()?;
-    cursor.end()?;
-    Some(Inst::Vector(VecInst::VecIntCmpS { op, rd, rn, rm }))
+    take_vector_fields!(VecIntCmpS, cursor, op: vec_compare, rd: written, rn: reg, rm: reg)
 }
 
 /// Takes the fields of a selection.
@@ -95,12 +65,7 @@ fn select(cursor: &mut ExactCursor) -> Option<Inst>
     ensures { IfSome result
         (λ x. AreFields (LineName.Vector VectorName.VecSelect) (inst_line x) cursor.old) }
 {
-    let rd = cursor.written()?;
-    let rn = cursor.reg()?;
-    let rm = cursor.reg()?;
-    let ra = cursor.reg()?;
-    cursor.end()?;
-    Some(Inst::Vector(VecInst::VecSelect { rd, rn, rm, ra }))
+    take_vector_fields!(VecSelect, cursor, rd: written, rn: reg, rm: reg, ra: reg)
 }
 
 /// Takes the fields of a move of a vector.
@@ -110,10 +75,7 @@ fn move_vector(cursor: &mut ExactCursor) -> Option<Inst>
     ensures { IfSome result
         (λ x. AreFields (LineName.Vector VectorName.VecMov) (inst_line x) cursor.old) }
 {
-    let rd = cursor.written()?;
-    let rn = cursor.reg()?;
-    cursor.end()?;
-    Some(Inst::Vector(VecInst::VecMov { rd, rn }))
+    take_vector_fields!(VecMov, cursor, rd: written, rn: reg)
 }
 
 /// Takes the fields of a move of 64 bits.
@@ -123,10 +85,7 @@ fn move64(cursor: &mut ExactCursor) -> Option<Inst>
     ensures { IfSome result
         (λ x. AreFields (LineName.Vector VectorName.FpuMove64) (inst_line x) cursor.old) }
 {
-    let rd = cursor.written()?;
-    let rn = cursor.reg()?;
-    cursor.end()?;
-    Some(Inst::Vector(VecInst::FpuMove64 { rd, rn }))
+    take_vector_fields!(FpuMove64, cursor, rd: written, rn: reg)
 }
 
 /// Takes the fields of an instruction of this name, where it is a frequent one.

@@ -40,7 +40,7 @@ abbrev read_pair : (high low : Reg) → RegPair
 read_pair high low = record { hi = high; lo = low }
 
 -- what the instruction of a name and its fields holds; anything for other fields
-abbrev read : LineName → List Field → Contents
+abbrev pub read : LineName → List Field → Contents
 read (N.Integer IntegerIs.AluRRR) (FAlu op ∷ FReg rd ∷ FReg rn ∷ FReg rm ∷ []) = Whole (I.AluRRR op rd rn rm)
 read (N.Integer IntegerIs.AluRR) (FAlu op ∷ FReg rd ∷ FReg ri ∷ FReg rm ∷ []) = Whole (I.AluRR op rd ri rm)
 read (N.Integer IntegerIs.UnaryRR) (FUnary op ∷ FReg rd ∷ FReg rn ∷ []) = Whole (I.UnaryRR op rd rn)
@@ -165,14 +165,14 @@ read (N.Control ControlIs.Args) (FArgs args ∷ []) = Arguments args
 read (N.Control ControlIs.Rets) (FRets rets ∷ []) = Results rets
 read name fields = LoopOf 0
 
-abbrev read_line : Line → Contents
+abbrev pub read_line : Line → Contents
 read_line l = read l.name l.fields
 
 vector_read : (v : VecInst) → Whole (I.Vector v) ≡ read_line (vector_line v)
 vector_read (V.VecRR op rd rn) = refl
 vector_read v = refl
 
-contents_read : (i : Inst) → contents i ≡ read_line (inst_line i)
+pub contents_read : (i : Inst) → contents i ≡ read_line (inst_line i)
 contents_read (I.Vector v) = vector_read v
 contents_read i = refl
 

@@ -29,11 +29,7 @@ pub fn put_call(
         alloc,
         out,
         Control(ControlName::Call),
-        link,
-        &info.dest,
-        &info.uses,
-        &info.defs,
-        &info.clobbers,
+        (link, &info.dest, &info.uses, &info.defs, &info.clobbers),
     )?;
     put_conventions(alloc, out, info)
 }

@@ -77,10 +77,7 @@ pub fn line4<A: Part, B: Part, C: Part, D: Part>(
     alloc: Global,
     out: &mut String,
     name: LineName,
-    a: &A,
-    b: &B,
-    c: &C,
-    d: &D,
+    parts: (&A, &B, &C, &D),
 ) -> Result<(), AllocError>
     ensures { OnOk result
         (string_bytes out.new
@@ -88,12 +85,12 @@ pub fn line4<A: Part, B: Part, C: Part, D: Part>(
         ++ line_text
         (record {
           name = name;
-          fields = A.field a.now ∷ B.field b.now ∷ C.field c.now ∷ D.field d.now
-              ∷ [];
+          fields = A.field parts.entry.0.now ∷ B.field parts.entry.1.now
+              ∷ C.field parts.entry.2.now ∷ D.field parts.entry.3.now ∷ [];
         })) }
 {
-    line3(alloc, out, name, a, b, c)?;
-    d.put(alloc, out)
+    line3(alloc, out, name, parts.0, parts.1, parts.2)?;
+    parts.3.put(alloc, out)
 }
 
 /// Appends a line of a name and 5 fields.
@@ -101,11 +98,7 @@ pub fn line5<A: Part, B: Part, C: Part, D: Part, E: Part>(
     alloc: Global,
     out: &mut String,
     name: LineName,
-    a: &A,
-    b: &B,
-    c: &C,
-    d: &D,
-    e: &E,
+    parts: (&A, &B, &C, &D, &E),
 ) -> Result<(), AllocError>
     ensures { OnOk result
         (string_bytes out.new
@@ -113,12 +106,13 @@ pub fn line5<A: Part, B: Part, C: Part, D: Part, E: Part>(
         ++ line_text
         (record {
           name = name;
-          fields = A.field a.now ∷ B.field b.now ∷ C.field c.now ∷ D.field d.now
-              ∷ E.field e.now ∷ [];
+          fields = A.field parts.entry.0.now ∷ B.field parts.entry.1.now
+              ∷ C.field parts.entry.2.now ∷ D.field parts.entry.3.now
+              ∷ E.field parts.entry.4.now ∷ [];
         })) }
 {
-    line4(alloc, out, name, a, b, c, d)?;
-    e.put(alloc, out)
+    line4(alloc, out, name, (parts.0, parts.1, parts.2, parts.3))?;
+    parts.4.put(alloc, out)
 }
 
 /// Appends a line of a name and 6 fields.
@@ -126,12 +120,7 @@ pub fn line6<A: Part, B: Part, C: Part, D: Part, E: Part, F: Part>(
     alloc: Global,
     out: &mut String,
     name: LineName,
-    a: &A,
-    b: &B,
-    c: &C,
-    d: &D,
-    e: &E,
-    f: &F,
+    parts: (&A, &B, &C, &D, &E, &F),
 ) -> Result<(), AllocError>
     ensures { OnOk result
         (string_bytes out.new
@@ -139,12 +128,18 @@ pub fn line6<A: Part, B: Part, C: Part, D: Part, E: Part, F: Part>(
         ++ line_text
         (record {
           name = name;
-          fields = A.field a.now ∷ B.field b.now ∷ C.field c.now ∷ D.field d.now
-              ∷ E.field e.now ∷ F.field f.now ∷ [];
+          fields = A.field parts.entry.0.now ∷ B.field parts.entry.1.now
+              ∷ C.field parts.entry.2.now ∷ D.field parts.entry.3.now
+              ∷ E.field parts.entry.4.now ∷ F.field parts.entry.5.now ∷ [];
         })) }
 {
-    line5(alloc, out, name, a, b, c, d, e)?;
-    f.put(alloc, out)
+    line5(
+        alloc,
+        out,
+        name,
+        (parts.0, parts.1, parts.2, parts.3, parts.4),
+    )?;
+    parts.5.put(alloc, out)
 }
 
 /// Appends a line of a name and 7 fields.
@@ -152,13 +147,7 @@ pub fn line7<A: Part, B: Part, C: Part, D: Part, E: Part, F: Part, G: Part>(
     alloc: Global,
     out: &mut String,
     name: LineName,
-    a: &A,
-    b: &B,
-    c: &C,
-    d: &D,
-    e: &E,
-    f: &F,
-    g: &G,
+    parts: (&A, &B, &C, &D, &E, &F, &G),
 ) -> Result<(), AllocError>
     ensures { OnOk result
         (string_bytes out.new
@@ -166,10 +155,17 @@ pub fn line7<A: Part, B: Part, C: Part, D: Part, E: Part, F: Part, G: Part>(
         ++ line_text
         (record {
           name = name;
-          fields = A.field a.now ∷ B.field b.now ∷ C.field c.now ∷ D.field d.now
-              ∷ E.field e.now ∷ F.field f.now ∷ G.field g.now ∷ [];
+          fields = A.field parts.entry.0.now ∷ B.field parts.entry.1.now
+              ∷ C.field parts.entry.2.now ∷ D.field parts.entry.3.now
+              ∷ E.field parts.entry.4.now ∷ F.field parts.entry.5.now
+              ∷ G.field parts.entry.6.now ∷ [];
         })) }
 {
-    line6(alloc, out, name, a, b, c, d, e, f)?;
-    g.put(alloc, out)
+    line6(
+        alloc,
+        out,
+        name,
+        (parts.0, parts.1, parts.2, parts.3, parts.4, parts.5),
+    )?;
+    parts.6.put(alloc, out)
 }

@@ -5,6 +5,7 @@ ghost use Rattle.s390x_job_lines.specs.Instructions.{inst_line};
 
 use crate::inst_name::ControlName;
 use crate::name::LineName;
+use crate::table::{control_table, read_control_rows};
 use s390x_inst::{CallInfo, Inst, ReturnCallInfo};
 use s390x_job_fields::Cursor;
 use std::alloc::{AllocError, Global};
@@ -61,27 +62,17 @@ fn return_call(alloc: Global, c: &mut Cursor) -> Result<Inst, AllocError>
 pub fn control(alloc: Global, name: ControlName, c: &mut Cursor) -> Result<Inst, AllocError>
     ensures { IfOk result (λ i. inst_line i ≡ line_with (LineName.Control name) c.old) }
 {
-    match name {
+    control_table!(read_control_rows, name, c, {
         ControlName::Fence => Ok(Inst::Fence),
         ControlName::Nop0 => Ok(Inst::Nop0),
         ControlName::Nop2 => Ok(Inst::Nop2),
         ControlName::Debugtrap => Ok(Inst::Debugtrap),
-        ControlName::Trap => Ok(Inst::Trap { trap_code: c.trap() }),
-        ControlName::TrapIf => Ok(Inst::TrapIf { cond: c.cond(), trap_code: c.trap() }),
-        ControlName::Jump => Ok(Inst::Jump { dest: c.label() }),
-        ControlName::CondBr => Ok(Inst::CondBr { taken: c.label(), not_taken: c.label(), cond: c.cond() }),
         ControlName::IndirectBr => Ok(Inst::IndirectBr { rn: c.reg(), targets: c.labels(alloc)? }),
-        ControlName::Ret => Ok(Inst::Ret { link: c.reg() }),
         ControlName::JTSequence => Ok(Inst::JTSequence { ridx: c.reg(), default: c.label(), default_cond: c.cond(), targets: c.labels(alloc)? }),
-        ControlName::CondBreak => Ok(Inst::CondBreak { cond: c.cond() }),
         ControlName::Call => call(alloc, c),
         ControlName::ReturnCall => return_call(alloc, c),
-        ControlName::AllocateArgs => Ok(Inst::AllocateArgs { size: c.u32() }),
-        ControlName::LoadSymbolReloc => Ok(Inst::LoadSymbolReloc { rd: c.written(), symbol_reloc: c.reloc() }),
-        ControlName::LabelAddress => Ok(Inst::LabelAddress { dst: c.written(), label: c.label() }),
         ControlName::Args => Ok(Inst::Args { args: c.args(alloc)? }),
         ControlName::Rets => Ok(Inst::Rets { rets: c.rets(alloc)? }),
-        ControlName::DummyUse => Ok(Inst::DummyUse { reg: c.reg() }),
         ControlName::SequencePoint => Ok(Inst::SequencePoint),
-    }
+    })
 }

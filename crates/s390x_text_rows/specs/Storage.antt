@@ -1,5 +1,5 @@
 -- The texts of memory operands, and of instructions that have one (cranelift-codegen, `args.rs` and `mod.rs`).
-use Rattle.std.specs.Prelude.{ℕ, List, [], ◌∷◌, ◌++◌, codes, Bool, true, false, cond, not, ◌&&◌, ◌||◌, is_some, Option, Some, None}
+use Rattle.std.specs.Prelude.{◌≡◌, ℕ, unsigned_abs, List, [], ◌∷◌, ◌++◌, codes, Bool, true, false, cond, not, ◌&&◌, ◌||◌, is_some, Option, Some, None, Result, MatchResult}
 use Rattle.std.specs.Fmt.{decimal, signed_decimal}
 use Rattle.std.specs.Option.{option_map}
 use Rattle.s390x_base.specs.declared.error.EmitError.{EmitError}
@@ -14,11 +14,11 @@ use Rattle.s390x_inst.specs.Stores.{as_store, by_store}
 use Rattle.s390x_inst.specs.declared.inst.Inst.{Inst}
 use Rattle.s390x_inst.specs.declared.inst.Inst.TheVariants.{Mov64SImm32, AluRX, CmpRX}
 use Rattle.s390x_inst.specs.declared.inst.Inst.TheVariants.{StoreImm8, StoreImm16, StoreImm32SExt16, StoreImm64SExt16, LoadMultiple64, StoreMultiple64, LoadAddr, AtomicRmw, AtomicCas32, AtomicCas64}
-use Rattle.s390x_typed_steps.specs.Operands.{Finalized, finalized, resolved}
+use Rattle.s390x_typed_steps.specs.Operands.{Finalized, no_register, fits_12, fits_20, finalized, resolved}
 use Rattle.s390x_typed_steps.specs.Causes.{operand_cause}
 use Rattle.s390x_typed_steps.specs.declared.mem_inst_type.MemInstType.{MemInstType}
 use Rattle.s390x_job_fields.specs.Atoms.{reg_text}
-use Rattle.s390x_text_rows.specs.Texts.{Text, spelled}
+use Rattle.s390x_text_rows.specs.Texts.{Text, spelled, RefusedBy}
 use Rattle.s390x_text_rows.specs.Operands.{is_zero, label_text, name_text, reused_text}
 use Rattle.s390x_text_rows.specs.declared.mnemonics.AccessForm.TheVariants.{Short, Long, Relative}
 use Rattle.s390x_text_rows.specs.Mnemonics.{alu_short_name, alu_long_name, atomic_name, cmp_short_name, cmp_long_name, cmp_relative_name, load_mnemonic, store_mnemonic}
@@ -127,6 +127,20 @@ address_cause (Some e) = Some (Address e)
 -- the causes: there is no row at all, or the address can't be made
 abbrev pub access_cause : (has_relative : Bool) → Rows → MemArg → Option TextError
 access_cause has r m = cond (has_row r) (address_cause (operand_cause (type_of_rows has r) m)) (Some NoRow)
+
+-- the operand in place of an offset that a displacement of the rows holds; none in place of any other operand
+abbrev pub near_operand : MemInstType → MemArg → Option MemArg
+near_operand mi (RegOffset reg off flags) =
+    cond (mi.have_d12 && fits_12 off) (Some (BXD12 reg no_register (unsigned_abs off) flags))
+    (cond (mi.have_d20 && fits_20 off) (Some (BXD20 reg no_register off flags)) None)
+near_operand mi m = None
+
+-- what a call answers that appends the helpers of an operand, and gives the operand of the access
+abbrev pub Opens : Result MemArg TextError → (old new : List ℕ) → (has_relative : Bool) → Rows → MemArg → Type 0
+Opens result old new has r m =
+    MatchResult result
+    (λ operand. (access_cause has r m ≡ None) × (operand ≡ (finalized (type_of_rows has r) m).operand) × (new ≡ old ++ helpers_text (finalized (type_of_rows has r) m).helpers))
+    (λ e. RefusedBy (access_cause has r m) e)
 
 -- helpers, and the access with its operands before and behind that in memory
 abbrev pub finalized_text : Rows → Finalized → (before after : List (List ℕ)) → List ℕ

@@ -1,5 +1,5 @@
 //! The texts of registers and pairs.
-ghost use Rattle.std.specs.Prelude.{◌≡◌, MatchResult, IfOk, MatchOption, None, Some, string_bytes};
+ghost use Rattle.std.specs.Prelude.{◌≡◌, MatchResult, IfOk, None, Some, string_bytes};
 ghost use Rattle.s390x_job_fields.specs.Atoms.{reg_text};
 ghost use Rattle.std.specs.Option.{option_map};
 ghost use Rattle.s390x_text_rows.specs.Texts.{RefusedBy};

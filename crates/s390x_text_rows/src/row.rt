@@ -1,7 +1,6 @@
 //! How a row is put together: a mnemonic and its operands.
-ghost use Rattle.std.specs.Prelude.{◌≡◌, ◌++◌, ◌∷◌, [], codes, OnOk, string_bytes};
+ghost use Rattle.std.specs.Prelude.{◌≡◌, ◌++◌, ◌∷◌, [], OnOk, string_bytes};
 ghost use Rattle.std.specs.Option.{option_map};
-ghost use Rattle.s390x_job_fields.specs.Atoms.{reg_text};
 ghost use Rattle.s390x_text_rows.specs.Texts.{Prints, answer_of, row, spelled, fixed};
 ghost use Rattle.s390x_text_rows.specs.Operands.{cond_text};
 ghost use Rattle.s390x_text_rows.specs.Integer.{three_text, conditional_row};

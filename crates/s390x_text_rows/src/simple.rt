@@ -57,9 +57,8 @@ fn put_register(
     }
 }
 
-/// Appends the text of an instruction that is neither a loop nor a call, on a machine that has accesses relative to the instruction or lacks them; `NoRow`
-/// for a loop or a call.
-pub fn put_simple(
+// Appends the text of an instruction that is neither a loop nor a call, by one group after the other.
+fn put_general(
     alloc: Global,
     out: &mut String,
     has: bool,
@@ -78,5 +77,23 @@ pub fn put_simple(
     match put_storage_operator(alloc, out, has, state, inst) {
         Some(answer) => answer,
         None => put_register(alloc, out, state, inst),
+    }
+}
+
+/// Appends the text of an instruction that is neither a loop nor a call, on a machine that has accesses relative to the instruction or lacks them; `NoRow`
+/// for a loop or a call.
+pub fn put_simple(
+    alloc: Global,
+    out: &mut String,
+    has: bool,
+    state: &EmitState,
+    inst: &Inst,
+) -> Result<(), TextError>
+    ensures { Prints result (string_bytes out.old) (string_bytes out.new)
+        (simple_text has state.now inst.now) }
+{
+    match inst {
+        Inst::Vector(vector) => put_vector(alloc, out, state, vector),
+        _ => put_general(alloc, out, has, state, inst),
     }
 }

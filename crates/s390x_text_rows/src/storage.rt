@@ -1,15 +1,16 @@
 //! How an instruction with an operand in memory is put together: helpers, mnemonic and operands.
-ghost use Rattle.std.specs.Prelude.{◌≡◌, ◌++◌, ◌∷◌, [], codes, OnOk, MatchResult, None, Some, true, string_bytes};
+ghost use Rattle.std.specs.Prelude.{◌≡◌, ◌++◌, ◌∷◌, [], ◌&&◌, codes, cond, unsigned_abs, OnOk, None, Some, string_bytes};
 ghost use Rattle.std.specs.Option.{option_map};
-ghost use Rattle.s390x_typed_steps.specs.Operands.{finalized, resolved};
-ghost use Rattle.s390x_text_rows.specs.Texts.{RefusedBy, Prints};
-ghost use Rattle.s390x_text_rows.specs.Storage.{sum_text, memory_text, is_virtual, rx, rs, address_rows, rows_of, has_row, type_of_rows, name_at, helper_text, helpers_text, access, access_where, access_cause};
+ghost use Rattle.s390x_inst.specs.declared.args.MemArg.TheVariants.{RegOffset};
+ghost use Rattle.s390x_typed_steps.specs.Operands.{fits_12, fits_20, resolved};
+ghost use Rattle.s390x_text_rows.specs.Texts.{Prints};
+ghost use Rattle.s390x_text_rows.specs.Storage.{sum_text, memory_text, is_virtual, rx, rs, address_rows, rows_of, has_row, type_of_rows, name_at, helper_text, helpers_text, near_operand, Opens, access, access_where};
 
 use crate::error::TextError;
 use crate::operand::{Operand, is_zero};
 use crate::row::{spelled2, spelled3};
 use s390x_address::mem_finalize;
-use s390x_base::Reg;
+use s390x_base::{MachMemFlags, Reg, SImm20, UImm12, zero_reg};
 use s390x_inst::{EmitState, Inst, MemArg};
 use s390x_job_fields::atoms::{put_name, put_reg};
 use s390x_job_fields::number::{put, put_integer, put_natural};
@@ -194,8 +195,64 @@ fn put_helpers(out: &mut String, helpers: &[Inst]) -> Result<(), AllocError>
     Ok(())
 }
 
-// Appends the helpers of an operand, and gives the operand of the access.
-fn open(
+// The offset as an unsigned displacement of 12 bits, where the rows have one.
+fn short_displacement(mi: MemInstType, off: i64) -> Option<UImm12>
+    ensures { result ≡ cond (mi.have_d12 && fits_12 off) (Some (unsigned_abs off)) None }
+{
+    if mi.have_d12 && 0 <= off && off <= 4095 {
+        UImm12::maybe_from_u64(off as u64)
+    } else {
+        None
+    }
+}
+
+// The offset as a signed displacement of 20 bits, where the rows have one.
+fn long_displacement(mi: MemInstType, off: i64) -> Option<SImm20>
+    ensures { result ≡ cond (mi.have_d20 && fits_20 off) (Some off) None }
+{
+    if mi.have_d20 && -524288 <= off && off <= 524287 {
+        SImm20::maybe_from_i64(off)
+    } else {
+        None
+    }
+}
+
+// The operand in place of an offset, where a displacement of the rows holds it.
+fn near_offset(mi: MemInstType, reg: Reg, off: i64, flags: MachMemFlags) -> Option<MemArg>
+    ensures { result ≡ near_operand mi (RegOffset reg off flags) }
+{
+    let index = zero_reg();
+    match short_displacement(mi, off) {
+        Some(disp) => Some(MemArg::BXD12 {
+            base: reg,
+            index,
+            disp,
+            flags,
+        }),
+        None => match long_displacement(mi, off) {
+            Some(disp) => Some(MemArg::BXD20 {
+                base: reg,
+                index,
+                disp,
+                flags,
+            }),
+            None => None,
+        },
+    }
+}
+
+// The same of an operand; None where it isn't such an offset.
+fn near_operand(mi: MemInstType, mem: &MemArg) -> Option<MemArg>
+    ensures { result ≡ near_operand mi mem.now }
+{
+    match mem {
+        MemArg::RegOffset { reg, off, flags } => near_offset(mi, *reg, *off, *flags),
+        _ => None,
+    }
+}
+
+// Appends the helpers of an operand, and gives the operand of the access, by a list of the helpers.
+fn open_helped(
     alloc: Global,
     out: &mut String,
     has: bool,
@@ -203,17 +260,8 @@ fn open(
     state: &EmitState,
     mem: &MemArg,
 ) -> Result<MemArg, TextError>
-    ensures { MatchResult result
-        (λ m. (access_cause has (rows_of rows.now) (resolved state.now mem.now) ≡ None)
-        × (m
-        ≡ (finalized (type_of_rows has (rows_of rows.now))
-        (resolved state.now mem.now)).operand)
-        × (string_bytes out.new
-        ≡ string_bytes out.old
-        ++ helpers_text
-        (finalized (type_of_rows has (rows_of rows.now))
-        (resolved state.now mem.now)).helpers))
-        (λ e. RefusedBy (access_cause has (rows_of rows.now) (resolved state.now mem.now)) e) }
+    ensures { Opens result (string_bytes out.old) (string_bytes out.new) has (rows_of rows.now)
+        (resolved state.now mem.now) }
 {
     if !rows.has_row() {
         return Err(TextError::NoRow);
@@ -224,6 +272,24 @@ fn open(
             Ok(operand)
         }
         Err(error) => Err(TextError::Address(error)),
+    }
+}
+
+// The same; the list, which is large, isn't made where it is seen at once that there are no helpers.
+fn open_access(
+    alloc: Global,
+    out: &mut String,
+    has: bool,
+    rows: &Rows,
+    state: &EmitState,
+    mem: &MemArg,
+) -> Result<MemArg, TextError>
+    ensures { Opens result (string_bytes out.old) (string_bytes out.new) has (rows_of rows.now)
+        (resolved state.now mem.now) }
+{
+    match near_operand(rows.inst_type(has), mem) {
+        Some(operand) => Ok(operand),
+        None => open_helped(alloc, out, has, rows, state, mem),
     }
 }
 
@@ -241,7 +307,7 @@ pub fn access2<A: Operand>(
     ensures { Prints result (string_bytes out.old) (string_bytes out.new)
         (access_where has (rows_of rows.now) state.now (A.shown a.now ∷ []) mem.now []) }
 {
-    let operand = open(alloc, out, has, rows, state, mem)?;
+    let operand = open_access(alloc, out, has, rows, state, mem)?;
     Ok(spelled2(out, rows.name_at(&operand), a, &operand)?)
 }
 
@@ -258,7 +324,7 @@ pub fn access3<A: Operand, B: Operand>(
     ensures { Prints result (string_bytes out.old) (string_bytes out.new)
         (access (rows_of rows.now) state.now (A.shown a.now ∷ B.shown b.now ∷ []) mem.now []) }
 {
-    let operand = open(alloc, out, true, rows, state, mem)?;
+    let operand = open_access(alloc, out, true, rows, state, mem)?;
     Ok(spelled3(out, rows.name_at(&operand), a, b, &operand)?)
 }
 
@@ -274,7 +340,7 @@ pub fn access_then<A: Operand>(
     ensures { Prints result (string_bytes out.old) (string_bytes out.new)
         (access (rows_of rows.now) state.now [] mem.now (A.shown a.now ∷ [])) }
 {
-    let operand = open(alloc, out, true, rows, state, mem)?;
+    let operand = open_access(alloc, out, true, rows, state, mem)?;
     Ok(spelled2(out, rows.name_at(&operand), &operand, a)?)
 }
 
@@ -291,7 +357,7 @@ pub fn access_between<A: Operand, B: Operand>(
     ensures { Prints result (string_bytes out.old) (string_bytes out.new)
         (access (rows_of rows.now) state.now (A.shown a.now ∷ []) mem.now (B.shown b.now ∷ [])) }
 {
-    let operand = open(alloc, out, true, rows, state, mem)?;
+    let operand = open_access(alloc, out, true, rows, state, mem)?;
     Ok(spelled3(out, rows.name_at(&operand), a, &operand, b)?)
 }
 

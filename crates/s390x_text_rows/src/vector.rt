@@ -2,7 +2,7 @@
 ghost use Rattle.std.specs.Prelude.{◌≡◌, ◌++◌, ◌∷◌, [], codes, cond, OnOk, string_bytes};
 ghost use Rattle.std.specs.Option.{option_map};
 ghost use Rattle.s390x_job_fields.specs.Atoms.{reg_text};
-ghost use Rattle.s390x_text_rows.specs.Texts.{Prints, PrintsWhere, fixed, spelled};
+ghost use Rattle.s390x_text_rows.specs.Texts.{Prints, PrintsWhere, spelled};
 ghost use Rattle.s390x_text_rows.specs.Operands.{reused_text};
 ghost use Rattle.s390x_text_rows.specs.VectorMnemonics.{vec_binary_name};
 ghost use Rattle.s390x_text_rows.specs.Vector.{lane_name, reversed_name, mask_name, vec_binary_operands, doublewords_text, wide_compare_text, are_floats, float_move_text, unless_text, float_cmov_text, is_float_lane, reverse2_text, reverse4_text, reverse8_text, reverse16_text, reverse_text, insert_lane_text, extract_lane_text, vec_operator_text, vec_move_text, vec_lane_text};

@@ -28,7 +28,8 @@ use Rattle.s390x_job_lines.specs.Instructions.{inst_line, vector_line}
 use Rattle.s390x_job_lines.specs.declared.inst_name.ControlName.TheVariants as ControlIs
 use Rattle.s390x_job_lines.specs.declared.name.LineName.{LineName}
 use Rattle.s390x_job_lines.specs.declared.name.LineName.TheVariants as N
-use Rattle.s390x_tool.proofs.SameInstruction.{line_reading, reading_after, nominal_read}
+use Rattle.s390x_job_lines.proofs.Contents.{read_line}
+use Rattle.s390x_tool.proofs.SameInstruction.{held_after, nominal_read}
 use Rattle.s390x_tool.proofs.SameTree.{BodyLine, of_line, of_step, body_line, LineTree, none, one, around, lines_tree, lines_for, tree_for_told}
 use Rattle.s390x_inst.specs.declared.state.IsaFlags.{IsaFlags}
 
@@ -106,7 +107,7 @@ line_safepoint e l = safepoint_of e l.name l.fields
 
 -- the state behind a line
 abbrev line_after : Emission → Line → Emission
-line_after e l = record e { nominal = reading_after e.nominal (line_reading l); outgoing = line_outgoing e.outgoing l; stack_map = None }
+line_after e l = record e { nominal = held_after e.nominal (read_line l); outgoing = line_outgoing e.outgoing l; stack_map = None }
 
 -- ---- trees of lines as they are given
 

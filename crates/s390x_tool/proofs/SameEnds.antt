@@ -4,23 +4,27 @@ use Rattle.std.specs.Prelude.{max}
 use Rattle.s390x_base.specs.declared.ir.MachLabel.{MachLabel}
 use Rattle.s390x_inst.specs.declared.inst.Inst.{Inst}
 use Rattle.s390x_inst.specs.declared.inst.Inst.TheVariants.{Jump, CondBr, Vector}
+use Rattle.s390x_job_lines.specs.Contents.{Contents, contents}
+use Rattle.s390x_job_lines.specs.Contents.{Whole as Holds}
 use Rattle.s390x_job_lines.specs.Instructions.{inst_line}
+use Rattle.s390x_job_lines.proofs.Contents.{read_line, contents_read}
 use Rattle.s390x_typed_steps.specs.Folding.{BlockBranches, Always, Conditional, branches_of, remainder, shortened, fold, folded, folded_before, next_block, folded_from, folded_trees, peak_from, peak}
 use Rattle.s390x_typed_steps.specs.Sizes.{tree_size}
 use Rattle.s390x_typed_steps.specs.Tree.{Remainder, NothingLeft, BranchLeft, StepBody, Tree, Whole, Folded, empty, leaf, loop_node}
-use Rattle.s390x_tool.proofs.SameInstruction.{Reading, line_reading, vector_reading}
-use Rattle.s390x_tool.proofs.SameInstruction.{Whole as Reads}
 use Rattle.s390x_tool.proofs.SameTree.{BodyLine, of_line, of_step, body_line, LineTree, none, one, around, lines_tree, line_size, same_size}
 
 -- ---- the last body of a block
 
-abbrev reading_branches : Reading → Option BlockBranches
-reading_branches (Reads i) = branches_of i
-reading_branches _ = None
+abbrev held_branches : Contents → Option BlockBranches
+held_branches (Holds i) = branches_of i
+held_branches _ = None
 
-branches_read : (i : Inst) → branches_of i ≡ reading_branches (line_reading (inst_line i))
-branches_read (Vector v) = ap reading_branches (vector_reading v)
-branches_read i = refl
+branches_held : (i : Inst) → branches_of i ≡ held_branches (contents i)
+branches_held (Jump dest) = refl
+branches_held i = refl
+
+branches_read : (i : Inst) → branches_of i ≡ held_branches (read_line (inst_line i))
+branches_read i = branches_held i ∙ ap held_branches (contents_read i)
 
 -- the instruction that has these branches
 abbrev branching : BlockBranches → Inst
@@ -33,7 +37,7 @@ line_left (Some r) (Some branches) l = of_step (Folded r (branching branches))
 line_left _ _ l = l
 
 abbrev fold_line : (next : ℕ) → BodyLine → BodyLine
-fold_line next (of_line l) = line_left (remainder next (reading_branches (line_reading l))) (reading_branches (line_reading l)) (of_line l)
+fold_line next (of_line l) = line_left (remainder next (held_branches (read_line l))) (held_branches (read_line l)) (of_line l)
 fold_line next (of_step b) = of_step b
 
 jump_told : (dest : MachLabel) (t : Bool) →

@@ -18,7 +18,7 @@ use Rattle.s390x_tool.specs.Answers.{IsCodeOfJob}
 use Rattle.s390x_tool.specs.Bundled.{CanBeBundled, member_of}
 use Rattle.s390x_tool.proofs.SameJob.{same_cause, same_code, same_symbols}
 
-abbrev members : List NamedJob → List Member
+abbrev pub members : List NamedJob → List Member
 members fs = map member_of fs
 
 same_names : (fs gs : List NamedJob) → SameFunctions fs gs → names_of (members fs) ≡ names_of (members gs)
@@ -38,22 +38,22 @@ same_duplicates names earlier (f ∷ fs) (g ∷ gs) a b same =
     ap₂ (λ n ss. name_or (cond (is_among earlier n) (Some n) (line_among names ss)) (first_duplicate names (earlier ++ n ∷ []) (members fs))) same.0 s
     ∙ ap (λ o. name_or (duplicate_in names earlier (member_of g)) o) (same_duplicates names (earlier ++ g.name ∷ []) fs gs a.2 b.2 same.2)
 
-same_duplicate : (fs gs : List NamedJob) → AreFunctions fs → AreFunctions gs → SameFunctions fs gs → duplicate_of (members fs) ≡ duplicate_of (members gs)
+pub same_duplicate : (fs gs : List NamedJob) → AreFunctions fs → AreFunctions gs → SameFunctions fs gs → duplicate_of (members fs) ≡ duplicate_of (members gs)
 same_duplicate fs gs a b same = ap (λ ns. first_duplicate ns [] (members fs)) (same_names fs gs same) ∙ same_duplicates (names_of (members gs)) [] fs gs a b same
 
 -- ---- emission
 
-same_refused : (fs gs : List NamedJob) → AreFunctions fs → AreFunctions gs → SameFunctions fs gs → first_refused (members fs) ≡ first_refused (members gs)
+pub same_refused : (fs gs : List NamedJob) → AreFunctions fs → AreFunctions gs → SameFunctions fs gs → first_refused (members fs) ≡ first_refused (members gs)
 same_refused [] [] a b same = refl
 same_refused [] (g ∷ gs) a b same = absurd same
 same_refused (f ∷ fs) [] a b same = absurd same
 same_refused (f ∷ fs) (g ∷ gs) a b same =
     ap₂ (λ n o. refused_or n o (first_refused (members fs))) same.0 (same_cause f.job g.job a.1 b.1 same.1) ∙ ap (λ o. refused_or g.name (emit_cause (member_of g)) o) (same_refused fs gs a.2 b.2 same.2)
 
-code_of_job : (f : NamedJob) (code : MachBufferFinalized) → IsEmitted (member_of f) code → IsCodeOfJob f.job code
+pub code_of_job : (f : NamedJob) (code : MachBufferFinalized) → IsEmitted (member_of f) code → IsCodeOfJob f.job code
 code_of_job f code h = record { valid = h.valid; ranges = h.ranges; emitted = h.finished }
 
-member_emitted : (f : NamedJob) (code : MachBufferFinalized) → IsCodeOfJob f.job code → IsEmitted (member_of f) code
+pub member_emitted : (f : NamedJob) (code : MachBufferFinalized) → IsCodeOfJob f.job code → IsEmitted (member_of f) code
 member_emitted f code h = record { valid = h.valid; finished = h.emitted; ranges = h.ranges }
 
 same_emitted : (fs gs : List NamedJob) (codes : List MachBufferFinalized) → AreFunctions fs → AreFunctions gs → SameFunctions fs gs → AreEmitted (members fs) codes → AreEmitted (members gs) codes

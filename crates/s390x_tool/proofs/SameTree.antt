@@ -26,7 +26,8 @@ use Rattle.s390x_buffer.specs.Finish.{PlacedTryCallSite}
 use Rattle.s390x_job_lines.specs.Line.{Line}
 use Rattle.s390x_job_lines.specs.Instructions.{inst_line}
 use Rattle.s390x_base.specs.declared.error.EmitError.TheVariants.{BadStackState}
-use Rattle.s390x_tool.proofs.SameInstruction.{line_reading, lacking, lacking_read, reading_cause, reading_fresh_labels, fresh_labels_read, reading_parts, reading_range, cause_read, parts_read, range_read, range_round_trip, nominal_read, reading_after}
+use Rattle.s390x_job_lines.proofs.Contents.{read_line}
+use Rattle.s390x_tool.proofs.SameInstruction.{lacking, lacking_read, held_cause, held_fresh_labels, fresh_labels_read, held_parts, held_range, cause_read, parts_read, range_read, range_round_trip, nominal_read, held_after}
 
 -- ---- bodies
 
@@ -41,7 +42,7 @@ body_line b = of_step b
 
 -- labels drawn
 abbrev told_fresh_labels : BodyLine → ℕ
-told_fresh_labels (of_line l) = reading_fresh_labels (line_reading l)
+told_fresh_labels (of_line l) = held_fresh_labels (read_line l)
 told_fresh_labels (of_step b) = body_fresh_labels b
 
 fresh_labels_told : (b : StepBody) → body_fresh_labels b ≡ told_fresh_labels (body_line b)
@@ -50,18 +51,18 @@ fresh_labels_told b = refl
 
 -- the first cause
 abbrev told_cause : IsaFlags → Declared → (n nominal depth : ℕ) → BodyLine → Option EmitError
-told_cause flags D n m depth (of_line l) = first_emit_cause (reading_cause flags D m depth (line_reading l)) (numbers_cause n (reading_fresh_labels (line_reading l)))
+told_cause flags D n m depth (of_line l) = first_emit_cause (held_cause flags D m depth (read_line l)) (numbers_cause n (held_fresh_labels (read_line l)))
 told_cause flags D n m depth (of_step b) = body_cause flags D n m depth b
 
 cause_told : (flags : IsaFlags) (D : Declared) (n m depth : ℕ) (b : StepBody) → body_cause flags D n m depth b ≡ told_cause flags D n m depth (body_line b)
 cause_told flags D n m depth (Whole i) =
     ap (λ o. first_emit_cause o (numbers_cause n (instruction_fresh_labels i))) (cause_read flags D m depth i)
-    ∙ ap (λ d. first_emit_cause (reading_cause flags D m depth (line_reading (inst_line i))) (numbers_cause n d)) (fresh_labels_read i)
+    ∙ ap (λ d. first_emit_cause (held_cause flags D m depth (read_line (inst_line i))) (numbers_cause n d)) (fresh_labels_read i)
 cause_told flags D n m depth b = refl
 
 -- the nominal size behind it
 abbrev told_after : ℕ → BodyLine → ℕ
-told_after m (of_line l) = reading_after m (line_reading l)
+told_after m (of_line l) = held_after m (read_line l)
 told_after m (of_step b) = body_nominal_after m b
 
 after_told : (m : ℕ) (b : StepBody) → body_nominal_after m b ≡ told_after m (body_line b)
@@ -70,7 +71,7 @@ after_told m b = refl
 
 -- the parts of its step, in a loop that ends at the step `after`
 abbrev told_parts : ℕ → BodyLine → List CodePart
-told_parts after (of_line l) = reading_parts after (line_reading l)
+told_parts after (of_line l) = held_parts after (read_line l)
 told_parts after (of_step b) = step_parts (step_of after b)
 
 parts_told : (after : ℕ) (b : StepBody) → step_parts (step_of after b) ≡ told_parts after (body_line b)
@@ -79,7 +80,7 @@ parts_told after b = refl
 
 -- its ranges
 abbrev told_range : BodyLine → Type 0
-told_range (of_line l) = reading_range (line_reading l)
+told_range (of_line l) = held_range (read_line l)
 told_range (of_step b) = BodyInRange b
 
 range_told : (b : StepBody) → BodyInRange b → told_range (body_line b)
@@ -96,7 +97,7 @@ loaded_or None l = of_line l
 loaded_or (Some i) l = of_step (Loaded i)
 
 abbrev line_for : IsaFlags → BodyLine → BodyLine
-line_for flags (of_line l) = loaded_or (lacking flags (line_reading l)) l
+line_for flags (of_line l) = loaded_or (lacking flags (read_line l)) l
 line_for flags (of_step b) = of_step b
 
 body_for_told : (flags : IsaFlags) (b : StepBody) → body_line (body_for flags b) ≡ line_for flags (body_line b)

@@ -59,8 +59,8 @@ fn member(function: NamedJob) -> Member
     }
 }
 
-// The functions as members of a bundle.
-fn members_of(alloc: Global, functions: Vec<NamedJob>) -> Result<Vec<Member>, AllocError>
+/// The functions as members of a bundle; an error where there is no memory for their list.
+pub fn members_of(alloc: Global, functions: Vec<NamedJob>) -> Result<Vec<Member>, AllocError>
     ensures { IfOk result (λ members. members.items ≡ map member_of functions.items) }
 {
     functions.into_iter().map(member).collect(alloc)

@@ -21,7 +21,7 @@ mod top_call;
 mod words;
 
 pub use alloc_command::allocated;
-pub use bundle_command::{bundle_refused, bundled};
+pub use bundle_command::{bundle_refused, bundled, members_of};
 pub use emitted::emitted_text;
 pub use ends::{Failed, Sink, Source};
 pub use error_names::{emit_error_line, emit_error_name};
