@@ -10,8 +10,8 @@ ghost use Rattle.s390x_machine.specs.State.{memory_of, registers_of, state_of};
 ghost use Rattle.s390x_machine.specs.Sound.{HasRegisters, IsSoundAction, is_free, is_uncomputed};
 ghost use Rattle.s390x_machine.specs.Step.{Executes, Steps};
 
-use crate::action_type::Action;
 use crate::access::operand_fault;
+use crate::action_type::Action;
 use crate::field_values::{relative_address, source};
 use crate::instruction_fetch::{FetchedRow, fetch_row};
 use crate::machine::Machine;
@@ -19,7 +19,7 @@ use crate::memory::Memory;
 use crate::perform::{is_selected, perform};
 use crate::row_action::action;
 use crate::store_step::store_step;
-use crate::value_step::{compare_step, operand_bits, value_step};
+use crate::value_step::{Computation, compare_step, operand_bits, value_step};
 use crate::vector_action::shift_amount;
 use crate::vector_step::{vector_load_step, vector_store_step};
 use s390x_format::{Decoded, Fields, Located, MACHINE_ROWS, MachineRow, RowSemantics, length};
@@ -177,7 +177,14 @@ fn operator_step<M: Memory>(
     match semantics {
         RowSemantics::Compute(operator, size, second, rule) => {
             match operand_bits(machine, memory, *second, &decoded.fields) {
-                Some(bits) => value_step(machine, decoded, *operator, *size, *second, *rule, bits),
+                Some(bits) => {
+                    let computation = Computation {
+                        operator: *operator,
+                        size: *size,
+                        rule: *rule,
+                    };
+                    value_step(machine, decoded, computation, *second, bits)
+                }
                 None => semantics_step(machine, memory, decoded, semantics),
             }
         }

@@ -43,29 +43,31 @@ pub fn operand_bits<M: Memory>(
     Some(raw(memory, operand, second.width))
 }
 
+/// An operator at a size, and what becomes of the condition code.
+#[derive(Clone, Copy)]
+pub struct Computation {
+    pub operator: Operator,
+    pub size: Size,
+    pub rule: CodeRule,
+}
+
 /// A register gets an operator's value of two numbers, and the condition code becomes that of the value where the rule sets it.
-fn compute(
-    machine: &mut Machine,
-    operator: Operator,
-    size: Size,
-    rule: CodeRule,
-    target: u8,
-    first: u64,
-    second: u64,
-)
+fn compute(machine: &mut Machine, computation: Computation, target: u8, first: u64, second: u64)
     requires there { target < 16 }
-    requires first_below { first < whole size }
-    requires second_below { second < whole size }
+    requires first_below { first < whole computation.size }
+    requires second_below { second < whole computation.size }
     ensures registers { registers_of machine.new
         ≡ with_code
-        (code_under rule (code_of_value operator size first second)
+        (code_under computation.rule
+        (code_of_value computation.operator computation.size first second)
         (registers_of machine.old).code)
-        (set_sized size (registers_of machine.old) target (value operator size first second)) }
+        (set_sized computation.size (registers_of machine.old) target
+        (value computation.operator computation.size first second)) }
     ensures place { machine.new.place ≡ machine.old.place }
 {
-    let (value, code) = operate(operator, size, first, second);
-    machine.put_sized(size, target, value);
-    if let CodeRule::Set = rule {
+    let (value, code) = operate(computation.operator, computation.size, first, second);
+    machine.put_sized(computation.size, target, value);
+    if let CodeRule::Set = computation.rule {
         machine.set_condition_code(code);
     }
 }
@@ -74,15 +76,16 @@ fn compute(
 pub fn value_step(
     machine: &mut Machine,
     decoded: &Decoded,
-    operator: Operator,
-    size: Size,
+    computation: Computation,
     second: SecondOperand,
-    rule: CodeRule,
     bits: u64,
 ) -> StepEnd
     requires is { semantics_of decoded.now.row.opcode
-        ≡ Some (RowSemantics.Compute operator size second rule) }
-    requires fit { CanPerform (RowSemantics.Compute operator size second rule) decoded.now.fields }
+        ≡ Some
+        (RowSemantics.Compute computation.operator computation.size second computation.rule) }
+    requires fit { CanPerform
+        (RowSemantics.Compute computation.operator computation.size second computation.rule)
+        decoded.now.fields }
     ensures { (held : ℕ → Bool) (byte : ℕ → ℕ)
         → IsFound (memory_of held byte) machine.old.place decoded.now
         → IsRead
@@ -91,10 +94,14 @@ pub fn value_step(
         → Steps (state_of machine.old held byte) result (state_of machine.new held byte) }
 {
     let fields = &decoded.fields;
-    let first = value_in(machine, size, first_register(second.operand_source, fields));
+    let first = value_in(
+        machine,
+        computation.size,
+        first_register(second.operand_source, fields),
+    );
     let bits = ordered(second.reversed, second.width, bits);
-    let other = extended(second.sign, second.width, size, bits);
-    compute(machine, operator, size, rule, fields.regs[0], first, other);
+    let other = extended(second.sign, second.width, computation.size, bits);
+    compute(machine, computation, fields.regs[0], first, other);
     machine.place = machine
         .place
         .wrapping_add(length(decoded.row.format) as u64);
