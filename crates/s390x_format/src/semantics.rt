@@ -61,6 +61,8 @@ pub enum VectorStorage {
 /// What a row does with its fields.
 #[derive(Clone, Copy)]
 pub enum RowSemantics {
+    /// Register r1 gets any value. It stands first, since a read past the table's end gives the first variant.
+    Havoc,
     /// Register r1 gets an operator's value.
     Compute(Operator, Size, SecondOperand, CodeRule),
     /// The condition code becomes the order of two values.
@@ -85,8 +87,6 @@ pub enum RowSemantics {
     CompareImmediateAndTrap(Signedness, Size),
     /// The pair r1 gets the number of leading zeros of r2, and r2 without its leftmost one.
     FindLeftmostOne,
-    /// Register r1 gets any value.
-    Havoc,
     /// A branch to the address in r2 under the mask r1; none for r2 = 0.
     BranchToRegister,
     /// A branch to a distance from the instruction, under the first mask.
