@@ -144,6 +144,9 @@ pub fn result(
     ensures { result ≡ vector_result operation first second third fourth }
 {
     let size = result_size(operation);
+    if let ElementSize::Quadword = size {
+        return result_lane(operation, first, second, third, fourth, 0);
+    }
     let w = size.bits();
     let n = size.lane_count();
     let mut all = 0;

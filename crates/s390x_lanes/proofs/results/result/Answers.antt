@@ -1,8 +1,22 @@
-use Rattle.std.proofs.Common.{◌≡◌, ℕ, ◌+◌, ◌*◌, ◌^◌, ◌<◌, ◌∙◌, sym, ap₂}
+use Rattle.std.proofs.Common.{◌≡◌, ℕ, ◌+◌, ◌*◌, ◌^◌, ◌<◌, ◌∙◌, sym, ap₂, subst, arith}
 use Rattle.std.proofs.lemmas.Nat.{pow_pos}
+use Rattle.s390x_lanes.specs.Lanes.{from_lanes}
 use Rattle.s390x_lanes.specs.Results.{result_lane}
-use Rattle.s390x_lanes.proofs.Building.{whole, more_lt, room, build_more, build_none}
+use Rattle.s390x_lanes.specs.Size.{element_bits, lane_count}
+use Rattle.s390x_lanes.specs.declared.size.ElementSize.{ElementSize}
+use Rattle.s390x_lanes.specs.declared.size.ElementSize.TheVariants.{Quadword}
+use Rattle.s390x_lanes.proofs.Building.{whole, more_lt, room, build_more, build_none, build_one}
 use Rattle.s390x_lanes.proofs.results.result.Goals as goal
+
+pub result_lane-requires-clause-inside : goal.result_lane-requires-clause-inside
+result_lane-requires-clause-inside c =
+    let one : 0 < lane_count Quadword = omega arith in
+    subst (λ (size : ElementSize). 0 < lane_count size) (sym c.in-Quadword.is ∙ c.result_size-size.ensures) one
+
+pub returns-in-Quadword : goal.returns-in-Quadword
+returns-in-Quadword c =
+    let f : ℕ → ℕ = result_lane c.args.operation c.args.first c.args.second c.args.third c.args.fourth in
+    c.result_lane.ensures.value ∙ subst (λ (size : ElementSize). f 0 ≡ from_lanes (element_bits size) (lane_count size) f) (sym c.in-Quadword.is ∙ c.result_size-size.ensures) (sym (build_one 128 f))
 
 pub loop-i-init : goal.loop-i-init
 loop-i-init c = record { built = sym (build_none c.bits-w.result _); small = pow_pos (c.bits-w.result * 0) }
