@@ -105,6 +105,9 @@ pub fn loaded(layout: VectorLayout, old: u128, x: u128) -> u128
     requires { x < 2 ^ (8 * layout_bytes layout) }
     ensures { result ≡ loaded layout old x }
 {
+    if let VectorLayout::Whole = layout {
+        return x;
+    }
     let size = layout_size(layout);
     let w = size.bits();
     let n = size.lane_count();
