@@ -4,7 +4,7 @@ ghost use Rattle.std.specs.Prelude.{◌≡◌, ◌<◌, ◌≤◌, ◌-◌, ◌^
 ghost use Rattle.s390x_operations.specs.Numbers.{whole, half, signed, low};
 ghost use Rattle.s390x_operations.specs.Bits.{code_z, complement, bit_value, rotated, shifted, shift_code, selection, combined, select_value, select_code, ones_by_byte, reversed, leftmost};
 
-use crate::unsigned::whole;
+use crate::unsigned::kept;
 use crate::{BitOperator, ConditionCode, Pair, SelectedBitsOperator, Size, code_s, low, signed};
 use s390x_lanes::ShiftOperator;
 
@@ -74,7 +74,7 @@ pub fn shifted(op: ShiftOperator, size: Size, x: u64, k: u32) -> u64
 {
     match op {
         ShiftOperator::RotateLeft => rotated(size, x, k),
-        ShiftOperator::ShiftLeft => (((x as u128) << k) % whole(size)) as u64,
+        ShiftOperator::ShiftLeft => kept(size, (x as u128) << k),
         ShiftOperator::ShiftRightLogical => x >> k,
         ShiftOperator::ShiftRightArithmetic => low(size, signed(size, x) >> k),
     }

@@ -1,6 +1,6 @@
 //! Numbers as bytes.
 
-ghost use Rattle.std.specs.Prelude.{◌≡◌, ◌<◌, ◌≤◌, ◌-◌, ◌+◌, ◌*◌, ◌^◌};
+ghost use Rattle.std.specs.Prelude.{◌≡◌, ◌<◌, ◌≤◌, ◌-◌, ◌+◌, ◌*◌, ◌%◌, ◌^◌};
 ghost use Rattle.s390x_operations.specs.Numbers.{whole};
 ghost use Rattle.s390x_operations.specs.Bits.{ones_by_byte, reversed, bits_of_width, bytes, extended, IsWithin};
 
@@ -75,13 +75,26 @@ fn half_count(width: Width) -> u128
     }
 }
 
+/// The lowest bits of a number.
+fn low_bits(width: Width, x: u64) -> u64
+    ensures value { result ≡ x % 2 ^ bits_of_width width }
+    ensures below { result < 2 ^ bits_of_width width }
+{
+    match width {
+        Width::Bits8 => x % 256,
+        Width::Bits16 => x % 65536,
+        Width::Bits32 => x % 4294967296,
+        Width::Bits64 => x,
+    }
+}
+
 /// The lowest bits, extended to a size.
 pub fn extended(sign: Signedness, width: Width, size: Size, x: u64) -> u64
     requires { IsWithin width size }
     ensures value { result ≡ extended sign width size x }
     ensures below { result < whole size }
 {
-    let kept = x as u128 % count(width);
+    let kept = low_bits(width, x) as u128;
     match sign {
         Signedness::Unsigned => kept as u64,
         Signedness::Signed => {

@@ -46,7 +46,11 @@ pub fn low(size: Size, z: i128) -> u64
     ensures value { result ≡ low size z }
     ensures below { result < whole size }
 {
-    z.rem_euclid(whole(size)) as u64
+    match size {
+        Size::Halfword => z.rem_euclid(65536) as u64,
+        Size::Word => z.rem_euclid(4294967296) as u64,
+        Size::Doubleword => z.rem_euclid(18446744073709551616) as u64,
+    }
 }
 
 /// The exact result is a number with sign of the size.

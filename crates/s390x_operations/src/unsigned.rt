@@ -1,6 +1,6 @@
 //! The operators on numbers without signs, comparisons, and pairs.
 
-ghost use Rattle.std.specs.Prelude.{◌≡◌, ◌<◌, ◌^◌, pos, neg_ℤ, ◌≤ℤ◌, ◌<ℤ◌, ◌≢◌, int_div, int_rem, Option};
+ghost use Rattle.std.specs.Prelude.{◌≡◌, ◌<◌, ◌%◌, ◌^◌, pos, neg_ℤ, ◌≤ℤ◌, ◌<ℤ◌, ◌≢◌, int_div, int_rem, Option};
 ghost use Rattle.s390x_operations.specs.Numbers.{whole, half, signed, low};
 ghost use Rattle.s390x_operations.specs.Unsigned.{code_a, code_b, code_c, logical_value, logical_code, read, compared, wide_product, signed_division, unsigned_division, IsPairBelow};
 
@@ -18,6 +18,18 @@ pub fn whole(size: Size) -> u128
     }
 }
 
+/// What of a number without a sign is kept.
+pub fn kept(size: Size, x: u128) -> u64
+    ensures value { result ≡ x % whole size }
+    ensures below { result < whole size }
+{
+    match size {
+        Size::Halfword => (x % 65536) as u64,
+        Size::Word => (x % 4294967296) as u64,
+        Size::Doubleword => (x % 18446744073709551616) as u64,
+    }
+}
+
 /// Code A, of a logical sum.
 fn code_a(size: Size, sum: u128) -> ConditionCode
     ensures { result ≡ code_a size sum }
@@ -28,7 +40,7 @@ fn code_a(size: Size, sum: u128) -> ConditionCode
         } else {
             ConditionCode::Code1
         }
-    } else if sum % whole(size) == 0 {
+    } else if kept(size, sum) == 0 {
         ConditionCode::Code2
     } else {
         ConditionCode::Code3
@@ -59,11 +71,11 @@ pub fn logical_op(op: LogicalOperator, size: Size, x: u64, y: u64) -> (u64, Cond
     match op {
         LogicalOperator::Add => {
             let sum = x as u128 + y as u128;
-            ((sum % whole(size)) as u64, code_a(size, sum))
+            (kept(size, sum), code_a(size, sum))
         }
         LogicalOperator::Subtract => {
             let sum = x as u128 + (whole(size) - y as u128);
-            ((sum % whole(size)) as u64, code_b(x, y))
+            (kept(size, sum), code_b(x, y))
         }
     }
 }
