@@ -4,8 +4,8 @@
     checks/mnemonics.py
 
 A mnemonic of a table has to be expected of a job of one instruction, which has the operator of its row and the form of operands of its
-column; any other mnemonic in the sources of s390x_text_rows has to be expected somewhere. Those of integer operators, loads and stores
-are what the table of machine rows tells of the opcodes in their tables. It ends with 0 where all are, and else with 1.
+column; any other mnemonic in the sources of s390x_text_rows has to be expected somewhere. Those of operators, and of loads and stores of
+one register, are what the table of machine rows tells of the opcodes in their tables. It ends with 0 where all are, and else with 1.
 """
 import glob
 import os
@@ -20,12 +20,6 @@ ROWS = os.path.join(CRATES, "s390x_typed_steps", "src")
 # The instructions whose texts read a table, one for each of its columns; none where they are named as the rows.
 READERS = {
     "WHOLE_MNEMONICS": ["VecLoad", "VecStore"],
-    "VEC_BINARY_MNEMONICS": ["VecRRR"],
-    "VEC_UNARY_MNEMONICS": ["VecRR"],
-    "VEC_SHIFT_MNEMONICS": ["VecShiftRR"],
-    "VEC_COMPARE_MNEMONICS": ["VecIntCmp"],
-    "VEC_COMPARE_SET_MNEMONICS": ["VecIntCmpS"],
-    "VEC_ELEMENT_COMPARE_MNEMONICS": ["VecIntEltCmp"],
 }
 # The same of tables of opcodes, by the columns that are read.
 OPCODE_READERS = {
@@ -40,14 +34,22 @@ OPCODE_READERS = {
     "ROTATE_ROWS": {"change": "RxSBG"},
     "UNARY_ROWS": {"": "UnaryRR"},
 }
+# The same of tables of vectors' rows, with what ends each mnemonic.
+VECTOR_READERS = {
+    "VEC_BINARY_ROWS": {"VecRRR": ""},
+    "VEC_UNARY_ROWS": {"VecRR": ""},
+    "VEC_SHIFT_ROWS": {"VecShiftRR": ""},
+    "VEC_COMPARISON_ROWS": {"VecIntCmp": "", "VecIntCmpS": "s"},
+    "VEC_ELEMENT_COMPARISON_ROWS": {"VecIntEltCmp": ""},
+}
 # What stands behind `VecLoad` and `VecStore` in the name of an instruction, by the layout of its row.
 LAYOUTS = {"Straight": "", "Reversed": "Rev", "Bytes16": "Byte16Rev", "Bytes32": "Byte32Rev", "Bytes64": "Byte64Rev", "Elements16": "Elt16Rev",
            "Elements32": "Elt32Rev", "Elements64": "Elt64Rev"}
 # What stands behind a mnemonic with a condition, and the mnemonics that have one.
 CONDITIONS = "o h nle l nhe lh ne e nlh he nl le nh no".split()
 CONDITIONAL = "crt cgrt clrt clgrt cit cgit clfit clgit locr locgr lochi locghi".split()
-# Strings in the sources that are no mnemonics: conditions, and the words of operands and labels.
-OTHERS = CONDITIONS + ["j", "label", "tag", "u"]
+# Strings in the sources that are no mnemonics: conditions, the letter of one that is set, and the words of operands and labels.
+OTHERS = CONDITIONS + ["j", "label", "s", "tag", "u"]
 
 
 class Expected:
@@ -103,6 +105,25 @@ def opcode_entries():
                         yield table, (name, operator, mnemonic) if name else (operator, "", mnemonic)
 
 
+def letters(row, code, operator):
+    """What stands behind the stem of a vector row, by the code of its elements' size."""
+    if row.suffix == "Plain":
+        return ""
+    # Cranelift's listings have `vuplh` for `vuplhw`
+    return "hw" if row.suffix == "HalfwordSize" and code == 1 and operator != "UnpackSLow16x8" else "bhfgq"[code]
+
+
+def vector_entries():
+    """The same of the tables of vectors' rows."""
+    machine = {row.name: row for row in machine_rows()}
+    with open(os.path.join(ROWS, "vector_rows.rt")) as file:
+        tables = re.findall(r"^pub const (\w+_ROWS): [^=]* = \[\n(.*?)^\];", file.read(), re.S | re.M)
+    for table, rows in tables:
+        for opcode, code, operator in re.findall(r"opcodes::(\w+), code: (\d) \}, // (\w+)$", rows, re.M):
+            for name, end in VECTOR_READERS[table].items():
+                yield table, (name, operator, machine[opcode].stem + letters(machine[opcode], int(code), operator) + end)
+
+
 def moved():
     """The mnemonics of moves, extensions and indexed addresses."""
     stems = {row.name: row.stem for row in machine_rows()}
@@ -122,7 +143,7 @@ def other_mnemonics():
 
 def main():
     expected = Expected()
-    entries, others = [*table_entries(), *opcode_entries()], other_mnemonics()
+    entries, others = [*table_entries(), *opcode_entries(), *vector_entries()], other_mnemonics()
     missing = [f"{table}: {mnemonic} of {name} {operator}".rstrip() for table, (name, operator, mnemonic) in entries
                if (name, operator, mnemonic) not in expected.told]
     missing += [f"in no table: {mnemonic}" for mnemonic in others if mnemonic not in expected.mnemonics]

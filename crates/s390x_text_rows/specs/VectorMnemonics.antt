@@ -1,50 +1,82 @@
--- The mnemonics of vector operators: their last letter tells the width of a lane, b, h, f, g or q for 8 to 128 bits (the manual, chapters 21 and 22; those of
--- the newest rows are this project's).
-use Rattle.std.specs.Prelude.{ℕ, List, Option}
+-- The mnemonics of vector operators: the stem of the operator's row, and behind it a letter for the size of its elements, b, h, f, g or q for 8 to 128
+-- bits (the manual, chapters 21 and 22).
+use Rattle.std.specs.Prelude.{ℕ, List, [], ◌++◌, codes, cond, nat_eq, Option}
 use denote.Enum.Declared.{tag_of}
-use Rattle.s390x_job_fields.specs.Found.{rows, name_at}
-use Rattle.s390x_text_rows.specs.declared.vector_mnemonics.TheConstants.{VEC_BINARY_MNEMONICS, VEC_UNARY_MNEMONICS, VEC_SHIFT_MNEMONICS, VEC_COMPARE_MNEMONICS, VEC_COMPARE_SET_MNEMONICS, VEC_ELEMENT_COMPARE_MNEMONICS, WHOLE_MNEMONICS}
-use Rattle.s390x_text_rows.specs.Tables.{in_column}
-use Rattle.s390x_text_rows.specs.Tables.{rows as table_rows}
+use Rattle.s390x_format.specs.Stems.{stem_of}
+use Rattle.s390x_typed_steps.specs.VectorOpcodes.{binary_row, unary_row, shift_row, comparison_row, element_comparison_row}
+use Rattle.s390x_typed_steps.specs.declared.vector_opcode.VectorOpcode.{VectorOpcode}
+use Rattle.s390x_text_rows.specs.declared.vector_mnemonics.Mnemonic.{Mnemonic}
+use Rattle.s390x_text_rows.specs.declared.vector_mnemonics.TheConstants.{WHOLE_MNEMONICS}
+use Rattle.s390x_text_rows.specs.Tables.{rows, in_column}
 use Rattle.s390x_inst.specs.Wholes.{layout_place}
 use Rattle.s390x_inst.specs.declared.whole.Direction.{Direction}
 use Rattle.s390x_inst.specs.contracts.whole.Direction as the_direction
 use Rattle.s390x_inst.specs.declared.whole.WholeLayout.{WholeLayout}
 use Rattle.s390x_inst.specs.declared.vec_ops.VecBinaryOp.{VecBinaryOp}
-use Rattle.s390x_inst.specs.contracts.vec_ops.VecBinaryOp as the_binary
+use Rattle.s390x_inst.specs.declared.vec_ops.VecBinaryOp.TheVariants.{Add128Cout, Sub128Cout, Mul16x8, And128, Orr128, Xor128, NotAnd128, NotOrr128, NotXor128, AndNot128, OrrNot128, BitPermute128, LShLByByte128, LShRByByte128, AShRByByte128, LShLByBit128, LShRByBit128, AShRByBit128}
 use Rattle.s390x_inst.specs.declared.vec_ops.VecUnaryOp.{VecUnaryOp}
-use Rattle.s390x_inst.specs.contracts.vec_ops.VecUnaryOp as the_unary
 use Rattle.s390x_inst.specs.declared.vec_ops.VecShiftOp.{VecShiftOp}
-use Rattle.s390x_inst.specs.contracts.vec_ops.VecShiftOp as the_shift
 use Rattle.s390x_inst.specs.declared.vec_ops.VecIntCmpOp.{VecIntCmpOp}
-use Rattle.s390x_inst.specs.contracts.vec_ops.VecIntCmpOp as the_compare
 use Rattle.s390x_inst.specs.declared.vec_ops.VecIntEltCmpOp.{VecIntEltCmpOp}
-use Rattle.s390x_inst.specs.contracts.vec_ops.VecIntEltCmpOp as the_element_compare
+
+-- a mnemonic in two parts
+abbrev pub joined : Mnemonic → List ℕ
+joined m = m.stem.now ++ m.letters.now
+
+-- the letter of the elements' size, by its code
+abbrev pub size_letter : ℕ → List ℕ
+size_letter code = cond (nat_eq code 0) (codes "b") (cond (nat_eq code 1) (codes "h") (cond (nat_eq code 2) (codes "f") (cond (nat_eq code 3) (codes "g") (codes "q"))))
+
+-- a row's stem with this letter
+abbrev pub sized : VectorOpcode → List ℕ
+sized row = stem_of row.opcode ++ size_letter row.code
+
+-- what stands behind the stem of an operator on two vectors: nothing where its row has one size alone, and `hw` where `h` would make another row's stem
+abbrev pub binary_letters : VecBinaryOp → ℕ → List ℕ
+binary_letters Mul16x8 code = codes "hw"
+binary_letters Add128Cout code = []
+binary_letters Sub128Cout code = []
+binary_letters And128 code = []
+binary_letters Orr128 code = []
+binary_letters Xor128 code = []
+binary_letters NotAnd128 code = []
+binary_letters NotOrr128 code = []
+binary_letters NotXor128 code = []
+binary_letters AndNot128 code = []
+binary_letters OrrNot128 code = []
+binary_letters BitPermute128 code = []
+binary_letters LShLByByte128 code = []
+binary_letters LShRByByte128 code = []
+binary_letters AShRByByte128 code = []
+binary_letters LShLByBit128 code = []
+binary_letters LShRByBit128 code = []
+binary_letters AShRByBit128 code = []
+binary_letters _ code = size_letter code
 
 -- an operator on two vectors
 unfoldable pub vec_binary_name : VecBinaryOp → List ℕ
-vec_binary_name op = name_at (rows VEC_BINARY_MNEMONICS.now) (tag_of the_binary.the_type op)
+vec_binary_name op = stem_of (binary_row op).opcode ++ binary_letters op (binary_row op).code
 
--- an operator on one vector
+-- an operator on one vector; of UnpackSLow16x8 it is `vuplh`, as Cranelift's listings have it, where the manual has `vuplhw`
 unfoldable pub vec_unary_name : VecUnaryOp → List ℕ
-vec_unary_name op = name_at (rows VEC_UNARY_MNEMONICS.now) (tag_of the_unary.the_type op)
+vec_unary_name op = sized (unary_row op)
 
 -- lanes that are shifted by an amount
 unfoldable pub vec_shift_name : VecShiftOp → List ℕ
-vec_shift_name op = name_at (rows VEC_SHIFT_MNEMONICS.now) (tag_of the_shift.the_type op)
+vec_shift_name op = sized (shift_row op)
 
 -- a comparison of lanes
 unfoldable pub vec_compare_name : VecIntCmpOp → List ℕ
-vec_compare_name op = name_at (rows VEC_COMPARE_MNEMONICS.now) (tag_of the_compare.the_type op)
+vec_compare_name op = sized (comparison_row op)
 
 -- the same, which sets the condition code
-unfoldable pub vec_compare_set_name : VecIntCmpOp → List ℕ
-vec_compare_set_name op = name_at (rows VEC_COMPARE_SET_MNEMONICS.now) (tag_of the_compare.the_type op)
+abbrev pub vec_compare_set_name : VecIntCmpOp → List ℕ
+vec_compare_set_name op = vec_compare_name op ++ codes "s"
 
 -- a comparison of two numbers of 128 bits
 unfoldable pub vec_element_compare_name : VecIntEltCmpOp → List ℕ
-vec_element_compare_name op = name_at (rows VEC_ELEMENT_COMPARE_MNEMONICS.now) (tag_of the_element_compare.the_type op)
+vec_element_compare_name op = sized (element_comparison_row op)
 
 -- a load or a store of a whole register
 unfoldable pub whole_name : Direction → WholeLayout → Option (List ℕ)
-whole_name direction layout = in_column (table_rows WHOLE_MNEMONICS.now) (layout_place layout) (tag_of the_direction.the_type direction)
+whole_name direction layout = in_column (rows WHOLE_MNEMONICS.now) (layout_place layout) (tag_of the_direction.the_type direction)

@@ -4,9 +4,11 @@ ghost use Rattle.std.specs.Option.{option_map};
 ghost use Rattle.s390x_text_rows.specs.Texts.{Prints, answer_of, row, spelled, fixed};
 ghost use Rattle.s390x_text_rows.specs.Operands.{cond_text};
 ghost use Rattle.s390x_text_rows.specs.Integer.{three_text, conditional_row};
+ghost use Rattle.s390x_text_rows.specs.VectorMnemonics.{joined};
 
 use crate::error::TextError;
 use crate::operand::{Operand, cond_name};
+use crate::vector_mnemonics::Mnemonic;
 use s390x_base::{Cond, Reg};
 use s390x_job_fields::number::put;
 use std::alloc::AllocError;
@@ -105,6 +107,60 @@ pub fn spelled5<A: Operand, B: Operand, C: Operand, D: Operand, E: Operand>(
     spelled4(out, mnemonic, a, b, c, d)?;
     put(out, ", ")?;
     e.put(out)
+}
+
+/// Appends a row whose mnemonic has two parts, with 2 operands.
+pub fn lettered2<A: Operand, B: Operand>(
+    out: &mut String,
+    mnemonic: Mnemonic,
+    a: &A,
+    b: &B,
+) -> Result<(), AllocError>
+    ensures { OnOk result
+        (string_bytes out.new
+        ≡ string_bytes out.old
+        ++ spelled (joined mnemonic) (A.shown a.now ∷ B.shown b.now ∷ [])) }
+{
+    put(out, mnemonic.stem)?;
+    spelled2(out, mnemonic.letters, a, b)
+}
+
+/// With 3 operands.
+pub fn lettered3<A: Operand, B: Operand, C: Operand>(
+    out: &mut String,
+    mnemonic: Mnemonic,
+    a: &A,
+    b: &B,
+    c: &C,
+) -> Result<(), AllocError>
+    ensures { OnOk result
+        (string_bytes out.new
+        ≡ string_bytes out.old
+        ++ spelled (joined mnemonic) (A.shown a.now ∷ B.shown b.now ∷ C.shown c.now ∷ [])) }
+{
+    lettered2(out, mnemonic, a, b)?;
+    put(out, ", ")?;
+    c.put(out)
+}
+
+/// With 4 operands.
+pub fn lettered4<A: Operand, B: Operand, C: Operand, D: Operand>(
+    out: &mut String,
+    mnemonic: Mnemonic,
+    a: &A,
+    b: &B,
+    c: &C,
+    d: &D,
+) -> Result<(), AllocError>
+    ensures { OnOk result
+        (string_bytes out.new
+        ≡ string_bytes out.old
+        ++ spelled (joined mnemonic)
+        (A.shown a.now ∷ B.shown b.now ∷ C.shown c.now ∷ D.shown d.now ∷ [])) }
+{
+    lettered3(out, mnemonic, a, b, c)?;
+    put(out, ", ")?;
+    d.put(out)
 }
 
 /// Appends a mnemonic with one operand, as an answer of a text. An error comes for want of memory alone.

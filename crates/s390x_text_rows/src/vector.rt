@@ -4,20 +4,22 @@ ghost use Rattle.std.specs.Option.{option_map};
 ghost use Rattle.s390x_job_fields.specs.Atoms.{reg_text};
 ghost use Rattle.s390x_text_rows.specs.Texts.{Prints, PrintsWhere, spelled};
 ghost use Rattle.s390x_text_rows.specs.Operands.{reused_text};
-ghost use Rattle.s390x_text_rows.specs.VectorMnemonics.{vec_binary_name};
+ghost use Rattle.s390x_text_rows.specs.VectorMnemonics.{vec_binary_name, vec_compare_set_name};
 ghost use Rattle.s390x_text_rows.specs.Vector.{lane_name, reversed_name, mask_name, vec_binary_operands, doublewords_text, wide_compare_text, are_floats, float_move_text, unless_text, float_cmov_text, is_float_lane, reverse2_text, reverse4_text, reverse8_text, reverse16_text, reverse_text, insert_lane_text, extract_lane_text, vec_operator_text, vec_move_text, vec_lane_text};
 
 use crate::arithmetic::reused;
 use crate::error::TextError;
 use crate::operand::{Amount, Float, Reused, cond_name, is_zero};
 use crate::regs::is_float;
-use crate::row::{answered, fixed2, fixed3, row2, row3, spelled2, spelled3, spelled4, spelled5};
+use crate::row::{
+    answered, fixed2, fixed3, lettered2, lettered3, lettered4, row2, row3, spelled2, spelled3,
+    spelled4, spelled5,
+};
 use crate::vector_mnemonics::{
-    vec_binary_name, vec_compare_name, vec_compare_set_name, vec_element_compare_name,
-    vec_shift_name, vec_unary_name,
+    vec_binary_name, vec_compare_name, vec_element_compare_name, vec_shift_name, vec_unary_name,
 };
 use s390x_base::{Cond, Reg};
-use s390x_inst::{VecBinaryOp, VecInst};
+use s390x_inst::{VecBinaryOp, VecInst, VecIntCmpOp};
 use s390x_job_fields::number::put;
 use std::alloc::AllocError;
 
@@ -106,8 +108,8 @@ fn put_binary(
         | VecBinaryOp::URem128
         | VecBinaryOp::SRem32x4
         | VecBinaryOp::SRem64x2
-        | VecBinaryOp::SRem128 => spelled4(out, vec_binary_name(op), &rd, &rn, &rm, &0u8),
-        _ => spelled3(out, vec_binary_name(op), &rd, &rn, &rm),
+        | VecBinaryOp::SRem128 => lettered4(out, vec_binary_name(op), &rd, &rn, &rm, &0u8),
+        _ => lettered3(out, vec_binary_name(op), &rd, &rn, &rm),
     }
 }
 
@@ -128,6 +130,26 @@ fn put_doublewords(
     } else {
         Err(TextError::NoRow)
     }
+}
+
+// A comparison of lanes that sets the condition code.
+fn put_compare_set(
+    out: &mut String,
+    op: VecIntCmpOp,
+    rd: Reg,
+    rn: Reg,
+    rm: Reg,
+) -> Result<(), AllocError>
+    ensures { OnOk result
+        (string_bytes out.new
+        ≡ string_bytes out.old
+        ++ spelled (vec_compare_set_name op)
+        (reg_text rd ∷ reg_text rn ∷ reg_text rm ∷ [])) }
+{
+    let name = vec_compare_name(op);
+    put(out, name.stem)?;
+    put(out, name.letters)?;
+    spelled3(out, "s", &rd, &rn, &rm)
 }
 
 // A comparison of two numbers of 128 bits.
@@ -155,14 +177,16 @@ pub fn put_vec_operator(out: &mut String, inst: &VecInst) -> Option<Result<(), T
         VecInst::VecRRR { op, rd, rn, rm } => {
             Some(answered(put_binary(out, *op, rd.to_reg(), *rn, *rm)))
         }
-        VecInst::VecRR { op, rd, rn } => Some(fixed2(out, vec_unary_name(*op), rd, rn)),
+        VecInst::VecRR { op, rd, rn } => {
+            Some(answered(lettered2(out, vec_unary_name(*op), rd, rn)))
+        }
         VecInst::VecShiftRR {
             shift_op,
             rd,
             rn,
             shift_imm,
             shift_reg,
-        } => Some(fixed3(
+        } => Some(answered(lettered3(
             out,
             vec_shift_name(*shift_op),
             rd,
@@ -171,7 +195,7 @@ pub fn put_vec_operator(out: &mut String, inst: &VecInst) -> Option<Result<(), T
                 imm: *shift_imm,
                 reg: *shift_reg,
             },
-        )),
+        ))),
         VecInst::VecSelect { rd, rn, rm, ra } => {
             Some(answered(spelled4(out, "vsel", rd, rn, rm, ra)))
         }
@@ -196,14 +220,17 @@ pub fn put_vec_operator(out: &mut String, inst: &VecInst) -> Option<Result<(), T
             idx2,
         } => Some(put_doublewords(out, rd.to_reg(), *rn, *rm, *idx1, *idx2)),
         VecInst::VecIntCmp { op, rd, rn, rm } => {
-            Some(fixed3(out, vec_compare_name(*op), rd, rn, rm))
+            Some(answered(lettered3(out, vec_compare_name(*op), rd, rn, rm)))
         }
         VecInst::VecIntCmpS { op, rd, rn, rm } => {
-            Some(fixed3(out, vec_compare_set_name(*op), rd, rn, rm))
+            Some(answered(put_compare_set(out, *op, rd.to_reg(), *rn, *rm)))
         }
-        VecInst::VecIntEltCmp { op, rn, rm } => {
-            Some(fixed2(out, vec_element_compare_name(*op), rn, rm))
-        }
+        VecInst::VecIntEltCmp { op, rn, rm } => Some(answered(lettered2(
+            out,
+            vec_element_compare_name(*op),
+            rn,
+            rm,
+        ))),
         VecInst::VecInt128SCmpHi { tmp, rn, rm } => Some(answered(put_wide_compare(
             out,
             "vecg",
