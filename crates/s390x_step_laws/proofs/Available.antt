@@ -1,5 +1,5 @@
 -- The one machine instruction of an instruction needs the facility that is asked for the instruction, or none. One equation an operator.
-use Rattle.std.proofs.Common.{◌≡◌, ℕ, ◌&&◌, ◌||◌, is_some, Bool, true, false, cond, nat_eq, nat_lt, Option, Some, None, slice_index, refl, sym, subst}
+use Rattle.std.proofs.Common.{◌≡◌, ℕ, ◌%◌, ◌&&◌, ◌||◌, is_some, Bool, true, false, cond, nat_eq, nat_lt, Option, Some, None, slice_index, refl, sym, subst}
 use Rattle.std.proofs.lemmas.Bool.{and_parts}
 use Rattle.s390x_base.specs.Regs.{number_of}
 use Rattle.s390x_inst.specs.Facilities.{facility_of, has_facility, alu_facility, unary_facility, vec_binary_facility, vec_unary_facility, vec_compare_facility}
@@ -439,7 +439,7 @@ vector_asked (V.VecIntCmp op rd rn rm) = comparison_asked op (number_of rd) (num
 vector_asked (V.VecIntCmpS op rd rn rm) = comparison_asked op (number_of rd) (number_of rn) (number_of rm) 1
 vector_asked (V.VecIntEltCmp op rn rm) = element_asked op (number_of rn) (number_of rm)
 vector_asked (V.VecMov rd rn) = refl
-vector_asked (V.VecShiftRR op rd rn amount register) = vector_shift_asked op (number_of rd) (number_of register) (number_of rn) _
+vector_asked (V.VecShiftRR op rd rn amount register) = vector_shift_asked op (number_of rd) (number_of register) (number_of rn) (amount % 256)
 vector_asked (V.VecEvaluate imm rd rn rm ra) = refl
 vector_asked (V.VecPermuteDWImm rd rn rm first second) = doublewords_asked (number_of rd) (number_of rn) (number_of rm) first second
 vector_asked (V.MovToVec128 rd rn rm) = refl
