@@ -39,12 +39,13 @@ use Rattle.s390x_format.specs.declared.facility.FacilityRule.{FacilityRule}
 use Rattle.s390x_format.specs.declared.facility.FacilityRule.TheVariants.{Always, WholeCount, UpTo}
 use Rattle.s390x_format.specs.declared.fields.Fields.{Fields}
 use Rattle.s390x_rows.specs.declared.opcodes.TheConstants as opcodes
-use Rattle.s390x_typed_steps.specs.MachineInstruction.{MachineInstruction, rr, rre, rrf_ab, rrf_cde, ri_a, rie_a, rie_d, rie_f, ril_a, rxy, vri_a, vri_b, vri_c, vrr_a, vrr_b, vrr_c, vrs_a, vrs_b, vrs_c}
+use Rattle.s390x_typed_steps.specs.MachineInstruction.{MachineInstruction, rr, rre, rrf_ab, rrf_cde, ri_a, rie_a, rie_d, rie_f, ril_a, rsy, rxy, vri_a, vri_b, vri_c, vrr_a, vrr_b, vrr_c, vrs_a, vrs_b, vrs_c}
 use Rattle.s390x_base.specs.declared.regs.Reg.{Reg}
 use Rattle.s390x_inst.specs.declared.args.MemArg.{MemArg}
 use Rattle.s390x_typed_steps.specs.Memory.{MemoryInstruction, StorageForm, RxForm, RsForm, SiForm, SilForm, VrxForm, FloatForm, access_elements, access_lane, access_vector, compare, is_left_lane, load_and_operate, load_lane_opcode, load_left, load_reversed_opcode, memory, operate, reversed_code, store_lane_opcode, store_left, store_reversed_opcode, vector_memory}
 use Rattle.s390x_typed_steps.specs.Storage.{alu_rx, alu_rxy, atomic_rsy, cmp_rx, cmp_rxy, cmp_ril}
 use Rattle.s390x_typed_steps.specs.Opcodes.{alu_three, alu_two, alu_halfword, alu_three_halfword, alu_signed_word, alu_unsigned_word, alu_part, alu_half, cmp_two, cmp_halfword, cmp_signed_word, cmp_unsigned_word, cmp_trap, cmp_trap_signed, cmp_trap_unsigned, extend_to_word, extend_to_doubleword, extend_two, indexed_opcode, insert_half, insert_part, load_half, load_part, logical_indexed_opcode, alu_rows, opcode_of_part, rotate_then, rotate_then_test, shift_opcode, unary_two}
+use Rattle.s390x_typed_steps.specs.General.{low_byte, rotation}
 use Rattle.s390x_typed_steps.specs.SingleInstruction.{SingleInstruction, single_instruction, single_with, two_operands, two_row, three_row, halfword_row, word_row, three_halfword_row, masked_row, masked_halfword_row, unary_row, rotated_row, indexed_row}
 use Rattle.s390x_typed_steps.specs.VectorInstruction.{bit_mask_row, doublewords_row, element_code, extract_row, insert_alone_row, insert_immediate_opcode, insert_immediate_row, insert_lane_row, is_float_doubleword, is_lane, extract_lane_row, is_vector, lane_row, move_left_row, replicate_lane_row, replicate_row, reuses_vector, vector_row}
 use Rattle.s390x_typed_steps.specs.VectorOpcodes.{binary_row, unary_row as vector_unary, comparison_row, element_comparison_row, shift_row}
@@ -439,7 +440,7 @@ vector_asked (V.VecIntCmp op rd rn rm) = comparison_asked op (number_of rd) (num
 vector_asked (V.VecIntCmpS op rd rn rm) = comparison_asked op (number_of rd) (number_of rn) (number_of rm) 1
 vector_asked (V.VecIntEltCmp op rn rm) = element_asked op (number_of rn) (number_of rm)
 vector_asked (V.VecMov rd rn) = refl
-vector_asked (V.VecShiftRR op rd rn amount register) = vector_shift_asked op (number_of rd) (number_of register) (number_of rn) _
+vector_asked (V.VecShiftRR op rd rn amount register) = vector_shift_asked op (number_of rd) (number_of register) (number_of rn) (low_byte amount)
 vector_asked (V.VecEvaluate imm rd rn rm ra) = refl
 vector_asked (V.VecPermuteDWImm rd rn rm first second) = doublewords_asked (number_of rd) (number_of rn) (number_of rm) first second
 vector_asked (V.MovToVec128 rd rn rm) = refl
@@ -495,8 +496,9 @@ each_asked (I.Insert64UImm32Shifted rd ri imm) = single Asked.Base _ _ (word_ask
 each_asked (I.Extend rd rn signed from to) = single Asked.Base _ _ (two_asked Asked.Base (extend_two signed from to) _ _ (extend_asked signed from to))
 each_asked (I.LoadAR rd ar) = refl
 each_asked (I.InsertAR rd ri ar) = refl
-each_asked (I.ShiftRR op rd rn amount register) = by_opcode Asked.Base (shift_opcode op) _ refl (shift_asked op)
-each_asked (I.RxSBG op rd ri rn start end amount) = single Asked.Base _ _ (rotated_asked Asked.Base (Some (rotate_then op)) _ _ _ _ _ _ (rotate_asked op))
+each_asked (I.ShiftRR op rd rn amount register) =
+    by_opcode Asked.Base (shift_opcode op) (rsy (shift_opcode op) (number_of rd) (number_of rn) (number_of register) (low_byte amount)) refl (shift_asked op)
+each_asked (I.RxSBG op rd ri rn start end amount) = single Asked.Base _ _ (rotated_asked Asked.Base (Some (rotate_then op)) (number_of rd) (number_of rn) start end start (rotation amount) (rotate_asked op))
 each_asked (I.RxSBGTest op rd rn start end amount) = single Asked.Base _ _ (rotated_asked Asked.Base (rotate_then_test op) _ _ _ _ _ _ (rotate_test_asked op))
 each_asked (I.SMulWide rd rn rm) = refl
 each_asked (I.UMulWide rd ri rn) = refl

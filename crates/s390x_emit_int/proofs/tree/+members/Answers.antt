@@ -165,7 +165,7 @@ emit_loop-returns-clause-answer t c =
     (members_of c.args.context.flags inside c.args.body.now) c.in_ok-start.ensures.answer.1 c.in_ok-start.ensures.answer.2 c.in_ok-end.ensures.answer.1
     c.in_ok-end.ensures.answer.2 c.in_ok-bind_label.ensures.answer.1 c.in_ok-emit_members.ensures.answer c.in_ok-start_step.ensures.answer.1
     c.in_ok-put_branch.ensures.answer in
-    on_both _ c.bind_label-2.result c.bind_label-2.ensures.answer (λ p. l.context.after c.bind_label-2.new.self p.1 ∙ ap (λ m. apply_all c.args.sink.now (own_fragments (length c.args.sink.now.labels) 0 (loop_node m (members_of c.args.context.flags inside c.args.body.now) empty))) c.bits-mask.ensures.value
+    on_both _ c.bind_label-2.result c.bind_label-2.ensures.answer (λ p. l.after c.bind_label-2.new.self p.1 ∙ ap (λ m. apply_all c.args.sink.now (own_fragments (length c.args.sink.now.labels) 0 (loop_node m (members_of c.args.context.flags inside c.args.body.now) empty))) c.bits-mask.ensures.value
     ∙ ap (λ (e : Emission). apply_all c.args.sink.now (own_fragments (length c.args.sink.now.labels) 0 (loop_node c.args.cond (members_of c.args.context.flags e c.args.body.now) empty))) c.clear_post_insn.ensures)
 
 pub emit_loop-returns-clause-kept : goal.emit_loop-returns-clause-kept
