@@ -30,8 +30,7 @@ use Rattle.s390x_operands.specs.declared.constraint.Reported.{Reported}
 use Rattle.s390x_operands.specs.declared.constraint.Reported.TheVariants.{Operand, Fixed, Clobbers}
 use Rattle.s390x_operands.specs.Calls.{placed_use, placed_def, destination_requests, argument, result_in, call_result, incoming, outgoing, clobbered}
 use Rattle.s390x_operands.specs.Operands.{leaf_requests, vector_requests, requests, row_requests, operands}
-use Rattle.s390x_operands.specs.RoleLists.{kept}
-use Rattle.s390x_operands.specs.Requests.{items_of, used, defined, reused, fixed_use, fixed_def, scratch_request, memory_requests, fixed_general, range_requests, requests_of_role, requests_of_roles}
+use Rattle.s390x_operands.specs.Requests.{items_of, used, defined, reused, fixed_use, fixed_def, scratch_request, memory_requests, fixed_general, range_requests}
 use Rattle.s390x_assign.specs.Assignments.{operand_at, register_at, after, placed_at, after_placed, pair_at, dividend_at, memory_at, assigned_role, each_at, assigned_vector, destination_at, argument_at, result_at, call_result_at, incoming_at, outgoing_at, portion_at, assigned, reported_again, replaced, operand_count}
 
 -- requests become others, whose operands are replaced by the next registers of a list; so much is left of it
@@ -192,23 +191,44 @@ called link info s =
     let s₃ : List Reg = (each_at call_result_at info.defs.items s₂).1 in
     both (target info.dest s) (both (each argument argument_at argument_one info.uses.items s₁) (both (each call_result call_result_at call_result_one info.defs.items s₂) (clobbers info.clobbers link s₃)))
 
+-- one list and another one behind it, which adds nothing where it is empty
+abbrev followed_by : (xs ys : List (Option Reported)) → List (Option Reported)
+followed_by xs [] = xs
+followed_by xs (y ∷ ys) = xs ++ y ∷ ys
+
+followed_append : (xs ys : List (Option Reported)) → followed_by xs ys ≡ xs ++ ys
+followed_append xs [] = sym (append-nil xs)
+followed_append xs (y ∷ ys) = refl
+
 -- what registers by their roles report
 abbrev role_requests : List Role → List (Option Reported)
-role_requests xs = requests_of_roles (map kept xs)
+role_requests [] = []
+role_requests (Written r ∷ xs) = defined r ∷ role_requests xs
+role_requests (Tied r ∷ xs) = reused r ∷ role_requests xs
+role_requests (Read r ∷ xs) = used r ∷ role_requests xs
+role_requests (WrittenPair d ∷ xs) = fixed_def d.hi 2 ∷ fixed_def d.lo 3 ∷ role_requests xs
+role_requests (LowRead r ∷ xs) = fixed_use r 3 ∷ role_requests xs
+role_requests (ReadPair d ∷ xs) = fixed_use d.hi 2 ∷ fixed_use d.lo 3 ∷ role_requests xs
+role_requests (InMemory m ∷ xs) = followed_by (memory_requests m) (role_requests xs)
 
-role_follows : (x : Role) (s : List Reg) → Follows (requests_of_role (kept x)) (requests_of_role (kept (assigned_role x s).0)) s (assigned_role x s).1
-role_follows (Written r) s = defined_one r s
-role_follows (Tied r) s = reused_one r s
-role_follows (Read r) s = used_one r s
-role_follows (WrittenPair d) s = pair_out d s
-role_follows (LowRead r) s = low_in r s
-role_follows (ReadPair d) s = pair_in d s
-role_follows (InMemory m) s = with_memory m s
+-- requests that are equal to others follow as these do
+as_equal : {xs ys xs' ys' : List (Option Reported)} {s t : List Reg} → xs ≡ xs' → ys ≡ ys' → Follows xs' ys' s t → Follows xs ys s t
+as_equal {s = s} p q h = record {
+  items = ap items_of q ∙ h.items ∙ ap (λ zs. replaced (items_of zs) s) (sym p);
+  left = h.left ∙ ap (λ zs. drop (operand_count (items_of zs)) s) (sym p);
+}
 
 roles_follow : (xs : List Role) (s : List Reg) → Follows (role_requests xs) (role_requests (each_role assigned_role xs s).0) s (each_role assigned_role xs s).1
 roles_follow [] s = none s
-roles_follow (x ∷ []) s = role_follows x s
-roles_follow (x ∷ y ∷ xs) s = both (role_follows x s) (roles_follow (y ∷ xs) (assigned_role x s).1)
+roles_follow (Written r ∷ xs) s = next (defined_one r s) (roles_follow xs (after r s))
+roles_follow (Tied r ∷ xs) s = next (reused_one r s) (roles_follow xs (after r s))
+roles_follow (Read r ∷ xs) s = next (used_one r s) (roles_follow xs (after r s))
+roles_follow (WrittenPair d ∷ xs) s = both (pair_out d s) (roles_follow xs (drop 2 s))
+roles_follow (LowRead r ∷ xs) s = next (low_in r s) (roles_follow xs (drop 1 s))
+roles_follow (ReadPair d ∷ xs) s = both (pair_in d s) (roles_follow xs (drop 2 s))
+roles_follow (InMemory m ∷ xs) s =
+    as_equal (followed_append (memory_requests m) (role_requests xs)) (followed_append (memory_requests (memory_at m s).0) (role_requests (each_role assigned_role xs (memory_at m s).1).0))
+    (both (with_memory m s) (roles_follow xs (memory_at m s).1))
 
 -- one clause stands for every vector instruction
 vector_follows : (v : VecInst) (s : List Reg) → Follows (vector_requests v) (vector_requests (assigned_vector v s).0) s (assigned_vector v s).1

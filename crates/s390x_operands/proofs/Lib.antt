@@ -1,7 +1,5 @@
-pub mod Collecting
 pub mod Reporting
 pub mod Looping
 pub mod Members
 pub mod Public
-pub mod Turns
 pub mod Witnesses

@@ -3,5 +3,4 @@ pub mod Meets
 pub mod Operands
 pub mod Queries
 pub mod Requests
-pub mod RoleLists
 pub mod Visits

@@ -10,8 +10,6 @@ use Rattle.s390x_base.specs.declared.regs.Reg.{Reg}
 use Rattle.s390x_base.specs.declared.regs.Reg.TheVariants.{Real}
 use Rattle.s390x_inst.specs.declared.args.MemArg.{MemArg}
 use Rattle.s390x_inst.specs.declared.args.MemArg.TheVariants.{BXD12, BXD20, RegOffset}
-use Rattle.s390x_operands.specs.declared.role_list.Role.{Role}
-use Rattle.s390x_operands.specs.declared.role_list.Role.TheVariants.{Written, Tied, Read, WrittenPair, LowRead, ReadPair, InMemory}
 use Rattle.s390x_operands.specs.declared.constraint.OperandConstraint.TheVariants.{Reuse, FixedReg, Reg as InRegister}
 use Rattle.s390x_operands.specs.declared.constraint.OperandKind.TheVariants.{Def, Use}
 use Rattle.s390x_operands.specs.declared.constraint.OperandPos.TheVariants.{Early, Late}
@@ -87,27 +85,6 @@ memory_requests (BXD12 base index disp flags) = used base ∷ used index ∷ scr
 memory_requests (BXD20 base index disp flags) = used base ∷ used index ∷ scratch_request ∷ []
 memory_requests (RegOffset reg off flags) = used reg ∷ scratch_request ∷ []
 memory_requests _ = scratch_request ∷ []
-
--- what is reported of a register, of a pair or of memory, by its role. Pairs are those of `%r2` and `%r3`
-abbrev pub requests_of_role : Role → List (Option Reported)
-requests_of_role (Written r) = defined r ∷ []
-requests_of_role (Tied r) = reused r ∷ []
-requests_of_role (Read r) = used r ∷ []
-requests_of_role (WrittenPair d) = fixed_def d.hi 2 ∷ fixed_def d.lo 3 ∷ []
-requests_of_role (LowRead r) = fixed_use r 3 ∷ []
-requests_of_role (ReadPair d) = fixed_use d.hi 2 ∷ fixed_use d.lo 3 ∷ []
-requests_of_role (InMemory m) = memory_requests m
-
--- the same where there is one
-abbrev pub requests_of_some : Option Role → List (Option Reported)
-requests_of_some None = []
-requests_of_some (Some x) = requests_of_role x
-
--- the same of several, in their order
-abbrev pub requests_of_roles : List Role → List (Option Reported)
-requests_of_roles [] = []
-requests_of_roles (x ∷ []) = requests_of_role x
-requests_of_roles (x ∷ y ∷ xs) = requests_of_role x ++ requests_of_roles (y ∷ xs)
 
 -- the general register of a number
 abbrev pub fixed_general : ℕ → Option Reported

@@ -1,16 +1,18 @@
 //! The operands of each instruction, as a register allocator reads them.
 #![tactic(auto)]
 
+mod arithmetic;
 mod calls;
 mod constraint;
-mod leaf;
+mod control;
 mod list;
 mod mach_inst;
+mod moves;
 mod multiple;
 mod operands;
 mod report;
-mod role_list;
-mod roles;
+mod storage;
+mod vectors;
 mod visitor;
 
 pub use constraint::{OperandConstraint, OperandError, OperandKind, OperandPos, Reported};

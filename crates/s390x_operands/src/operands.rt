@@ -3,8 +3,8 @@ ghost use Rattle.std.specs.Prelude.{◌||◌, true};
 ghost use Rattle.s390x_operands.specs.Requests.{Reports};
 ghost use Rattle.s390x_operands.specs.Operands.{is_loop, requests, members_requests};
 
+use crate::arithmetic::report_arithmetic;
 use crate::constraint::OperandError;
-use crate::leaf::report_leaf;
 use crate::visitor::OperandVisitor;
 use s390x_inst::Inst;
 
@@ -32,6 +32,6 @@ pub fn report_inst<V: OperandVisitor>(
 {
     match inst {
         Inst::Loop { body, .. } => report_members(v, body),
-        _ => report_leaf(v, denied, inst),
+        _ => report_arithmetic(v, denied, inst),
     }
 }

@@ -149,6 +149,78 @@ pub fn report_memory<V: OperandVisitor>(
     }
 }
 
+/// Reports registers that are read, and a memory operand.
+pub fn report_inputs<V: OperandVisitor>(
+    v: &mut V,
+    denied: bool,
+    uses: &[Reg],
+    mem: &MemArg,
+) -> Result<(), OperandError>
+    ensures { Reports denied (map used uses.now ++ memory_requests mem.now) (V.items v.old)
+        (V.items v.new) (V.denies v.old) (V.denies v.new) result }
+{
+    report_uses(v, denied, uses)?;
+    report_memory(v, denied, mem)
+}
+
+/// Reports an output and inputs.
+pub fn report_output<V: OperandVisitor>(
+    v: &mut V,
+    denied: bool,
+    rd: &Writable<Reg>,
+    uses: &[Reg],
+) -> Result<(), OperandError>
+    ensures { Reports denied (defined rd.now ∷ map used uses.now) (V.items v.old) (V.items v.new)
+        (V.denies v.old) (V.denies v.new) result }
+{
+    report_def(v, denied, rd)?;
+    report_uses(v, denied, uses)
+}
+
+/// Reports an output, inputs and a memory operand.
+pub fn report_output_from<V: OperandVisitor>(
+    v: &mut V,
+    denied: bool,
+    rd: &Writable<Reg>,
+    uses: &[Reg],
+    mem: &MemArg,
+) -> Result<(), OperandError>
+    ensures { Reports denied (defined rd.now ∷ (map used uses.now ++ memory_requests mem.now))
+        (V.items v.old) (V.items v.new) (V.denies v.old) (V.denies v.new) result }
+{
+    report_def(v, denied, rd)?;
+    report_inputs(v, denied, uses, mem)
+}
+
+/// Reports an output that has to be the first input, and the inputs.
+pub fn report_reused<V: OperandVisitor>(
+    v: &mut V,
+    denied: bool,
+    rd: &Writable<Reg>,
+    uses: &[Reg],
+) -> Result<(), OperandError>
+    ensures { Reports denied (reused rd.now ∷ map used uses.now) (V.items v.old) (V.items v.new)
+        (V.denies v.old) (V.denies v.new) result }
+{
+    report_reuse(v, denied, rd)?;
+    report_uses(v, denied, uses)
+}
+
+/// Reports an output that has to be the first input, the inputs and a memory operand.
+pub fn report_reused_from<V: OperandVisitor>(
+    v: &mut V,
+    denied: bool,
+    rd: &Writable<Reg>,
+    uses: &[Reg],
+    mem: &MemArg,
+) -> Result<(), OperandError>
+    ensures { Reports denied (reused rd.now ∷ (map used uses.now ++ memory_requests mem.now))
+        (V.items v.old) (V.items v.new) (V.denies v.old) (V.denies v.new) result }
+{
+    report_reuse(v, denied, rd)?;
+    report_inputs(v, denied, uses, mem)
+}
+
 /// Reports an output that is the pair of `%r2` and `%r3`.
 pub fn report_halves<V: OperandVisitor>(
     v: &mut V,
@@ -162,6 +234,38 @@ pub fn report_halves<V: OperandVisitor>(
     report_fixed_def(v, denied, &pair.lo, 3)
 }
 
+/// Reports inputs, and an output that is a pair.
+pub fn report_pair<V: OperandVisitor>(
+    v: &mut V,
+    denied: bool,
+    pair: &WritableRegPair,
+    uses: &[Reg],
+) -> Result<(), OperandError>
+    ensures { Reports denied
+        (map used uses.now ++ fixed_def pair.now.hi 2 ∷ fixed_def pair.now.lo 3 ∷ [])
+        (V.items v.old) (V.items v.new) (V.denies v.old) (V.denies v.new) result }
+{
+    report_uses(v, denied, uses)?;
+    report_halves(v, denied, pair)
+}
+
+/// Reports an input, an output that is a pair, and the input in its low register.
+pub fn report_pair_low<V: OperandVisitor>(
+    v: &mut V,
+    denied: bool,
+    pair: &WritableRegPair,
+    low: &Reg,
+    rn: &Reg,
+) -> Result<(), OperandError>
+    ensures { Reports denied
+        (used rn.now ∷ fixed_def pair.now.hi 2 ∷ fixed_def pair.now.lo 3 ∷ fixed_use low.now 3 ∷ [])
+        (V.items v.old) (V.items v.new) (V.denies v.old) (V.denies v.new) result }
+{
+    report_use(v, denied, rn)?;
+    report_halves(v, denied, pair)?;
+    report_fixed_use(v, denied, low, 3)
+}
+
 /// Reports an input that is the pair of `%r2` and `%r3`.
 pub fn report_dividend<V: OperandVisitor>(
     v: &mut V,
@@ -173,6 +277,24 @@ pub fn report_dividend<V: OperandVisitor>(
 {
     report_fixed_use(v, denied, &pair.hi, 2)?;
     report_fixed_use(v, denied, &pair.lo, 3)
+}
+
+/// Reports an input, an output that is a pair, and an input that is the same pair.
+pub fn report_pair_whole<V: OperandVisitor>(
+    v: &mut V,
+    denied: bool,
+    pair: &WritableRegPair,
+    whole: &RegPair,
+    rn: &Reg,
+) -> Result<(), OperandError>
+    ensures { Reports denied
+        (used rn.now ∷ fixed_def pair.now.hi 2 ∷ fixed_def pair.now.lo 3 ∷ fixed_use whole.now.hi 2
+        ∷ fixed_use whole.now.lo 3 ∷ []) (V.items v.old) (V.items v.new) (V.denies v.old)
+        (V.denies v.new) result }
+{
+    report_use(v, denied, rn)?;
+    report_halves(v, denied, pair)?;
+    report_dividend(v, denied, whole)
 }
 
 /// Reports an output and a real register.

@@ -1,0 +1,8 @@
+use Rattle.s390x_operands.proofs.Reporting.{reports_next, refused_first}
+use Rattle.s390x_operands.proofs.report.report_reused.Goals as goal
+
+pub returns-in_err-report_reuse : goal.returns-in_err-report_reuse
+returns-in_err-report_reuse g c = refused_first _ _ _ _ _ _ _ _ c.from_residual.result c.from_residual.ensures.1 c.in_err-report_reuse.ensures
+
+pub returns : goal.returns
+returns g c = reports_next _ _ _ _ _ _ _ _ _ _ c.in_ok-report_reuse.ensures (c.report_uses.ensures)
