@@ -9,6 +9,7 @@ pub mod Encoded
 pub mod Facilities
 pub mod Lookup
 pub mod Widths
+pub mod Equal
 pub mod Fits
 pub mod Distances
 pub mod RegisterLaws
