@@ -73,7 +73,7 @@ fn reported<M: Memory>(
     requires { AllHeld (M.held memory.now) regions.now }
     ensures { IfOk result
         (λ text. string_bytes text
-        ≡ execution_text located.base located.code.now regions.now execution.now
+        ≡ execution_text located.entry.base located.entry.code.now regions.now execution.now
         (state_of machine.now (M.held memory.now) (M.byte memory.now))) }
 {
     let mut out = String::new(alloc);
