@@ -30,43 +30,20 @@ prefix_on (x ∷ xs) (y ∷ ys) (z ∷ zs) p q =
 same_count : (n : ℕ) → n ≤ n
 same_count n = omega arith
 
-entries_same : (s : BufferState) → ExtendsEntries s s
-entries_same s = record {
-  bytes = prefix_refl s.bytes;
-  uses = prefix_refl s.uses;
-  traps = prefix_refl s.traps;
-  relocs = prefix_refl s.relocs;
-  call_sites = prefix_refl s.call_sites;
-  try_call_sites = prefix_refl s.try_call_sites;
-  patchable_sites = prefix_refl s.patchable_sites;
-  stack_maps = prefix_refl s.stack_maps;
-  starts = prefix_refl s.starts;
-  label_count = same_count (length s.labels);
-  block_count = refl;
-  constants = refl;
-}
+more_labels : (ls : List (Option ℕ)) → length ls ≤ length (ls ++ None ∷ [])
+more_labels ls = omega (arith, length-append ls (None ∷ []))
+
+as_many : (ls : List (Option ℕ)) (b : ℕ) (v : Option ℕ) → length ls ≤ length (set ls b v)
+as_many ls b v = omega (arith, length-set ls b v)
+
+-- what stood in each list of a buffer whose other lists are as they were, or longer
+ruleset kept_entries = (prefix_refl, prefix_more, same_count, more_labels, as_many)
 
 pub extends_same : (s : BufferState) → Extends s s
-extends_same s = record { entries = entries_same s; labels = λ l lt. refl }
-
-entries_mark : (s : BufferState) → ExtendsEntries s (poisoned s)
-entries_mark s = record {
-  bytes = prefix_refl s.bytes;
-  uses = prefix_refl s.uses;
-  traps = prefix_refl s.traps;
-  relocs = prefix_refl s.relocs;
-  call_sites = prefix_refl s.call_sites;
-  try_call_sites = prefix_refl s.try_call_sites;
-  patchable_sites = prefix_refl s.patchable_sites;
-  stack_maps = prefix_refl s.stack_maps;
-  starts = prefix_refl s.starts;
-  label_count = same_count (length s.labels);
-  block_count = refl;
-  constants = refl;
-}
+extends_same s = record { entries = search kept_entries; labels = λ l lt. refl }
 
 pub extends_mark : (s t : BufferState) → t ≡ poisoned s → Extends s t
-extends_mark s t e = subst (Extends s) (sym e) (record { entries = entries_mark s; labels = λ l lt. refl })
+extends_mark s t e = subst (Extends s) (sym e) (record { entries = search kept_entries; labels = λ l lt. refl })
 
 entries_on : (s t u : BufferState) → ExtendsEntries s t → ExtendsEntries t u → ExtendsEntries s u
 entries_on s t u a b = record {
@@ -100,244 +77,46 @@ extends_bound s t u label a new b = record {
   labels = λ l lt. b.labels l (omega (arith, lt, a.entries.label_count)) (other_label (length s.labels) label l new lt) ∙ a.labels l lt;
 }
 
-entries_bytes : (s : BufferState) (xs : List ℕ) → ExtendsEntries s (record s { bytes = s.bytes ++ xs })
-entries_bytes s xs = record {
-  bytes = prefix_more s.bytes xs;
-  uses = prefix_refl s.uses;
-  traps = prefix_refl s.traps;
-  relocs = prefix_refl s.relocs;
-  call_sites = prefix_refl s.call_sites;
-  try_call_sites = prefix_refl s.try_call_sites;
-  patchable_sites = prefix_refl s.patchable_sites;
-  stack_maps = prefix_refl s.stack_maps;
-  starts = prefix_refl s.starts;
-  label_count = same_count (length s.labels);
-  block_count = refl;
-  constants = refl;
-}
-
 pub extends_bytes : (s : BufferState) (xs : List ℕ) → Extends s (record s { bytes = s.bytes ++ xs })
-extends_bytes s xs = record { entries = entries_bytes s xs; labels = λ l lt. refl }
-
-entries_uses : (s : BufferState) (xs : List LabelFixup) → ExtendsEntries s (record s { uses = s.uses ++ xs })
-entries_uses s xs = record {
-  bytes = prefix_refl s.bytes;
-  uses = prefix_more s.uses xs;
-  traps = prefix_refl s.traps;
-  relocs = prefix_refl s.relocs;
-  call_sites = prefix_refl s.call_sites;
-  try_call_sites = prefix_refl s.try_call_sites;
-  patchable_sites = prefix_refl s.patchable_sites;
-  stack_maps = prefix_refl s.stack_maps;
-  starts = prefix_refl s.starts;
-  label_count = same_count (length s.labels);
-  block_count = refl;
-  constants = refl;
-}
+extends_bytes s xs = record { entries = search kept_entries; labels = λ l lt. refl }
 
 pub extends_uses : (s : BufferState) (xs : List LabelFixup) → Extends s (record s { uses = s.uses ++ xs })
-extends_uses s xs = record { entries = entries_uses s xs; labels = λ l lt. refl }
-
-entries_traps : (s : BufferState) (xs : List TrapEntry) → ExtendsEntries s (record s { traps = s.traps ++ xs })
-entries_traps s xs = record {
-  bytes = prefix_refl s.bytes;
-  uses = prefix_refl s.uses;
-  traps = prefix_more s.traps xs;
-  relocs = prefix_refl s.relocs;
-  call_sites = prefix_refl s.call_sites;
-  try_call_sites = prefix_refl s.try_call_sites;
-  patchable_sites = prefix_refl s.patchable_sites;
-  stack_maps = prefix_refl s.stack_maps;
-  starts = prefix_refl s.starts;
-  label_count = same_count (length s.labels);
-  block_count = refl;
-  constants = refl;
-}
+extends_uses s xs = record { entries = search kept_entries; labels = λ l lt. refl }
 
 pub extends_traps : (s : BufferState) (xs : List TrapEntry) → Extends s (record s { traps = s.traps ++ xs })
-extends_traps s xs = record { entries = entries_traps s xs; labels = λ l lt. refl }
-
-entries_relocs : (s : BufferState) (xs : List RelocEntry) → ExtendsEntries s (record s { relocs = s.relocs ++ xs })
-entries_relocs s xs = record {
-  bytes = prefix_refl s.bytes;
-  uses = prefix_refl s.uses;
-  traps = prefix_refl s.traps;
-  relocs = prefix_more s.relocs xs;
-  call_sites = prefix_refl s.call_sites;
-  try_call_sites = prefix_refl s.try_call_sites;
-  patchable_sites = prefix_refl s.patchable_sites;
-  stack_maps = prefix_refl s.stack_maps;
-  starts = prefix_refl s.starts;
-  label_count = same_count (length s.labels);
-  block_count = refl;
-  constants = refl;
-}
+extends_traps s xs = record { entries = search kept_entries; labels = λ l lt. refl }
 
 pub extends_relocs : (s : BufferState) (xs : List RelocEntry) → Extends s (record s { relocs = s.relocs ++ xs })
-extends_relocs s xs = record { entries = entries_relocs s xs; labels = λ l lt. refl }
-
-entries_call_sites : (s : BufferState) (xs : List ℕ) → ExtendsEntries s (record s { call_sites = s.call_sites ++ xs })
-entries_call_sites s xs = record {
-  bytes = prefix_refl s.bytes;
-  uses = prefix_refl s.uses;
-  traps = prefix_refl s.traps;
-  relocs = prefix_refl s.relocs;
-  call_sites = prefix_more s.call_sites xs;
-  try_call_sites = prefix_refl s.try_call_sites;
-  patchable_sites = prefix_refl s.patchable_sites;
-  stack_maps = prefix_refl s.stack_maps;
-  starts = prefix_refl s.starts;
-  label_count = same_count (length s.labels);
-  block_count = refl;
-  constants = refl;
-}
+extends_relocs s xs = record { entries = search kept_entries; labels = λ l lt. refl }
 
 pub extends_call_sites : (s : BufferState) (xs : List ℕ) → Extends s (record s { call_sites = s.call_sites ++ xs })
-extends_call_sites s xs = record { entries = entries_call_sites s xs; labels = λ l lt. refl }
-
-entries_try_call_sites : (s : BufferState) (xs : List TryCallSite) → ExtendsEntries s (record s { try_call_sites = s.try_call_sites ++ xs })
-entries_try_call_sites s xs = record {
-  bytes = prefix_refl s.bytes;
-  uses = prefix_refl s.uses;
-  traps = prefix_refl s.traps;
-  relocs = prefix_refl s.relocs;
-  call_sites = prefix_refl s.call_sites;
-  try_call_sites = prefix_more s.try_call_sites xs;
-  patchable_sites = prefix_refl s.patchable_sites;
-  stack_maps = prefix_refl s.stack_maps;
-  starts = prefix_refl s.starts;
-  label_count = same_count (length s.labels);
-  block_count = refl;
-  constants = refl;
-}
+extends_call_sites s xs = record { entries = search kept_entries; labels = λ l lt. refl }
 
 pub extends_try_call_sites : (s : BufferState) (xs : List TryCallSite) → Extends s (record s { try_call_sites = s.try_call_sites ++ xs })
-extends_try_call_sites s xs = record { entries = entries_try_call_sites s xs; labels = λ l lt. refl }
-
-entries_patchable_sites : (s : BufferState) (xs : List PatchEntry) → ExtendsEntries s (record s { patchable_sites = s.patchable_sites ++ xs })
-entries_patchable_sites s xs = record {
-  bytes = prefix_refl s.bytes;
-  uses = prefix_refl s.uses;
-  traps = prefix_refl s.traps;
-  relocs = prefix_refl s.relocs;
-  call_sites = prefix_refl s.call_sites;
-  try_call_sites = prefix_refl s.try_call_sites;
-  patchable_sites = prefix_more s.patchable_sites xs;
-  stack_maps = prefix_refl s.stack_maps;
-  starts = prefix_refl s.starts;
-  label_count = same_count (length s.labels);
-  block_count = refl;
-  constants = refl;
-}
+extends_try_call_sites s xs = record { entries = search kept_entries; labels = λ l lt. refl }
 
 pub extends_patchable_sites : (s : BufferState) (xs : List PatchEntry) → Extends s (record s { patchable_sites = s.patchable_sites ++ xs })
-extends_patchable_sites s xs = record { entries = entries_patchable_sites s xs; labels = λ l lt. refl }
-
-entries_stack_maps : (s : BufferState) (xs : List MapEntry) → ExtendsEntries s (record s { stack_maps = s.stack_maps ++ xs })
-entries_stack_maps s xs = record {
-  bytes = prefix_refl s.bytes;
-  uses = prefix_refl s.uses;
-  traps = prefix_refl s.traps;
-  relocs = prefix_refl s.relocs;
-  call_sites = prefix_refl s.call_sites;
-  try_call_sites = prefix_refl s.try_call_sites;
-  patchable_sites = prefix_refl s.patchable_sites;
-  stack_maps = prefix_more s.stack_maps xs;
-  starts = prefix_refl s.starts;
-  label_count = same_count (length s.labels);
-  block_count = refl;
-  constants = refl;
-}
+extends_patchable_sites s xs = record { entries = search kept_entries; labels = λ l lt. refl }
 
 pub extends_stack_maps : (s : BufferState) (xs : List MapEntry) → Extends s (record s { stack_maps = s.stack_maps ++ xs })
-extends_stack_maps s xs = record { entries = entries_stack_maps s xs; labels = λ l lt. refl }
-
-entries_starts : (s : BufferState) (xs : List ℕ) → ExtendsEntries s (record s { starts = s.starts ++ xs; branches = NoBranch })
-entries_starts s xs = record {
-  bytes = prefix_refl s.bytes;
-  uses = prefix_refl s.uses;
-  traps = prefix_refl s.traps;
-  relocs = prefix_refl s.relocs;
-  call_sites = prefix_refl s.call_sites;
-  try_call_sites = prefix_refl s.try_call_sites;
-  patchable_sites = prefix_refl s.patchable_sites;
-  stack_maps = prefix_refl s.stack_maps;
-  starts = prefix_more s.starts xs;
-  label_count = same_count (length s.labels);
-  block_count = refl;
-  constants = refl;
-}
+extends_stack_maps s xs = record { entries = search kept_entries; labels = λ l lt. refl }
 
 pub extends_starts : (s : BufferState) (xs : List ℕ) → Extends s (record s { starts = s.starts ++ xs; branches = NoBranch })
-extends_starts s xs = record { entries = entries_starts s xs; labels = λ l lt. refl }
-
-entries_branches : (s : BufferState) (bs : RecordedBranches) → ExtendsEntries s (record s { branches = bs })
-entries_branches s bs = record {
-  bytes = prefix_refl s.bytes;
-  uses = prefix_refl s.uses;
-  traps = prefix_refl s.traps;
-  relocs = prefix_refl s.relocs;
-  call_sites = prefix_refl s.call_sites;
-  try_call_sites = prefix_refl s.try_call_sites;
-  patchable_sites = prefix_refl s.patchable_sites;
-  stack_maps = prefix_refl s.stack_maps;
-  starts = prefix_refl s.starts;
-  label_count = same_count (length s.labels);
-  block_count = refl;
-  constants = refl;
-}
+extends_starts s xs = record { entries = search kept_entries; labels = λ l lt. refl }
 
 pub extends_branches : (s : BufferState) (bs : RecordedBranches) → Extends s (record s { branches = bs })
-extends_branches s bs = record { entries = entries_branches s bs; labels = λ l lt. refl }
+extends_branches s bs = record { entries = search kept_entries; labels = λ l lt. refl }
 
 drawn_kept : (ls : List (Option ℕ)) (l : ℕ) → l < length ls → get_or (ls ++ None ∷ []) l None ≡ get_or ls l None
 drawn_kept [] l lt = absurd (omega (arith, lt))
 drawn_kept (x ∷ ls) zero lt = refl
 drawn_kept (x ∷ ls) (suc l) lt = drawn_kept ls l (omega (arith, lt))
 
-more_labels : (ls : List (Option ℕ)) → length ls ≤ length (ls ++ None ∷ [])
-more_labels ls = omega (arith, length-append ls (None ∷ []))
-
-entries_draw : (s : BufferState) → ExtendsEntries s (record s { labels = s.labels ++ None ∷ [] })
-entries_draw s = record {
-  bytes = prefix_refl s.bytes;
-  uses = prefix_refl s.uses;
-  traps = prefix_refl s.traps;
-  relocs = prefix_refl s.relocs;
-  call_sites = prefix_refl s.call_sites;
-  try_call_sites = prefix_refl s.try_call_sites;
-  patchable_sites = prefix_refl s.patchable_sites;
-  stack_maps = prefix_refl s.stack_maps;
-  starts = prefix_refl s.starts;
-  label_count = more_labels s.labels;
-  block_count = refl;
-  constants = refl;
-}
-
 pub extends_draw : (s : BufferState) → Extends s (record s { labels = s.labels ++ None ∷ [] })
-extends_draw s = record { entries = entries_draw s; labels = drawn_kept s.labels }
-
-as_many : (ls : List (Option ℕ)) (b : ℕ) (v : Option ℕ) → length ls ≤ length (set ls b v)
-as_many ls b v = omega (arith, length-set ls b v)
-
-entries_bind : (s : BufferState) (b : ℕ) (v : Option ℕ) → ExtendsEntries s (record s { labels = set s.labels b v; branches = NoBranch })
-entries_bind s b v = record {
-  bytes = prefix_refl s.bytes;
-  uses = prefix_refl s.uses;
-  traps = prefix_refl s.traps;
-  relocs = prefix_refl s.relocs;
-  call_sites = prefix_refl s.call_sites;
-  try_call_sites = prefix_refl s.try_call_sites;
-  patchable_sites = prefix_refl s.patchable_sites;
-  stack_maps = prefix_refl s.stack_maps;
-  starts = prefix_refl s.starts;
-  label_count = as_many s.labels b v;
-  block_count = refl;
-  constants = refl;
-}
+extends_draw s = record { entries = search kept_entries; labels = drawn_kept s.labels }
 
 pub extends_bind : (s : BufferState) (b : ℕ) (v : Option ℕ) → ExtendsExcept b s (record s { labels = set s.labels b v; branches = NoBranch })
-extends_bind s b v = record { entries = entries_bind s b v; labels = λ l lt other. get_or-set_other s.labels b l v None other }
+extends_bind s b v = record { entries = search kept_entries; labels = λ l lt other. get_or-set_other s.labels b l v None other }
 
 pub except_mark : (s t : BufferState) (b : ℕ) → t ≡ poisoned s → ExtendsExcept b s t
 except_mark s t b e = let k = extends_mark s t e in record { entries = k.entries; labels = λ l lt other. k.labels l lt }
