@@ -182,6 +182,7 @@ pub operator_fields : (i : Inst) (s : List Reg) → AllFields (inst_line i).fiel
 operator_fields i s h k =
     let registers : AllFields (other_fields i ++ described_fields (described i)) = subst (λ fs. AllFields fs) (each_register i) (named (inst_line i).fields h) in
     let q : AllFields (given_fields (described i) s) × Regs (left_by (described i) s) = described_given (described i) s (all_behind (other_fields i) (described_fields (described i)) registers) k in
-    let again : AllFields (other_fields i ++ given_fields (described i) s) = all_append (other_fields i) (given_fields (described i) s) (all_before (other_fields i) (described_fields (described i)) registers) q.0 in
-    (joined (inst_line (assigned_operator i s).0).fields (subst (λ fs. AllFields fs) (sym (given_registers i s)) again) (subst (λ fs. AllFields fs) (sym (plain_kept i s)) (plain (inst_line i).fields h)),
-    subst (λ t. Regs t) (sym (left_is (described i) i s)) q.1)
+    let again : AllFields (other_fields i ++ given_fields (described i) s) = all_append (other_fields i) (given_fields (described i) s) (all_before (other_fields i) (described_fields (described i)) registers) q.0 in (
+      joined (inst_line (assigned_operator i s).0).fields (subst (λ fs. AllFields fs) (sym (given_registers i s)) again) (subst (λ fs. AllFields fs) (sym (plain_kept i s)) (plain (inst_line i).fields h)),
+      subst (λ t. Regs t) (sym (left_is (described i) i s)) q.1,
+    )
