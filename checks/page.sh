@@ -9,7 +9,8 @@
 set -eu
 top=$(cd "$(dirname "$0")/.." && pwd)
 folder=$(mktemp -d "${TMPDIR:-/tmp}/shown.XXXXXX")
-trap 'rm -rf "$folder"' EXIT
+# the browser may still write into its profile when it is told to end
+trap 'rm -rf "$folder" 2> /dev/null || { sleep 1; rm -rf "$folder"; }' EXIT
 if [ "${1:-}" = --shown ]; then
     shift
 else
