@@ -3,7 +3,7 @@ use Rattle.std.proofs.Common.{◌≡◌, ℕ, ℤ, pos, negsuc, unsigned_abs, Li
 use Rattle.s390x_base.specs.Regs.{number_of}
 use Rattle.s390x_base.specs.declared.error.EmitError.{EmitError}
 use Rattle.s390x_base.specs.declared.error.EmitError.TheVariants.{BadOperator, BadRegister, ScratchConflict, OffsetOutOfRange}
-use Rattle.s390x_base.specs.declared.ir.MachMemFlags.{MachMemFlags}
+use Rattle.s390x_base.specs.AccessFlags.{AccessFlags}
 use Rattle.s390x_base.specs.declared.regs.Reg.{Reg}
 use Rattle.s390x_base.specs.declared.trap.TrapKind.{TrapKind}
 use Rattle.s390x_inst.specs.declared.args.MemArg.TheVariants.{BXD12, BXD20, RegOffset}
@@ -34,7 +34,7 @@ first_alone None = refl
 first_alone (Some e) = refl
 
 -- an offset that a helper doesn't load and an immediate holds
-only_registers : (D : Declared) (form : StorageForm) (base : Reg) (off : ℤ) (flags : MachMemFlags) (accesses operands_valid reads_scratch : Bool) →
+only_registers : (D : Declared) (form : StorageForm) (base : Reg) (off : ℤ) (flags : AccessFlags) (accesses operands_valid reads_scratch : Bool) →
     has_form (type_of form accesses) (RegOffset base off flags) ≡ true → is_far off ≡ false → fits_32 off ≡ true → (finalized (type_of form accesses) (RegOffset base off flags)).helpers ≡ [] →
     memory_cause D (record { form = form; operand = RegOffset base off flags; accesses = accesses; operands_valid = operands_valid; reads_scratch = reads_scratch }) ≡ unless (operands_valid && is_general base) BadRegister
 only_registers D form base off flags accesses operands_valid reads_scratch has near fits alone =
@@ -50,7 +50,7 @@ only_registers D form base off flags accesses operands_valid reads_scratch has n
 
 -- ---- a displacement of 12 bits
 
-pub short_plain : (register opcode : ℕ) (rxy_opcode ril_opcode : Option ℕ) (base : Reg) (off : ℤ) (flags : MachMemFlags) (accesses operands_valid reads_scratch : Bool) (code : List ℕ) →
+pub short_plain : (register opcode : ℕ) (rxy_opcode ril_opcode : Option ℕ) (base : Reg) (off : ℤ) (flags : AccessFlags) (accesses operands_valid reads_scratch : Bool) (code : List ℕ) →
     fits_12 off ≡ true → code ≡ bytes_of (rx opcode register (number_of base) (number_of no_register) (low_12 (unsigned_abs off))) →
     IsPlain (record { form = RxForm register (Some opcode) rxy_opcode ril_opcode; operand = RegOffset base off flags; accesses = accesses; operands_valid = operands_valid; reads_scratch = reads_scratch }) code
 short_plain register opcode rxy_opcode ril_opcode base off flags accesses operands_valid reads_scratch code fits same =
@@ -75,7 +75,7 @@ not_negative : (off : ℤ) → fits_12 off ≡ true → pos (unsigned_abs off) �
 not_negative (pos n) h = refl
 not_negative (negsuc n) h = absurd (cc)
 
-long_chosen : (register opcode : ℕ) (rx_opcode ril_opcode : Option ℕ) (accesses : Bool) (base : Reg) (off : ℤ) (flags : MachMemFlags) (others : Finalized) (t : Bool) →
+long_chosen : (register opcode : ℕ) (rx_opcode ril_opcode : Option ℕ) (accesses : Bool) (base : Reg) (off : ℤ) (flags : AccessFlags) (others : Finalized) (t : Bool) →
     (t ≡ true → rx_opcode ≡ None) → (t ≡ true → pos (unsigned_abs off) ≡ off) →
     with_widened (type_of (RxForm register rx_opcode (Some opcode) ril_opcode) accesses) (addressed (type_of (RxForm register rx_opcode (Some opcode) ril_opcode) accesses) (cond t (record { helpers = []; operand = BXD12 base no_register (unsigned_abs off) flags }) (cond true (record { helpers = []; operand = BXD20 base no_register off flags }) others))) ≡ record { helpers = []; operand = BXD20 base no_register off flags }
 long_chosen register opcode rx_opcode ril_opcode accesses base off flags others true none same =
@@ -85,7 +85,7 @@ long_chosen register opcode rx_opcode ril_opcode accesses base off flags others 
 long_chosen register opcode rx_opcode ril_opcode accesses base off flags others false none same = refl
 
 -- by the rows of 20 bits, where there is none of 12 bits or the offset doesn't fit it
-pub long_plain : (register : ℕ) (rx_opcode rxy_opcode ril_opcode : Option ℕ) (base : Reg) (off : ℤ) (flags : MachMemFlags) (accesses operands_valid reads_scratch : Bool) (code : List ℕ) →
+pub long_plain : (register : ℕ) (rx_opcode rxy_opcode ril_opcode : Option ℕ) (base : Reg) (off : ℤ) (flags : AccessFlags) (accesses operands_valid reads_scratch : Bool) (code : List ℕ) →
     (fits_12 off ≡ true → rx_opcode ≡ None) → fits_20 off ≡ true → option_map bytes_of (of_opcode (λ o. rxy o register (number_of base) (number_of no_register) (low_displacement off)) rxy_opcode) ≡ Some code →
     IsPlain (record { form = RxForm register rx_opcode rxy_opcode ril_opcode; operand = RegOffset base off flags; accesses = accesses; operands_valid = operands_valid; reads_scratch = reads_scratch }) code
 long_plain register rx_opcode None ril_opcode base off flags accesses operands_valid reads_scratch code none fits same = absurd (cc)
@@ -119,7 +119,7 @@ held : {D : Type 0} (t : Bool) (d e : D) → Some d ≡ cond t (Some e) None →
 held true d e h = (refl, cc)
 held false d e h = absurd (cc)
 
-pub short_rows : (found : Option (List ℕ)) (rows : StorageRows) (register : Reg) (rx_opcode rxy_opcode ril_opcode : Option ℕ) (opcode disp : ℕ) (base : Reg) (off : ℤ) (flags : MachMemFlags) (accesses operands_valid reads_scratch : Bool) →
+pub short_rows : (found : Option (List ℕ)) (rows : StorageRows) (register : Reg) (rx_opcode rxy_opcode ril_opcode : Option ℕ) (opcode disp : ℕ) (base : Reg) (off : ℤ) (flags : AccessFlags) (accesses operands_valid reads_scratch : Bool) →
     rows ≡ OneRegister register rx_opcode rxy_opcode ril_opcode → rx_opcode ≡ Some opcode → Some disp ≡ cond (fits_12 off) (Some (unsigned_abs off)) None →
     IfSome found (λ code. code ≡ bytes_of (rx opcode (number_of register) (number_of base) (number_of no_register) (low_12 disp))) →
     IfSome found (λ code. IsPlain (record { form = storage_form_of rows; operand = RegOffset base off flags; accesses = accesses; operands_valid = operands_valid; reads_scratch = reads_scratch }) code)
@@ -140,7 +140,7 @@ long_found (Some code) rxy_opcode opcode register base disp off some fits same =
           ∙ ap Some (ap (λ z. bytes_of (rxy opcode (number_of register) (number_of base) (number_of no_register) (low_displacement z))) (sym p.1) ∙ sym same),
     )
 
-pub long_rows : (found : Option (List ℕ)) (rows : StorageRows) (register : Reg) (rx_opcode rxy_opcode ril_opcode : Option ℕ) (base : Reg) (off : ℤ) (flags : MachMemFlags) (accesses operands_valid reads_scratch : Bool) →
+pub long_rows : (found : Option (List ℕ)) (rows : StorageRows) (register : Reg) (rx_opcode rxy_opcode ril_opcode : Option ℕ) (base : Reg) (off : ℤ) (flags : AccessFlags) (accesses operands_valid reads_scratch : Bool) →
     rows ≡ OneRegister register rx_opcode rxy_opcode ril_opcode → (fits_12 off ≡ true → rx_opcode ≡ None) →
     IsLong found register rxy_opcode base off →
     IfSome found (λ code. IsPlain (record { form = storage_form_of rows; operand = RegOffset base off flags; accesses = accesses; operands_valid = operands_valid; reads_scratch = reads_scratch }) code)

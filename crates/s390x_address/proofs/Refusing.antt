@@ -4,7 +4,7 @@ use Rattle.std.proofs.lemmas.Bool.{and_parts, and_from}
 use Rattle.std.proofs.lemmas.Int.{ints}
 use Rattle.s390x_base.specs.declared.error.EmitError.{EmitError}
 use Rattle.s390x_base.specs.declared.error.EmitError.TheVariants.{BadOperator, BadRegister, ScratchConflict, OffsetOutOfRange, UnboundLabel}
-use Rattle.s390x_base.specs.declared.ir.MachMemFlags.{MachMemFlags}
+use Rattle.s390x_base.specs.AccessFlags.{AccessFlags}
 use Rattle.s390x_base.specs.declared.regs.Reg.{Reg}
 use Rattle.s390x_inst.specs.declared.args.MemArg.{MemArg}
 use Rattle.s390x_inst.specs.declared.args.MemArg.TheVariants.{BXD12, BXD20, Label, Constant, RegOffset}
@@ -35,7 +35,7 @@ unlike : (s t : Bool) → (s ≡ true → t ≡ true) → t ≡ false → s ≡ 
 unlike true t f h = sym (f refl) ∙ h
 unlike false t f h = refl
 
-past_stays : (reg : Reg) (off : ℤ) (flags : MachMemFlags) → fits_32 off ≡ false → with_offset reg off flags ≡ record { helpers = []; operand = RegOffset reg off flags }
+past_stays : (reg : Reg) (off : ℤ) (flags : AccessFlags) → fits_32 off ≡ false → with_offset reg off flags ≡ record { helpers = []; operand = RegOffset reg off flags }
 past_stays reg off flags h =
     let stays : Finalized = record { helpers = []; operand = RegOffset reg off flags } in
     let far : Finalized = record { helpers = Mov64SImm32 scratch off ∷ []; operand = BXD12 reg scratch 0 flags } in
@@ -122,7 +122,7 @@ Stands D f = AllStand D f.helpers × (may_stand D f.operand ≡ true)
 based_stands : (reg : Reg) → is_general reg ≡ true → (is_general reg && true && true) ≡ true
 based_stands reg h = and_from (is_general reg && true) true (and_from (is_general reg) true h refl) refl
 
-chosen_stands : (D : Declared) (reg : Reg) (off : ℤ) (flags : MachMemFlags) (a b c : Bool) → is_general reg ≡ true →
+chosen_stands : (D : Declared) (reg : Reg) (off : ℤ) (flags : AccessFlags) (a b c : Bool) → is_general reg ≡ true →
     Stands D (cond a (record { helpers = []; operand = BXD12 reg no_register (unsigned_abs off) flags }) (cond b (record { helpers = []; operand = BXD20 reg no_register off flags }) (cond c (record { helpers = Mov64SImm32 scratch off ∷ []; operand = BXD12 reg scratch 0 flags }) (record { helpers = []; operand = RegOffset reg off flags }))))
 unfolding AllStand helper_stands
 chosen_stands D reg off flags true b c h = (tt, based_stands reg h)

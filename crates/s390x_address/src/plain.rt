@@ -1,7 +1,7 @@
 //! Accesses behind no helper, whose offset a displacement holds: their code at once, without a plan.
 ghost use Rattle.std.specs.Prelude.{◌≡◌, Bool, true, Some, IfSome, option_map};
 ghost use Rattle.s390x_base.specs.Regs.{number_of};
-ghost use Rattle.s390x_base.specs.declared.ir.MachMemFlags.{MachMemFlags};
+ghost use Rattle.s390x_base.specs.AccessFlags.{AccessFlags};
 ghost use Rattle.s390x_inst.specs.declared.args.MemArg.TheVariants.{RegOffset};
 ghost use Rattle.s390x_typed_steps.specs.General.{low_displacement, low_12};
 ghost use Rattle.s390x_typed_steps.specs.MachineInstruction.{bytes_of, rx, rxy};
@@ -54,7 +54,7 @@ fn long_offset_code(opcode: Option<u16>, register: Reg, base: Reg, off: i128) ->
 
 /// The code at a base and an offset of an instruction by one general register, where a displacement of its rows holds the offset.
 pub fn offset_code(rows: &StorageRows, base: Reg, off: i128) -> Option<Code>
-    ensures { (accesses operands_valid reads_scratch : Bool) (flags : MachMemFlags)
+    ensures { (accesses operands_valid reads_scratch : Bool) (flags : AccessFlags)
         → IfSome result
         (λ code. IsPlain
         (record {

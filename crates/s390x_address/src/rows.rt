@@ -2,7 +2,7 @@
 ghost use Rattle.std.specs.Prelude.{◌≡◌, ◌≤◌, ◌<◌, ◌&&◌, true, false, None, Some, MatchResult, IfSome, is_some, nat_lt};
 ghost use Rattle.std.specs.Option.{option_map};
 ghost use Rattle.s390x_base.specs.Regs.{number_of};
-ghost use Rattle.s390x_base.specs.declared.ir.MachMemFlags.{MachMemFlags};
+ghost use Rattle.s390x_base.specs.AccessFlags.{AccessFlags};
 ghost use Rattle.s390x_enc.specs.Operands.{is_general_class, is_vector, may_stand_first};
 ghost use Rattle.s390x_inst.specs.declared.args.MemArg.TheVariants.{BXD12, BXD20};
 ghost use Rattle.s390x_typed_steps.specs.General.{low_displacement, low_12};
@@ -404,7 +404,7 @@ impl StorageRows {
 
     // The row at a displacement of 12 bits.
     fn short_row(&self, base: Reg, index: Reg, disp: UImm12) -> Option<StorageRow>
-        ensures row { (flags : MachMemFlags)
+        ensures row { (flags : AccessFlags)
             → option_map row_of result
             ≡ storage_row (storage_form_of self.now) (BXD12 base index disp flags) }
         ensures encodes { rows_encode self.now ≡ true
@@ -446,7 +446,7 @@ impl StorageRows {
 
     // The row at a displacement of 20 bits.
     fn long_row(&self, base: Reg, index: Reg, disp: SImm20) -> Option<StorageRow>
-        ensures row { (flags : MachMemFlags)
+        ensures row { (flags : AccessFlags)
             → option_map row_of result
             ≡ storage_row (storage_form_of self.now) (BXD20 base index disp flags) }
         ensures encodes { rows_encode self.now ≡ true

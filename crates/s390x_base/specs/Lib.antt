@@ -1,3 +1,4 @@
+pub mod AccessFlags
 pub mod Code
 pub mod Conditions
 pub mod Errors

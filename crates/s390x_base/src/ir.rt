@@ -4,6 +4,7 @@ ghost use Rattle.s390x_base.specs.Types.{bits_of, is_vector_type};
 
 use crate::trap::TrapCode;
 use std::fmt;
+use std::marker::Model;
 
 /// The type of a value.
 #[derive(Clone, Copy, PartialEq, Eq, Debug)]
@@ -107,13 +108,23 @@ pub enum Reloc {
     Abs8,
 }
 
-/// What is known of a memory access.
+/// What is known of a memory access. Contracts see it as a value of two fields, since each operand in memory has one.
 #[derive(Clone, Copy, PartialEq, Eq, Debug)]
 pub struct MachMemFlags {
     /// Whether the address is a multiple of the width.
     pub aligned: bool,
     /// The code of a trap at this access; where there is none, the access doesn't fault.
     pub trap: Option<TrapCode>,
+}
+
+impl Model for MachMemFlags {
+    ghost use Rattle.s390x_base.specs.AccessFlags.{AccessFlags};
+
+    ghost Value = { AccessFlags };
+
+    ghost view = { λ f. record { aligned = f.aligned; trap = f.trap } };
+
+    ghost inverse = { λ f. record { aligned = f.aligned; trap = f.trap } };
 }
 
 impl MachMemFlags {

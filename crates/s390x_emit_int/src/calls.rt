@@ -3,7 +3,7 @@
 
 ghost use Rattle.std.specs.Prelude.{◌≡◌, ℕ, ◌≤◌, ◌⊎◌, ◌&&◌, ◌||◌, nat_eq, [], ◌∷◌, map, length, Some, None, true, false, OnOk, IfOk, MatchResult};
 ghost use Rattle.s390x_base.specs.declared.error.EmitError.TheVariants.{NoMemory, ScratchConflict};
-ghost use Rattle.s390x_base.specs.declared.ir.MachMemFlags.{MachMemFlags};
+ghost use Rattle.s390x_base.specs.AccessFlags.{AccessFlags};
 ghost use Rattle.s390x_base.specs.declared.regs.Reg.{Reg};
 ghost use Rattle.s390x_base.specs.Regs.{number_of};
 ghost use Rattle.s390x_buffer.specs.Extends.{Extends};
@@ -522,7 +522,7 @@ pub fn emit_call(
 
 // Whether an offset from a register needs `%r1`, where the rows have these forms.
 fn is_offset_helped(mi: MemInstType, off: i64) -> bool
-    ensures { (reg : Reg) (flags : MachMemFlags)
+    ensures { (reg : Reg) (flags : AccessFlags)
         → result ≡ is_helped (finalized mi (RegOffset reg off flags)).helpers }
 {
     if 0 <= off && off <= 4095 {

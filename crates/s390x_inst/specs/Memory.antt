@@ -1,15 +1,15 @@
 -- Memory operands.
 use Rattle.std.specs.Prelude.{true, None}
-use Rattle.s390x_base.specs.declared.ir.MachMemFlags.{MachMemFlags}
+use Rattle.s390x_base.specs.AccessFlags.{AccessFlags}
 use Rattle.s390x_inst.specs.declared.args.MemArg.{MemArg}
 use Rattle.s390x_inst.specs.declared.args.MemArg.TheVariants.{BXD12, BXD20, Label, Constant, Symbol, RegOffset, InitialSPOffset, IncomingArgOffset, OutgoingArgOffset, SlotOffset, SpillOffset}
 
 -- an aligned access that doesn't trap
-abbrev pub trusted : MachMemFlags
+abbrev pub trusted : AccessFlags
 trusted = record { aligned = true; trap = None }
 
 -- what is known of an operand's access: its flags, or where its form has none, that it is trusted
-abbrev pub flags_of : MemArg → MachMemFlags
+abbrev pub flags_of : MemArg → AccessFlags
 flags_of (BXD12 base index disp flags) = flags
 flags_of (BXD20 base index disp flags) = flags
 flags_of (Label target) = trusted

@@ -11,7 +11,7 @@ use Rattle.s390x_base.specs.declared.regs.Reg.{Reg}
 use Rattle.s390x_base.specs.declared.regs.Reg.TheVariants.{Real, Virtual}
 use Rattle.s390x_base.specs.declared.trap.TrapKind.{TrapKind}
 use Rattle.s390x_base.specs.declared.trap.TrapKind.TheVariants.{StackOverflow, IntegerOverflow, HeapOutOfBounds, IntegerDivisionByZero, BadConversionToInteger, User}
-use Rattle.s390x_base.specs.declared.ir.MachMemFlags.{MachMemFlags}
+use Rattle.s390x_base.specs.AccessFlags.{AccessFlags}
 use Rattle.s390x_job_fields.specs.Marks.{among}
 use Rattle.s390x_job_fields.specs.Numbers.{W32}
 use Rattle.s390x_job_fields.specs.Atoms.{real_text, reg_text, IsReg, real_register_of, reg_of, IsMask, mask_of, trap_text, trap_of, aligned_text, trap_suffix, access_text, IsSuffix, suffix_of, access_of, bool_text, bool_of, name_of}
@@ -93,7 +93,7 @@ pub name-one_word : (n : ℕ) → n < 4294967296 → IsOneWord (117 ∷ decimal 
 name-one_word n h = (refl, decimal-one_word n (omega arith))
 
 -- access flags, behind a mark
-abbrev with_flags : Bool → Option TrapKind → MachMemFlags
+abbrev with_flags : Bool → Option TrapKind → AccessFlags
 with_flags a t = record { aligned = a; trap = t }
 
 aligned_round_trip : (b : Bool) → (slice_index (aligned_text b) 0 == 97) ≡ b
@@ -117,11 +117,11 @@ suffix_end : (t : Option TrapKind) (r : List ℕ) → Ends (trap_suffix t ++ (41
 suffix_end None r = refl
 suffix_end (Some k) r = refl
 
-joined_round_trip : (a : Bool) (t : Option TrapKind) (f : MachMemFlags) → a ≡ f.aligned → t ≡ f.trap → record { aligned = a; trap = t } ≡ f
+joined_round_trip : (a : Bool) (t : Option TrapKind) (f : AccessFlags) → a ≡ f.aligned → t ≡ f.trap → record { aligned = a; trap = t } ≡ f
 joined_round_trip a t f d e = ap (λ b. with_flags b t) d ∙ ap (with_flags f.aligned) e
 
 -- flags, as the last field before a closing parenthesis
-pub access-round_trip : (x : ℕ) (f : MachMemFlags) (r : List ℕ) → IsSuffix f.trap → access_of (x ∷ (access_text f ++ (41 ∷ r))) ≡ f
+pub access-round_trip : (x : ℕ) (f : AccessFlags) (r : List ℕ) → IsSuffix f.trap → access_of (x ∷ (access_text f ++ (41 ∷ r))) ≡ f
 access-round_trip x f r h =
     let e = append_assoc (aligned_text f.aligned) (trap_suffix f.trap) (41 ∷ r) in
     let n = suffix_end f.trap r in
@@ -133,6 +133,6 @@ access_avoids : (bad : List ℕ) (t : Option TrapKind) → IsSuffix t → covers
 access_avoids bad None h c n = tt
 access_avoids bad (Some k) h c n = (n, Avoids-fewer marks bad c (trap_text k) (trap-one_word k h))
 
-pub access-avoids : (bad : List ℕ) (f : MachMemFlags) → IsSuffix f.trap → covers marks bad ≡ true → among 33 bad ≡ false → Avoids bad (access_text f)
+pub access-avoids : (bad : List ℕ) (f : AccessFlags) → IsSuffix f.trap → covers marks bad ≡ true → among 33 bad ≡ false → Avoids bad (access_text f)
 access-avoids bad f h c n =
     Avoids-append bad (aligned_text f.aligned) (trap_suffix f.trap) (Avoids-fewer marks bad c (aligned_text f.aligned) (aligned_one_word f.aligned)) (access_avoids bad f.trap h c n)

@@ -1,7 +1,7 @@
 -- Memory operands: reading gives back what was printed.
 use Rattle.std.proofs.Common.{◌≡◌, ℕ, ◌<◌, List, [], ◌∷◌, ◌++◌, refl, sym, ap, ◌∙◌, arith, append_assoc, ℤ}
 use Rattle.std.specs.Fmt.{decimal, signed_decimal}
-use Rattle.s390x_base.specs.declared.ir.MachMemFlags.{MachMemFlags}
+use Rattle.s390x_base.specs.AccessFlags.{AccessFlags}
 use Rattle.s390x_base.specs.declared.regs.Reg.{Reg}
 use Rattle.s390x_inst.specs.declared.args.MemArg.{MemArg}
 use Rattle.s390x_inst.specs.declared.args.MemArg.TheVariants as M
@@ -34,14 +34,14 @@ form-one_word F.BXD12 = Avoids-test marks (form_text F.BXD12) refl
 form-one_word f = Avoids-test marks (form_text f) refl
 
 -- the inside is followed by a parenthesis
-indexed_tail : (b x : Reg) (d : List ℕ) (f : MachMemFlags) (r : List ℕ) → indexed_text b x d f ++ (41 ∷ r) ≡ reg_text b ++ (44 ∷ (reg_text x ++ (44 ∷ (d ++ (44 ∷ (access_text f ++ (41 ∷ r)))))))
+indexed_tail : (b x : Reg) (d : List ℕ) (f : AccessFlags) (r : List ℕ) → indexed_text b x d f ++ (41 ∷ r) ≡ reg_text b ++ (44 ∷ (reg_text x ++ (44 ∷ (d ++ (44 ∷ (access_text f ++ (41 ∷ r)))))))
 indexed_tail b x d f r = simp append_assoc
 
-offset_tail : (n o : List ℕ) (f : MachMemFlags) (r : List ℕ) → offset_text n o f ++ (41 ∷ r) ≡ n ++ (44 ∷ (o ++ (44 ∷ (access_text f ++ (41 ∷ r)))))
+offset_tail : (n o : List ℕ) (f : AccessFlags) (r : List ℕ) → offset_text n o f ++ (41 ∷ r) ≡ n ++ (44 ∷ (o ++ (44 ∷ (access_text f ++ (41 ∷ r)))))
 offset_tail n o f r = simp append_assoc
 
-module _ {C : Type 0} (make : Reg → Reg → C → MachMemFlags → MemArg) (read : List ℕ → C) where
-  indexed_round_trip : (b x : Reg) (d : List ℕ) (v : C) (f : MachMemFlags) (r : List ℕ) → IsReg b → IsReg x → IsOneWord d → read d ≡ v → IsSuffix f.trap → let s = 40 ∷ (indexed_text b x d f ++ (41 ∷ r)) in make (reg_of (word s)) (reg_of (word (after_word s))) (read (word (after_word (after_word s)))) (access_of (after_word (after_word (after_word s)))) ≡ make b x v f
+module _ {C : Type 0} (make : Reg → Reg → C → AccessFlags → MemArg) (read : List ℕ → C) where
+  indexed_round_trip : (b x : Reg) (d : List ℕ) (v : C) (f : AccessFlags) (r : List ℕ) → IsReg b → IsReg x → IsOneWord d → read d ≡ v → IsSuffix f.trap → let s = 40 ∷ (indexed_text b x d f ++ (41 ∷ r)) in make (reg_of (word s)) (reg_of (word (after_word s))) (read (word (after_word (after_word s)))) (access_of (after_word (after_word (after_word s)))) ≡ make b x v f
   indexed_round_trip b x d v f r hb hx hd e hf =
       let r3 = access_text f ++ (41 ∷ r) in
       let r2 = d ++ (44 ∷ r3) in
@@ -55,8 +55,8 @@ module _ {C : Type 0} (make : Reg → Reg → C → MachMemFlags → MemArg) (re
       ap (λ t. let s = 40 ∷ t in make (reg_of (word s)) (reg_of (word (after_word s))) (read (word (after_word (after_word s)))) (access_of (after_word (after_word (after_word s))))) (indexed_tail b x d f r)
       ∙ ap4 make (ap reg_of w0 ∙ reg-round_trip b hb) (ap reg_of (ap word a0 ∙ w1) ∙ reg-round_trip x hx) (ap read (ap (λ s. word (after_word s)) a0 ∙ ap word a1 ∙ w2) ∙ e) (ap access_of (ap (λ s. after_word (after_word s)) a0 ∙ ap after_word a1 ∙ a2) ∙ access-round_trip 44 f r hf)
 
-module _ {B C : Type 0} (make : B → C → MachMemFlags → MemArg) (first : List ℕ → B) (read : List ℕ → C) where
-  offset_round_trip : (n o : List ℕ) (b : B) (v : C) (f : MachMemFlags) (r : List ℕ) → IsOneWord n → first n ≡ b → IsOneWord o → read o ≡ v → IsSuffix f.trap → let s = 40 ∷ (offset_text n o f ++ (41 ∷ r)) in make (first (word s)) (read (word (after_word s))) (access_of (after_word (after_word s))) ≡ make b v f
+module _ {B C : Type 0} (make : B → C → AccessFlags → MemArg) (first : List ℕ → B) (read : List ℕ → C) where
+  offset_round_trip : (n o : List ℕ) (b : B) (v : C) (f : AccessFlags) (r : List ℕ) → IsOneWord n → first n ≡ b → IsOneWord o → read o ≡ v → IsSuffix f.trap → let s = 40 ∷ (offset_text n o f ++ (41 ∷ r)) in make (first (word s)) (read (word (after_word s))) (access_of (after_word (after_word s))) ≡ make b v f
   offset_round_trip n o b v f r hn en ho eo hf =
       let r2 = access_text f ++ (41 ∷ r) in
       let r1 = o ++ (44 ∷ r2) in
@@ -117,7 +117,7 @@ open_one_word w h = Avoids-fewer marks (41 ∷ 10 ∷ []) refl w h
 open_more : (a b : List ℕ) → IsOneWord a → Open b → Open (a ++ (44 ∷ b))
 open_more a b h k = Avoids-append (41 ∷ 10 ∷ []) a (44 ∷ b) (open_one_word a h) (refl, k)
 
-open_access : (f : MachMemFlags) → IsSuffix f.trap → Open (access_text f)
+open_access : (f : AccessFlags) → IsSuffix f.trap → Open (access_text f)
 open_access f h = access-avoids (41 ∷ 10 ∷ []) f h refl refl
 
 inside_open : (m : MemArg) → IsMemory m → Open (inside_text m)

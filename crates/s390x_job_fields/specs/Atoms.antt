@@ -10,7 +10,7 @@ use Rattle.s390x_base.specs.declared.regs.Reg.{Reg}
 use Rattle.s390x_base.specs.declared.regs.Reg.TheVariants.{Real, Virtual}
 use Rattle.s390x_base.specs.declared.trap.TrapKind.{TrapKind}
 use Rattle.s390x_base.specs.declared.trap.TrapKind.TheVariants.{StackOverflow, IntegerOverflow, HeapOutOfBounds, IntegerDivisionByZero, BadConversionToInteger, User}
-use Rattle.s390x_base.specs.declared.ir.MachMemFlags.{MachMemFlags}
+use Rattle.s390x_base.specs.AccessFlags.{AccessFlags}
 use Rattle.s390x_job_fields.specs.Marks.{word, after_word}
 use Rattle.s390x_job_fields.specs.Numbers.{decimal_of, natural_of, W32}
 
@@ -93,7 +93,7 @@ trap_suffix None = []
 trap_suffix (Some k) = 33 ∷ trap_text k
 
 -- what is known of an access: whether it is aligned, and its trap code
-abbrev pub access_text : MachMemFlags → List ℕ
+abbrev pub access_text : AccessFlags → List ℕ
 access_text f = aligned_text f.aligned ++ trap_suffix f.trap
 
 -- the trap code, where there is one, lies in its range
@@ -106,7 +106,7 @@ abbrev pub suffix_of : List ℕ → Option TrapKind
 suffix_of s = if slice_index s 0 == 33 then Some (trap_of (word s)) else None
 
 -- what is known of an access, read behind one mark
-abbrev pub access_of : List ℕ → MachMemFlags
+abbrev pub access_of : List ℕ → AccessFlags
 access_of s = record { aligned = slice_index (word s) 0 == 97; trap = suffix_of (after_word s) }
 
 -- `true` or `false`

@@ -2,7 +2,7 @@
 use Rattle.std.specs.Prelude.{ℕ, ◌<◌, List, [], ◌∷◌, ◌++◌}
 use denote.Enum.Declared.{tag_of}
 use Rattle.std.specs.Fmt.{decimal, signed_decimal}
-use Rattle.s390x_base.specs.declared.ir.MachMemFlags.{MachMemFlags}
+use Rattle.s390x_base.specs.AccessFlags.{AccessFlags}
 use Rattle.s390x_base.specs.declared.regs.Reg.{Reg}
 use Rattle.s390x_inst.specs.declared.args.MemArg.{MemArg}
 use Rattle.s390x_inst.specs.declared.args.MemArg.TheVariants as M
@@ -37,11 +37,11 @@ memory_form_of (M.SlotOffset o) = F.SlotOffset
 memory_form_of (M.SpillOffset o) = F.SpillOffset
 
 -- base, index, displacement and flags
-abbrev pub indexed_text : Reg → Reg → List ℕ → MachMemFlags → List ℕ
+abbrev pub indexed_text : Reg → Reg → List ℕ → AccessFlags → List ℕ
 indexed_text b x d f = reg_text b ++ (44 ∷ (reg_text x ++ (44 ∷ (d ++ (44 ∷ access_text f)))))
 
 -- a name or a register, an offset and flags
-abbrev pub offset_text : List ℕ → List ℕ → MachMemFlags → List ℕ
+abbrev pub offset_text : List ℕ → List ℕ → AccessFlags → List ℕ
 offset_text n o f = n ++ (44 ∷ (o ++ (44 ∷ access_text f)))
 
 -- the fields of an operand, without the parentheses

@@ -6,7 +6,7 @@ use Rattle.std.specs.Int.{cast_signed}
 use mir.Syntax.{w32}
 use Rattle.std.proofs.lemmas.Bool.{and_parts}
 use Rattle.s390x_base.specs.declared.ir.ExternalName.{ExternalName}
-use Rattle.s390x_base.specs.declared.ir.MachMemFlags.{MachMemFlags}
+use Rattle.s390x_base.specs.AccessFlags.{AccessFlags}
 use Rattle.s390x_base.specs.declared.trap.TrapKind.{TrapKind}
 use Rattle.s390x_inst.specs.declared.args.MemArg.{MemArg}
 use Rattle.s390x_inst.specs.declared.args.MemArg.TheVariants.{BXD12, Symbol}
@@ -57,7 +57,7 @@ memory_alone i x e = go (single_instruction i) (subst (λ m. (not (is_some m) ||
     go (Some y) h = absurd (cc)
 
 -- where the address of a symbol is loaded, the distance leads to an address
-symbol_below : (L : Layout) (p : ℕ) (form : StorageForm) (accesses : Bool) (code : Option TrapKind) (name : ExternalName) (offset : ℤ) (flags : MachMemFlags) (t : Bool) →
+symbol_below : (L : Layout) (p : ℕ) (form : StorageForm) (accesses : Bool) (code : Option TrapKind) (name : ExternalName) (offset : ℤ) (flags : AccessFlags) (t : Bool) →
     let f = with_widened (type_of form accesses) (cond t (record { helpers = LoadAddr scratch (Symbol name offset flags) ∷ []; operand = BXD12 scratch no_register 0 flags }) (record { helpers = []; operand = Symbol name offset flags })) in
     is_helped f.helpers ≡ true → PartsReach L p (finalized_parts form code f) → L.offsets.environment.symbol_value name offset < 2 ^ 64
 symbol_below L p form accesses code name offset flags true h r =

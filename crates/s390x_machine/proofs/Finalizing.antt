@@ -9,7 +9,7 @@ use Rattle.std.proofs.lemmas.Bool.{and_parts, eqb-true}
 use Rattle.std.proofs.lemmas.Int.{ints}
 use Rattle.s390x_base.specs.Regs.{number_of}
 use Rattle.s390x_base.specs.declared.regs.Reg.{Reg}
-use Rattle.s390x_base.specs.declared.ir.MachMemFlags.{MachMemFlags}
+use Rattle.s390x_base.specs.AccessFlags.{AccessFlags}
 use Rattle.s390x_base.specs.declared.ir.VCodeConstant.{VCodeConstant}
 use Rattle.s390x_base.specs.declared.trap.TrapKind.{TrapKind}
 use Rattle.s390x_inst.specs.Memory.{flags_of}
@@ -125,7 +125,7 @@ module _ {L : Layout} {k : ℕ} {s : Step} (b : StepAt L k s) (load : LoadsAddre
   -- ---- the operand that stands in the access
 
   -- a displacement of 12 bits, in a row of 12 bits or of 20
-  short_stands : (base index : Reg) (d : ℕ) (flags : MachMemFlags) → (mi.have_d12 || mi.have_d20) ≡ true → number_of base < 16 → number_of index < 16 → MayIndex form (number_of index) → d ≤ 4095 → Stands L form (widened mi (BXD12 base index d flags)) operation (there base index (pos d))
+  short_stands : (base index : Reg) (d : ℕ) (flags : AccessFlags) → (mi.have_d12 || mi.have_d20) ≡ true → number_of base < 16 → number_of index < 16 → MayIndex form (number_of index) → d ≤ 4095 → Stands L form (widened mi (BXD12 base index d flags)) operation (there base index (pos d))
   short_stands base index d flags have lb li may le = go mi.have_d12 mi.have_d20 refl refl have
     where
       go : (short long : Bool) → mi.have_d12 ≡ short → mi.have_d20 ≡ long → (short || long) ≡ true → Stands L form (cond (not mi.have_d12 && mi.have_d20) (BXD20 base index (pos d) flags) (BXD12 base index d flags)) operation (there base index (pos d))
@@ -139,14 +139,14 @@ module _ {L : Layout} {k : ℕ} {s : Step} (b : StepAt L k s) (load : LoadsAddre
       go false false e f h = absurd (cc)
 
   -- the helper's operand, of 12 bits and of 20
-  loads_12 : (base index : Reg) (d : ℕ) (flags : MachMemFlags) → number_of base < 16 → number_of index < 16 → d ≤ 4095 → Stands L (address_form scratch) (BXD12 base index d flags) (loads_address 1) (there base index (pos d))
+  loads_12 : (base index : Reg) (d : ℕ) (flags : AccessFlags) → number_of base < 16 → number_of index < 16 → d ≤ 4095 → Stands L (address_form scratch) (BXD12 base index d flags) (loads_address 1) (there base index (pos d))
   loads_12 base index d flags lb li le = stands_12 L b.image (loads_address 1) (address_form scratch) load false refl base index d flags lb li tt le
 
-  loads_20 : (base index : Reg) (z : ℤ) (flags : MachMemFlags) → number_of base < 16 → number_of index < 16 → negsuc 524287 ≤ℤ z → z ≤ℤ pos 524287 → Stands L (address_form scratch) (BXD20 base index z flags) (loads_address 1) (there base index z)
+  loads_20 : (base index : Reg) (z : ℤ) (flags : AccessFlags) → number_of base < 16 → number_of index < 16 → negsuc 524287 ≤ℤ z → z ≤ℤ pos 524287 → Stands L (address_form scratch) (BXD20 base index z flags) (loads_address 1) (there base index z)
   loads_20 base index z flags lb li least most = stands_20 L b.image (loads_address 1) (address_form scratch) load false refl base index z flags lb li tt least most (displacement_bits z)
 
   -- the operand after a helper that loads the address
-  loaded_stands : (flags : MachMemFlags) → (mi.have_d12 || mi.have_d20) ≡ true → Stands L form (widened mi (BXD12 scratch no_register 0 flags)) operation (λ r. indexed r 1 0 (pos 0))
+  loaded_stands : (flags : AccessFlags) → (mi.have_d12 || mi.have_d20) ≡ true → Stands L form (widened mi (BXD12 scratch no_register 0 flags)) operation (λ r. indexed r 1 0 (pos 0))
   loaded_stands flags have = short_stands scratch no_register 0 flags have (omega arith) (omega arith) (may_none form) (omega arith)
 
   -- ---- each form of an operand
@@ -157,7 +157,7 @@ module _ {L : Layout} {k : ℕ} {s : Step} (b : StepAt L k s) (load : LoadsAddre
     Ready needs address f =
         (kind_at L k ≡ Some (Performs needs (λ r. operation (address r) r) (access_code code))) × (step_parts s ≡ finalized_parts form code (with_widened mi f)) × IsTrue (not (stuck || (reads && is_helped f.helpers)))
 
-    indexed_12 : (base index : Reg) (d : ℕ) (flags : MachMemFlags) → IsTrue (is_general base && is_general index) → d ≤ 4095 → (t : Bool) → (not mi.have_index && not (is_numbered 0 index)) ≡ t →
+    indexed_12 : (base index : Reg) (d : ℕ) (flags : AccessFlags) → IsTrue (is_general base && is_general index) → d ≤ 4095 → (t : Bool) → (not mi.have_index && not (is_numbered 0 index)) ≡ t →
         Ready t (there base index (pos d)) (cond t (record { helpers = LoadAddr scratch (BXD12 base index d flags) ∷ []; operand = BXD12 scratch no_register 0 flags }) (record { helpers = []; operand = BXD12 base index d flags })) → StepRuns L k
     unfolding Ready
     indexed_12 base index d flags general le false e ready =
@@ -169,7 +169,7 @@ module _ {L : Layout} {k : ℕ} {s : Step} (b : StepAt L k s) (load : LoadsAddre
         after_address b form operation code never (there base index (pos d)) (BXD12 base index d flags) (widened mi (BXD12 scratch no_register 0 flags))
         (loads_12 base index d flags (general_number base g.0) (general_number index g.1) le) (loaded_stands flags have) (λ r. low_below (pos (address_part r (number_of base) + address_part r (number_of index)) +ℤ pos d)) (ignores (not_read stuck reads ready.2)) ready.0 ready.1
 
-    indexed_20 : (base index : Reg) (z : ℤ) (flags : MachMemFlags) → IsTrue (is_general base && is_general index) → negsuc 524287 ≤ℤ z → z ≤ℤ pos 524287 → (t : Bool) → (not mi.have_d20 || (not mi.have_index && not (is_numbered 0 index))) ≡ t →
+    indexed_20 : (base index : Reg) (z : ℤ) (flags : AccessFlags) → IsTrue (is_general base && is_general index) → negsuc 524287 ≤ℤ z → z ≤ℤ pos 524287 → (t : Bool) → (not mi.have_d20 || (not mi.have_index && not (is_numbered 0 index))) ≡ t →
         Ready t (there base index z) (cond t (record { helpers = LoadAddr scratch (BXD20 base index z flags) ∷ []; operand = BXD12 scratch no_register 0 flags }) (record { helpers = []; operand = BXD20 base index z flags })) → StepRuns L k
     unfolding Ready
     indexed_20 base index z flags general least most false e ready =
@@ -183,7 +183,7 @@ module _ {L : Layout} {k : ℕ} {s : Step} (b : StepAt L k s) (load : LoadsAddre
         (loads_20 base index z flags (general_number base g.0) (general_number index g.1) least most) (loaded_stands flags have) (λ r. low_below (pos (address_part r (number_of base) + address_part r (number_of index)) +ℤ z)) (ignores (not_read stuck reads ready.2)) ready.0 ready.1
 
     -- an offset past all displacements
-    far : (reg : Reg) (off : ℤ) (flags : MachMemFlags) → IsTrue (is_general reg) → (number_of reg == 1) ≡ false → negsuc 2147483647 ≤ℤ off → off ≤ℤ pos 2147483647 → (t : Bool) → (not mi.have_index && true) ≡ t →
+    far : (reg : Reg) (off : ℤ) (flags : AccessFlags) → IsTrue (is_general reg) → (number_of reg == 1) ≡ false → negsuc 2147483647 ≤ℤ off → off ≤ℤ pos 2147483647 → (t : Bool) → (not mi.have_index && true) ≡ t →
         Ready true (λ r. based r (number_of reg) off) (cond t (record { helpers = Mov64SImm32 scratch off ∷ LoadAddr scratch (BXD12 reg scratch 0 flags) ∷ []; operand = BXD12 scratch no_register 0 flags }) (record { helpers = Mov64SImm32 scratch off ∷ []; operand = BXD12 reg scratch 0 flags })) → StepRuns L k
     unfolding Ready
     far reg off flags general other least most false e ready =
@@ -192,7 +192,7 @@ module _ {L : Layout} {k : ℕ} {s : Step} (b : StepAt L k s) (load : LoadsAddre
         after_both b form operation code never reg off (BXD12 reg scratch 0 flags) (widened mi (BXD12 scratch no_register 0 flags)) other least most (loads_12 reg scratch 0 flags (general_number reg general) (omega arith) (omega arith)) (loaded_stands flags have) (ignores (not_read stuck reads ready.2)) ready.0 ready.1
 
   -- an operand relative to the instruction
-  distant_runs : (mem : MemArg) (address : ℕ) → Distant L mem address → (reads : Bool) → (reads ≡ false → (a : ℕ) (r : Registers) (v : ℕ) → Refines (operation a (set_general r 1 v)) (operation a r)) → (flags : MachMemFlags) (t : Bool) → (t ≡ false → mi.have_pcrel ≡ true) →
+  distant_runs : (mem : MemArg) (address : ℕ) → Distant L mem address → (reads : Bool) → (reads ≡ false → (a : ℕ) (r : Registers) (v : ℕ) → Refines (operation a (set_general r 1 v)) (operation a r)) → (flags : AccessFlags) (t : Bool) → (t ≡ false → mi.have_pcrel ≡ true) →
       (t ≡ true → step_parts s ≡ (operand_parts (address_form scratch) None mem ++ []) ++ operand_parts form code (widened mi (BXD12 scratch no_register 0 flags)) → address < 2 ^ 64) → (mi.have_d12 || mi.have_d20 || (true && not t)) ≡ true →
       IsTrue (not (false || (reads && is_helped (with_widened mi (cond t (record { helpers = LoadAddr scratch mem ∷ []; operand = BXD12 scratch no_register 0 flags }) (record { helpers = []; operand = mem }))).helpers))) →
       kind_at L k ≡ Some (Performs t (λ r. aligned_where (accesses && not t) (operation address r)) (access_code code)) → step_parts s ≡ finalized_parts form code (with_widened mi (cond t (record { helpers = LoadAddr scratch mem ∷ []; operand = BXD12 scratch no_register 0 flags }) (record { helpers = []; operand = mem }))) → StepRuns L k
@@ -206,7 +206,7 @@ module _ {L : Layout} {k : ℕ} {s : Step} (b : StepAt L k s) (load : LoadsAddre
       (is ∙ ap (λ b. Some (Performs true (λ r. aligned_where b (operation address r)) (access_code code))) (and_false accesses)) parts
 
   -- a constant is named by the access, or by its helper
-  names_constant : (c : VCodeConstant) (flags : MachMemFlags) (t : Bool) → (t ≡ false → mi.have_pcrel ≡ true) →
+  names_constant : (c : VCodeConstant) (flags : AccessFlags) (t : Bool) → (t ≡ false → mi.have_pcrel ≡ true) →
       NamesConstant c.0 (finalized_parts form code (with_widened mi (cond t (record { helpers = LoadAddr scratch (Constant c) ∷ []; operand = BXD12 scratch no_register 0 flags }) (record { helpers = []; operand = Constant c }))))
   names_constant c flags true pcrel = inl refl
   names_constant c flags false pcrel = named_there c form accesses code (pcrel refl)

@@ -8,7 +8,7 @@ use Rattle.s390x_typed_steps.specs.Ranges.{OperandInRange}
 use Rattle.s390x_inst.specs.Memory.{trusted}
 use Rattle.s390x_base.specs.Regs.{number_of}
 use Rattle.s390x_base.specs.declared.regs.Reg.{Reg}
-use Rattle.s390x_base.specs.declared.ir.MachMemFlags.{MachMemFlags}
+use Rattle.s390x_base.specs.AccessFlags.{AccessFlags}
 use Rattle.s390x_inst.specs.Memory.{flags_of}
 use Rattle.s390x_inst.specs.declared.args.MemArg.{MemArg}
 use Rattle.s390x_inst.specs.declared.args.MemArg.TheVariants.{BXD12, BXD20, Label, Constant, Symbol, RegOffset, InitialSPOffset, IncomingArgOffset, OutgoingArgOffset, SlotOffset, SpillOffset}
@@ -108,7 +108,7 @@ same_other None r q a b e h = absurd h
 same_other (Some x) r q a b e h = h ∙ e
 
 -- a displacement of 12 bits, also as one of 20
-same_short : (L : Layout) (mi : MemInstType) (base index : Reg) (d : ℕ) (flags : MachMemFlags) (address : Registers → ℕ) (r q : Registers) → indexed r (number_of base) (number_of index) (pos d) ≡ address q → IsSameAddress (operand_address L (widened mi (BXD12 base index d flags))) r (Some address) q
+same_short : (L : Layout) (mi : MemInstType) (base index : Reg) (d : ℕ) (flags : AccessFlags) (address : Registers → ℕ) (r q : Registers) → indexed r (number_of base) (number_of index) (pos d) ≡ address q → IsSameAddress (operand_address L (widened mi (BXD12 base index d flags))) r (Some address) q
 same_short L mi base index d flags address r q e = go (not mi.have_d12 && mi.have_d20)
   where
     go : (t : Bool) → IsSameAddress (operand_address L (cond t (BXD20 base index (pos d) flags) (BXD12 base index d flags))) r (Some address) q
@@ -116,26 +116,26 @@ same_short L mi base index d flags address r q e = go (not mi.have_d12 && mi.hav
     go false = e
 
 -- an address in %r1
-same_loaded : (L : Layout) (mi : MemInstType) (flags : MachMemFlags) (address : Registers → ℕ) (c t : Core) → address c.registers < 2 ^ 64 → t ≡ record { registers = set_general c.registers 1 (address c.registers % 2 ^ 64); memory = c.memory } → IsSameAddress (operand_address L (widened mi (BXD12 scratch no_register 0 flags))) t.registers (Some address) c.registers
+same_loaded : (L : Layout) (mi : MemInstType) (flags : AccessFlags) (address : Registers → ℕ) (c t : Core) → address c.registers < 2 ^ 64 → t ≡ record { registers = set_general c.registers 1 (address c.registers % 2 ^ 64); memory = c.memory } → IsSameAddress (operand_address L (widened mi (BXD12 scratch no_register 0 flags))) t.registers (Some address) c.registers
 same_loaded L mi flags address c t small e =
     same_short L mi scratch no_register 0 flags address t.registers c.registers (ap (λ (x : Core). indexed x.registers 1 0 (pos 0)) e ∙ loaded_address c.registers (address c.registers) small)
 
 module _ (L : Layout) (mi : MemInstType) where
-  keeps_12 : (base index : Reg) (d : ℕ) (flags : MachMemFlags) (t : Bool) → Keeps L t (λ r. indexed r (number_of base) (number_of index) (pos d)) (with_widened mi (cond t (record { helpers = LoadAddr scratch (BXD12 base index d flags) ∷ []; operand = BXD12 scratch no_register 0 flags }) (record { helpers = []; operand = BXD12 base index d flags })))
+  keeps_12 : (base index : Reg) (d : ℕ) (flags : AccessFlags) (t : Bool) → Keeps L t (λ r. indexed r (number_of base) (number_of index) (pos d)) (with_widened mi (cond t (record { helpers = LoadAddr scratch (BXD12 base index d flags) ∷ []; operand = BXD12 scratch no_register 0 flags }) (record { helpers = []; operand = BXD12 base index d flags })))
   keeps_12 base index d flags false c t e = (same_short L mi base index d flags (λ r. indexed r (number_of base) (number_of index) (pos d)) t.registers c.registers (ap (λ (x : Core). indexed x.registers (number_of base) (number_of index) (pos d)) e), 0, e)
   keeps_12 base index d flags true c t h =
       let a = indexed c.registers (number_of base) (number_of index) (pos d) in
       let e = h.2 ∙ address_executes a c h.0 h.1 in
       (same_loaded L mi flags (λ r. indexed r (number_of base) (number_of index) (pos d)) c t (low_below (pos (address_part c.registers (number_of base) + address_part c.registers (number_of index)) +ℤ pos d)) e, a % 2 ^ 64, e)
 
-  keeps_20 : (base index : Reg) (z : ℤ) (flags : MachMemFlags) (t : Bool) → Keeps L t (λ r. indexed r (number_of base) (number_of index) z) (with_widened mi (cond t (record { helpers = LoadAddr scratch (BXD20 base index z flags) ∷ []; operand = BXD12 scratch no_register 0 flags }) (record { helpers = []; operand = BXD20 base index z flags })))
+  keeps_20 : (base index : Reg) (z : ℤ) (flags : AccessFlags) (t : Bool) → Keeps L t (λ r. indexed r (number_of base) (number_of index) z) (with_widened mi (cond t (record { helpers = LoadAddr scratch (BXD20 base index z flags) ∷ []; operand = BXD12 scratch no_register 0 flags }) (record { helpers = []; operand = BXD20 base index z flags })))
   keeps_20 base index z flags false c t e = (ap (λ (x : Core). indexed x.registers (number_of base) (number_of index) z) e, 0, e)
   keeps_20 base index z flags true c t h =
       let a = indexed c.registers (number_of base) (number_of index) z in
       let e = h.2 ∙ address_executes a c h.0 h.1 in
       (same_loaded L mi flags (λ r. indexed r (number_of base) (number_of index) z) c t (low_below (pos (address_part c.registers (number_of base) + address_part c.registers (number_of index)) +ℤ z)) e, a % 2 ^ 64, e)
 
-  keeps_far : (reg : Reg) (off : ℤ) (flags : MachMemFlags) → (number_of reg == 1) ≡ false → negsuc 2147483647 ≤ℤ off → off ≤ℤ pos 2147483647 → (t : Bool) →
+  keeps_far : (reg : Reg) (off : ℤ) (flags : AccessFlags) → (number_of reg == 1) ≡ false → negsuc 2147483647 ≤ℤ off → off ≤ℤ pos 2147483647 → (t : Bool) →
       Keeps L true (λ r. based r (number_of reg) off) (with_widened mi (cond t (record { helpers = Mov64SImm32 scratch off ∷ LoadAddr scratch (BXD12 reg scratch 0 flags) ∷ []; operand = BXD12 scratch no_register 0 flags }) (record { helpers = Mov64SImm32 scratch off ∷ []; operand = BXD12 reg scratch 0 flags })))
   keeps_far reg off flags other least most false c t h =
       let v = extended Signed Bits32 Doubleword (low_word off) in
@@ -155,7 +155,7 @@ module _ (L : Layout) (mi : MemInstType) where
       (same_loaded L mi flags (λ r. based r (number_of reg) off) c t (low_below (pos (address_part c.registers (number_of reg)) +ℤ off)) e, w, e)
 
   -- a place, whose address is loaded where the rows have no form for it
-  keeps_place : (m : MemArg) (flags : MachMemFlags) (a : ℕ) → operand_address L m ≡ Some (λ r. a) → widened mi m ≡ m → ((x y : Core) → KindMayExecute (instruction_kind L (LoadAddr scratch m)) x y → MayExecute (loads_address 1 a x.registers) x y) → (t : Bool) → (t ≡ true → a < 2 ^ 64) →
+  keeps_place : (m : MemArg) (flags : AccessFlags) (a : ℕ) → operand_address L m ≡ Some (λ r. a) → widened mi m ≡ m → ((x y : Core) → KindMayExecute (instruction_kind L (LoadAddr scratch m)) x y → MayExecute (loads_address 1 a x.registers) x y) → (t : Bool) → (t ≡ true → a < 2 ^ 64) →
       Keeps L t (λ r. a) (with_widened mi (cond t (record { helpers = LoadAddr scratch m ∷ []; operand = BXD12 scratch no_register 0 flags }) (record { helpers = []; operand = m })))
   keeps_place m flags a here same loads false small c t e = (subst (λ o. IsSameAddress o t.registers (Some (λ r. a)) c.registers) (sym (ap (operand_address L) same ∙ here)) refl, 0, e)
   keeps_place m flags a here same loads true small c t h =
@@ -163,7 +163,7 @@ module _ (L : Layout) (mi : MemInstType) where
       (same_loaded L mi flags (λ r. a) c t (small refl) e, a % 2 ^ 64, e)
 
   -- a helper stands there
-  loaded_here : (flags : MachMemFlags) (m : MemArg) (t : Bool) → t ≡ true →
+  loaded_here : (flags : AccessFlags) (m : MemArg) (t : Bool) → t ≡ true →
       is_helped (with_widened mi (cond t (record { helpers = LoadAddr scratch m ∷ []; operand = BXD12 scratch no_register 0 flags }) (record { helpers = []; operand = m }))).helpers ≡ true
   loaded_here flags m true e = refl
   loaded_here flags m false e = absurd (cc)
@@ -228,7 +228,7 @@ takes_index false true index e zero = inr (zero refl)
 takes_index false false index e zero = absurd (cc)
 
 module _ (mi : MemInstType) where
-  short_taken : (base index : Reg) (d : ℕ) (flags : MachMemFlags) → (mi.have_d12 || mi.have_d20) ≡ true → TakesIndex mi index → d ≤ 4095 → Stands mi (widened mi (BXD12 base index d flags))
+  short_taken : (base index : Reg) (d : ℕ) (flags : AccessFlags) → (mi.have_d12 || mi.have_d20) ≡ true → TakesIndex mi index → d ≤ 4095 → Stands mi (widened mi (BXD12 base index d flags))
   unfolding Stands
   short_taken base index d flags have may le = go mi.have_d12 mi.have_d20 refl refl have
     where
@@ -239,16 +239,16 @@ module _ (mi : MemInstType) where
           (subst (λ b. Stands mi (cond b (BXD20 base index (pos d) flags) (BXD12 base index d flags))) (sym f) ((f, may), (omega (arith, ints), omega (arith, le, ints))))
       go false false e f h = absurd (cc)
 
-  loaded_taken : (flags : MachMemFlags) → (mi.have_d12 || mi.have_d20) ≡ true → Stands mi (widened mi (BXD12 scratch no_register 0 flags))
+  loaded_taken : (flags : AccessFlags) → (mi.have_d12 || mi.have_d20) ≡ true → Stands mi (widened mi (BXD12 scratch no_register 0 flags))
   loaded_taken flags have = short_taken scratch no_register 0 flags have (inr refl) (omega arith)
 
-  taken_12 : (base index : Reg) (d : ℕ) (flags : MachMemFlags) (helpers : List Inst) → (mi.have_d12 || mi.have_d20) ≡ true → IsTrue (is_general index) → d ≤ 4095 → (t : Bool) → (not mi.have_index && not (is_numbered 0 index)) ≡ t →
+  taken_12 : (base index : Reg) (d : ℕ) (flags : AccessFlags) (helpers : List Inst) → (mi.have_d12 || mi.have_d20) ≡ true → IsTrue (is_general index) → d ≤ 4095 → (t : Bool) → (not mi.have_index && not (is_numbered 0 index)) ≡ t →
       Stands mi (with_widened mi (cond t (record { helpers = helpers; operand = BXD12 scratch no_register 0 flags }) (record { helpers = []; operand = BXD12 base index d flags }))).operand
   taken_12 base index d flags helpers have general le true e = loaded_taken flags have
   taken_12 base index d flags helpers have general le false e =
       short_taken base index d flags have (takes_index mi.have_index (is_numbered 0 index) (number_of index) e (λ z. eqb-true (number_of index) 0 (sym (zero_test index general) ∙ z))) le
 
-  taken_20 : (base index : Reg) (z : ℤ) (flags : MachMemFlags) (helpers : List Inst) → (mi.have_d12 || mi.have_d20) ≡ true → IsTrue (is_general index) → negsuc 524287 ≤ℤ z → z ≤ℤ pos 524287 → (t : Bool) → (not mi.have_d20 || (not mi.have_index && not (is_numbered 0 index))) ≡ t →
+  taken_20 : (base index : Reg) (z : ℤ) (flags : AccessFlags) (helpers : List Inst) → (mi.have_d12 || mi.have_d20) ≡ true → IsTrue (is_general index) → negsuc 524287 ≤ℤ z → z ≤ℤ pos 524287 → (t : Bool) → (not mi.have_d20 || (not mi.have_index && not (is_numbered 0 index))) ≡ t →
       Stands mi (with_widened mi (cond t (record { helpers = helpers; operand = BXD12 scratch no_register 0 flags }) (record { helpers = []; operand = BXD20 base index z flags }))).operand
   unfolding Stands
   taken_20 base index z flags helpers have general least most true e = loaded_taken flags have
@@ -257,7 +257,7 @@ module _ (mi : MemInstType) where
       ((not_not mi.have_d20 p.0, takes_index mi.have_index (is_numbered 0 index) (number_of index) p.1 (λ y. eqb-true (number_of index) 0 (sym (zero_test index general) ∙ y))), (least, most))
 
   -- a relative operand stands where the rows have that form
-  taken_relative : (m : MemArg) (helpers : List Inst) (flags : MachMemFlags) → widened mi m ≡ m → (t : Bool) → (t ≡ false → Stands mi m) → (mi.have_d12 || mi.have_d20 || (true && not t)) ≡ true → Stands mi (with_widened mi (cond t (record { helpers = helpers; operand = BXD12 scratch no_register 0 flags }) (record { helpers = []; operand = m }))).operand
+  taken_relative : (m : MemArg) (helpers : List Inst) (flags : AccessFlags) → widened mi m ≡ m → (t : Bool) → (t ≡ false → Stands mi m) → (mi.have_d12 || mi.have_d20 || (true && not t)) ≡ true → Stands mi (with_widened mi (cond t (record { helpers = helpers; operand = BXD12 scratch no_register 0 flags }) (record { helpers = []; operand = m }))).operand
   taken_relative m helpers flags same true stands has = loaded_taken flags (sym (or_false (mi.have_d12 || mi.have_d20)) ∙ has)
   taken_relative m helpers flags same false stands has = subst (λ x. Stands mi x) (sym same) (stands refl)
 

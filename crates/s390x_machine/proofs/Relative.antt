@@ -5,7 +5,7 @@ use Rattle.std.specs.Int.{cast_signed}
 use mir.Syntax.{w32}
 use Rattle.s390x_base.specs.declared.ir.MachLabel.{MachLabel}
 use Rattle.s390x_base.specs.declared.ir.VCodeConstant.{VCodeConstant}
-use Rattle.s390x_base.specs.declared.ir.MachMemFlags.{MachMemFlags}
+use Rattle.s390x_base.specs.AccessFlags.{AccessFlags}
 use Rattle.s390x_base.specs.declared.ir.ExternalName.{ExternalName}
 use Rattle.s390x_base.specs.declared.trap.TrapKind.{TrapKind}
 use Rattle.s390x_base.specs.declared.error.EmitError.{EmitError}
@@ -78,7 +78,7 @@ constant_parts : (c : VCodeConstant) (code : Option TrapKind) (opcode register :
 constant_parts c None opcode register = refl
 constant_parts c (Some code) opcode register = refl
 
-symbol_parts : (name : ExternalName) (offset : ℤ) (flags : MachMemFlags) (code : Option TrapKind) (opcode register : ℕ) → trap_here code ++ relative_part opcode register (Symbol name offset flags) ≡ access_of code (RelativeSymbol opcode register name offset)
+symbol_parts : (name : ExternalName) (offset : ℤ) (flags : AccessFlags) (code : Option TrapKind) (opcode register : ℕ) → trap_here code ++ relative_part opcode register (Symbol name offset flags) ≡ access_of code (RelativeSymbol opcode register name offset)
 symbol_parts name offset flags None opcode register = refl
 symbol_parts name offset flags (Some code) opcode register = refl
 
@@ -138,7 +138,7 @@ named_there c (SilForm bits opcode) accesses code have = absurd (cc)
 named_there c (VrxForm register opcode mask) accesses code have = absurd (cc)
 named_there c (FloatForm register short long) accesses code have = absurd (cc)
 
-pub to_symbol : (L : Layout) (name : ExternalName) (offset : ℤ) (flags : MachMemFlags) → Distant L (Symbol name offset flags) (L.offsets.environment.symbol_value name offset)
+pub to_symbol : (L : Layout) (name : ExternalName) (offset : ℤ) (flags : AccessFlags) → Distant L (Symbol name offset flags) (L.offsets.environment.symbol_value name offset)
 to_symbol L name offset flags = record {
   part = λ opcode register. RelativeSymbol opcode register name offset;
   relative = refl;

@@ -5,7 +5,7 @@ use Rattle.std.proofs.lemmas.Bool.{eq-eqb}
 use Rattle.std.proofs.lemmas.Option.{slice_get_within}
 use Rattle.s390x_base.specs.Regs.{number_of}
 use Rattle.s390x_base.specs.declared.regs.Reg.{Reg}
-use Rattle.s390x_base.specs.declared.ir.MachMemFlags.{MachMemFlags}
+use Rattle.s390x_base.specs.AccessFlags.{AccessFlags}
 use Rattle.s390x_base.specs.declared.trap.TrapKind.{TrapKind}
 use Rattle.s390x_inst.specs.declared.args.MemArg.{MemArg}
 use Rattle.s390x_inst.specs.declared.args.MemArg.TheVariants.{BXD12, BXD20}
@@ -148,7 +148,7 @@ module _ (L : Layout) (image : ImageAt L) (operation : ℕ → Registers → Ope
   unindexed : (r : Registers) (base index n : ℕ) (z : ℤ) → disp_of n ≡ z → index ≡ 0 → Perform (operation (based r base (disp_of n)) r) ≡ Perform (operation (indexed r base index z) r)
   unindexed r base index n z e none = ap (λ a. Perform (operation a r)) (ap (based r base) e ∙ sym (based_indexed r base z) ∙ ap (λ i. indexed r base i z) (sym none))
 
-  pub stands_12 : (form : StorageForm) → FormDoes form operation → (accesses : Bool) → (type_of form accesses).have_d12 ≡ true → (base index : Reg) (d : ℕ) (flags : MachMemFlags) → number_of base < 16 → number_of index < 16 → MayIndex form (number_of index) → d ≤ 4095 → Stands L form (BXD12 base index d flags) operation (λ r. indexed r (number_of base) (number_of index) (pos d))
+  pub stands_12 : (form : StorageForm) → FormDoes form operation → (accesses : Bool) → (type_of form accesses).have_d12 ≡ true → (base index : Reg) (d : ℕ) (flags : AccessFlags) → number_of base < 16 → number_of index < 16 → MayIndex form (number_of index) → d ≤ 4095 → Stands L form (BXD12 base index d flags) operation (λ r. indexed r (number_of base) (number_of index) (pos d))
   unfolding length_of
   stands_12 (RxForm register None long relative) does accesses have base index d flags lb li may le = absurd (cc)
   stands_12 (RxForm register (Some opcode) long relative) does accesses have base index d flags lb li may le = record {
@@ -205,7 +205,7 @@ module _ (L : Layout) (image : ImageAt L) (operation : ℕ → Registers → Ope
         does.acts Rx opcode (number_of base) (number_of index) (low_12 d) r p ∙ ap (λ z. Perform (operation (indexed r (number_of base) (number_of index) z) r)) (read_12 d le)) st;
   }
 
-  pub stands_20 : (form : StorageForm) → FormDoes form operation → (accesses : Bool) → (type_of form accesses).have_d20 ≡ true → (base index : Reg) (z : ℤ) (flags : MachMemFlags) → number_of base < 16 → number_of index < 16 → MayIndex form (number_of index) → negsuc 524287 ≤ℤ z → z ≤ℤ pos 524287 →
+  pub stands_20 : (form : StorageForm) → FormDoes form operation → (accesses : Bool) → (type_of form accesses).have_d20 ≡ true → (base index : Reg) (z : ℤ) (flags : AccessFlags) → number_of base < 16 → number_of index < 16 → MayIndex form (number_of index) → negsuc 524287 ≤ℤ z → z ≤ℤ pos 524287 →
       low_displacement z < 2 ^ 20 → Stands L form (BXD20 base index z flags) operation (λ r. indexed r (number_of base) (number_of index) z)
   unfolding length_of
   stands_20 (RxForm register short None relative) does accesses have base index z flags lb li may least most lz = absurd (cc)

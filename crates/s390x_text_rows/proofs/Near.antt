@@ -2,7 +2,7 @@
 use Rattle.std.proofs.Common.{◌≡◌, ℕ, ℤ, pos, negsuc, unsigned_abs, List, [], ◌∷◌, ◌++◌, Bool, true, false, cond, not, ◌&&◌, ◌||◌, is_some, None, Some, Ok, refl, sym, ap, subst, ◌∙◌, append-nil}
 use Rattle.std.proofs.lemmas.Bool.{and_parts}
 use Rattle.s390x_base.specs.declared.error.EmitError.TheVariants.{BadOperator, ScratchConflict, OffsetOutOfRange}
-use Rattle.s390x_base.specs.declared.ir.MachMemFlags.{MachMemFlags}
+use Rattle.s390x_base.specs.AccessFlags.{AccessFlags}
 use Rattle.s390x_base.specs.declared.regs.Reg.{Reg}
 use Rattle.s390x_inst.specs.Emission.{Emission}
 use Rattle.s390x_inst.specs.Memory.{flags_of}
@@ -33,7 +33,7 @@ abbrev IsNear : MemInstType → MemArg → MemArg → Type 0
 IsNear mi m operand = ((mi.have_d12 || mi.have_d20) ≡ true) × (operand_cause mi m ≡ None) × (finalized mi m ≡ record { helpers = []; operand = operand })
 
 -- an offset that no helper loads and an immediate holds has no cause, where there is a displacement
-allowed : (mi : MemInstType) (base : Reg) (off : ℤ) (flags : MachMemFlags) → (mi.have_d12 || mi.have_d20) ≡ true → is_far off ≡ false → fits_32 off ≡ true → operand_cause mi (RegOffset base off flags) ≡ None
+allowed : (mi : MemInstType) (base : Reg) (off : ℤ) (flags : AccessFlags) → (mi.have_d12 || mi.have_d20) ≡ true → is_far off ≡ false → fits_32 off ≡ true → operand_cause mi (RegOffset base off flags) ≡ None
 allowed mi base off flags has near fits =
     let numbered = is_numbered 1 base in
     ap (λ t. first_emit_cause (unless (t || false) BadOperator) (first_emit_cause (unless (not (numbered && is_far off)) ScratchConflict) (unless (fits_32 off) OffsetOutOfRange))) has
@@ -42,14 +42,14 @@ allowed mi base off flags has near fits =
 
 -- ---- what stands behind no helper stays
 
-abbrev short : Reg → ℕ → MachMemFlags → Finalized
+abbrev short : Reg → ℕ → AccessFlags → Finalized
 short base disp flags = record { helpers = []; operand = BXD12 base no_register disp flags }
 
-abbrev long : Reg → ℤ → MachMemFlags → Finalized
+abbrev long : Reg → ℤ → AccessFlags → Finalized
 long base disp flags = record { helpers = []; operand = BXD20 base no_register disp flags }
 
 -- an offset by an index, or one past 32 bits
-abbrev other_offset : Reg → ℤ → MachMemFlags → Finalized
+abbrev other_offset : Reg → ℤ → AccessFlags → Finalized
 other_offset base off flags = cond (fits_32 off) (record { helpers = Mov64SImm32 scratch off ∷ []; operand = BXD12 base scratch 0 flags }) (record { helpers = []; operand = RegOffset base off flags })
 
 -- an operand behind the load of its address
@@ -61,16 +61,16 @@ unindexed : (mi : MemInstType) (f : Finalized) → with_widened mi (cond (not mi
 unindexed mi f = ap (λ t. with_widened mi (cond t (behind f) f)) (and_false (not mi.have_index))
 
 -- a short displacement as it is, or as a long one
-abbrev one_of : (d12 d20 : Bool) → Reg → ℕ → MachMemFlags → Finalized
+abbrev one_of : (d12 d20 : Bool) → Reg → ℕ → AccessFlags → Finalized
 one_of d12 d20 base disp flags = record { helpers = []; operand = cond (not d12 && d20) (BXD20 base no_register (pos disp) flags) (BXD12 base no_register disp flags) }
 
-short_stays : (mi : MemInstType) (base : Reg) (disp : ℕ) (flags : MachMemFlags) → mi.have_d12 ≡ true → with_widened mi (addressed mi (short base disp flags)) ≡ short base disp flags
+short_stays : (mi : MemInstType) (base : Reg) (disp : ℕ) (flags : AccessFlags) → mi.have_d12 ≡ true → with_widened mi (addressed mi (short base disp flags)) ≡ short base disp flags
 short_stays mi base disp flags has = unindexed mi (short base disp flags) ∙ ap (λ t. one_of t mi.have_d20 base disp flags) has
 
-short_widened : (mi : MemInstType) (base : Reg) (disp : ℕ) (flags : MachMemFlags) → mi.have_d12 ≡ false → mi.have_d20 ≡ true → with_widened mi (addressed mi (short base disp flags)) ≡ long base (pos disp) flags
+short_widened : (mi : MemInstType) (base : Reg) (disp : ℕ) (flags : AccessFlags) → mi.have_d12 ≡ false → mi.have_d20 ≡ true → with_widened mi (addressed mi (short base disp flags)) ≡ long base (pos disp) flags
 short_widened mi base disp flags none has = unindexed mi (short base disp flags) ∙ ap (λ t. one_of t mi.have_d20 base disp flags) none ∙ ap (λ t. one_of false t base disp flags) has
 
-long_stays : (mi : MemInstType) (base : Reg) (disp : ℤ) (flags : MachMemFlags) → mi.have_d20 ≡ true → with_widened mi (addressed mi (long base disp flags)) ≡ long base disp flags
+long_stays : (mi : MemInstType) (base : Reg) (disp : ℤ) (flags : AccessFlags) → mi.have_d20 ≡ true → with_widened mi (addressed mi (long base disp flags)) ≡ long base disp flags
 long_stays mi base disp flags has =
     ap (λ t. with_widened mi (cond (not t || (not mi.have_index && false)) (behind (long base disp flags)) (long base disp flags))) has
     ∙ unindexed mi (long base disp flags)
@@ -81,7 +81,7 @@ not_negative : (off : ℤ) → fits_12 off ≡ true → pos (unsigned_abs off) �
 not_negative (pos n) h = refl
 not_negative (negsuc n) h = absurd (cc)
 
-near_short : (mi : MemInstType) (base : Reg) (off : ℤ) (flags : MachMemFlags) → (mi.have_d12 && fits_12 off) ≡ true → IsNear mi (RegOffset base off flags) (BXD12 base no_register (unsigned_abs off) flags)
+near_short : (mi : MemInstType) (base : Reg) (off : ℤ) (flags : AccessFlags) → (mi.have_d12 && fits_12 off) ≡ true → IsNear mi (RegOffset base off flags) (BXD12 base no_register (unsigned_abs off) flags)
 near_short mi base off flags h =
     let p = and_parts mi.have_d12 (fits_12 off) h in
     let has : (mi.have_d12 || mi.have_d20) ≡ true = ap (λ t. t || mi.have_d20) p.0 in
@@ -92,12 +92,12 @@ near_short mi base off flags h =
           ∙ short_stays mi base (unsigned_abs off) flags p.0,
     )
 
-long_chosen : (mi : MemInstType) (base : Reg) (off : ℤ) (flags : MachMemFlags) (others : Finalized) (t : Bool) → mi.have_d20 ≡ true → (t ≡ true → mi.have_d12 ≡ false) → (t ≡ true → pos (unsigned_abs off) ≡ off) →
+long_chosen : (mi : MemInstType) (base : Reg) (off : ℤ) (flags : AccessFlags) (others : Finalized) (t : Bool) → mi.have_d20 ≡ true → (t ≡ true → mi.have_d12 ≡ false) → (t ≡ true → pos (unsigned_abs off) ≡ off) →
     with_widened mi (addressed mi (cond t (short base (unsigned_abs off) flags) (cond true (long base off flags) others))) ≡ long base off flags
 long_chosen mi base off flags others true has none same = short_widened mi base (unsigned_abs off) flags (none refl) has ∙ ap (λ z. long base z flags) (same refl)
 long_chosen mi base off flags others false has none same = long_stays mi base off flags has
 
-near_long : (mi : MemInstType) (base : Reg) (off : ℤ) (flags : MachMemFlags) → (mi.have_d12 && fits_12 off) ≡ false → (mi.have_d20 && fits_20 off) ≡ true → IsNear mi (RegOffset base off flags) (BXD20 base no_register off flags)
+near_long : (mi : MemInstType) (base : Reg) (off : ℤ) (flags : AccessFlags) → (mi.have_d12 && fits_12 off) ≡ false → (mi.have_d20 && fits_20 off) ≡ true → IsNear mi (RegOffset base off flags) (BXD20 base no_register off flags)
 near_long mi base off flags unlike h =
     let p = and_parts mi.have_d20 (fits_20 off) h in
     let has : (mi.have_d12 || mi.have_d20) ≡ true = ap (λ t. mi.have_d12 || t) p.0 ∙ or_true mi.have_d12 in

@@ -3,7 +3,7 @@
 use Rattle.std.specs.Prelude.{ℕ, ◌+◌, ℤ, pos, negsuc, ◌+ℤ◌, ◌-ℤ◌, int_le, unsigned_abs, List, [], ◌∷◌, ◌++◌, Bool, true, false, cond, not, ◌&&◌, ◌||◌, nat_eq}
 use Rattle.s390x_base.specs.Registers.{general}
 use Rattle.s390x_base.specs.Regs.{is_int}
-use Rattle.s390x_base.specs.declared.ir.MachMemFlags.{MachMemFlags}
+use Rattle.s390x_base.specs.AccessFlags.{AccessFlags}
 use Rattle.s390x_base.specs.declared.regs.Reg.{Reg}
 use Rattle.s390x_base.specs.declared.regs.Reg.TheVariants.{Real, Virtual}
 use Rattle.s390x_inst.specs.Emission.{Emission}
@@ -76,7 +76,7 @@ abbrev pub is_far : ℤ → Bool
 is_far z = fits_32 z && not (fits_12 z) && not (fits_20 z)
 
 -- a register and an offset: as a displacement, or as an index that a helper loads. An offset past 32 bits stays, and is refused
-abbrev pub with_offset : Reg → ℤ → MachMemFlags → Finalized
+abbrev pub with_offset : Reg → ℤ → AccessFlags → Finalized
 with_offset reg off flags =
     cond (fits_12 off) (record { helpers = []; operand = BXD12 reg no_register (unsigned_abs off) flags })
     (cond (fits_20 off) (record { helpers = []; operand = BXD20 reg no_register off flags })
