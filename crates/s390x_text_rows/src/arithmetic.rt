@@ -8,8 +8,8 @@ ghost use Rattle.s390x_text_rows.specs.Mnemonics.{unary_name};
 
 use crate::error::TextError;
 use crate::mnemonics::{
-    alu_halfword_name, alu_signed_word_name, alu_three_halfword_name, alu_three_name, alu_two_name,
-    alu_unsigned_word_name, rotate_name, rotate_test_name, shift_name, stem_where, unary_name,
+    alu_halfword_name, alu_signed_word_name, alu_two_name, alu_unsigned_word_name, rotate_name,
+    rotate_test_name, shift_name, stem_where, unary_name,
 };
 use crate::operand::{Amount, Operand, Reused, ReusedLow, ReusedPair};
 use crate::regs::pair_refusal;
@@ -58,32 +58,32 @@ fn put_unary(out: &mut String, op: UnaryOp, rd: &Writable<Reg>, rn: &Reg) -> Res
 }
 
 /// Appends the text of an operator on registers and immediates; None for another instruction.
+#[tactic(auto, unfolding(crate::specs::Mnemonics::alu_three_name, crate::specs::Mnemonics::alu_two_name, crate::specs::Mnemonics::alu_three_halfword_name, crate::specs::Mnemonics::alu_halfword_name))]
 pub fn put_arithmetic(out: &mut String, inst: &Inst) -> Option<Result<(), TextError>>
     ensures { PrintsWhere result (string_bytes out.old) (string_bytes out.new)
         (arithmetic_text inst.now) }
 {
     match inst {
-        Inst::AluRRR { alu_op, rd, rn, rm } => Some(three(
-            out,
-            alu_three_name(*alu_op),
-            alu_two_name(*alu_op),
-            rd.to_reg(),
-            *rn,
-            rm,
-        )),
+        Inst::AluRRR { alu_op, rd, rn, rm } => {
+            let rows = rows_of_alu(*alu_op);
+            Some(three(out, rows.three, rows.two, rd.to_reg(), *rn, rm))
+        }
         Inst::AluRRSImm16 {
             alu_op,
             rd,
             rn,
             imm,
-        } => Some(three(
-            out,
-            alu_three_halfword_name(*alu_op),
-            alu_halfword_name(*alu_op),
-            rd.to_reg(),
-            *rn,
-            imm,
-        )),
+        } => {
+            let rows = rows_of_alu(*alu_op);
+            Some(three(
+                out,
+                rows.three_halfword,
+                rows.halfword,
+                rd.to_reg(),
+                *rn,
+                imm,
+            ))
+        }
         Inst::AluRR { alu_op, rd, ri, rm } => {
             Some(row2(out, alu_two_name(*alu_op), &reused(rd, ri), rm))
         }

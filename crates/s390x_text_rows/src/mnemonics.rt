@@ -2,7 +2,7 @@
 ghost use Rattle.std.specs.Prelude.{◌≡◌};
 ghost use Rattle.std.specs.Option.{option_map};
 ghost use Rattle.s390x_format.specs.Stems.{stem_of};
-ghost use Rattle.s390x_text_rows.specs.Mnemonics.{load_mnemonic, store_mnemonic, opcode_in, alu_three_name, alu_two_name, alu_halfword_name, alu_three_halfword_name, alu_signed_word_name, alu_unsigned_word_name, alu_short_name, alu_long_name, atomic_name, cmp_two_name, cmp_halfword_name, cmp_signed_word_name, cmp_unsigned_word_name};
+ghost use Rattle.s390x_text_rows.specs.Mnemonics.{load_mnemonic, store_mnemonic, opcode_in, alu_two_name, alu_halfword_name, alu_signed_word_name, alu_unsigned_word_name, alu_short_name, alu_long_name, atomic_name, cmp_two_name, cmp_halfword_name, cmp_signed_word_name, cmp_unsigned_word_name};
 ghost use Rattle.s390x_text_rows.specs.Mnemonics.{cmp_short_name, cmp_long_name, cmp_relative_name, cmp_trap_name, cmp_trap_signed_name, cmp_trap_unsigned_name, shift_name, rotate_name, rotate_test_name, unary_name};
 
 use s390x_format::stem;
@@ -33,14 +33,6 @@ fn short_stem(opcode: Option<u8>) -> Option<&'static str>
     }
 }
 
-/// Three operands; None where there is no row.
-#[tactic(auto, unfolding(crate::specs::Mnemonics::alu_three_name))]
-pub fn alu_three_name(op: ALUOp) -> Option<&'static str>
-    ensures { option_map (λ s. s.now) result ≡ alu_three_name op }
-{
-    stem_where(rows_of_alu(op).three)
-}
-
 /// Two operands, the first of which is also the output; None where there is no row.
 #[tactic(auto, unfolding(crate::specs::Mnemonics::alu_two_name))]
 pub fn alu_two_name(op: ALUOp) -> Option<&'static str>
@@ -55,14 +47,6 @@ pub fn alu_halfword_name(op: ALUOp) -> Option<&'static str>
     ensures { option_map (λ s. s.now) result ≡ alu_halfword_name op }
 {
     stem_where(rows_of_alu(op).halfword)
-}
-
-/// The mnemonic of an operator with another output and an immediate of 16 bits. None where there is no row.
-#[tactic(auto, unfolding(crate::specs::Mnemonics::alu_three_halfword_name))]
-pub fn alu_three_halfword_name(op: ALUOp) -> Option<&'static str>
-    ensures { option_map (λ s. s.now) result ≡ alu_three_halfword_name op }
-{
-    stem_where(rows_of_alu(op).three_halfword)
 }
 
 /// A register and an immediate of 32 bits, with its sign; None where there is no row.

@@ -1,6 +1,7 @@
 //! How a row is put together: a mnemonic and its operands.
 ghost use Rattle.std.specs.Prelude.{◌≡◌, ◌++◌, ◌∷◌, [], OnOk, string_bytes};
 ghost use Rattle.std.specs.Option.{option_map};
+ghost use Rattle.s390x_format.specs.Stems.{stem_of};
 ghost use Rattle.s390x_text_rows.specs.Texts.{Prints, answer_of, row, spelled, fixed};
 ghost use Rattle.s390x_text_rows.specs.Operands.{cond_text};
 ghost use Rattle.s390x_text_rows.specs.Integer.{three_text, conditional_row};
@@ -10,6 +11,7 @@ use crate::error::TextError;
 use crate::operand::{Operand, cond_name};
 use crate::vector_mnemonics::Mnemonic;
 use s390x_base::{Cond, Reg};
+use s390x_format::stem;
 use s390x_job_fields::number::put;
 use std::alloc::AllocError;
 
@@ -252,27 +254,26 @@ pub fn row5<A: Operand, B: Operand, C: Operand, D: Operand, E: Operand>(
     }
 }
 
-/// Appends a row of three operands, or where the output is the first input and there is such a row, of two.
+/// Appends a row of three operands, or where the output is the first input and there is such a row, of two; both by their opcodes.
 pub fn three<T: Operand>(
     out: &mut String,
-    three: Option<&'static str>,
-    two: Option<&'static str>,
+    three: Option<u16>,
+    two: Option<u16>,
     rd: Reg,
     rn: Reg,
     last: &T,
 ) -> Result<(), TextError>
     ensures { Prints result (string_bytes out.old) (string_bytes out.new)
-        (three_text (option_map (λ s. s.now) three.entry) (option_map (λ s. s.now) two.entry) rd rn
-        (T.shown last.now)) }
+        (three_text (option_map stem_of three) (option_map stem_of two) rd rn (T.shown last.now)) }
 {
     match (three, two) {
         (None, _) => Err(TextError::NoRow),
-        (Some(name), None) => fixed3(out, name, &rd, &rn, last),
-        (Some(name), Some(short)) => {
+        (Some(opcode), None) => fixed3(out, stem(opcode), &rd, &rn, last),
+        (Some(opcode), Some(short)) => {
             if rd == rn {
-                fixed2(out, short, &rd, last)
+                fixed2(out, stem(short), &rd, last)
             } else {
-                fixed3(out, name, &rd, &rn, last)
+                fixed3(out, stem(opcode), &rd, &rn, last)
             }
         }
     }
