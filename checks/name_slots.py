@@ -1,5 +1,5 @@
 #!/usr/bin/env python3
-"""Compares the tables OFFSETS of s390x_job_lines/src/name.rt and ALL_NAMES of its all_names.rt with the names of lines; run by hand.
+"""Compares the tables OFFSETS of s390x_job_lines/src/name.rt and ALL_NAMES of its name_hash.rt with the names of lines; run by hand.
 
     checks/name_slots.py            prints whether they are these names' tables, and ends with 1 where not
     checks/name_slots.py --print    prints the tables for these names
@@ -88,7 +88,7 @@ def tables():
     slots = ["EndLine"] * SLOTS
     for text, name in names.items():
         slots[(shifts[len(text)] + mix(text)) % SLOTS] = name
-    return {"OFFSETS": ("name.rt", rows(shifts, 16)), "ALL_NAMES": ("all_names.rt", rows(slots, 4))}
+    return {"OFFSETS": ("name.rt", rows(shifts, 16)), "ALL_NAMES": ("name_hash.rt", rows(slots, 4))}
 
 
 def main():

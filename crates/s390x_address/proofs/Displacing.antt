@@ -14,11 +14,11 @@ use Rattle.s390x_typed_steps.specs.MachineInstruction.{MachineInstruction, bytes
 use Rattle.s390x_typed_steps.specs.Memory.{StorageForm, RxForm, type_of, storage_row, of_opcode}
 use Rattle.s390x_typed_steps.specs.Operands.{Finalized, scratch, no_register, is_numbered, is_relative, is_far, fits_12, fits_20, fits_32, addressed, with_widened, finalized, has_form}
 use Rattle.s390x_typed_steps.specs.Parts.{helpers_parts, relative_parts, access_parts, operand_parts, finalized_parts, parts_size}
-use Rattle.s390x_address.specs.Plans.{IsPlain}
+use Rattle.s390x_address.specs.Lowerings.{IsPlain}
 use Rattle.s390x_address.specs.Rows.{storage_form_of}
 use Rattle.s390x_address.specs.declared.rows.StorageRows.{StorageRows}
 use Rattle.s390x_address.specs.declared.rows.StorageRows.TheVariants.{OneRegister}
-use Rattle.s390x_address.proofs.Lacking.{length-bytes}
+use Rattle.s390x_address.proofs.OnlyMemory.{length-bytes}
 use Rattle.s390x_address.proofs.Refusing.{wider_12, wider_20}
 
 and_false : (b : Bool) → (b && false) ≡ false
@@ -60,12 +60,12 @@ short_plain register opcode rxy_opcode ril_opcode base off flags accesses operan
     let long : Finalized = record { helpers = []; operand = BXD20 base no_register off flags } in
     let far : Finalized = record { helpers = Mov64SImm32 scratch off ∷ []; operand = BXD12 base scratch 0 flags } in
     let stays : Finalized = record { helpers = []; operand = RegOffset base off flags } in
-    let planned : finalized mi (RegOffset base off flags) ≡ short = ap (λ t. with_widened mi (addressed mi (cond t short (cond (fits_20 off) long (cond (fits_32 off) far stays))))) fits in
+    let lowered : finalized mi (RegOffset base off flags) ≡ short = ap (λ t. with_widened mi (addressed mi (cond t short (cond (fits_20 off) long (cond (fits_32 off) far stays))))) fits in
     let near : is_far off ≡ false = ap (λ t. fits_32 off && not t && not (fits_20 off)) fits ∙ ap (λ t. t && not (fits_20 off)) (and_false (fits_32 off)) in
-    let alone = ap (λ (f : Finalized). f.helpers) planned in (
+    let alone = ap (λ (f : Finalized). f.helpers) lowered in (
       alone,
-      ap (λ (f : Finalized). is_relative f.operand) planned,
-      ap (λ (f : Finalized). option_map bytes_of (storage_row form f.operand)) planned ∙ ap Some (sym same),
+      ap (λ (f : Finalized). is_relative f.operand) lowered,
+      ap (λ (f : Finalized). option_map bytes_of (storage_row form f.operand)) lowered ∙ ap Some (sym same),
       λ D. only_registers D form base off flags accesses operands_valid reads_scratch refl near (wider_12 off fits) alone,
     )
 
@@ -97,15 +97,15 @@ long_plain register rx_opcode (Some opcode) ril_opcode base off flags accesses o
     let far : Finalized = record { helpers = Mov64SImm32 scratch off ∷ []; operand = BXD12 base scratch 0 flags } in
     let stays : Finalized = record { helpers = []; operand = RegOffset base off flags } in
     let others = cond (fits_32 off) far stays in
-    let planned : finalized mi (RegOffset base off flags) ≡ long =
+    let lowered : finalized mi (RegOffset base off flags) ≡ long =
     ap (λ t. with_widened mi (addressed mi (cond (fits_12 off) short (cond t long others)))) fits
     ∙ long_chosen register opcode rx_opcode ril_opcode accesses base off flags others (fits_12 off) none (not_negative off) in
     let near : is_far off ≡ false = ap (λ t. fits_32 off && not (fits_12 off) && not t) fits ∙ and_false (fits_32 off && not (fits_12 off)) in
-    let alone = ap (λ (f : Finalized). f.helpers) planned in
+    let alone = ap (λ (f : Finalized). f.helpers) lowered in
     let has : has_form mi (RegOffset base off flags) ≡ true = ap (λ t. t || (is_relative (RegOffset base off flags) && true)) (or_true mi.have_d12) in (
       alone,
-      ap (λ (f : Finalized). is_relative f.operand) planned,
-      ap (λ (f : Finalized). option_map bytes_of (storage_row form f.operand)) planned ∙ same,
+      ap (λ (f : Finalized). is_relative f.operand) lowered,
+      ap (λ (f : Finalized). option_map bytes_of (storage_row form f.operand)) lowered ∙ same,
       λ D. only_registers D form base off flags accesses operands_valid reads_scratch has near (wider_20 off fits) alone,
     )
 

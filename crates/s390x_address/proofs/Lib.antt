@@ -1,9 +1,9 @@
 pub mod Displacing
 pub mod Encoding
 pub mod Loading
-pub mod Lacking
+pub mod OnlyMemory
 pub mod Planning
-pub mod Planned
+pub mod Lowered
 pub mod Putting
 pub mod Refusing
 pub mod Sizes

@@ -12,7 +12,7 @@ use Rattle.s390x_typed_steps.specs.Memory.{StorageForm, RxForm, MemoryInstructio
 use Rattle.s390x_typed_steps.specs.Operands.{finalized, is_relative}
 use Rattle.s390x_typed_steps.specs.Parts.{CodePart, Row, Trapping, Relative, RelativeConstant, RelativeSymbol, TrapHere, ToBlock, access_parts, trap_here, relative_part, relative_parts, operand_parts, helper_parts, helpers_parts, memory_parts, parts_size}
 use Rattle.s390x_address.specs.Appended.{with_part, appended}
-use Rattle.s390x_address.proofs.Lacking.{Puts, length-bytes}
+use Rattle.s390x_address.proofs.OnlyMemory.{Puts, length-bytes}
 
 -- machine instructions, perhaps with traps or relative to themselves, and traps
 unfoldable pub AllPut : List CodePart → Type 0

@@ -1,4 +1,4 @@
--- The causes of an instruction with a memory operand, by those of its operand; where none stands, what is planned can be encoded.
+-- The causes of an instruction with a memory operand, by those of its operand; where none stands, what is lowered can be encoded.
 use Rattle.std.proofs.Common.{◌≡◌, ℤ, pos, negsuc, int_le, unsigned_abs, List, [], ◌∷◌, ◌++◌, Bool, true, false, cond, not, ◌&&◌, ◌||◌, length, nat_lt, Option, None, Some, refl, sym, ap, ◌∙◌, arith}
 use Rattle.std.proofs.lemmas.Bool.{and_parts, and_from}
 use Rattle.std.proofs.lemmas.Int.{ints}
@@ -16,8 +16,8 @@ use Rattle.s390x_typed_steps.specs.Memory.{MemoryInstruction, type_of}
 use Rattle.s390x_typed_steps.specs.Operands.{Finalized, scratch, no_register, fits_12, fits_20, fits_32, with_offset, displaced, needs_address, addressed, widened, with_widened, finalized, has_form, loses_base, offset_fits, operand_general}
 use Rattle.s390x_typed_steps.specs.declared.mem_inst_type.MemInstType.{MemInstType}
 use Rattle.s390x_typed_steps.proofs.Causes.{first_left, first_right, unless_true}
-use Rattle.s390x_address.specs.Plans.{far_helper, address_helper, finalized_of, offset_cause, is_bound_operand, may_stand, address_stands, plan_stands}
-use Rattle.s390x_address.specs.declared.plan.Plan.{Plan}
+use Rattle.s390x_address.specs.Lowerings.{far_helper, address_helper, finalized_of, offset_cause, is_bound_operand, may_stand, address_stands, lowering_stands}
+use Rattle.s390x_address.specs.declared.lowering.Lowering.{Lowering}
 
 -- ---- an offset past 32 bits has no helper
 
@@ -104,7 +104,7 @@ passes D x h =
       stands = and_from (operand_general x.operand) (is_bound_operand D x.operand) both.1 (bound_true D x.operand (first_left (bound_cause D x.operand) _ place));
     }
 
--- ---- what was planned can stand
+-- ---- what was lowered can stand
 
 helper_stands : Declared → Inst → Bool
 helper_stands D (LoadAddr rd mem) = may_stand D mem
@@ -168,5 +168,5 @@ address_of D None (Some mem) h = h.0
 address_of D (Some off) None h = refl
 address_of D (Some off) (Some mem) h = h.1.0
 
-pub plan_may_stand : (D : Declared) (p : Plan) → Stands D (finalized_of p) → plan_stands D p ≡ true
-plan_may_stand D p h = and_from (address_stands D p.address) (may_stand D p.operand) (address_of D p.far p.address h.0) h.1
+pub lowering_may_stand : (D : Declared) (p : Lowering) → Stands D (finalized_of p) → lowering_stands D p ≡ true
+lowering_may_stand D p h = and_from (address_stands D p.address_load) (may_stand D p.operand) (address_of D p.offset_load p.address_load h.0) h.1

@@ -20,7 +20,7 @@ with_part s (RelativeSymbol opcode register name offset) =
 with_part s (TrapHere code) = record s { traps = s.traps ++ record { offset = length s.bytes; code = code } ∷ [] }
 with_part s _ = s
 
--- the same of parts, in order
+-- a buffer behind parts, in order
 abbrev pub appended : BufferState → List CodePart → BufferState
 appended s [] = s
 appended s (part ∷ parts) = appended (with_part s part) parts

@@ -1,4 +1,4 @@
 pub mod Appended
-pub mod Plans
+pub mod Lowerings
 pub mod Rows
 pub mod Emitters

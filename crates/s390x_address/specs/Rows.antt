@@ -76,6 +76,6 @@ may_encode x = relative_encodes x.rows && (not x.operands_valid || rows_encode x
 abbrev pub memory_instruction_of : MemoryInst → MemoryInstruction
 memory_instruction_of x = record { form = storage_form_of x.rows; operand = x.operand; accesses = x.accesses; operands_valid = x.operands_valid; reads_scratch = x.reads_scratch }
 
--- the same without a frame operand
+-- an instruction with a memory operand, without a frame operand
 abbrev pub in_state : Emission → MemoryInstruction → MemoryInstruction
 in_state e x = record { form = x.form; operand = resolved e x.operand; accesses = x.accesses; operands_valid = x.operands_valid; reads_scratch = x.reads_scratch }

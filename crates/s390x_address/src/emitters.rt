@@ -14,7 +14,7 @@ ghost use Rattle.s390x_address.specs.Appended.{appended};
 ghost use Rattle.s390x_address.specs.Emitters.{access_cause, loads_register, reads_register, reads_registers, is_multiple, pair_valid, relative_opcode, one_register, two_registers, byte_immediate, halfword_immediate, vector_register, float_register};
 ghost use Rattle.s390x_address.specs.Rows.{memory_instruction_of, in_state, may_encode, rows_take_general, has_12_bits};
 
-use crate::forms::is_numbered;
+use crate::addressing_modes::is_numbered;
 use crate::memory::{MemoryInst, general, vector};
 use crate::rows::StorageRows;
 use s390x_base::{EmitError, Reg};
@@ -43,7 +43,7 @@ fn emit_checked(
         ≡ Some e)) }
     ensures kept { Extends sink.old sink.new }
 {
-    if sink.is_failed() {
+    if sink.is_poisoned() {
         return Err(EmitError::Failed);
     }
     if let Some(error) = found.cause(sink, state) {
@@ -55,7 +55,7 @@ fn emit_checked(
     found.emit(sink, state)
 }
 
-// The same; a refused call marks the buffer.
+// Emits it, and poisons the buffer where that is refused.
 fn emit_marking(
     found: &MemoryInst,
     sink: &mut MachBuffer,
@@ -70,13 +70,13 @@ fn emit_marking(
         (λ e. (e ≡ NoMemory)
         ⊎ (access_cause sink.old (in_state state.now (memory_instruction_of found.now))
         ≡ Some e)) }
-    ensures poisoned { IfErr result (λ _. IsTrue sink.new.failed) }
+    ensures poisoned { IfErr result (λ _. IsTrue sink.new.is_poisoned) }
     ensures kept { Extends sink.old sink.new }
 {
     match emit_checked(found, sink, state) {
         Ok(()) => Ok(()),
         Err(error) => {
-            sink.fail();
+            sink.poison();
             Err(error)
         }
     }
@@ -230,7 +230,7 @@ pub fn mem_emit(
         (λ _. (access_cause sink.old access ≡ None)
         × (sink.new ≡ appended sink.old (memory_parts access)))
         (λ e. (e ≡ NoMemory) ⊎ (access_cause sink.old access ≡ Some e)) }
-    ensures poisoned { IfErr result (λ _. IsTrue sink.new.failed) }
+    ensures poisoned { IfErr result (λ _. IsTrue sink.new.is_poisoned) }
     ensures kept { Extends sink.old sink.new }
     ensures state { state.new ≡ state.old }
 {
@@ -271,7 +271,7 @@ pub fn mem_rs_emit(
         (λ _. (access_cause sink.old access ≡ None)
         × (sink.new ≡ appended sink.old (memory_parts access)))
         (λ e. (e ≡ NoMemory) ⊎ (access_cause sink.old access ≡ Some e)) }
-    ensures poisoned { IfErr result (λ _. IsTrue sink.new.failed) }
+    ensures poisoned { IfErr result (λ _. IsTrue sink.new.is_poisoned) }
     ensures kept { Extends sink.old sink.new }
     ensures state { state.new ≡ state.old }
 {
@@ -310,7 +310,7 @@ pub fn mem_imm8_emit(
         (λ _. (access_cause sink.old access ≡ None)
         × (sink.new ≡ appended sink.old (memory_parts access)))
         (λ e. (e ≡ NoMemory) ⊎ (access_cause sink.old access ≡ Some e)) }
-    ensures poisoned { IfErr result (λ _. IsTrue sink.new.failed) }
+    ensures poisoned { IfErr result (λ _. IsTrue sink.new.is_poisoned) }
     ensures kept { Extends sink.old sink.new }
     ensures state { state.new ≡ state.old }
 {
@@ -346,7 +346,7 @@ pub fn mem_imm16_emit(
         (λ _. (access_cause sink.old access ≡ None)
         × (sink.new ≡ appended sink.old (memory_parts access)))
         (λ e. (e ≡ NoMemory) ⊎ (access_cause sink.old access ≡ Some e)) }
-    ensures poisoned { IfErr result (λ _. IsTrue sink.new.failed) }
+    ensures poisoned { IfErr result (λ _. IsTrue sink.new.is_poisoned) }
     ensures kept { Extends sink.old sink.new }
     ensures state { state.new ≡ state.old }
 {
@@ -384,7 +384,7 @@ pub fn mem_vrx_emit(
         (λ _. (access_cause sink.old access ≡ None)
         × (sink.new ≡ appended sink.old (memory_parts access)))
         (λ e. (e ≡ NoMemory) ⊎ (access_cause sink.old access ≡ Some e)) }
-    ensures poisoned { IfErr result (λ _. IsTrue sink.new.failed) }
+    ensures poisoned { IfErr result (λ _. IsTrue sink.new.is_poisoned) }
     ensures kept { Extends sink.old sink.new }
     ensures state { state.new ≡ state.old }
 {
@@ -430,7 +430,7 @@ pub fn mem_float_emit(
         (λ _. (access_cause sink.old access ≡ None)
         × (sink.new ≡ appended sink.old (memory_parts access)))
         (λ e. (e ≡ NoMemory) ⊎ (access_cause sink.old access ≡ Some e)) }
-    ensures poisoned { IfErr result (λ _. IsTrue sink.new.failed) }
+    ensures poisoned { IfErr result (λ _. IsTrue sink.new.is_poisoned) }
     ensures kept { Extends sink.old sink.new }
     ensures state { state.new ≡ state.old }
 {

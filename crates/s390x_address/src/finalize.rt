@@ -3,9 +3,9 @@ ghost use Rattle.std.specs.Prelude.{◌≡◌, ◌++◌, None, Some, MatchResult
 ghost use Rattle.smallvec.specs.SmallVec.{HasRoomFor};
 ghost use Rattle.s390x_typed_steps.specs.Operands.{resolved, finalized};
 ghost use Rattle.s390x_typed_steps.specs.Causes.{operand_cause};
-ghost use Rattle.s390x_address.specs.Plans.{far_helper, address_helper};
+ghost use Rattle.s390x_address.specs.Lowerings.{far_helper, address_helper};
 
-use crate::plan::plan_operand;
+use crate::lowering::lower_operand;
 use s390x_base::{EmitError, writable_spilltmp_reg};
 use s390x_inst::{EmitState, Inst, MemArg};
 use s390x_typed_steps::MemInstType;
@@ -61,9 +61,9 @@ pub fn mem_finalize(
         × (r.1 ≡ (finalized mi (resolved state.now mem.now)).operand))
         (λ e. operand_cause mi (resolved state.now mem.now) ≡ Some e) }
 {
-    let plan = plan_operand(mem, state, mi)?;
+    let lowering = lower_operand(mem, state, mi)?;
     let mut helpers = SmallVec::new(alloc);
-    push_far(&mut helpers, plan.far);
-    push_address(&mut helpers, plan.address);
-    Ok((helpers, plan.operand))
+    push_far(&mut helpers, lowering.offset_load);
+    push_address(&mut helpers, lowering.address_load);
+    Ok((helpers, lowering.operand))
 }

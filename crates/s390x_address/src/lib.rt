@@ -1,21 +1,21 @@
 //! Memory operands: the forms that machine rows have for them, and the helpers before an access.
 #![tactic(auto)]
 
+mod addressing_modes;
+mod direct_offset;
 mod emitters;
 mod finalize;
-mod forms;
+mod lowering;
 mod memory;
-mod plain;
-mod plan;
 mod relative;
 mod rows;
 
+pub use addressing_modes::{is_numbered, needs_address};
 pub use emitters::{
     LIMIT, holds_scratch, mem_emit, mem_float_emit, mem_imm8_emit, mem_imm16_emit, mem_rs_emit,
     mem_vrx_emit, number,
 };
 pub use finalize::mem_finalize;
-pub use forms::{is_numbered, needs_address};
 pub use memory::{MemoryInst, general, vector};
 pub use rows::StorageRows;
 pub use s390x_typed_steps::MemInstType;

@@ -17,12 +17,12 @@ ghost use Rattle.s390x_typed_steps.specs.Operands.{has_form, operand_general, re
 ghost use Rattle.s390x_typed_steps.specs.VectorInstruction.{is_vector};
 ghost use Rattle.s390x_typed_steps.specs.Parts.{access_parts, operand_parts, helpers_parts, finalized_parts, memory_parts, parts_size};
 ghost use Rattle.s390x_address.specs.Appended.{appended};
-ghost use Rattle.s390x_address.specs.Plans.{IsPlain, far_helper, address_helper, finalized_of, may_stand, address_stands, plan_stands, planned_cause};
+ghost use Rattle.s390x_address.specs.Lowerings.{IsPlain, far_helper, address_helper, finalized_of, may_stand, address_stands, lowering_stands, lowered_cause};
 ghost use Rattle.s390x_address.specs.Rows.{row_of, row_encodes, storage_form_of, relative_encodes, rows_encode, may_encode, memory_instruction_of, in_state};
 
-use crate::forms::{has_form, is_relative, needs_address};
-use crate::plain::offset_code;
-use crate::plan::{Plan, frame_offset, plan_operand};
+use crate::addressing_modes::{has_form, is_relative, needs_address};
+use crate::direct_offset::offset_code;
+use crate::lowering::{Lowering, frame_offset, lower_operand};
 use crate::relative::{addend_fits, put_relative, relative_bytes, relative_size, target_cause};
 use crate::rows::{StorageRow, StorageRows};
 use s390x_base::{Code, EmitError, Reg, RegClass, TrapCode, spilltmp_reg, stack_reg};
@@ -87,7 +87,8 @@ fn put_trapping(sink: &mut MachBuffer, code: &Code, trap_code: TrapCode) -> Resu
           traps = sink.old.traps
               ++ record { offset = length sink.old.bytes; code = trap_code } ∷ [];
         }) }
-    ensures lacks { put_cause sink.old (length code.now) ≡ None → IfErr result (λ e. e ≡ NoMemory) }
+    ensures only_memory { put_cause sink.old (length code.now) ≡ None
+        → IfErr result (λ e. e ≡ NoMemory) }
     ensures kept { Extends sink.old sink.new }
 {
     sink.add_trap(trap_code)?;
@@ -98,7 +99,8 @@ fn put_trapping(sink: &mut MachBuffer, code: &Code, trap_code: TrapCode) -> Resu
 fn put_row(sink: &mut MachBuffer, code: &Code, trap_code: Option<TrapCode>) -> Result<(), EmitError>
     ensures answer { (m : MachineInstruction) → code.now ≡ bytes_of m
         → OnOk result (sink.new ≡ appended sink.old (access_parts (Some m) trap_code)) }
-    ensures lacks { put_cause sink.old (length code.now) ≡ None → IfErr result (λ e. e ≡ NoMemory) }
+    ensures only_memory { put_cause sink.old (length code.now) ≡ None
+        → IfErr result (λ e. e ≡ NoMemory) }
     ensures kept { Extends sink.old sink.new }
 {
     match trap_code {
@@ -110,7 +112,7 @@ fn put_row(sink: &mut MachBuffer, code: &Code, trap_code: Option<TrapCode>) -> R
 // The load of an offset into `%r1`, where there is one.
 fn put_far(sink: &mut MachBuffer, far: Option<i32>) -> Result<(), EmitError>
     ensures answer { OnOk result (sink.new ≡ appended sink.old (helpers_parts (far_helper far))) }
-    ensures lacks { put_cause sink.old (parts_size (helpers_parts (far_helper far))) ≡ None
+    ensures only_memory { put_cause sink.old (parts_size (helpers_parts (far_helper far))) ≡ None
         → IfErr result (λ e. e ≡ NoMemory) }
     ensures kept { Extends sink.old sink.new }
 {
@@ -123,7 +125,7 @@ fn put_far(sink: &mut MachBuffer, far: Option<i32>) -> Result<(), EmitError>
 fn put_offset(sink: &mut MachBuffer, off: i32) -> Result<(), EmitError>
     ensures answer { OnOk result
         (sink.new ≡ appended sink.old (helpers_parts (far_helper (Some off)))) }
-    ensures lacks { put_cause sink.old 6 ≡ None → IfErr result (λ e. e ≡ NoMemory) }
+    ensures only_memory { put_cause sink.old 6 ≡ None → IfErr result (λ e. e ≡ NoMemory) }
     ensures kept { Extends sink.old sink.new }
 {
     let code = enc_ril_a(opcodes::LGFI, spilltmp_reg(), bits_of_word(off))?;
@@ -141,7 +143,7 @@ fn put_access(
         (sink.new
         ≡ appended sink.old
         (access_parts (storage_row (storage_form_of rows.now) operand.now) trap_code)) }
-    ensures lacks { put_cause sink.old
+    ensures only_memory { put_cause sink.old
         (parts_size (access_parts (storage_row (storage_form_of rows.now) operand.now) trap_code))
         ≡ None → rows_encode rows.now ≡ true → operand_general operand.now ≡ true
         → IfErr result (λ e. e ≡ NoMemory) }
@@ -160,7 +162,7 @@ fn put_storage_row(
 ) -> Result<(), EmitError>
     ensures answer { OnOk result
         (sink.new ≡ appended sink.old (access_parts (Some (row_of row.now)) trap_code)) }
-    ensures lacks { put_cause sink.old (size_of (row_of row.now)) ≡ None
+    ensures only_memory { put_cause sink.old (size_of (row_of row.now)) ≡ None
         → row_encodes row.now ≡ true → IfErr result (λ e. e ≡ NoMemory) }
     ensures kept { Extends sink.old sink.new }
 {
@@ -179,7 +181,7 @@ fn put_operand(
     ensures answer { OnOk result
         (sink.new
         ≡ appended sink.old (operand_parts (storage_form_of rows.now) trap_code operand.now)) }
-    ensures lacks { put_cause sink.old
+    ensures only_memory { put_cause sink.old
         (parts_size (operand_parts (storage_form_of rows.now) trap_code operand.now)) ≡ None
         → rows_encode rows.now ≡ true → may_stand (declared_in sink.old) operand.now ≡ true
         → IfErr result (λ e. e ≡ NoMemory) }
@@ -196,8 +198,9 @@ fn put_operand(
 fn put_address(sink: &mut MachBuffer, address: Option<MemArg>) -> Result<(), EmitError>
     ensures answer { OnOk result
         (sink.new ≡ appended sink.old (helpers_parts (address_helper address))) }
-    ensures lacks { put_cause sink.old (parts_size (helpers_parts (address_helper address))) ≡ None
-        → address_stands (declared_in sink.old) address ≡ true → IfErr result (λ e. e ≡ NoMemory) }
+    ensures only_memory { put_cause sink.old (parts_size (helpers_parts (address_helper address)))
+        ≡ None → address_stands (declared_in sink.old) address ≡ true
+        → IfErr result (λ e. e ≡ NoMemory) }
     ensures kept { Extends sink.old sink.new }
 {
     match address {
@@ -221,26 +224,28 @@ fn address_rows() -> StorageRows
 }
 
 // The helpers, and then the access.
-fn put_plan(
+fn put_lowering(
     sink: &mut MachBuffer,
     rows: &StorageRows,
-    plan: &Plan,
+    lowering: &Lowering,
     trap_code: Option<TrapCode>,
 ) -> Result<(), EmitError>
     requires { relative_encodes rows.now ≡ true }
     ensures answer { OnOk result
         (sink.new
         ≡ appended sink.old
-        (finalized_parts (storage_form_of rows.now) trap_code (finalized_of plan.now))) }
-    ensures lacks { put_cause sink.old
-        (parts_size (finalized_parts (storage_form_of rows.now) trap_code (finalized_of plan.now)))
-        ≡ None → rows_encode rows.now ≡ true → plan_stands (declared_in sink.old) plan.now ≡ true
+        (finalized_parts (storage_form_of rows.now) trap_code (finalized_of lowering.now))) }
+    ensures only_memory { put_cause sink.old
+        (parts_size
+        (finalized_parts (storage_form_of rows.now) trap_code (finalized_of lowering.now)))
+        ≡ None → rows_encode rows.now ≡ true
+        → lowering_stands (declared_in sink.old) lowering.now ≡ true
         → IfErr result (λ e. e ≡ NoMemory) }
     ensures kept { Extends sink.old sink.new }
 {
-    put_far(sink, plan.far)?;
-    put_address(sink, plan.address)?;
-    put_operand(sink, rows, &plan.operand, trap_code)
+    put_far(sink, lowering.offset_load)?;
+    put_address(sink, lowering.address_load)?;
+    put_operand(sink, rows, &lowering.operand, trap_code)
 }
 
 // How many bytes a row has, where there is one.
@@ -312,7 +317,7 @@ impl MemoryInst {
         self.rows.forms(self.accesses)
     }
 
-    // The same by these rows.
+    // The instruction with these rows in place of its own.
     fn with_rows(&self, rows: StorageRows) -> MemoryInst
         ensures { result ≡ record self.now { rows = rows } }
     {
@@ -385,15 +390,15 @@ impl MemoryInst {
         }
     }
 
-    // The first cause behind those of the rows, the registers and the operand, of an operand that was planned.
-    fn planned_cause(&self, sink: &MachBuffer, plan: &Plan) -> Option<EmitError>
+    // The first cause behind those of the rows, the registers and the operand, of an operand that was lowered.
+    fn lowered_cause(&self, sink: &MachBuffer, lowering: &Lowering) -> Option<EmitError>
         ensures { result
-            ≡ planned_cause (declared_in sink.now) (memory_instruction_of self.now)
-            (finalized_of plan.now) }
+            ≡ lowered_cause (declared_in sink.now) (memory_instruction_of self.now)
+            (finalized_of lowering.now) }
     {
         match helped_cause(
             self.reads_scratch,
-            plan.is_helped(),
+            lowering.is_helped(),
             addend_fits(&self.operand),
         ) {
             Some(error) => Some(error),
@@ -410,8 +415,8 @@ impl MemoryInst {
             (target_cause (declared_in sink.now)
             (in_state state.now (memory_instruction_of self.now))) }
     {
-        match plan_operand(&self.operand, state, self.forms()) {
-            Ok(plan) => self.planned_cause(sink, &plan),
+        match lower_operand(&self.operand, state, self.forms()) {
+            Ok(lowering) => self.lowered_cause(sink, &lowering),
             Err(error) => Some(error),
         }
     }
@@ -443,11 +448,11 @@ impl MemoryInst {
             ≡ parts_size (memory_parts (in_state state.now (memory_instruction_of self.now))) }
         ensures few { result ≤ 18 }
     {
-        match plan_operand(&self.operand, state, self.forms()) {
-            Ok(plan) => {
-                far_size(plan.far)
-                    + address_size(plan.address)
-                    + operand_size(&self.rows, &plan.operand)
+        match lower_operand(&self.operand, state, self.forms()) {
+            Ok(lowering) => {
+                far_size(lowering.offset_load)
+                    + address_size(lowering.address_load)
+                    + operand_size(&self.rows, &lowering.operand)
             }
             Err(_) => 0,
         }
@@ -461,41 +466,42 @@ impl MemoryInst {
             (sink.new
             ≡ appended sink.old
             (memory_parts (in_state state.now (memory_instruction_of self.now)))) }
-        ensures lacks { put_cause sink.old
+        ensures only_memory { put_cause sink.old
             (parts_size (memory_parts (in_state state.now (memory_instruction_of self.now)))) ≡ None
             → memory_cause (declared_in sink.old)
             (in_state state.now (memory_instruction_of self.now)) ≡ None
             → IfErr result (λ e. e ≡ NoMemory) }
         ensures kept { Extends sink.old sink.new }
     {
-        match plan_operand(&self.operand, state, self.forms()) {
-            Ok(plan) => put_plan(sink, &self.rows, &plan, self.fault_code()),
+        match lower_operand(&self.operand, state, self.forms()) {
+            Ok(lowering) => put_lowering(sink, &self.rows, &lowering, self.fault_code()),
             Err(error) => Err(error),
         }
     }
 
-    // The helpers and the access of a plan, where no later cause refuses it.
-    fn emit_plan(&self, sink: &mut MachBuffer, plan: &Plan) -> Result<(), EmitError>
+    // The helpers and the access of a lowering, where no later cause refuses it.
+    fn emit_lowering(&self, sink: &mut MachBuffer, lowering: &Lowering) -> Result<(), EmitError>
         requires { relative_encodes self.now.rows ≡ true }
         ensures answer { OnOk result
-            ((planned_cause (declared_in sink.old) (memory_instruction_of self.now)
-            (finalized_of plan.now) ≡ None)
+            ((lowered_cause (declared_in sink.old) (memory_instruction_of self.now)
+            (finalized_of lowering.now) ≡ None)
             × (sink.new
             ≡ appended sink.old
             (finalized_parts (storage_form_of self.now.rows)
-            (fault_code (memory_instruction_of self.now)) (finalized_of plan.now)))) }
-        ensures lacks { put_cause sink.old
+            (fault_code (memory_instruction_of self.now)) (finalized_of lowering.now)))) }
+        ensures only_memory { put_cause sink.old
             (parts_size
             (finalized_parts (storage_form_of self.now.rows)
-            (fault_code (memory_instruction_of self.now)) (finalized_of plan.now))) ≡ None
-            → rows_encode self.now.rows ≡ true → plan_stands (declared_in sink.old) plan.now ≡ true
-            → planned_cause (declared_in sink.old) (memory_instruction_of self.now)
-            (finalized_of plan.now) ≡ None → IfErr result (λ e. e ≡ NoMemory) }
+            (fault_code (memory_instruction_of self.now)) (finalized_of lowering.now)))
+            ≡ None → rows_encode self.now.rows ≡ true
+            → lowering_stands (declared_in sink.old) lowering.now ≡ true
+            → lowered_cause (declared_in sink.old) (memory_instruction_of self.now)
+            (finalized_of lowering.now) ≡ None → IfErr result (λ e. e ≡ NoMemory) }
         ensures kept { Extends sink.old sink.new }
     {
-        match self.planned_cause(sink, plan) {
+        match self.lowered_cause(sink, lowering) {
             Some(error) => Err(error),
-            None => put_plan(sink, &self.rows, plan, self.fault_code()),
+            None => put_lowering(sink, &self.rows, lowering, self.fault_code()),
         }
     }
 
@@ -506,8 +512,8 @@ impl MemoryInst {
         self.operands_valid && is_general_operand(&self.operand)
     }
 
-    // The helpers and the access, by a plan, of an instruction with valid registers, where no other cause refuses it.
-    fn emit_planned(&self, sink: &mut MachBuffer, state: &EmitState) -> Result<(), EmitError>
+    // The helpers and the access, by a lowering, of an instruction with valid registers, where no other cause refuses it.
+    fn emit_lowered(&self, sink: &mut MachBuffer, state: &EmitState) -> Result<(), EmitError>
         requires encodes { may_encode self.now ≡ true }
         requires valid { (self.now.operands_valid && operand_general self.now.operand) ≡ true }
         ensures answer { OnOk result
@@ -516,15 +522,15 @@ impl MemoryInst {
             × (sink.new
             ≡ appended sink.old
             (memory_parts (in_state state.now (memory_instruction_of self.now))))) }
-        ensures lacks { put_cause sink.old
+        ensures only_memory { put_cause sink.old
             (parts_size (memory_parts (in_state state.now (memory_instruction_of self.now)))) ≡ None
             → memory_cause (declared_in sink.old)
             (in_state state.now (memory_instruction_of self.now)) ≡ None
             → IfErr result (λ e. e ≡ NoMemory) }
         ensures kept { Extends sink.old sink.new }
     {
-        match plan_operand(&self.operand, state, self.forms()) {
-            Ok(plan) => self.emit_plan(sink, &plan),
+        match lower_operand(&self.operand, state, self.forms()) {
+            Ok(lowering) => self.emit_lowering(sink, &lowering),
             Err(error) => Err(error),
         }
     }
@@ -565,7 +571,7 @@ impl MemoryInst {
             × (sink.new
             ≡ appended sink.old
             (memory_parts (in_state state.now (memory_instruction_of self.now))))) }
-        ensures lacks { put_cause sink.old
+        ensures only_memory { put_cause sink.old
             (parts_size (memory_parts (in_state state.now (memory_instruction_of self.now)))) ≡ None
             → memory_cause (declared_in sink.old)
             (in_state state.now (memory_instruction_of self.now)) ≡ None
@@ -574,7 +580,7 @@ impl MemoryInst {
     {
         match self.plain_code(state) {
             Some(code) => put_row(sink, &code, self.fault_code()),
-            None => self.emit_planned(sink, state),
+            None => self.emit_lowered(sink, state),
         }
     }
 
@@ -592,7 +598,7 @@ impl MemoryInst {
             × (sink.new
             ≡ appended sink.old
             (memory_parts (in_state state.now (memory_instruction_of self.now))))) }
-        ensures lacks { put_cause sink.old
+        ensures only_memory { put_cause sink.old
             (parts_size (memory_parts (in_state state.now (memory_instruction_of self.now)))) ≡ None
             → memory_cause (declared_in sink.old)
             (in_state state.now (memory_instruction_of self.now)) ≡ None

@@ -15,7 +15,7 @@ ghost use Rattle.s390x_typed_steps.specs.Memory.{RxForm};
 ghost use Rattle.s390x_typed_steps.specs.Parts.{Relative, RelativeConstant, RelativeSymbol, ToBlock, trap_here, relative_part, relative_parts, parts_size};
 ghost use Rattle.s390x_typed_steps.specs.Storage.{relative_bytes};
 ghost use Rattle.s390x_address.specs.Appended.{with_part, appended};
-ghost use Rattle.s390x_address.specs.Plans.{is_bound_operand};
+ghost use Rattle.s390x_address.specs.Lowerings.{is_bound_operand};
 ghost use Rattle.s390x_address.specs.Rows.{storage_form_of, relative_encodes, rows_encode};
 
 use crate::rows::StorageRows;
@@ -112,7 +112,7 @@ pub fn addend_fits(operand: &MemArg) -> bool
 /// for want of memory.
 pub fn put_trap(sink: &mut MachBuffer, trap_code: Option<TrapCode>) -> Result<(), EmitError>
     ensures answer { OnOk result (sink.new ≡ appended sink.old (trap_here trap_code)) }
-    ensures lacks { put_cause sink.old 0 ≡ None → IfErr result (λ e. e ≡ NoMemory) }
+    ensures only_memory { put_cause sink.old 0 ≡ None → IfErr result (λ e. e ≡ NoMemory) }
     ensures kept { Extends sink.old sink.new }
 {
     match trap_code {
@@ -131,8 +131,8 @@ fn put_linked(sink: &mut MachBuffer, code: &Code, label: MachLabel) -> Result<()
               ++ record { kind = BranchRIL; offset = length sink.old.bytes; label = label }
               ∷ [];
         }) }
-    ensures lacks { put_cause sink.old (length code.now) ≡ None → label.0 < length sink.old.labels
-        → IfErr result (λ e. e ≡ NoMemory) }
+    ensures only_memory { put_cause sink.old (length code.now) ≡ None
+        → label.0 < length sink.old.labels → IfErr result (λ e. e ≡ NoMemory) }
     ensures kept { Extends sink.old sink.new }
 {
     let offset = sink.cur_offset();
@@ -150,7 +150,7 @@ fn put_to_label(
     requires { opcode < 4096 }
     ensures answer { OnOk result
         (sink.new ≡ with_part sink.old (Relative opcode (number_of register) (ToBlock label.0))) }
-    ensures lacks { put_cause sink.old 6 ≡ None → is_general_class register ≡ true
+    ensures only_memory { put_cause sink.old 6 ≡ None → is_general_class register ≡ true
         → label.0 < length sink.old.labels → IfErr result (λ e. e ≡ NoMemory) }
     ensures kept { Extends sink.old sink.new }
 {
@@ -168,7 +168,7 @@ fn put_to_constant(
     requires { opcode < 4096 }
     ensures answer { OnOk result
         (sink.new ≡ with_part sink.old (RelativeConstant opcode (number_of register) constant.0)) }
-    ensures lacks { put_cause sink.old 6 ≡ None → is_general_class register ≡ true
+    ensures only_memory { put_cause sink.old 6 ≡ None → is_general_class register ≡ true
         → constant.0 < length sink.old.constants
         → sink.old.block_count + length sink.old.constants ≤ length sink.old.labels
         → IfErr result (λ e. e ≡ NoMemory) }
@@ -189,7 +189,7 @@ fn put_to_symbol(
     requires { opcode < 4096 }
     ensures answer { OnOk result
         (sink.new ≡ with_part sink.old (RelativeSymbol opcode (number_of register) name offset)) }
-    ensures lacks { put_cause sink.old 6 ≡ None → is_general_class register ≡ true
+    ensures only_memory { put_cause sink.old 6 ≡ None → is_general_class register ≡ true
         → IfErr result (λ e. e ≡ NoMemory) }
     ensures kept { Extends sink.old sink.new }
 {
@@ -201,7 +201,7 @@ fn put_to_symbol(
 }
 
 // The labels of the blocks and the constants are among the buffer's.
-fn read_labels(sink: &MachBuffer)
+fn reveal_label_range(sink: &MachBuffer)
     ensures { sink.now.block_count + length sink.now.constants ≤ length sink.now.labels }
 {
     let _count = sink.label_count();
@@ -217,14 +217,14 @@ fn put_row(
     requires { opcode < 4096 }
     ensures answer { OnOk result
         (sink.new ≡ appended sink.old (relative_part opcode (number_of register) operand.now)) }
-    ensures lacks { put_cause sink.old
+    ensures only_memory { put_cause sink.old
         (parts_size (relative_part opcode (number_of register) operand.now)) ≡ None
         → is_general_class register ≡ true
         → is_bound_operand (declared_in sink.old) operand.now ≡ true
         → IfErr result (λ e. e ≡ NoMemory) }
     ensures kept { Extends sink.old sink.new }
 {
-    read_labels(sink);
+    reveal_label_range(sink);
     match operand {
         MemArg::Label { target } => put_to_label(sink, opcode, register, *target),
         MemArg::Constant { constant } => put_to_constant(sink, opcode, register, *constant),
@@ -235,7 +235,7 @@ fn put_row(
     }
 }
 
-// The same behind the trap of its faults.
+// The row relative to a label, behind the trap of its faults.
 fn put_trapping_row(
     sink: &mut MachBuffer,
     opcode: u16,
@@ -248,7 +248,7 @@ fn put_trapping_row(
         (sink.new
         ≡ appended sink.old
         (trap_here trap_code ++ relative_part opcode (number_of register) operand.now)) }
-    ensures lacks { put_cause sink.old
+    ensures only_memory { put_cause sink.old
         (parts_size (trap_here trap_code ++ relative_part opcode (number_of register) operand.now))
         ≡ None → is_general_class register ≡ true
         → is_bound_operand (declared_in sink.old) operand.now ≡ true
@@ -273,7 +273,7 @@ pub fn put_relative(
     ensures answer { OnOk result
         (sink.new
         ≡ appended sink.old (relative_parts (storage_form_of rows.now) trap_code operand.now)) }
-    ensures lacks { put_cause sink.old
+    ensures only_memory { put_cause sink.old
         (parts_size (relative_parts (storage_form_of rows.now) trap_code operand.now)) ≡ None
         → rows_encode rows.now ≡ true → is_bound_operand (declared_in sink.old) operand.now ≡ true
         → IfErr result (λ e. e ≡ NoMemory) }

@@ -26,7 +26,7 @@ abbrev pub edits_portions : List Edit → List Inst → List (List Portion)
 edits_portions [] is = []
 edits_portions (e ∷ es) is = edit_portions e is ∷ edits_portions es (left_behind e is)
 
--- the same of a block
+-- what stands for a block in the answered function
 abbrev pub block_answer : Block → BlockPlan → List (List Portion)
 block_answer b p = edits_portions p.edits.items b.insts.items
 

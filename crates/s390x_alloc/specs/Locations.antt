@@ -72,7 +72,7 @@ abbrev pub LeadsTo : {E : Type 0} → Result (List EntryPair) E → LocationMap 
 LeadsTo (Ok held) m = IsMapOf m held
 LeadsTo (Err e) m = ⊥
 
--- the same of a map for each list
+-- each map locates what is in its list
 abbrev pub AreMapsOf : List LocationMap → List (List EntryPair) → Type 0
 AreMapsOf [] [] = Unit {0}
 AreMapsOf [] (held ∷ lists) = ⊥

@@ -35,12 +35,12 @@ ending (ReturnCall info) = leaves
 ending (Trap code) = leaves
 ending i = falls
 
--- the same of a last instruction; an empty block goes on to the next one
+-- where a last instruction leads; an empty block goes on to the next one
 abbrev pub ending_of : Option Inst → Ending
 ending_of None = falls
 ending_of (Some i) = ending i
 
--- the same of a block's instructions
+-- where a block's instructions lead
 abbrev pub block_ending : List Inst → Ending
 block_ending is = ending_of (slice_get is (length is - 1))
 
@@ -67,7 +67,7 @@ ends_before count here (leads_to labels) n = is_label_in labels n
 ends_before count here leaves n = false
 ends_before count here falls n = nat_eq (here + 1) n && nat_lt n count
 
--- the same of a block's instructions
+-- block `here` of `count` blocks, with these instructions, has block n as a successor
 abbrev pub precedes : (count here : ℕ) → List Inst → ℕ → Bool
 precedes count here is n = ends_before count here (block_ending is) n
 
@@ -106,7 +106,7 @@ rest_operand (AtomicCas64 rd ri rn mem) = Some mem
 rest_operand (Vector v) = vector_memory v
 rest_operand i = None
 
--- the same of one that is no load
+-- the operand in memory of an instruction that is no load of one register
 abbrev pub other_operand : Inst → Option MemArg
 other_operand i = by_store (λ s. Some s.mem) (rest_operand i) (as_store i)
 

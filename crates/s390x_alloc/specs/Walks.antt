@@ -83,7 +83,7 @@ ReadsAlike Use (Virtual n c) (Virtual m d) v = ⊥
 ReadsAlike Use (Real p) q v = ⊤
 ReadsAlike Def r q v = ⊤
 
--- the same of these operands
+-- each virtual register that these operands read has the value of the register that it is given
 abbrev pub AllReadAlike : List GivenOperand → Values → Type 0
 AllReadAlike [] v = ⊤
 AllReadAlike (x ∷ xs) v = ReadsAlike x.kind x.reg x.given v × AllReadAlike xs v

@@ -93,7 +93,7 @@ pub enum EditCause {
 }
 
 // A number as a fault tells it, where it fits.
-fn told(number: usize) -> Option<u32>
+fn number_of_place(number: usize) -> Option<u32>
     ensures { IfSome result (λ n. n ≡ number) }
 {
     if number > 4294967295 {
@@ -106,7 +106,7 @@ fn told(number: usize) -> Option<u32>
 pub fn unsupported_at(block: usize, inst: usize) -> PlanFault
     ensures { IsTold (PlanFault.Unsupported block inst) result }
 {
-    match (told(block), told(inst)) {
+    match (number_of_place(block), number_of_place(inst)) {
         (Some(block), Some(inst)) => PlanFault::Unsupported { block, inst },
         _ => PlanFault::NoMemory,
     }
@@ -116,7 +116,7 @@ pub fn unsupported_at(block: usize, inst: usize) -> PlanFault
 pub fn shape_at(block: usize, inst: usize) -> PlanFault
     ensures { IsTold (PlanFault.Shape block inst) result }
 {
-    match (told(block), told(inst)) {
+    match (number_of_place(block), number_of_place(inst)) {
         (Some(block), Some(inst)) => PlanFault::Shape { block, inst },
         _ => PlanFault::NoMemory,
     }
@@ -126,7 +126,7 @@ pub fn shape_at(block: usize, inst: usize) -> PlanFault
 pub fn entry_fault_at(block: usize, pair: usize) -> PlanFault
     ensures { IsTold (PlanFault.Entry block pair) result }
 {
-    match (told(block), told(pair)) {
+    match (number_of_place(block), number_of_place(pair)) {
         (Some(block), Some(pair)) => PlanFault::Entry { block, pair },
         _ => PlanFault::NoMemory,
     }
@@ -137,7 +137,7 @@ fn fault_of(block: u32, edit: u32, cause: EditCause) -> PlanFault
     ensures { IsTold (edit_fault block edit cause) result }
 {
     match cause {
-        EditCause::Unsuited(operand) => match told(operand) {
+        EditCause::Unsuited(operand) => match number_of_place(operand) {
             Some(operand) => PlanFault::Constraint {
                 block,
                 edit,
@@ -145,7 +145,7 @@ fn fault_of(block: u32, edit: u32, cause: EditCause) -> PlanFault
             },
             None => PlanFault::NoMemory,
         },
-        EditCause::Unheld(operand) => match told(operand) {
+        EditCause::Unheld(operand) => match number_of_place(operand) {
             Some(operand) => PlanFault::Value {
                 block,
                 edit,
@@ -165,7 +165,7 @@ fn fault_of(block: u32, edit: u32, cause: EditCause) -> PlanFault
 pub fn edit_fault(block: usize, edit: usize, cause: EditCause) -> PlanFault
     ensures { IsTold (edit_fault block edit cause) result }
 {
-    match (told(block), told(edit)) {
+    match (number_of_place(block), number_of_place(edit)) {
         (Some(block), Some(edit)) => fault_of(block, edit, cause),
         _ => PlanFault::NoMemory,
     }

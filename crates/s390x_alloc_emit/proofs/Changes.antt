@@ -23,7 +23,7 @@ unrefused : (flags : IsaFlags) (before : Emission) (sink : BufferState) (j : Ins
 unrefused flags before sink j none =
     let own = emission_refusal (place_in flags before sink) (length sink.labels) j in
     let fits = unless (nat_lt (length sink.bytes + tree_size (member_of flags before j)) limit) LabelOutOfRange in
-    first_left own fits (unmarked sink.failed (first_emit_cause own fits) none)
+    first_left own fits (unmarked sink.is_poisoned (first_emit_cause own fits) none)
 
 pub only_outputs : (flags : IsaFlags) (before : Emission) (sink : BufferState) (i : Inst) (registers : List Reg) (after : Emission) (behind : BufferState)
     → MayBeGiven flags before sink i registers → IsEmitted flags before sink i registers after behind → IsEmittedForOutputs flags before sink i registers after behind

@@ -29,7 +29,7 @@ cause_clear : (flags : IsaFlags) (before : Emission) (sink : BufferState) (j : I
 cause_clear flags before sink j h =
     let size = tree_size (member_of flags before j) in
     let fits = nat_lt (length sink.bytes + size) limit in
-    marked_clear sink.failed _ (first_clear (emission_refusal (place_in flags before sink) (length sink.labels) j) (unless fits LabelOutOfRange) h (length_clear fits))
+    marked_clear sink.is_poisoned _ (first_clear (emission_refusal (place_in flags before sink) (length sink.labels) j) (unless fits LabelOutOfRange) h (length_clear fits))
 
 -- an instruction that registers allocate has no cause in a buffer that blames them
 pub given_clear : (flags : IsaFlags) (before : Emission) (sink : BufferState) (i j : Inst) (registers : List Reg) → IsAllocatable (place_in flags before sink) i → Meets (operands i) registers → Spares (operands i) registers → IsAssigned i registers j → IsNotBlamed (cause_of flags before sink j)

@@ -54,7 +54,7 @@ pub record IsRefused (flags : IsaFlags) (before : Emission) (sink : BufferState)
   pub instruction : Inst
   pub given : IsGiven i registers instruction
   pub cause : (error ≡ NoMemory) ⊎ (cause_of flags before sink instruction ≡ Some error)
-  pub marked : IsTrue behind.failed
+  pub poisoned : IsTrue behind.is_poisoned
 
 -- why it wasn't appended, and what was left
 abbrev pub IsNotEmitted : IsaFlags → (before : Emission) → (sink : BufferState) → Inst → List Reg → (after : Emission) → (behind : BufferState) → AssignedError → Type 0

@@ -196,7 +196,7 @@ OtherMayStand I.Debugtrap = ⊤
 OtherMayStand I.SequencePoint = ⊤
 OtherMayStand i = ⊥
 
--- the same of each instruction
+-- the registers of an instruction may stand there, be it a load, a store or another one
 abbrev pub MayStand : Inst → Type 0
 MayStand i = by_load (λ l. IsVirtual l.rd × MemoryMayStand l.mem) (by_store (λ s. IsVirtual s.rd × MemoryMayStand s.mem) (OtherMayStand i) (as_store i)) (as_load i)
 
@@ -267,7 +267,7 @@ AssignmentsSuffice P i = (registers : List Reg) (j : Inst) → Meets (operands i
 abbrev pub emission_refusal : Place → ℕ → Inst → Option EmitError
 emission_refusal P labels i = tree_cause P.flags P.declared labels P.state.nominal P.depth (tree_for P.flags (prepend P.state i empty))
 
--- the same of emission
+-- registers that meet the constraints on its operands, and spare what they have to, aren't to blame where emission refuses it
 abbrev pub EmissionsSuffice : Place → Inst → Type 0
 EmissionsSuffice P i =
     (labels : ℕ) (registers : List Reg) (j : Inst) → Meets (operands i) registers → Spares (operands i) registers → IsAssigned i registers j → IsNotBlamed (emission_refusal P labels j)

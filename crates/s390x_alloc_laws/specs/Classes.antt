@@ -16,7 +16,7 @@ IsInItsClass (InReg p) (Real q) = ⊤
 IsInItsClass (InReg p) (Virtual n c) = c ≡ p.class
 IsInItsClass (Slot s) r = ⊤
 
--- the same of all that is held
+-- each register of all that is held holds values of virtual registers of its class alone
 abbrev pub AreInTheirClass : List EntryPair → Type 0
 AreInTheirClass [] = ⊤
 AreInTheirClass (x ∷ xs) = IsInItsClass x.place x.vreg × AreInTheirClass xs

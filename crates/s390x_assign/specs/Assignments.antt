@@ -36,7 +36,7 @@ abbrev pub operand_at : Reg → List Reg → Reg
 operand_at r [] = r
 operand_at r (q ∷ s) = q
 
--- the same of a register that is an operand where it is virtual
+-- what a list of registers gives a register that is an operand where it is virtual
 abbrev pub register_at : Reg → List Reg → Reg
 register_at (Real p) s = Real p
 register_at (Virtual n c) s = operand_at (Virtual n c) s
@@ -46,7 +46,7 @@ abbrev pub after : Reg → List Reg → List Reg
 after (Real p) s = s
 after (Virtual n c) s = drop 1 s
 
--- the same of a register whose place has to be real: it is an operand where that is so
+-- what a list of registers gives a register whose place has to be real: it is an operand where that is so
 abbrev pub placed_at : (place r : Reg) → List Reg → Reg
 placed_at (Real p) r s = operand_at r s
 placed_at (Virtual n c) r s = r

@@ -18,7 +18,7 @@ mask_of_intcc UnsignedGreaterThanOrEqual = 10
 mask_of_intcc UnsignedGreaterThan = 2
 mask_of_intcc UnsignedLessThanOrEqual = 12
 
--- the same after a comparison of floats, which gives code 3 where they are unordered
+-- the mask of the codes at which a condition holds after a comparison of floats, which gives code 3 where they are unordered
 abbrev pub mask_of_floatcc : FloatCC → ℕ
 mask_of_floatcc Ordered = 14
 mask_of_floatcc Unordered = 1

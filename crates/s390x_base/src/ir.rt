@@ -102,7 +102,7 @@ pub type Addend = i64;
 pub enum Reloc {
     /// Half of symbol plus addend less the field's address, in four bytes.
     S390xPCRel32Dbl,
-    /// The same, for a call.
+    /// Half of symbol plus addend less the field's address, in four bytes, for a call.
     S390xPLTRel32Dbl,
     /// Symbol plus addend, in eight bytes.
     Abs8,

@@ -18,7 +18,7 @@ use Rattle.s390x_binary_tool.proofs.Told.{same_command}
 use Rattle.s390x_tool.specs.Answers.{IsCodeOfJob, IsImageAt, symbols_of, with_symbols}
 use Rattle.s390x_tool.specs.Bundled.{member_of}
 use Rattle.s390x_tool.specs.Causes.{FaultCountRose}
-use Rattle.s390x_tool.specs.Replies.{Found}
+use Rattle.s390x_tool.specs.Replies.{CallContext}
 use Rattle.s390x_tool.specs.declared.status.Status.TheVariants as status
 use Rattle.s390x_tool.proofs.Completing.{read_less, read_whole}
 use Rattle.s390x_tool.proofs.SameJob.{same_cause, same_code, same_symbols}
@@ -186,14 +186,14 @@ command_done Object words input s text v a = object_done _ input s text v a
 command_done Objects words input s text v a = objects_done input s text v a
 
 -- the answer to what the source held
-answered_done : (f : Found) (s : BinaryStatus) (text : List ℕ) (c : Command) (input : List ℕ) → IsAnswered f s text → IsForm f.words c → f.left ≡ Some input → IsUnrefused c f.words input → IsDoneStatus s
+answered_done : (f : CallContext) (s : BinaryStatus) (text : List ℕ) (c : Command) (input : List ℕ) → IsAnswered f s text → IsForm f.words c → f.left ≡ Some input → IsUnrefused c f.words input → IsDoneStatus s
 answered_done f s text c input a form left unrefused =
     let whole = read_whole f.left f.left' input a.input left a.read.taken a.read.end in
     let same = same_command f.words a.command c a.form form in
     command_done c f.words input s text unrefused
     (subst (λ given. IsInputAnswer c f.words given s text) (sym whole) (subst (λ d. IsInputAnswer d f.words a.input s text) same a.answer))
 
-completed_reply : (f : Found) (s : BinaryStatus) (text : List ℕ) (c : Command) (input : List ℕ)
+completed_reply : (f : CallContext) (s : BinaryStatus) (text : List ℕ) (c : Command) (input : List ℕ)
     → IsReply f s text → IsForm f.words c → f.left ≡ Some input → IsAccepted c f.words input → (FaultCountRose f.faults f.faults' → ⊥) → IsDoneStatus s
 completed_reply f Differs text c input reply form left accepted quiet = answered_done f Differs text c input reply form left accepted.unrefused
 completed_reply f ObjectRefused text c input reply form left accepted quiet = answered_done f ObjectRefused text c input reply form left accepted.unrefused
@@ -213,7 +213,7 @@ completed_reply f (Shared status.PlanRefused) text c input reply form left accep
 completed_reply f (Shared status.BundleRefused) text c input reply form left accepted quiet = answered_done f (Shared status.BundleRefused) text c input reply form left accepted.unrefused
 
 -- how a call on an accepted input ends, where nothing failed
-pub completed : (f : Found) (told told' : Option (List ℕ)) (faults faults' : ℕ) (s : BinaryStatus) (text : List ℕ) (result : BinaryStatus)
+pub completed : (f : CallContext) (told told' : Option (List ℕ)) (faults faults' : ℕ) (s : BinaryStatus) (text : List ℕ) (result : BinaryStatus)
     → IsReply f s text → IsDelivered told told' faults faults' s text result
     → (c : Command) (input : List ℕ) → IsForm f.words c → f.left ≡ Some input → IsAccepted c f.words input
     → (FaultCountRose f.faults f.faults' → ⊥) → (FaultCountRose faults faults' → ⊥) → (result ≡ Shared status.Ok) ⊎ (result ≡ Shared status.NoMemory)

@@ -5,7 +5,7 @@ use Rattle.s390x_tool.proofs.Parts.{whole_part}
 use Rattle.s390x_tool.specs.Causes.{FaultCountRose}
 use Rattle.s390x_tool.specs.Ends.{IsPartRead, IsRead, IsTooLong, most_bytes, too_many}
 use Rattle.s390x_tool.specs.Lines.{IsUnread, line}
-use Rattle.s390x_tool.specs.Replies.{Found}
+use Rattle.s390x_tool.specs.Replies.{CallContext}
 use Rattle.s390x_tool.specs.declared.input.InputError.{InputError}
 use Rattle.s390x_tool.specs.declared.input.InputError.TheVariants as input
 use Rattle.s390x_tool.specs.declared.status.Status.{Status}
@@ -66,7 +66,7 @@ memory_line Object words given text a = a
 memory_line Objects words given text a = a
 
 -- the answer to a command and its whole input is the reply
-pub reply_answered : (f : Found) (c : Command) (given : List ℕ) (s : BinaryStatus) (text : List ℕ) → IsForm f.words c → IsRead f.left f.left' given → f.faults' ≡ f.faults → IsInputAnswer c f.words given s text → IsReply f s text
+pub reply_answered : (f : CallContext) (c : Command) (given : List ℕ) (s : BinaryStatus) (text : List ℕ) → IsForm f.words c → IsRead f.left f.left' given → f.faults' ≡ f.faults → IsInputAnswer c f.words given s text → IsReply f s text
 reply_answered f c given Differs text form read same answer = record { command = c; form = form; input = given; read = read; same = same; answer = answer }
 reply_answered f c given ObjectRefused text form read same answer = record { command = c; form = form; input = given; read = read; same = same; answer = answer }
 reply_answered f c given (Shared status.Usage) text form read same answer = absurd (no_usage c f.words given text answer)
@@ -84,7 +84,7 @@ reply_answered f c given (Shared status.PlanRefused) text form read same answer 
 reply_answered f c given (Shared status.BundleRefused) text form read same answer = record { command = c; form = form; input = given; read = read; same = same; answer = answer }
 
 -- so is that the input isn't read to its end
-pub reply_unread : (f : Found) (c : Command) (e : InputError) (s : Status) (text : List ℕ) → IsForm f.words c
+pub reply_unread : (f : CallContext) (c : Command) (e : InputError) (s : Status) (text : List ℕ) → IsForm f.words c
     → (e ≡ input.TooLong → IsTooLong f.left f.left') → (e ≡ input.Fault → FaultCountRose f.faults f.faults')
     → (e ≡ input.Fault → IsPartRead f.left f.left' most_bytes) → (e ≡ input.NoMemory → IsPartRead f.left f.left' too_many)
     → (e ≡ input.Fault) ⊎ (f.faults' ≡ f.faults) → IsUnread e s text → IsReply f (Shared s) text
@@ -98,7 +98,7 @@ reply_unread f c input.NoMemory s text form long rose failed stopped (inr same) 
 -- ---- what follows from it
 
 -- where the words are no command the reply is that
-usage_reply : (f : Found) (s : BinaryStatus) (text : List ℕ) → IsNoForm f.words → IsReply f s text → s ≡ Shared status.Usage
+usage_reply : (f : CallContext) (s : BinaryStatus) (text : List ℕ) → IsNoForm f.words → IsReply f s text → s ≡ Shared status.Usage
 usage_reply f Differs text none reply = absurd (none reply.command reply.form)
 usage_reply f ObjectRefused text none reply = absurd (none reply.command reply.form)
 usage_reply f (Shared status.Usage) text none reply = refl
@@ -115,7 +115,7 @@ usage_reply f (Shared status.PlanRefused) text none reply = absurd (none reply.c
 usage_reply f (Shared status.BundleRefused) text none reply = absurd (none reply.command reply.form)
 
 -- where the count of faults has risen, the reply says so
-fault_reply : (f : Found) (s : BinaryStatus) (text : List ℕ) → f.faults < f.faults' → IsReply f s text → s ≡ Shared status.ReadFault
+fault_reply : (f : CallContext) (s : BinaryStatus) (text : List ℕ) → f.faults < f.faults' → IsReply f s text → s ≡ Shared status.ReadFault
 fault_reply f Differs text rose reply = absurd (omega (arith, rose, reply.same))
 fault_reply f ObjectRefused text rose reply = absurd (omega (arith, rose, reply.same))
 fault_reply f (Shared status.Usage) text rose reply = absurd (omega (arith, rose, reply.0.same))
@@ -138,34 +138,34 @@ delivered_status told told' faults faults' s text result (inl whole) = inl whole
 delivered_status told told' faults faults' s text result (inr part) = inr part.0
 
 -- the reply with a status that tells of no failed write
-replied : (f : Found) (told told' : Option (List ℕ)) (faults faults' : ℕ) (s : BinaryStatus) (text : List ℕ) (result wanted : BinaryStatus)
+replied : (f : CallContext) (told told' : Option (List ℕ)) (faults faults' : ℕ) (s : BinaryStatus) (text : List ℕ) (result wanted : BinaryStatus)
     → IsReply f s text → IsDelivered told told' faults faults' s text result → (Shared status.WriteFault ≡ wanted → ⊥) → result ≡ wanted → IsReply f wanted text
 replied f told told' faults faults' s text result wanted reply (inl whole) other is = subst (λ t. IsReply f t text) (sym whole.0 ∙ is) reply
 replied f told told' faults faults' s text result wanted reply (inr part) other is = absurd (other (sym part.0 ∙ is))
 
-pub always_usage : (f : Found) (told told' : Option (List ℕ)) (faults faults' : ℕ) (s : BinaryStatus) (text : List ℕ) (result : BinaryStatus)
+pub always_usage : (f : CallContext) (told told' : Option (List ℕ)) (faults faults' : ℕ) (s : BinaryStatus) (text : List ℕ) (result : BinaryStatus)
     → IsReply f s text → IsDelivered told told' faults faults' s text result → IsNoForm f.words → (result ≡ Shared status.Usage) ⊎ (result ≡ Shared status.WriteFault)
 always_usage f told told' faults faults' s text result reply delivered none =
     subst (λ t. (result ≡ t) ⊎ (result ≡ Shared status.WriteFault)) (usage_reply f s text none reply) (delivered_status told told' faults faults' s text result delivered)
 
-pub always_read_fault : (f : Found) (told told' : Option (List ℕ)) (faults faults' : ℕ) (s : BinaryStatus) (text : List ℕ) (result : BinaryStatus)
+pub always_read_fault : (f : CallContext) (told told' : Option (List ℕ)) (faults faults' : ℕ) (s : BinaryStatus) (text : List ℕ) (result : BinaryStatus)
     → IsReply f s text → IsDelivered told told' faults faults' s text result → f.faults < f.faults' → (result ≡ Shared status.ReadFault) ⊎ (result ≡ Shared status.WriteFault)
 always_read_fault f told told' faults faults' s text result reply delivered rose =
     subst (λ t. (result ≡ t) ⊎ (result ≡ Shared status.WriteFault)) (fault_reply f s text rose reply) (delivered_status told told' faults faults' s text result delivered)
 
-pub usage_of : (f : Found) (told told' : Option (List ℕ)) (faults faults' : ℕ) (s : BinaryStatus) (text : List ℕ) (result : BinaryStatus)
+pub usage_of : (f : CallContext) (told told' : Option (List ℕ)) (faults faults' : ℕ) (s : BinaryStatus) (text : List ℕ) (result : BinaryStatus)
     → IsReply f s text → IsDelivered told told' faults faults' s text result → result ≡ Shared status.Usage → IsNoForm f.words
 usage_of f told told' faults faults' s text result reply delivered is = (replied f told told' faults faults' s text result (Shared status.Usage) reply delivered (λ clash. cc) is).0.none
 
-pub read_fault_of : (f : Found) (told told' : Option (List ℕ)) (faults faults' : ℕ) (s : BinaryStatus) (text : List ℕ) (result : BinaryStatus)
+pub read_fault_of : (f : CallContext) (told told' : Option (List ℕ)) (faults faults' : ℕ) (s : BinaryStatus) (text : List ℕ) (result : BinaryStatus)
     → IsReply f s text → IsDelivered told told' faults faults' s text result → result ≡ Shared status.ReadFault → FaultCountRose f.faults f.faults'
 read_fault_of f told told' faults faults' s text result reply delivered is = (replied f told told' faults faults' s text result (Shared status.ReadFault) reply delivered (λ clash. cc) is).0.rose
 
-pub too_long_of : (f : Found) (told told' : Option (List ℕ)) (faults faults' : ℕ) (s : BinaryStatus) (text : List ℕ) (result : BinaryStatus)
+pub too_long_of : (f : CallContext) (told told' : Option (List ℕ)) (faults faults' : ℕ) (s : BinaryStatus) (text : List ℕ) (result : BinaryStatus)
     → IsReply f s text → IsDelivered told told' faults faults' s text result → result ≡ Shared status.InputTooLong → IsTooLong f.left f.left'
 too_long_of f told told' faults faults' s text result reply delivered is = (replied f told told' faults faults' s text result (Shared status.InputTooLong) reply delivered (λ clash. cc) is).0.long
 
-pub write_fault_of : (f : Found) (told told' : Option (List ℕ)) (faults faults' : ℕ) (s : BinaryStatus) (text : List ℕ) (result : BinaryStatus)
+pub write_fault_of : (f : CallContext) (told told' : Option (List ℕ)) (faults faults' : ℕ) (s : BinaryStatus) (text : List ℕ) (result : BinaryStatus)
     → IsReply f s text → IsDelivered told told' faults faults' s text result → result ≡ Shared status.WriteFault → FaultCountRose faults faults'
 write_fault_of f told told' faults faults' s text result reply (inl whole) is = let none : IsReply f (Shared status.WriteFault) text = subst (λ t. IsReply f t text) (sym whole.0 ∙ is) reply in absurd none
 write_fault_of f told told' faults faults' s text result reply (inr part) is = part.2
@@ -176,7 +176,7 @@ always_write_fault told told' faults faults' s text result (inl whole) rose = ab
 always_write_fault told told' faults faults' s text result (inr part) rose = part.0
 
 -- at `Ok` all was done
-pub done : (f : Found) (told told' : Option (List ℕ)) (faults faults' : ℕ) (s : BinaryStatus) (text : List ℕ) (result : BinaryStatus)
+pub done : (f : CallContext) (told told' : Option (List ℕ)) (faults faults' : ℕ) (s : BinaryStatus) (text : List ℕ) (result : BinaryStatus)
     → IsReply f s text → IsDelivered told told' faults faults' s text result → result ≡ Shared status.Ok → IsDone f told told'
 done f told told' faults faults' s text result reply (inl whole) is =
     record { text = text; reply = subst (λ t. IsReply f t text) (sym whole.0 ∙ is) reply; appended = whole.1 }

@@ -75,7 +75,7 @@ IsUnrefused (Listing base) words input = IsLinkableJob base input
 IsUnrefused Object words input = IsObjectJob (object_name words) input
 IsUnrefused Objects words input = AreObjectFunctions input
 
--- the same of an input that isn't too long
+-- the input isn't too long, and nothing keeps the command, which these words are, from being done with it
 pub record IsAccepted (command : Command) (words : List (List ℕ)) (input : List ℕ) : Type 0 where
   pub short : length input ≤ 16777216
   pub unrefused : IsUnrefused command words input

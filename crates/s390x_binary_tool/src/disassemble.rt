@@ -5,7 +5,7 @@ ghost use Rattle.s390x_tool.specs.Ends.{too_many};
 ghost use Rattle.s390x_binary_tool.specs.Disassemble.{IsDisassembleAnswer, IsDisassembleReply};
 
 use crate::image_text::read_image;
-use crate::reply::{BinaryReply, shared, with_text, wrong_at};
+use crate::reply::{BinaryReply, shared_reply, with_text, wrong_at};
 use crate::status::BinaryStatus;
 use s390x_tool::{Status, no_memory};
 use std::alloc::Global;
@@ -18,7 +18,7 @@ pub fn disassemble(alloc: Global, base: u64, input: &[u8]) -> BinaryReply
     match read_image(alloc, input) {
         Ok(Ok(code)) => disassembly(alloc, base, &code),
         Ok(Err(number)) => wrong_at(alloc, number),
-        Err(_) => shared(no_memory()),
+        Err(_) => shared_reply(no_memory()),
     }
 }
 
@@ -28,6 +28,6 @@ fn disassembly(alloc: Global, base: u64, code: &[u8]) -> BinaryReply
 {
     match s390x_disassembler::disassemble(alloc, base, code) {
         Ok(text) => with_text(BinaryStatus::Shared(Status::Ok), text),
-        Err(_) => shared(no_memory()),
+        Err(_) => shared_reply(no_memory()),
     }
 }

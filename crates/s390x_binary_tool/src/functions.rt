@@ -9,7 +9,7 @@ ghost use Rattle.s390x_tool.specs.Ends.{too_many};
 ghost use Rattle.s390x_binary_tool.specs.Objects.{AreObjectMembers, HasNoCodes, IsObjectMember, IsObjectsAnswer, IsObjectsReply};
 
 use crate::object::object_refused;
-use crate::reply::{BinaryReply, shared, with_file};
+use crate::reply::{BinaryReply, shared_reply, with_file};
 use s390x_base::{EmitError, ExternalName};
 use s390x_buffer::MachBufferFinalized;
 use s390x_bundle::{BundleError, Member, duplicate_name};
@@ -26,8 +26,8 @@ pub fn objects(alloc: Global, input: &[u8]) -> BinaryReply
 {
     match read_bundle(alloc, input) {
         Ok(functions) => objects_of_functions(alloc, input, functions),
-        Err(BundleTextError::Syntax { line }) => shared(syntax(alloc, line)),
-        Err(BundleTextError::NoMemory) => shared(no_memory()),
+        Err(BundleTextError::Syntax { line }) => shared_reply(syntax(alloc, line)),
+        Err(BundleTextError::NoMemory) => shared_reply(no_memory()),
     }
 }
 
@@ -38,7 +38,7 @@ fn objects_of_functions(alloc: Global, input: &[u8], functions: Vec<NamedJob>) -
 {
     match members_of(alloc, functions) {
         Ok(members) => objects_of_members(alloc, &members),
-        Err(_) => shared(no_memory()),
+        Err(_) => shared_reply(no_memory()),
     }
 }
 
@@ -48,7 +48,7 @@ fn objects_of_members(alloc: Global, members: &[Member]) -> BinaryReply
 {
     match coded_members(alloc, members) {
         Ok(objects) => objects_of_codes(alloc, members, &objects),
-        Err(error) => shared(bundle_refused(alloc, error)),
+        Err(error) => shared_reply(bundle_refused(alloc, error)),
     }
 }
 

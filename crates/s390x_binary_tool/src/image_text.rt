@@ -4,7 +4,7 @@ ghost use Rattle.hex.specs.Hex.{decode_of};
 ghost use Rattle.s390x_binary_tool.specs.ImageText.{IsFirstDifference, IsImageText, IsWrongLine};
 
 use hex::FromHexError;
-use s390x_job_fields::marks::{after, before};
+use s390x_job_fields::separators::{after, before};
 use std::alloc::{AllocError, Global};
 
 // The bytes that a line of hex digits writes, or why it writes none.

@@ -39,7 +39,7 @@ fn behind_loop<'a>(
     ensures { IfOk result
         (λ left. left.now ≡ drop (2 + steps_of_all state.now body.now) starts.now) }
 {
-    behind_members(alloc, state, body, behind(starts, 2))
+    behind_members(alloc, state, body, starts_behind(starts, 2))
 }
 
 // Behind several instructions.
@@ -73,7 +73,7 @@ fn behind_leaf<'a>(
     match inst {
         Inst::Call { info, .. } => Ok(behind_call(info, starts)),
         Inst::ReturnCall { info } => behind_tail_call(alloc, state.frame_layout(), info, starts),
-        _ => Ok(behind(starts, 1)),
+        _ => Ok(starts_behind(starts, 1)),
     }
 }
 
@@ -82,7 +82,7 @@ fn behind_leaf<'a>(
 fn behind_call<'a>(info: &CallInfo, starts: &'a [CodeOffset]) -> &'a [CodeOffset]
     ensures { result.now ≡ drop (call_count info.now) starts.now }
 {
-    let call = behind(starts, 1);
+    let call = starts_behind(starts, 1);
     let loads = behind_results(info, call);
     behind_if(loads, info.try_call_info.is_some())
 }
@@ -115,7 +115,7 @@ fn behind_load<'a>(location: RetLocation, starts: &'a [CodeOffset]) -> &'a [Code
     ensures { result.now ≡ drop (load_count location) starts.now }
 {
     match location {
-        RetLocation::Stack(..) => behind(starts, 1),
+        RetLocation::Stack(..) => starts_behind(starts, 1),
         RetLocation::Reg(..) => starts,
     }
 }
@@ -134,7 +134,7 @@ fn behind_tail_call<'a>(
         starts.now) }
 {
     let count = other_count(alloc, layout, info.callee_pop_size, &info.dest)?;
-    let others = behind(behind(starts, 2), count);
+    let others = starts_behind(starts_behind(starts, 2), count);
     Ok(behind_if(others, layout.first_saved_gpr.is_some()))
 }
 
@@ -161,12 +161,16 @@ fn other_count(
 fn behind_if(starts: &[CodeOffset], holds: bool) -> &[CodeOffset]
     ensures { result.now ≡ drop (cond holds 1 0) starts.now }
 {
-    if holds { behind(starts, 1) } else { starts }
+    if holds {
+        starts_behind(starts, 1)
+    } else {
+        starts
+    }
 }
 
 // Behind so many starts; none, where there are no more.
 #[tactic(auto, using(crate::proofs::Counting::at_most))]
-fn behind(starts: &[CodeOffset], count: usize) -> &[CodeOffset]
+fn starts_behind(starts: &[CodeOffset], count: usize) -> &[CodeOffset]
     ensures { result.now ≡ drop count starts.now }
 {
     &starts[count.min(starts.len())..]

@@ -7,7 +7,7 @@ ghost use Rattle.s390x_binary_tool.specs.CodeListing.{IsCodeListing};
 ghost use Rattle.s390x_binary_tool.specs.Listing.{IsListAnswer, IsListReply};
 
 use crate::code_listing::listed_code;
-use crate::reply::{BinaryReply, shared, with_text};
+use crate::reply::{BinaryReply, shared_reply, with_text};
 use crate::status::BinaryStatus;
 use crate::verify::symbol_table;
 use s390x_buffer::MachBufferFinalized;
@@ -15,7 +15,7 @@ use s390x_emit_int::emit_function;
 use s390x_image::{Image, LinkError, link};
 use s390x_job::{Job, LineError, read_lines};
 use s390x_text::valid_blocks_have_texts;
-use s390x_tool::{Status, link_refused, no_memory, refused, syntax};
+use s390x_tool::{Status, link_refused, no_memory, refusal_reply, syntax};
 use std::alloc::{AllocError, Global};
 
 /// The answer to `list` at this base and its whole input.
@@ -25,8 +25,8 @@ pub fn list(alloc: Global, base: u64, input: &[u8]) -> BinaryReply
 {
     match read_lines(alloc, input) {
         Ok(job) => list_of_job(alloc, base, &job),
-        Err(LineError::Syntax { line }) => shared(syntax(alloc, line)),
-        Err(LineError::NoMemory) => shared(no_memory()),
+        Err(LineError::Syntax { line }) => shared_reply(syntax(alloc, line)),
+        Err(LineError::NoMemory) => shared_reply(no_memory()),
     }
 }
 
@@ -36,7 +36,7 @@ fn list_of_job(alloc: Global, base: u64, job: &Job) -> BinaryReply
 {
     match emit_function(alloc, &job.function, &job.info, job.state) {
         Ok(code) => list_of_code(alloc, base, job, &code),
-        Err(error) => shared(refused(error)),
+        Err(error) => shared_reply(refusal_reply(error)),
     }
 }
 
@@ -47,7 +47,7 @@ fn list_of_code(alloc: Global, base: u64, job: &Job, code: &MachBufferFinalized)
 {
     match link_job(alloc, base, job, code) {
         Ok(image) => list_of_image(alloc, base, job, code, &image),
-        Err(error) => shared(link_refused(error)),
+        Err(error) => shared_reply(link_refused(error)),
     }
 }
 
@@ -85,7 +85,7 @@ fn list_of_image(
 {
     match listing(alloc, base, job, code, image) {
         Ok(text) => with_text(BinaryStatus::Shared(Status::Ok), text),
-        Err(_) => shared(no_memory()),
+        Err(_) => shared_reply(no_memory()),
     }
 }
 

@@ -5,13 +5,13 @@ ghost use Rattle.s390x_tool.specs.Answers.{IsCodeOfJob};
 ghost use Rattle.s390x_tool.specs.Ends.{too_many};
 ghost use Rattle.s390x_binary_tool.specs.Object.{IsObjectAnswer, IsObjectRefusal, IsObjectReply, object_line};
 
-use crate::reply::{BinaryReply, shared, with_file, with_line};
+use crate::reply::{BinaryReply, shared_reply, with_file, with_line};
 use crate::status::BinaryStatus;
 use s390x_buffer::MachBufferFinalized;
 use s390x_elf::ObjectError;
 use s390x_emit_int::emit_function;
 use s390x_job::{Job, LineError, read_lines};
-use s390x_tool::{no_memory, refused, syntax};
+use s390x_tool::{no_memory, refusal_reply, syntax};
 use std::alloc::Global;
 
 /// The answer to `object` with this name for the function, and its whole input.
@@ -21,8 +21,8 @@ pub fn object(alloc: Global, name: &str, input: &[u8]) -> BinaryReply
 {
     match read_lines(alloc, input) {
         Ok(job) => object_of_job(alloc, name, &job),
-        Err(LineError::Syntax { line }) => shared(syntax(alloc, line)),
-        Err(LineError::NoMemory) => shared(no_memory()),
+        Err(LineError::Syntax { line }) => shared_reply(syntax(alloc, line)),
+        Err(LineError::NoMemory) => shared_reply(no_memory()),
     }
 }
 
@@ -32,7 +32,7 @@ fn object_of_job(alloc: Global, name: &str, job: &Job) -> BinaryReply
 {
     match emit_function(alloc, &job.function, &job.info, job.state) {
         Ok(code) => object_of_code(alloc, name, job, &code),
-        Err(error) => shared(refused(error)),
+        Err(error) => shared_reply(refusal_reply(error)),
     }
 }
 
@@ -52,7 +52,7 @@ pub fn object_refused(error: ObjectError) -> BinaryReply
     ensures { IsObjectRefusal error result.status (cow_slice_items result.text) }
 {
     match error {
-        ObjectError::NoMemory => shared(no_memory()),
+        ObjectError::NoMemory => shared_reply(no_memory()),
         _ => with_line(BinaryStatus::ObjectRefused, object_line(error)),
     }
 }

@@ -6,12 +6,12 @@ ghost use Rattle.s390x_binary_tool.specs.Made.{IsMadeReply};
 ghost use Rattle.s390x_binary_tool.specs.declared.status.BinaryStatus.TheVariants.{Shared};
 ghost use Rattle.s390x_binary_tool.specs.Refusal.{IsRefusalAnswer, IsRefusalReply, more_numbers, path_text, position_text, refusal_line};
 
-use crate::reply::{BinaryReply, made, shared};
+use crate::reply::{BinaryReply, shared_reply, text_reply};
 use crate::status::BinaryStatus;
 use s390x_base::NoMemory;
 use s390x_job::{Job, LineError, read_lines};
 use s390x_refusal::{Position, Refusal, first_refusal};
-use s390x_tool::{Status, emit_error_name, fixed, no_memory, syntax};
+use s390x_tool::{Status, emit_error_name, no_memory, static_reply, syntax};
 use std::alloc::{AllocError, Global};
 
 /// The answer to `refusal` and its whole input.
@@ -21,8 +21,8 @@ pub fn refusal(alloc: Global, input: &[u8]) -> BinaryReply
 {
     match read_lines(alloc, input) {
         Ok(job) => refusal_of_job(alloc, &job),
-        Err(LineError::Syntax { line }) => shared(syntax(alloc, line)),
-        Err(LineError::NoMemory) => shared(no_memory()),
+        Err(LineError::Syntax { line }) => shared_reply(syntax(alloc, line)),
+        Err(LineError::NoMemory) => shared_reply(no_memory()),
     }
 }
 
@@ -31,9 +31,9 @@ fn refusal_of_job(alloc: Global, job: &Job) -> BinaryReply
     ensures { IsRefusalReply job.now result.status (cow_slice_items result.text) }
 {
     match first_refusal(alloc, &job.function, &job.info, job.state) {
-        Ok(None) => shared(fixed(Status::Ok, "none\n")),
+        Ok(None) => shared_reply(static_reply(Status::Ok, "none\n")),
         Ok(Some(refusal)) => placed(alloc, &refusal),
-        Err(NoMemory) => shared(no_memory()),
+        Err(NoMemory) => shared_reply(no_memory()),
     }
 }
 
@@ -43,7 +43,7 @@ fn placed(alloc: Global, refusal: &Refusal) -> BinaryReply
         (refusal_line refusal.now.error refusal.now.position) result.status
         (cow_slice_items result.text) }
 {
-    made(
+    text_reply(
         BinaryStatus::Shared(Status::Refused),
         refusal_line(alloc, refusal),
     )

@@ -20,7 +20,7 @@ pub struct BinaryReply {
 }
 
 /// A reply that the first program has too.
-pub fn shared(reply: Reply) -> BinaryReply
+pub fn shared_reply(reply: Reply) -> BinaryReply
     ensures status { result.status ≡ Shared reply.status }
     ensures text { cow_slice_items result.text ≡ cow_str_bytes reply.text }
 {
@@ -41,7 +41,7 @@ fn bytes_of(text: CowStr<'static>) -> CowSlice<'static, u8>
 }
 
 /// A reply with a text that was made, or that memory doesn't suffice for.
-pub fn made(status: BinaryStatus, text: Result<String, AllocError>) -> BinaryReply
+pub fn text_reply(status: BinaryStatus, text: Result<String, AllocError>) -> BinaryReply
     ensures ok { IfOk text
         (λ t. (result.status ≡ status) × (cow_slice_items result.text ≡ string_bytes t)) }
     ensures err { OnErr text
@@ -50,7 +50,7 @@ pub fn made(status: BinaryStatus, text: Result<String, AllocError>) -> BinaryRep
 {
     match text {
         Ok(text) => with_text(status, text),
-        Err(_) => shared(no_memory()),
+        Err(_) => shared_reply(no_memory()),
     }
 }
 
@@ -92,7 +92,7 @@ pub fn wrong_at(alloc: Global, number: usize) -> BinaryReply
     ensures { IsMadeReply (Shared first.Syntax) (line (codes "syntax " ++ decimal number))
         result.status (cow_slice_items result.text) }
 {
-    made(
+    text_reply(
         BinaryStatus::Shared(Status::Syntax),
         format!(in alloc; "syntax {number}\n"),
     )

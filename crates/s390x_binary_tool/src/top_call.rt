@@ -17,11 +17,11 @@ use crate::functions::objects;
 use crate::list::list;
 use crate::object::object;
 use crate::refusal::refusal;
-use crate::reply::{BinaryReply, shared};
+use crate::reply::{BinaryReply, shared_reply};
 use crate::status::BinaryStatus;
 use crate::verify::verify;
 use crate::{Command, object_name, read_words};
-use s390x_tool::{Failed, Sink, Source, Status, fixed, read_input, unread, write_text};
+use s390x_tool::{Failed, Sink, Source, Status, read_input, static_reply, unread, write_text};
 use std::alloc::Global;
 
 /// Does what the words ask for with what the source holds, and writes the text or the line of the status to the sink. It reads the source to its end first, and writes
@@ -92,11 +92,11 @@ fn reply_to<S: Source>(alloc: Global, words: &[String], source: &mut S) -> Binar
         (cow_slice_items result.text) }
 {
     let Some(command) = read_words(words) else {
-        return shared(fixed(Status::Usage, "usage\n"));
+        return shared_reply(static_reply(Status::Usage, "usage\n"));
     };
     match read_input(alloc, source) {
         Ok(input) => answer(alloc, command, words, &input),
-        Err(error) => shared(unread(error)),
+        Err(error) => shared_reply(unread(error)),
     }
 }
 

@@ -11,14 +11,14 @@ ghost use Rattle.s390x_binary_tool.specs.declared.status.BinaryStatus.TheVariant
 ghost use Rattle.s390x_binary_tool.specs.Verify.{IsCutJob, IsVerifyAnswer, IsVerifyReply};
 
 use crate::image_text::{first_difference, read_image};
-use crate::reply::{BinaryReply, made, shared};
+use crate::reply::{BinaryReply, shared_reply, text_reply};
 use crate::status::BinaryStatus;
 use s390x_base::NoMemory;
 use s390x_emit_int::{ImageError, emit_image};
 use s390x_image::SymbolTable;
 use s390x_job::{Job, LineError, SymbolLine, read_lines};
 use s390x_job_bundle::{count_lines, job_size};
-use s390x_tool::{Status, fixed, link_refused, no_memory, refused, syntax};
+use s390x_tool::{Status, link_refused, no_memory, refusal_reply, static_reply, syntax};
 use std::alloc::Global;
 
 /// The answer to `verify` at this base and its whole input.
@@ -29,8 +29,8 @@ pub fn verify(alloc: Global, base: u64, input: &[u8]) -> BinaryReply
     let size = job_size(input);
     match read_lines(alloc, &input[..size]) {
         Ok(job) => verify_image(alloc, base, &job, input, size),
-        Err(LineError::Syntax { line }) => shared(syntax(alloc, line)),
-        Err(LineError::NoMemory) => shared(no_memory()),
+        Err(LineError::Syntax { line }) => shared_reply(syntax(alloc, line)),
+        Err(LineError::NoMemory) => shared_reply(no_memory()),
     }
 }
 
@@ -45,9 +45,9 @@ fn verify_image(alloc: Global, base: u64, job: &Job, input: &[u8], size: usize) 
         Ok(Ok(image)) => compare(alloc, base, job, &image),
         Ok(Err(number)) => {
             let line = count_lines(&input[..size]) + number;
-            shared(syntax(alloc, line as u32))
+            shared_reply(syntax(alloc, line as u32))
         }
-        Err(_) => shared(no_memory()),
+        Err(_) => shared_reply(no_memory()),
     }
 }
 
@@ -56,15 +56,15 @@ fn compare(alloc: Global, base: u64, job: &Job, image: &[u8]) -> BinaryReply
     ensures { IsVerifyReply base job.now image.now result.status (cow_slice_items result.text) }
 {
     let Ok(symbols) = symbol_table(alloc, &job.symbols) else {
-        return shared(no_memory());
+        return shared_reply(no_memory());
     };
     match emit_image(alloc, &job.function, &job.info, job.state, base, &symbols) {
         Ok(own) => match first_difference(&own.bytes, image) {
-            None => shared(fixed(Status::Ok, "")),
+            None => shared_reply(static_reply(Status::Ok, "")),
             Some(at) => differs(alloc, at),
         },
-        Err(ImageError::Refused(error)) => shared(refused(error)),
-        Err(ImageError::Link(error)) => shared(link_refused(error)),
+        Err(ImageError::Refused(error)) => shared_reply(refusal_reply(error)),
+        Err(ImageError::Link(error)) => shared_reply(link_refused(error)),
     }
 }
 
@@ -73,7 +73,7 @@ fn differs(alloc: Global, at: usize) -> BinaryReply
     ensures { IsMadeReply Differs (line (codes "differs " ++ decimal at)) result.status
         (cow_slice_items result.text) }
 {
-    made(BinaryStatus::Differs, format!(in alloc; "differs {at}\n"))
+    text_reply(BinaryStatus::Differs, format!(in alloc; "differs {at}\n"))
 }
 
 /// The symbols of these lines.

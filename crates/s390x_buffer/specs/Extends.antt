@@ -26,7 +26,7 @@ pub record Extends (s t : BufferState) : Type 0 where
   pub entries : ExtendsEntries s t
   pub labels : (l : ℕ) → l < length s.labels → get_or t.labels l None ≡ get_or s.labels l None
 
--- the same of all labels but one, which the call may bind
+-- the first buffer's entries stay, and so do all its labels but one, which the call may bind
 pub record ExtendsExcept (label : ℕ) (s t : BufferState) : Type 0 where
   pub entries : ExtendsEntries s t
   pub labels : (l : ℕ) → l < length s.labels → l ≢ label → get_or t.labels l None ≡ get_or s.labels l None

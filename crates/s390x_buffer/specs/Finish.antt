@@ -54,7 +54,7 @@ unpatched s = with_constants s.bytes s.constants
 
 -- why a buffer can't be finished, before any memory is taken: the mark, then the length
 abbrev pub length_cause : BufferState → Option EmitError
-length_cause s = cond s.failed (Some Failed) (cond (nat_lt (finished_length s) limit) None (Some LabelOutOfRange))
+length_cause s = cond s.is_poisoned (Some Failed) (cond (nat_lt (finished_length s) limit) None (Some LabelOutOfRange))
 
 -- why its uses can't be patched
 abbrev pub patch_cause : BufferState → Option EmitError

@@ -49,7 +49,7 @@ pub record BufferState : Type 0 where
   pub branches : RecordedBranches
   pub block_count : ℕ
   pub constants : List Constant
-  pub failed : Bool
+  pub is_poisoned : Bool
 
 -- a buffer to which nothing was put
 abbrev pub fresh_buffer : ℕ → List Constant → BufferState
@@ -67,12 +67,12 @@ fresh_buffer n cs = record {
   branches = NoBranch;
   block_count = n;
   constants = cs;
-  failed = false;
+  is_poisoned = false;
 }
 
 -- a refused call leaves the mark, and all else as it was
 abbrev pub poisoned : BufferState → BufferState
-poisoned s = record s { failed = true }
+poisoned s = record s { is_poisoned = true }
 
 -- an error is the cause where there is one, else want of memory
 abbrev pub FailsWith : Option EmitError → EmitError → Type 0
@@ -89,19 +89,19 @@ label_limit = 4294967296
 
 -- a call that is refused for the mark alone
 abbrev pub mark_cause : BufferState → Option EmitError
-mark_cause s = cond s.failed (Some Failed) None
+mark_cause s = cond s.is_poisoned (Some Failed) None
 
 -- a call that appends so many bytes
 abbrev pub put_cause : BufferState → ℕ → Option EmitError
-put_cause s n = cond s.failed (Some Failed) (cond (nat_lt (length s.bytes + n) limit) None (Some LabelOutOfRange))
+put_cause s n = cond s.is_poisoned (Some Failed) (cond (nat_lt (length s.bytes + n) limit) None (Some LabelOutOfRange))
 
 -- a call that takes the next label
 abbrev pub draw_cause : BufferState → Option EmitError
-draw_cause s = cond s.failed (Some Failed) (cond (nat_lt (length s.labels) label_limit) None (Some LabelOutOfRange))
+draw_cause s = cond s.is_poisoned (Some Failed) (cond (nat_lt (length s.labels) label_limit) None (Some LabelOutOfRange))
 
 -- a call that names a label
 abbrev pub label_cause : BufferState → ℕ → Option EmitError
-label_cause s l = cond s.failed (Some Failed) (cond (nat_lt l (length s.labels)) None (Some UnboundLabel))
+label_cause s l = cond s.is_poisoned (Some Failed) (cond (nat_lt l (length s.labels)) None (Some UnboundLabel))
 
 -- whether each handler's label is one of so many
 abbrev pub labels_below : ℕ → List TryHandler → Bool
@@ -110,11 +110,11 @@ labels_below n (h ∷ hs) = nat_lt h.label.0 n && labels_below n hs
 
 -- a call that names the labels of handlers
 abbrev pub handlers_cause : BufferState → List TryHandler → Option EmitError
-handlers_cause s hs = cond s.failed (Some Failed) (cond (labels_below (length s.labels) hs) None (Some UnboundLabel))
+handlers_cause s hs = cond s.is_poisoned (Some Failed) (cond (labels_below (length s.labels) hs) None (Some UnboundLabel))
 
 -- a call that names a constant
 abbrev pub constant_cause : BufferState → ℕ → Option EmitError
-constant_cause s c = cond s.failed (Some Failed) (cond (nat_lt c (length s.constants)) None (Some UnboundLabel))
+constant_cause s c = cond s.is_poisoned (Some Failed) (cond (nat_lt c (length s.constants)) None (Some UnboundLabel))
 
 -- an alignment that a constant may have
 abbrev pub is_alignment : ℕ → Bool

@@ -55,7 +55,7 @@ pub struct MachBuffer {
     branches: RecordedBranches,
     block_count: u32,
     constants: Vec<ConstantData>,
-    failed: bool,
+    is_poisoned: bool,
 }
 
 impl Model for MachBuffer {
@@ -78,7 +78,7 @@ impl Model for MachBuffer {
       branches = b.branches;
       block_count = b.block_count;
       constants = list_map constant_of b.constants.items;
-      failed = b.failed;
+      is_poisoned = b.is_poisoned;
     } };
 
     ghost invariant = { λ b. (list_length b.bytes.items < limit) × (list_length b.labels.items ≤ label_limit) × (b.block_count + list_length b.constants.items ≤ list_length b.labels.items) };
@@ -128,15 +128,15 @@ impl MachBuffer {
             branches: RecordedBranches::NoBranch,
             block_count,
             constants,
-            failed: false,
+            is_poisoned: false,
         })
     }
 
-    /// Whether a call was refused, or `fail` was called.
-    pub fn is_failed(&self) -> bool
-        ensures { result ≡ self.now.failed }
+    /// Whether a call was refused, or `poison` was called.
+    pub fn is_poisoned(&self) -> bool
+        ensures { result ≡ self.now.is_poisoned }
     {
-        self.failed
+        self.is_poisoned
     }
 
     /// The length in bytes.
@@ -174,10 +174,10 @@ impl MachBuffer {
     }
 
     /// Marks the buffer.
-    pub fn fail(&mut self)
+    pub fn poison(&mut self)
         ensures { self.new ≡ poisoned self.old }
     {
-        self.failed = true;
+        self.is_poisoned = true;
     }
 
     // A refusal: the mark stands from now on.
@@ -185,7 +185,7 @@ impl MachBuffer {
         ensures { MatchResult result (λ _. false ≡ true)
             (λ x. (x ≡ e) × (self.new ≡ poisoned self.old)) }
     {
-        self.fail();
+        self.poison();
         Err(e)
     }
 
@@ -199,7 +199,7 @@ impl MachBuffer {
             × (self.new ≡ poisoned self.old)) }
         ensures kept { Extends self.old self.new }
     {
-        if self.failed {
+        if self.is_poisoned {
             return self.refuse(EmitError::Failed);
         }
         if bytes.len() >= LIMIT - self.bytes.len() {
@@ -285,10 +285,13 @@ impl MachBuffer {
     // Whether a code of any length is taken, into the room that is there.
     #[inline(always)]
     fn has_room(&self) -> bool
-        ensures { result ≡ true → (self.now.failed ≡ false) × (length self.now.bytes + 6 < limit) }
+        ensures { result ≡ true
+            → (self.now.is_poisoned ≡ false) × (length self.now.bytes + 6 < limit) }
     {
         let len = self.bytes.len();
-        !self.failed && len < LIMIT - LONGEST_CODE && self.bytes.capacity() - len >= LONGEST_CODE
+        !self.is_poisoned
+            && len < LIMIT - LONGEST_CODE
+            && self.bytes.capacity() - len >= LONGEST_CODE
     }
 
     /// Records a trap at the current offset. `Failed` comes where the buffer is poisoned, `NoMemory` for want of
@@ -304,7 +307,7 @@ impl MachBuffer {
             (λ e. FailsWith (mark_cause self.old) e × (self.new ≡ poisoned self.old)) }
         ensures kept { Extends self.old self.new }
     {
-        if self.failed {
+        if self.is_poisoned {
             return self.refuse(EmitError::Failed);
         }
         let offset = self.cur_offset();
@@ -360,7 +363,7 @@ impl MachBuffer {
             (λ e. FailsWith (mark_cause self.old) e × (self.new ≡ poisoned self.old)) }
         ensures kept { Extends self.old self.new }
     {
-        if self.failed {
+        if self.is_poisoned {
             return self.refuse(EmitError::Failed);
         }
         let entry = RelocEntry {
@@ -372,7 +375,7 @@ impl MachBuffer {
         match self.relocs.push(entry) {
             Ok(()) => Ok(()),
             Err(_) => {
-                self.failed = true;
+                self.is_poisoned = true;
                 Err(EmitError::NoMemory)
             }
         }
@@ -386,19 +389,19 @@ impl MachBuffer {
             (λ e. FailsWith (draw_cause self.old) e × (self.new ≡ poisoned self.old)) }
         ensures kept { Extends self.old self.new }
     {
-        if self.failed {
-            self.failed = true;
+        if self.is_poisoned {
+            self.is_poisoned = true;
             return Err(EmitError::Failed);
         }
         let label = self.labels.len();
         if label as u64 >= LABEL_LIMIT {
-            self.failed = true;
+            self.is_poisoned = true;
             return Err(EmitError::LabelOutOfRange);
         }
         match self.labels.push(None) {
             Ok(()) => Ok(MachLabel(label as u32)),
             Err(_) => {
-                self.failed = true;
+                self.is_poisoned = true;
                 Err(EmitError::NoMemory)
             }
         }
@@ -416,12 +419,12 @@ impl MachBuffer {
             × (self.new ≡ poisoned self.old)) }
         ensures kept { Extends self.old self.new }
     {
-        if self.failed {
-            self.failed = true;
+        if self.is_poisoned {
+            self.is_poisoned = true;
             return Err(EmitError::Failed);
         }
         if constant.0 as usize >= self.constants.len() {
-            self.failed = true;
+            self.is_poisoned = true;
             return Err(EmitError::UnboundLabel);
         }
         Ok(MachLabel(self.block_count + constant.0))
@@ -442,7 +445,7 @@ impl MachBuffer {
             (λ e. FailsWith (label_cause self.old label.0) e × (self.new ≡ poisoned self.old)) }
         ensures kept { ExtendsExcept label.0 self.old self.new }
     {
-        if self.failed {
+        if self.is_poisoned {
             return self.refuse(EmitError::Failed);
         }
         if label.0 as usize >= self.labels.len() {
@@ -471,7 +474,7 @@ impl MachBuffer {
             (λ e. FailsWith (label_cause self.old label.0) e × (self.new ≡ poisoned self.old)) }
         ensures kept { Extends self.old self.new }
     {
-        if self.failed {
+        if self.is_poisoned {
             return self.refuse(EmitError::Failed);
         }
         if label.0 as usize >= self.labels.len() {
@@ -501,7 +504,7 @@ impl MachBuffer {
             (λ e. FailsWith (mark_cause self.old) e × (self.new ≡ poisoned self.old)) }
         ensures kept { Extends self.old self.new }
     {
-        if self.failed {
+        if self.is_poisoned {
             return self.refuse(EmitError::Failed);
         }
         let offset = self.cur_offset();
@@ -534,7 +537,7 @@ impl MachBuffer {
             × (self.new ≡ poisoned self.old)) }
         ensures kept { Extends self.old self.new }
     {
-        if self.failed {
+        if self.is_poisoned {
             return self.refuse(EmitError::Failed);
         }
         if !all_below(handlers, self.labels.len()) {
@@ -569,7 +572,7 @@ impl MachBuffer {
             (λ e. FailsWith (mark_cause self.old) e × (self.new ≡ poisoned self.old)) }
         ensures kept { Extends self.old self.new }
     {
-        if self.failed {
+        if self.is_poisoned {
             return self.refuse(EmitError::Failed);
         }
         let offset = self.cur_offset();
@@ -591,7 +594,7 @@ impl MachBuffer {
             (λ e. FailsWith (mark_cause self.old) e × (self.new ≡ poisoned self.old)) }
         ensures kept { Extends self.old self.new }
     {
-        if self.failed {
+        if self.is_poisoned {
             return self.refuse(EmitError::Failed);
         }
         match self.stack_maps.push(MapEntry { offset, map }) {
@@ -613,7 +616,7 @@ impl MachBuffer {
             (λ e. FailsWith (mark_cause self.old) e × (self.new ≡ poisoned self.old)) }
         ensures kept { Extends self.old self.new }
     {
-        if self.failed {
+        if self.is_poisoned {
             return self.refuse(EmitError::Failed);
         }
         let offset = self.cur_offset();
@@ -642,7 +645,7 @@ impl MachBuffer {
             (λ e. FailsWith (mark_cause self.old) e × (self.new ≡ poisoned self.old)) }
         ensures kept { Extends self.old self.new }
     {
-        if self.failed {
+        if self.is_poisoned {
             return self.refuse(EmitError::Failed);
         }
         self.branches = with_jump(self.branches, start, end, target);
@@ -673,7 +676,7 @@ impl MachBuffer {
             (λ e. FailsWith (mark_cause self.old) e × (self.new ≡ poisoned self.old)) }
         ensures kept { Extends self.old self.new }
     {
-        if self.failed {
+        if self.is_poisoned {
             return self.refuse(EmitError::Failed);
         }
         let inverted = six_bytes(inverted);
@@ -694,7 +697,7 @@ impl MachBuffer {
             (λ e. FailsWith (mark_cause self.old) e × (self.new ≡ poisoned self.old)) }
         ensures kept { KeepsTables self.old self.new }
     {
-        if self.failed {
+        if self.is_poisoned {
             return self.refuse(EmitError::Failed);
         }
         match next {
@@ -731,7 +734,7 @@ impl MachBuffer {
         }
     }
 
-    // The same of a conditional branch and the one behind it.
+    // Folds a conditional branch and the one behind it.
     fn fold_both(
         &mut self,
         next: MachLabel,
@@ -802,7 +805,7 @@ impl MachBuffer {
             (λ e. FailsWithEither (length_cause self) (patch_cause self) e) }
         ensures branches { IfOk result (λ f. BranchesLead self f.bytes.items) }
     {
-        if self.failed {
+        if self.is_poisoned {
             return Err(EmitError::Failed);
         }
         let MachBuffer {
@@ -820,7 +823,7 @@ impl MachBuffer {
             branches: _,
             block_count,
             constants,
-            failed: _,
+            is_poisoned: _,
         } = self;
         if !constants_fit(bytes.len(), &constants) {
             return Err(EmitError::LabelOutOfRange);

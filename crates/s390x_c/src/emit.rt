@@ -3,7 +3,7 @@ ghost use Rattle.std.specs.Prelude.{◌≡◌, ◌⊎◌};
 ghost use Rattle.s390x_tables.specs.Buffers.{LieInPlace};
 ghost use Rattle.s390x_c.specs.Emit.{EmitsTo, EmitsJobTo, IsEmitCall, IsEmitted};
 
-use crate::refused::refused;
+use crate::refused::refusal_status;
 use s390x_base::EmitError;
 use s390x_calls::{MOST_BYTES, Reason, Status};
 use s390x_emit_int::emit_function;
@@ -87,6 +87,6 @@ fn emit_job(
             }
         }
         Err(EmitError::NoMemory) => Status::NoMemory,
-        Err(_) => refused(alloc, job, reason),
+        Err(_) => refusal_status(alloc, job, reason),
     }
 }

@@ -3,7 +3,7 @@ ghost use Rattle.std.specs.Prelude.{◌≡◌, ◌⊎◌, IfOk};
 ghost use Rattle.s390x_image.specs.Symbols.{no_symbols};
 ghost use Rattle.s390x_c.specs.Image.{IsImageCall, IsLinked, IsRefusalOf, LinksJobTo, LinksTo, MayRefuse, with_lines};
 
-use crate::refused::refused;
+use crate::refused::refusal_status;
 use s390x_base::{EmitError, NoMemory};
 use s390x_calls::{MOST_BYTES, Place, Reason, Status, put_entries};
 use s390x_emit_int::{ImageError, emit_image};
@@ -112,7 +112,7 @@ fn refusal(alloc: Global, job: &Job, error: ImageError, reason: &mut Reason) -> 
         ImageError::Refused(EmitError::NoMemory) | ImageError::Link(LinkError::NoMemory) => {
             Status::NoMemory
         }
-        ImageError::Refused(_) => refused(alloc, job, reason),
+        ImageError::Refused(_) => refusal_status(alloc, job, reason),
         ImageError::Link(error) => {
             *reason = Reason::by_cause(error.number(), Place::none());
             Status::LinkRefused

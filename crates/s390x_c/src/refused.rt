@@ -10,7 +10,7 @@ use std::alloc::Global;
 
 /// The first cause by which emission refuses the job's function, and where it stands.
 #[tactic(auto, using(crate::proofs::Answering::refusal_told))]
-pub fn refused(alloc: Global, job: &Job, reason: &mut Reason) -> Status
+pub fn refusal_status(alloc: Global, job: &Job, reason: &mut Reason) -> Status
     requires { job_cause job.now ≢ None }
     ensures { IsRefusalTold job.now reason.old reason.new result }
 {

@@ -3,7 +3,7 @@ ghost use Rattle.std.specs.Prelude.{◌≡◌, ◌⊎◌, None};
 ghost use Rattle.s390x_c.specs.Refused.{job_cause};
 ghost use Rattle.s390x_c.specs.Show.{IsShowCall, IsShown, PutsTexts, ShowsJobTo, ShowsTo, texts_of};
 
-use crate::refused::refused;
+use crate::refused::refusal_status;
 use s390x_base::EmitError;
 use s390x_calls::{MOST_BYTES, Reason, Status, put_entries};
 use s390x_emit_int::emit_function;
@@ -82,7 +82,7 @@ fn show_job(
             put_texts(alloc, job, out, count)
         }
         Err(EmitError::NoMemory) => Status::NoMemory,
-        Err(_) => refused(alloc, job, reason),
+        Err(_) => refusal_status(alloc, job, reason),
     }
 }
 

@@ -80,12 +80,12 @@ fn at_line(line: u32) -> PlanReason
 {
     PlanReason {
         line,
-        ..told(0, 0, 0, 0)
+        ..plan_reason(0, 0, 0, 0)
     }
 }
 
 // A fault with its numbers.
-fn told(fault: u32, block: u32, index: u32, operand: u32) -> PlanReason
+fn plan_reason(fault: u32, block: u32, index: u32, operand: u32) -> PlanReason
     ensures { result ≡ told_fault fault block index operand }
 {
     PlanReason {
@@ -103,27 +103,27 @@ fn fault_reason(fault: PlanFault) -> PlanReason
     ensures { result ≡ reason_of_fault fault }
 {
     match fault {
-        PlanFault::Blocks => told(1, 0, 0, 0),
-        PlanFault::Unsupported { block, inst } => told(2, block, inst, 0),
-        PlanFault::Shape { block, inst } => told(3, block, inst, 0),
-        PlanFault::Order { block, edit } => told(4, block, edit, 0),
+        PlanFault::Blocks => plan_reason(1, 0, 0, 0),
+        PlanFault::Unsupported { block, inst } => plan_reason(2, block, inst, 0),
+        PlanFault::Shape { block, inst } => plan_reason(3, block, inst, 0),
+        PlanFault::Order { block, edit } => plan_reason(4, block, edit, 0),
         PlanFault::Operands { block, edit, cause } => PlanReason {
             cause: u32::from(operand_error_number(cause)),
-            ..told(5, block, edit, 0)
+            ..plan_reason(5, block, edit, 0)
         },
-        PlanFault::Count { block, edit } => told(6, block, edit, 0),
+        PlanFault::Count { block, edit } => plan_reason(6, block, edit, 0),
         PlanFault::Constraint {
             block,
             edit,
             operand,
-        } => told(7, block, edit, operand),
-        PlanFault::Move { block, edit } => told(8, block, edit, 0),
+        } => plan_reason(7, block, edit, operand),
+        PlanFault::Move { block, edit } => plan_reason(8, block, edit, 0),
         PlanFault::Value {
             block,
             edit,
             operand,
-        } => told(9, block, edit, operand),
-        PlanFault::Entry { block, pair } => told(10, block, pair, 0),
-        PlanFault::NoMemory => told(11, 0, 0, 0),
+        } => plan_reason(9, block, edit, operand),
+        PlanFault::Entry { block, pair } => plan_reason(10, block, pair, 0),
+        PlanFault::NoMemory => plan_reason(11, 0, 0, 0),
     }
 }

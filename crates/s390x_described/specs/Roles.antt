@@ -100,7 +100,7 @@ each_role f (x ∷ xs) s = ((f x s).0 ∷ (each_role f xs (f x s).1).0, (each_ro
 abbrev pub described_again : {T St : Type 0} → (Role → St → Role × St) → Described T → St → T × St
 described_again f d s = (d.again (each_role f d.roles s).0, (each_role f d.roles s).1)
 
--- the same where there is a description
+-- an instruction with other registers, where there is a description
 abbrev pub again_or_none : {T St : Type 0} → (Role → St → Role × St) → Option (Described T) → St → Option T × St
 again_or_none f None s = (None, s)
 again_or_none f (Some d) s = (Some (described_again f d s).0, (described_again f d s).1)

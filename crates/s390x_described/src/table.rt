@@ -165,7 +165,7 @@ macro_rules! again {
     };
 }
 
-/// The same of an instruction on vector or float registers.
+/// An instruction on vector or float registers with others, where it is in the table; else what is said instead.
 macro_rules! vector_again {
     (($inst:expr, $r:expr) $($n:ident { $($f:ident : $m:ident),* })*) => {
         match $inst {

@@ -41,7 +41,7 @@ pub record IsSpelled (a : ℕ) (row : MachineRow) (s : List ℕ × Suffix × For
 abbrev pub IsSpelledRead : ℕ → MachineRow → List ℕ × Suffix × Form → List ℕ → List ℕ → List ℕ → Type 0
 IsSpelledRead a row s m text bytes = (values more : List ℕ) → IsSpelled a row s values m text more → bytes ≡ encode row.format values
 
--- the same of the row that the mnemonic names
+-- the bytes are those of values with which the row that the mnemonic names is spelled
 abbrev pub IsRowRead : ℕ → List (List ℕ × Suffix × Form) → List MachineRow → List ℕ → List ℕ → List ℕ → Type 0
 IsRowRead a ss rows m text bytes =
     (at : ℕ) → at < length ss → at < length rows → row_named ss m ≡ at → IsSpelledRead a (get_or rows at no_row) (get_or ss at no_spelling) m text bytes
@@ -60,6 +60,6 @@ IsGroupRead size text bytes =
 abbrev pub IsBareRead : ℕ → List ℕ → List ℕ → Type 0
 IsBareRead a text bytes = (u : List ℕ) (x : Option Located) (more : List ℕ) → IsBytes u → is_unit u ≡ true → IsFound u x → text ≡ found_text a u x ++ (10 ∷ more) → bytes ≡ u
 
--- the same where it is an instruction's
+-- the bytes are those of the instruction of which the first line is written
 abbrev pub IsInstructionRead : ℕ → List ℕ → List ℕ → Type 0
 IsInstructionRead a text bytes = (u : List ℕ) (l : Located) (more : List ℕ) → is_unit u ≡ true → IsLocated u l → text ≡ found_text a u (Some l) ++ (10 ∷ more) → bytes ≡ u

@@ -33,7 +33,7 @@ abbrev pub is_unsigned : Imm → Bool
 is_unsigned ClassUnsigned = true
 is_unsigned _ = false
 
--- the same, or one of 16 bits with its sign
+-- an immediate whose sign its format doesn't tell, or one of 16 bits with its sign
 abbrev pub is_number : Imm → Bool
 is_number ClassUnsigned = true
 is_number ClassSigned16 = true

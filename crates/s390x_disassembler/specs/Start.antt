@@ -21,7 +21,7 @@ least_of _ = 0
 abbrev pub row_value : MachineRow → ℕ → ℕ
 row_value row k = if k == 0 then row.opcode else (if k == 5 then least_of row.allowed else 0)
 
--- the same, where letters at a place of the suffix's table are given
+-- the value in a slot where letters at a place of the suffix's table give it, else the known one
 abbrev pub told_value : Suffix → ℕ → ℕ → ℕ → ℕ
 told_value Plain p k known = known
 told_value ThirdSize p k known = if k == 7 then p else known

@@ -92,7 +92,7 @@ pairs_text separator [] = []
 pairs_text separator (b ∷ []) = []
 pairs_text separator (b ∷ c ∷ bs) = separator ∷ (48 ∷ (120 ∷ (encode_lower (b ∷ c ∷ []) ++ pairs_text 44 bs)))
 
--- the same one by one
+-- some bytes one by one, each behind a separator, the first of which is given
 abbrev pub bytes_text : ℕ → List ℕ → List ℕ
 bytes_text separator [] = []
 bytes_text separator (b ∷ bs) = separator ∷ (48 ∷ (120 ∷ (encode_lower (b ∷ []) ++ bytes_text 44 bs)))

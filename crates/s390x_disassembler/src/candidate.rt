@@ -8,7 +8,7 @@ ghost use Rattle.s390x_disassembler.specs.Bare.{IsBareRead, IsGroupRead, IsInstr
 
 use crate::forms::operands;
 use crate::reading::put_operands;
-use crate::scan::{begins, behind, head, hex_bytes, word};
+use crate::scan::{begins, head, hex_bytes, text_behind, word};
 use crate::spelling::letter_table;
 use arrayvec::ArrayVec;
 use s390x_format::{
@@ -23,7 +23,7 @@ pub fn candidate(alloc: Global, address: u64, text: &[u8]) -> Result<Vec<u8>, Al
     ensures { IfOk result (λ bytes. IsBareRead address text.now bytes.items) }
 {
     let mnemonic = word(text);
-    let rest = behind(text, mnemonic.len());
+    let rest = text_behind(text, mnemonic.len());
     if mnemonic == b".short".as_slice() {
         groups(alloc, 2, rest)
     } else if mnemonic == b".byte".as_slice() {
@@ -40,7 +40,7 @@ pub fn instruction_bytes(address: u64, text: &[u8]) -> ArrayVec<u8, 6>
     ensures { IsInstructionRead address text.now result.items }
 {
     let mnemonic = word(text);
-    let rest = behind(text, mnemonic.len());
+    let rest = text_behind(text, mnemonic.len());
     named_bytes(address, &SPELLINGS, &MACHINE_ROWS, mnemonic, rest)
 }
 
@@ -92,7 +92,7 @@ fn may_name(spelling: Spelling, mnemonic: &[u8]) -> bool
 {
     let (stem, suffix, _) = spelling;
     let stem = stem.as_bytes();
-    let letters = behind(mnemonic, stem.len());
+    let letters = text_behind(mnemonic, stem.len());
     mnemonic.starts_with(stem) && is_ending(suffix, letters)
 }
 
@@ -130,7 +130,7 @@ fn row_bytes(
         result.items }
 {
     let (stem, suffix, form) = spelling;
-    let letters = behind(mnemonic, stem.as_bytes().len());
+    let letters = text_behind(mnemonic, stem.as_bytes().len());
     let mut slots = start(row, suffix, place(letter_table(suffix), letters));
     put_operands(&mut slots, address, row.format, operands(form), text);
     bytes_of(row.format, &slots)
@@ -209,10 +209,10 @@ fn groups(alloc: Global, size: usize, text: &[u8]) -> Result<Vec<u8>, AllocError
     let mut separator = b' ';
     let mut rest = text;
     while begins(rest, separator) {
-        let digits = behind(rest, 3);
+        let digits = text_behind(rest, 3);
         let group = hex_bytes(alloc, head(digits, 2 * size))?;
         bytes.extend_from_slice(&group)?;
-        rest = behind(digits, 2 * size);
+        rest = text_behind(digits, 2 * size);
         separator = b',';
     }
     Ok(bytes)

@@ -42,7 +42,7 @@ fn address_text(alloc: Global, address: u64) -> Result<String, AllocError>
     Ok(out)
 }
 
-// The same of a text that begins with its address; the rest stands behind that.
+// The bytes of the first line of a text that begins with its address, behind which `rest` stands, and what stands behind the line.
 fn with_columns<'a>(
     alloc: Global,
     address: u64,
@@ -64,7 +64,7 @@ fn with_columns<'a>(
     }
 }
 
-// The same of a text that doesn't.
+// The bytes of the first line of a text that doesn't begin with its address, and what stands behind the line.
 fn without_columns(
     alloc: Global,
     address: u64,
@@ -127,7 +127,7 @@ fn full_line(
     Ok(out)
 }
 
-// The same without the address and the bytes.
+// The line of some bytes at an address, without the address and the bytes.
 fn bare_line(
     alloc: Global,
     address: u64,

@@ -28,7 +28,7 @@ pub fn assembled_line(address: u64, line: &[u8]) -> Option<ArrayVec<u8, 6>>
     }
 }
 
-// The same of a line that has room.
+// The bytes of the instruction with a line that has room.
 fn short_line(address: u64, line: &[u8]) -> Option<ArrayVec<u8, 6>>
     requires { length line.now < 96 }
     ensures code { IfSome result (λ bytes. IsInstructionLine address line.now bytes.items) }

@@ -6,7 +6,7 @@ ghost use Rattle.s390x_disassembler.specs.declared.forms.Operand.TheVariants.{In
 ghost use Rattle.s390x_disassembler.specs.Operands.{AreRead, AreRegisters, IsRead, IsSet, half_width};
 
 use crate::forms::Operand;
-use crate::scan::{begins, behind, digits, number};
+use crate::scan::{begins, digits, number, text_behind};
 use s390x_format::{FormatKind, Imm, imm_class};
 
 /// Puts the values of a text's operands into their slots.
@@ -90,7 +90,7 @@ fn put_target<'a>(
     ensures ten { length slots.new ≡ 10 }
     ensures read { IsRead format address Target text.now slots.old slots.new result.now }
 {
-    let (target, rest) = digits(16, behind(text, 3));
+    let (target, rest) = digits(16, text_behind(text, 3));
     set(slots, 8, half_bits(format, target.wrapping_sub(address)));
     rest
 }
@@ -156,7 +156,7 @@ fn registers(text: &[u8]) -> (u32, u32, &[u8])
     }
 }
 
-// The same where a bracket opens.
+// The registers of an address where a bracket opens.
 #[tactic(auto, using(crate::proofs::Registers::two_written, crate::proofs::Registers::one_written))]
 fn written_registers(text: &[u8]) -> (u32, u32, &[u8])
     requires { begins_with 40 text.now ≡ true }
@@ -165,9 +165,9 @@ fn written_registers(text: &[u8]) -> (u32, u32, &[u8])
     let (first, rest) = number(text);
     if begins(rest, b',') {
         let (second, rest) = number(rest);
-        (low(first), low(second), behind(rest, 1))
+        (low(first), low(second), text_behind(rest, 1))
     } else {
-        (0, low(first), behind(rest, 1))
+        (0, low(first), text_behind(rest, 1))
     }
 }
 

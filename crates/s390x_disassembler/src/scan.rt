@@ -36,7 +36,7 @@ pub fn word(text: &[u8]) -> &[u8]
 }
 
 /// What stands behind a number of bytes.
-pub fn behind(text: &[u8], count: usize) -> &[u8]
+pub fn text_behind(text: &[u8], count: usize) -> &[u8]
     ensures { result.now ≡ drop count text.now }
 {
     if count <= text.len() {
@@ -62,7 +62,7 @@ pub fn number(text: &[u8]) -> (u64, &[u8])
     ensures value { result.0 ≡ signed_read (number_on text.now) }
     ensures rest { result.1.now ≡ signed_left (number_on text.now) }
 {
-    signed_number(behind(text, number_start(text)))
+    signed_number(text_behind(text, number_start(text)))
 }
 
 // The bits of the number with which a text begins, and what stands behind it.
@@ -72,7 +72,7 @@ fn signed_number(text: &[u8]) -> (u64, &[u8])
     ensures rest { result.1.now ≡ signed_left text.now }
 {
     if first(text) == b'-' {
-        let (value, rest) = digits(10, behind(text, 1));
+        let (value, rest) = digits(10, text_behind(text, 1));
         (value.wrapping_neg(), rest)
     } else {
         digits(10, text)

@@ -90,7 +90,7 @@ sections_with alignment entries relocations text names =
 abbrev pub sections_by : List Symbol → (alignment : ℕ) (relocations text : List ℕ) → List Section
 sections_by ss alignment relocations text = sections_with alignment (symbol_entry 0 null_symbol ++ symbol_entries 1 ss) relocations text (0 ∷ string_table ss)
 
--- the same with the entries of these relocations
+-- the sections of an object of a text with these global symbols and the entries of these relocations
 abbrev pub object_sections : Naming → List Symbol → (alignment : ℕ) (text : List ℕ) → List RelocEntry → List Section
 object_sections named ss alignment text rs = sections_by ss alignment (relocation_entries named ss rs) text
 

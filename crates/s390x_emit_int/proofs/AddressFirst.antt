@@ -24,13 +24,13 @@ use Rattle.s390x_typed_steps.specs.Tree.{StepBody, Whole, Loaded, leaf, empty}
 use Rattle.s390x_emit_int.specs.Emission.{body_fragments, part_fragments}
 use Rattle.s390x_emit_int.specs.Fragments.{apply_all}
 use Rattle.s390x_emit_int.specs.Loaded.{loaded_for}
-use Rattle.s390x_emit_int.specs.Room.{MembersPassed, LacksMemory}
+use Rattle.s390x_emit_int.specs.Room.{MembersFit, OnlyOutOfMemory}
 use Rattle.s390x_emit_int.specs.Sequence.{EmitsOwn, ChecksTree}
-use Rattle.s390x_emit_int.specs.Totals.{Adds}
-use Rattle.s390x_emit_int.specs.declared.check.Totals.{Totals}
+use Rattle.s390x_emit_int.specs.CodeSize.{Adds}
+use Rattle.s390x_emit_int.specs.declared.check.CodeSize.{CodeSize}
 use Rattle.s390x_emit_int.proofs.Bodies.{body_passed}
 use Rattle.s390x_emit_int.proofs.Emitting.{both_none}
-use Rattle.s390x_emit_int.proofs.Lacking.{put_none}
+use Rattle.s390x_emit_int.proofs.OnlyMemory.{put_none}
 use Rattle.s390x_emit_int.proofs.Resolving.{memory_resolved, relative_in_state, lacks_resolved, mask_resolved}
 use Rattle.s390x_emit_int.proofs.Sequence.{reaches_same, own_done, own_failed, counts_step, counts_done, step_stops}
 
@@ -151,7 +151,7 @@ pub loaded_size : (e : Emission) (i : Inst) (x : MemoryInstruction) → Some x �
 loaded_size e i x is = ap (λ o. parts_size (memory_or o [])) (other_found e i x is)
 
 pub loaded_passed : (flags : IsaFlags) (e : Emission) (s : BufferState) (after depth : ℕ) (i : Inst) (x : MemoryInstruction) → Some x ≡ loaded_memory i →
-    MembersPassed s after depth (body_size (Loaded (resolved_instruction e i))) (loaded_cause flags (declared_in s) (length s.labels) (resolved_instruction e i)) → (put_cause s (parts_size (memory_parts (in_state e x))) ≡ None) × (memory_cause (declared_in s) (in_state e x) ≡ None)
+    MembersFit s after depth (body_size (Loaded (resolved_instruction e i))) (loaded_cause flags (declared_in s) (length s.labels) (resolved_instruction e i)) → (put_cause s (parts_size (memory_parts (in_state e x))) ≡ None) × (memory_cause (declared_in s) (in_state e x) ≡ None)
 loaded_passed flags e s after depth i x is p =
     let j = resolved_instruction e i in
     let size = loaded_size e i x is in
@@ -170,7 +170,7 @@ pub access_size : (flags : IsaFlags) (D : Declared) (e : Emission) (i : Inst) (x
 access_size flags D e i x size is none found =
     found (sym (own_of e D i x is) ∙ first_right (facility_cause flags (resolved_instruction e i)) _ none) ∙ sym (loaded_size e i x is)
 
-pub loaded_adds : (flags : IsaFlags) (D : Declared) (t : Totals) (e : Emission) (i : Inst) (size : ℕ) (result : Result Totals EmitError) → outer_and_own flags D (resolved_instruction e i) ≡ None → size ≡ body_size (Loaded (resolved_instruction e i)) →
+pub loaded_adds : (flags : IsaFlags) (D : Declared) (t : CodeSize) (e : Emission) (i : Inst) (size : ℕ) (result : Result CodeSize EmitError) → outer_and_own flags D (resolved_instruction e i) ≡ None → size ≡ body_size (Loaded (resolved_instruction e i)) →
     MatchResult result (λ r. (numbers_cause t.labels 0 ≡ None) × Adds t r 0 size) (λ y. numbers_cause t.labels 0 ≡ Some y) →
     MatchResult result (λ r. (loaded_cause flags D t.labels (resolved_instruction e i) ≡ None) × Adds t r 0 (body_size (Loaded (resolved_instruction e i)))) (λ y. loaded_cause flags D t.labels (resolved_instruction e i) ≡ Some y)
 loaded_adds flags D t e i size (Ok r) none same h = (ap (λ o. first_emit_cause o (numbers_cause t.labels 0)) none ∙ h.0, subst (λ m. Adds t r 0 m) same h.1)
@@ -192,13 +192,13 @@ loaded_range e i x is r = (mask_resolved e i (loaded_mask i x is), subst MemoryI
 -- ---- one body as a tree
 
 pub body_emits : {T : Type 0} (flags : IsaFlags) (s t : BufferState) (after depth nominal : ℕ) (b : StepBody) (r : Result T EmitError) → OnOk r ((body_cause flags (declared_in s) (length s.labels) nominal depth b ≡ None) × (t ≡ apply_all s (body_fragments (length s.labels) after b))) →
-    (MembersPassed s after depth (body_size b) (body_cause flags (declared_in s) (length s.labels) nominal depth b) → LacksMemory r) → OnOk r (BodyInRange b) → Extends s t → EmitsOwn flags s t after depth nominal (leaf b empty) r
-body_emits flags s t after depth nominal b (Ok x) own lacks range kept =
+    (MembersFit s after depth (body_size b) (body_cause flags (declared_in s) (length s.labels) nominal depth b) → OnlyOutOfMemory r) → OnOk r (BodyInRange b) → Extends s t → EmitsOwn flags s t after depth nominal (leaf b empty) r
+body_emits flags s t after depth nominal b (Ok x) own only_memory range kept =
     let m = body_nominal_after nominal b in
     own_done flags s t t after depth nominal m b empty x own.1 own.0 range kept (reaches_same flags t after depth m empty) (extends_same t)
-body_emits flags s t after depth nominal b (Err y) own lacks range kept = own_failed flags s t after depth nominal (leaf b empty) y (λ p. lacks (body_passed flags s after nominal depth b empty p)) kept
+body_emits flags s t after depth nominal b (Err y) own only_memory range kept = own_failed flags s t after depth nominal (leaf b empty) y (λ p. only_memory (body_passed flags s after nominal depth b empty p)) kept
 
-pub body_checks : (flags : IsaFlags) (D : Declared) (t : Totals) (depth nominal : ℕ) (b : StepBody) (result : Result Totals EmitError) → MatchResult result (λ r. (body_cause flags D t.labels nominal depth b ≡ None) × Adds t r (body_fresh_labels b) (body_size b)) (λ e. body_cause flags D t.labels nominal depth b ≡ Some e) →
+pub body_checks : (flags : IsaFlags) (D : Declared) (t : CodeSize) (depth nominal : ℕ) (b : StepBody) (result : Result CodeSize EmitError) → MatchResult result (λ r. (body_cause flags D t.labels nominal depth b ≡ None) × Adds t r (body_fresh_labels b) (body_size b)) (λ e. body_cause flags D t.labels nominal depth b ≡ Some e) →
     ChecksTree flags D t depth nominal (leaf b empty) result
 body_checks flags D t depth nominal b (Ok r) h = counts_done flags D t r depth nominal (body_nominal_after nominal b) (leaf b empty) h.1.counted (counts_step flags D t r depth nominal b empty h.0 h.1)
 body_checks flags D t depth nominal b (Err e) h = inr (step_stops flags D t.labels depth nominal b empty e h)

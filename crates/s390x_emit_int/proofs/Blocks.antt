@@ -18,18 +18,18 @@ use Rattle.s390x_typed_steps.proofs.Causes.{first_left, first_right}
 use Rattle.s390x_emit_int.specs.Fragments.{Bind, apply, apply_all}
 use Rattle.s390x_emit_int.specs.Emission.{fragments}
 use Rattle.s390x_emit_int.specs.Function.{tree_of}
-use Rattle.s390x_emit_int.specs.Room.{HasRoom, MembersPassed, TreePassed}
+use Rattle.s390x_emit_int.specs.Room.{HasRoom, MembersFit, TreeFits}
 use Rattle.s390x_emit_int.proofs.Emitting.{both_none}
 use Rattle.s390x_emit_int.proofs.Passing.{turns_declared, bind_turns, tree_turns}
 
 -- the blocks that are left have no cause and fit
 pub record BlocksPassed (flags : IsaFlags) (s : BufferState) (D : Declared) (k : ℕ) (ts : List Tree) : Type 0 where
-  pub unpoisoned : s.failed ≡ false
+  pub unpoisoned : s.is_poisoned ≡ false
   pub declared : declared_in s ≡ D
   pub short : peak_from k (length s.bytes) ts < limit
   pub passed : blocks_cause flags D (length s.labels) ts ≡ None
 
-pub all_passed : (flags : IsaFlags) (s : BufferState) (ts : List Tree) → s.failed ≡ false → peak_from 0 (length s.bytes) ts < limit → blocks_cause flags (declared_in s) (length s.labels) ts ≡ None → BlocksPassed flags s (declared_in s) 0 ts
+pub all_passed : (flags : IsaFlags) (s : BufferState) (ts : List Tree) → s.is_poisoned ≡ false → peak_from 0 (length s.bytes) ts < limit → blocks_cause flags (declared_in s) (length s.labels) ts ≡ None → BlocksPassed flags s (declared_in s) 0 ts
 all_passed flags s ts unpoisoned short cause = record { unpoisoned = unpoisoned; declared = refl; short = short; passed = cause }
 
 -- the blocks that are left are no longer than all were
@@ -51,7 +51,7 @@ split_at flags state bs k v lt at =
 
 -- the next block
 pub block_passed : (state : Emission) (flags : IsaFlags) (bs : List Block) (k : ℕ) (D : Declared) (v : Block) (s s1 : BufferState) → k < length bs → v ≡ get_or bs k v → s1 ≡ apply s (Bind k) → k < s.block_count → HasRoom s → BlocksPassed flags s D k (map (tree_of flags state) (drop k bs)) →
-    MembersPassed s1 0 0 (tree_size (tree_of flags state v)) (block_cause flags (declared_in s1) (length s1.labels) (tree_of flags state v))
+    MembersFit s1 0 0 (tree_size (tree_of flags state v)) (block_cause flags (declared_in s1) (length s1.labels) (tree_of flags state v))
 block_passed state flags bs k D v s s1 lt at e below room p =
     let t = tree_of flags state v in
     let rest = map (tree_of flags state) (drop (k + 1) bs) in
@@ -67,16 +67,16 @@ block_passed state flags bs k D v s s1 lt at e below room p =
     }
 
 -- the members of a block that passes
-pub members_passed : (flags : IsaFlags) (s : BufferState) (nominal : ℕ) (t x : Tree) → nominal ≡ 0 → x ≡ t → MembersPassed s 0 0 (tree_size t) (block_cause flags (declared_in s) (length s.labels) t) → TreePassed flags s 0 nominal 0 x
+pub members_passed : (flags : IsaFlags) (s : BufferState) (nominal : ℕ) (t x : Tree) → nominal ≡ 0 → x ≡ t → MembersFit s 0 0 (tree_size t) (block_cause flags (declared_in s) (length s.labels) t) → TreeFits flags s 0 nominal 0 x
 members_passed flags s nominal t x start same p =
-    let q : TreePassed flags s 0 0 0 t = record {
+    let q : TreeFits flags s 0 0 0 t = record {
       unpoisoned = p.unpoisoned;
       blocks = p.blocks;
       label = p.label;
       short = p.short;
       passed = first_left (tree_cause flags (declared_in s) (length s.labels) 0 0 t) _ p.passed;
     } in
-    subst (λ m. TreePassed flags s 0 m 0 x) (sym start) (subst (λ y. TreePassed flags s 0 0 0 y) (sym same) q)
+    subst (λ m. TreeFits flags s 0 m 0 x) (sym start) (subst (λ y. TreeFits flags s 0 0 0 y) (sym same) q)
 
 -- a block whose members have no cause, and which ends at the nominal size 0, has none
 pub block_none : (flags : IsaFlags) (D : Declared) (n nominal end : ℕ) (t x : Tree) → nominal ≡ 0 → x ≡ t → tree_cause flags D n nominal 0 x ≡ None → end ≡ nominal_behind nominal x → unless (nat_eq end 0) BadStackState ≡ None → block_cause flags D n t ≡ None

@@ -15,9 +15,9 @@ use Rattle.s390x_typed_steps.proofs.Causes.{first_left, first_right}
 use Rattle.s390x_typed_steps.proofs.Trees.{joined}
 use Rattle.s390x_emit_int.specs.Emission.{body_fragments, fragments, own_fragments}
 use Rattle.s390x_emit_int.specs.Fragments.{StartStep, apply, apply_all}
-use Rattle.s390x_emit_int.specs.Room.{HasRoom, MembersPassed, TreePassed}
-use Rattle.s390x_emit_int.specs.Totals.{Adds, code_limit}
-use Rattle.s390x_emit_int.specs.declared.check.Totals.{Totals}
+use Rattle.s390x_emit_int.specs.Room.{HasRoom, MembersFit, TreeFits}
+use Rattle.s390x_emit_int.specs.CodeSize.{Adds, code_limit}
+use Rattle.s390x_emit_int.specs.declared.check.CodeSize.{CodeSize}
 use Rattle.s390x_emit_int.proofs.Checking.{GoesOn, capped}
 use Rattle.s390x_emit_int.proofs.Passing.{Turns, turns_declared}
 use Rattle.s390x_emit_int.proofs.Runs.{run-append, body_grows}
@@ -52,7 +52,7 @@ pub body_turns : (b : StepBody) (s t : BufferState) (n after : ℕ) → n ≡ le
 body_turns b s t n after en e =
     let g = body_grows b s n after en in
     let same = same_run (body_fragments n after b) s in
-    record { unpoisoned = ap (λ x. x.failed) e ∙ same.failed; blocks = ap (λ x. x.block_count) e ∙ same.block_count; constants = ap (λ x. x.constants) e ∙ same.constants; labels = ap (λ x. length x.labels) e ∙ g.labels; bytes = ap (λ x. length x.bytes) e ∙ g.bytes }
+    record { unpoisoned = ap (λ x. x.is_poisoned) e ∙ same.is_poisoned; blocks = ap (λ x. x.block_count) e ∙ same.block_count; constants = ap (λ x. x.constants) e ∙ same.constants; labels = ap (λ x. length x.labels) e ∙ g.labels; bytes = ap (λ x. length x.bytes) e ∙ g.bytes }
 
 -- the first of an instruction's steps, whose offset stands already, and the rest
 pub first_run : (b : StepBody) (rest : Tree) (s t : BufferState) (after : ℕ) → t ≡ apply_all s (body_fragments (length s.labels) after b) →
@@ -77,16 +77,16 @@ body_room b s t n after en e room =
 
 -- ---- what the check let pass
 
-pub body_passed : (flags : IsaFlags) (s : BufferState) (after nominal depth : ℕ) (b : StepBody) (rest : Tree) → TreePassed flags s after nominal depth (leaf b rest) → MembersPassed s after depth (body_size b) (body_cause flags (declared_in s) (length s.labels) nominal depth b)
+pub body_passed : (flags : IsaFlags) (s : BufferState) (after nominal depth : ℕ) (b : StepBody) (rest : Tree) → TreeFits flags s after nominal depth (leaf b rest) → MembersFit s after depth (body_size b) (body_cause flags (declared_in s) (length s.labels) nominal depth b)
 body_passed flags s after nominal depth b rest p = record { unpoisoned = p.unpoisoned; blocks = p.blocks; label = p.label; short = omega (arith, p.short); passed = first_left _ _ p.passed }
 
 -- a step's offset changes nothing of it
-pub started_passed : (flags : IsaFlags) (s t : BufferState) (after nominal depth : ℕ) (x : Tree) → t ≡ apply s StartStep → TreePassed flags s after nominal depth x → TreePassed flags t after nominal depth x
+pub started_passed : (flags : IsaFlags) (s t : BufferState) (after nominal depth : ℕ) (x : Tree) → t ≡ apply s StartStep → TreeFits flags s after nominal depth x → TreeFits flags t after nominal depth x
 started_passed flags s t after nominal depth x e p =
-    let here : TreePassed flags (apply s StartStep) after nominal depth x = record { unpoisoned = p.unpoisoned; blocks = p.blocks; label = p.label; short = p.short; passed = p.passed } in
-    subst (λ y. TreePassed flags y after nominal depth x) (sym e) here
+    let here : TreeFits flags (apply s StartStep) after nominal depth x = record { unpoisoned = p.unpoisoned; blocks = p.blocks; label = p.label; short = p.short; passed = p.passed } in
+    subst (λ y. TreeFits flags y after nominal depth x) (sym e) here
 
-pub rest_passed : (flags : IsaFlags) (s t : BufferState) (after nominal depth : ℕ) (b : StepBody) (rest : Tree) → t ≡ apply_all s (body_fragments (length s.labels) after b) → TreePassed flags s after nominal depth (leaf b rest) → TreePassed flags t after (body_nominal_after nominal b) depth rest
+pub rest_passed : (flags : IsaFlags) (s t : BufferState) (after nominal depth : ℕ) (b : StepBody) (rest : Tree) → t ≡ apply_all s (body_fragments (length s.labels) after b) → TreeFits flags s after nominal depth (leaf b rest) → TreeFits flags t after (body_nominal_after nominal b) depth rest
 rest_passed flags s t after nominal depth b rest e p =
     let u = body_turns b s t (length s.labels) after refl e in
     let m = body_nominal_after nominal b in
@@ -113,7 +113,7 @@ rest_cause flags s t after nominal depth b rest e none =
 -- ---- the check
 
 -- behind a body without a cause it goes on
-pub body_goes_on : (flags : IsaFlags) (D : Declared) (nominal depth : ℕ) (sum r : Totals) (b : StepBody) (rest : Tree) → body_cause flags D sum.labels nominal depth b ≡ None → Adds sum r (body_fresh_labels b) (body_size b) → GoesOn flags D depth sum r nominal (body_nominal_after nominal b) rest (leaf b rest)
+pub body_goes_on : (flags : IsaFlags) (D : Declared) (nominal depth : ℕ) (sum r : CodeSize) (b : StepBody) (rest : Tree) → body_cause flags D sum.labels nominal depth b ≡ None → Adds sum r (body_fresh_labels b) (body_size b) → GoesOn flags D depth sum r nominal (body_nominal_after nominal b) rest (leaf b rest)
 body_goes_on flags D nominal depth sum r b rest none adds =
     let m = body_nominal_after nominal b in
     record {

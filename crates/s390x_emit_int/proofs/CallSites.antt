@@ -35,8 +35,8 @@ use Rattle.s390x_typed_steps.proofs.Causes.{first_left, first_right, unless_true
 use Rattle.s390x_emit_int.specs.Emission.{part_fragments}
 use Rattle.s390x_emit_int.specs.Fragments.{AddSite, apply, apply_all}
 use Rattle.s390x_emit_int.specs.Sequence.{AllKeepNominal}
-use Rattle.s390x_emit_int.specs.Room.{MembersPassed}
-use Rattle.s390x_emit_int.proofs.Lacking.{put_none}
+use Rattle.s390x_emit_int.specs.Room.{MembersFit}
+use Rattle.s390x_emit_int.proofs.OnlyMemory.{put_none}
 
 -- ---- the labels of a call's sites are those of its handlers
 
@@ -79,7 +79,7 @@ below_more blocks n (h ∷ hs) le none =
     let here : nat_lt h.label.0 n ≡ true = lt-ltb h.label.0 n (omega arith) in
     ap (λ t. t && labels_below n hs) here ∙ below_more blocks n hs le (first_right (unless (nat_lt h.label.0 blocks) UnboundLabel) _ none)
 
-pub handlers_none : (s : BufferState) (blocks : ℕ) (hs : List TryHandler) → s.failed ≡ false → blocks ≤ length s.labels → labels_cause blocks (map (λ (h : TryHandler). h.label) hs) ≡ None → handlers_cause s hs ≡ None
+pub handlers_none : (s : BufferState) (blocks : ℕ) (hs : List TryHandler) → s.is_poisoned ≡ false → blocks ≤ length s.labels → labels_cause blocks (map (λ (h : TryHandler). h.label) hs) ≡ None → handlers_cause s hs ≡ None
 handlers_none s blocks hs free le none =
     ap₂ (λ f b. cond f (Some EmitError.Failed) (cond b None (Some UnboundLabel))) free (below_more blocks (length s.labels) hs le none)
 
@@ -119,18 +119,18 @@ sites_run (x ∷ a) b s = sites_run a b (apply s (AddSite x))
 
 -- sites change neither the mark nor the bytes, the labels and the constants
 pub record SameSpace (s t : BufferState) : Type 0 where
-  pub failed : t.failed ≡ s.failed
+  pub is_poisoned : t.is_poisoned ≡ s.is_poisoned
   pub labels : t.labels ≡ s.labels
   pub blocks : t.block_count ≡ s.block_count
 
 pub sites_keep : (ss : List Site) (s t : BufferState) → t ≡ apply_all s (part_fragments (site_parts ss)) → SameSpace s t
 sites_keep ss s t e =
     let k = go ss s in
-    record { failed = ap (λ x. x.failed) e ∙ k.failed; labels = ap (λ x. x.labels) e ∙ k.labels; blocks = ap (λ x. x.block_count) e ∙ k.blocks }
+    record { is_poisoned = ap (λ x. x.is_poisoned) e ∙ k.is_poisoned; labels = ap (λ x. x.labels) e ∙ k.labels; blocks = ap (λ x. x.block_count) e ∙ k.blocks }
   where
     go : (ss : List Site) (s : BufferState) → SameSpace s (apply_all s (part_fragments (site_parts ss)))
-    go [] s = record { failed = refl; labels = refl; blocks = refl }
-    go (x ∷ ss) s = let k = go ss (apply s (AddSite x)) in record { failed = k.failed; labels = k.labels; blocks = k.blocks }
+    go [] s = record { is_poisoned = refl; labels = refl; blocks = refl }
+    go (x ∷ ss) s = let k = go ss (apply s (AddSite x)) in record { is_poisoned = k.is_poisoned; labels = k.labels; blocks = k.blocks }
 
 -- ---- what a call's results and a tail call's epilogue do to the nominal size
 
@@ -213,7 +213,7 @@ pub record CallPassed (s : BufferState) (link : Reg) (info : CallInfo) (e : Emis
   pub target : is_target info.dest ≡ true
   pub labels : labels_cause s.block_count (site_labels (sites_of e info)) ≡ None
 
-pub call_passed : (s : BufferState) (after depth : ℕ) (e : Emission) (link : Reg) (info : CallInfo) → MembersPassed s after depth (step_size (CallingStep (calling e link info))) (call_cause s.block_count e.nominal depth (calling e link info)) → CallPassed s link info e
+pub call_passed : (s : BufferState) (after depth : ℕ) (e : Emission) (link : Reg) (info : CallInfo) → MembersFit s after depth (step_size (CallingStep (calling e link info))) (call_cause s.block_count e.nominal depth (calling e link info)) → CallPassed s link info e
 call_passed s after depth e link info p =
     let registers = unless (is_general link && is_target info.dest) BadRegister in
     let both = and_both (is_general link) (is_target info.dest) (unless_true (is_general link && is_target info.dest) BadRegister (first_left registers _ p.passed)) in

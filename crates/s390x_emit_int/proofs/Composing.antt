@@ -4,7 +4,7 @@ use Rattle.s390x_base.specs.declared.error.EmitError.TheVariants.{BadRegister}
 use Rattle.s390x_buffer.specs.State.{BufferState, put_cause}
 use Rattle.s390x_typed_steps.specs.Parts.{row_parts, parts_size}
 use Rattle.s390x_typed_steps.specs.VectorComposite.{reversing_rows, rows_cause, rows_or_none}
-use Rattle.s390x_emit_int.proofs.Lacking.{put_none, put_parts}
+use Rattle.s390x_emit_int.proofs.OnlyMemory.{put_none, put_parts}
 
 -- where so many bytes can be put, fewer can
 pub room_before : (s : BufferState) (n m : ℕ) → put_cause s n ≡ None → m ≤ n → put_cause s m ≡ None

@@ -213,7 +213,7 @@ can_finish flags ts cs u0 is passes =
       ]
     ] in
     let done : CanFinish u = record {
-      short = ap (λ f. cond f (Some Failed) (cond (nat_lt (finished_length u) limit) None (Some LabelOutOfRange))) same.failed ∙ ap (λ t. cond t None (Some LabelOutOfRange)) (lt-ltb (finished_length u) limit (omega (arith, ends, below)));
+      short = ap (λ f. cond f (Some Failed) (cond (nat_lt (finished_length u) limit) None (Some LabelOutOfRange))) same.is_poisoned ∙ ap (λ t. cond t None (Some LabelOutOfRange)) (lt-ltb (finished_length u) limit (omega (arith, ends, below)));
       patched = uses_fine May (final_labels u) u.uses 0 (unpatched u) named (uses_still May u.uses 0 0 u.bytes (unpatched u) (same_append 0 u.bytes (constant_bytes (length u.bytes) u.constants)) (omega arith) orderly.uses) short;
     } in
     subst CanFinish (sym is) done

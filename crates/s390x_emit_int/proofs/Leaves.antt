@@ -26,20 +26,20 @@ use Rattle.s390x_typed_steps.specs.Causes.{unless, first_emit_cause, target_labe
 use Rattle.s390x_typed_steps.proofs.Causes.{first_left, first_right, unless_true}
 use Rattle.s390x_emit_int.specs.Fragments.{apply_all}
 use Rattle.s390x_emit_int.specs.Emission.{where_fragments, branch_size, memory_size_or}
-use Rattle.s390x_emit_int.specs.Room.{Passed, MembersPassed}
+use Rattle.s390x_emit_int.specs.Room.{FitsWithoutCause, MembersFit}
 use Rattle.s390x_emit_int.proofs.Resolving.{single_resolved, no_memory, branch_resolved, size_resolved, fresh_labels_resolved}
-use Rattle.s390x_emit_int.proofs.Lacking.{put_none}
+use Rattle.s390x_emit_int.proofs.OnlyMemory.{put_none}
 use Rattle.s390x_emit_int.proofs.Runs.{length-branch}
 use Rattle.s390x_emit_int.proofs.Single.{some_cause, none_cause, some_size, none_size}
 
 -- behind a conditional branch
-pub where_passed : (s s1 : BufferState) (mask first second : ℕ) → s1 ≡ apply_all s (where_fragments mask first) → Passed s first 12 None → second < length s.labels → Passed s1 second 6 None
+pub where_passed : (s s1 : BufferState) (mask first second : ℕ) → s1 ≡ apply_all s (where_fragments mask first) → FitsWithoutCause s first 12 None → second < length s.labels → FitsWithoutCause s1 second 6 None
 where_passed s s1 mask first second e p lt =
     let labels : length s1.labels ≡ length s.labels = ap (λ x. length x.labels) e in
     let blocks : s1.block_count ≡ s.block_count = ap (λ x. x.block_count) e in
     let bytes : length s1.bytes ≡ length s.bytes + 6 = ap (λ x. length x.bytes) e ∙ length-append s.bytes _ ∙ ap (λ m. length s.bytes + m) (length-branch mask) in
     record {
-      unpoisoned = ap (λ x. x.failed) e ∙ p.unpoisoned;
+      unpoisoned = ap (λ x. x.is_poisoned) e ∙ p.unpoisoned;
       blocks = omega (arith, p.blocks);
       label = omega arith;
       short = omega (arith, p.short);
@@ -47,13 +47,13 @@ where_passed s s1 mask first second e p lt =
     }
 
 -- a branch to a block
-pub block_passed : (s : BufferState) (after depth bytes : ℕ) (l : MachLabel) → MembersPassed s after depth bytes (target_label_cause s.block_count l) → Passed s l.0 bytes None
+pub block_passed : (s : BufferState) (after depth bytes : ℕ) (l : MachLabel) → MembersFit s after depth bytes (target_label_cause s.block_count l) → FitsWithoutCause s l.0 bytes None
 block_passed s after depth bytes l p =
     let below : l.0 < s.block_count = ltb-true l.0 s.block_count (unless_true (nat_lt l.0 s.block_count) UnboundLabel p.passed) in
     record { unpoisoned = p.unpoisoned; blocks = p.blocks; label = omega (arith, below, p.blocks); short = p.short; passed = refl }
 
 -- branches to two blocks
-pub choice_passed : (s : BufferState) (after depth bytes : ℕ) (l m : MachLabel) → MembersPassed s after depth bytes (first_emit_cause (target_label_cause s.block_count l) (target_label_cause s.block_count m)) → Passed s l.0 bytes None × (m.0 < length s.labels)
+pub choice_passed : (s : BufferState) (after depth bytes : ℕ) (l m : MachLabel) → MembersFit s after depth bytes (first_emit_cause (target_label_cause s.block_count l) (target_label_cause s.block_count m)) → FitsWithoutCause s l.0 bytes None × (m.0 < length s.labels)
 choice_passed s after depth bytes l m p =
     let first = first_left (target_label_cause s.block_count l) _ p.passed in
     let below : m.0 < s.block_count = ltb-true m.0 s.block_count (unless_true (nat_lt m.0 s.block_count) UnboundLabel (first_right (target_label_cause s.block_count l) _ p.passed)) in
@@ -88,14 +88,14 @@ unfolding length_of
 size-rr opcode a b = refl
 
 -- a branch to the address in a register
-pub indirect_passed : (s : BufferState) (after depth : ℕ) (i : Inst) (r : Reg) (ts : Vec MachLabel Global) → i ≡ IndirectBr r ts → MembersPassed s after depth (branch_size i) (branch_cause s.block_count depth i) → (put_cause s 2 ≡ None) × ((is_general r && is_nonzero r) ≡ true)
+pub indirect_passed : (s : BufferState) (after depth : ℕ) (i : Inst) (r : Reg) (ts : Vec MachLabel Global) → i ≡ IndirectBr r ts → MembersFit s after depth (branch_size i) (branch_cause s.block_count depth i) → (put_cause s 2 ≡ None) × ((is_general r && is_nonzero r) ≡ true)
 unfolding length_of
 indirect_passed s after depth i r ts e p =
     let size : branch_size i ≡ 2 = ap branch_size e in
     let cause = sym (ap (branch_cause s.block_count depth) e) ∙ p.passed in
     (put_none s 2 p.unpoisoned (omega (arith, p.short)), unless_true (is_general r && is_nonzero r) BadRegister (first_left _ _ cause))
 
-pub return_passed : (s : BufferState) (after depth : ℕ) (i : Inst) (r : Reg) → i ≡ Ret r → MembersPassed s after depth (branch_size i) (branch_cause s.block_count depth i) → (put_cause s 2 ≡ None) × ((is_general r && is_nonzero r) ≡ true)
+pub return_passed : (s : BufferState) (after depth : ℕ) (i : Inst) (r : Reg) → i ≡ Ret r → MembersFit s after depth (branch_size i) (branch_cause s.block_count depth i) → (put_cause s 2 ≡ None) × ((is_general r && is_nonzero r) ≡ true)
 unfolding length_of
 return_passed s after depth i r e p =
     let size : branch_size i ≡ 2 = ap branch_size e in
@@ -103,12 +103,12 @@ return_passed s after depth i r e p =
     (put_none s 2 p.unpoisoned (omega (arith, p.short)), unless_true (is_general r && is_nonzero r) BadRegister cause)
 
 -- an instruction that is one machine instruction
-pub single_passed : (flags : IsaFlags) (s : BufferState) (after nominal depth : ℕ) (i : Inst) (x : SingleInstruction) → Some x ≡ single_instruction i → MembersPassed s after depth (instruction_size i) (leaf_cause flags (declared_in s) (length s.labels) nominal depth i) → (put_cause s (size_of x.row) ≡ None) × (x.operands_valid ≡ true)
+pub single_passed : (flags : IsaFlags) (s : BufferState) (after nominal depth : ℕ) (i : Inst) (x : SingleInstruction) → Some x ≡ single_instruction i → MembersFit s after depth (instruction_size i) (leaf_cause flags (declared_in s) (length s.labels) nominal depth i) → (put_cause s (size_of x.row) ≡ None) × (x.operands_valid ≡ true)
 single_passed flags s after nominal depth i x e p =
     (put_none s (size_of x.row) p.unpoisoned (omega (arith, p.short, some_size i x e)), unless_true x.operands_valid BadRegister (some_cause flags (declared_in s) nominal depth i x e (first_left _ _ p.passed)))
 
 -- the address of a block
-pub address_passed : (s : BufferState) (after depth : ℕ) (i : Inst) (dst : Reg) (l : MachLabel) → i ≡ LabelAddress dst l → MembersPassed s after depth (branch_size i) (branch_cause s.block_count depth i) → Passed s l.0 6 None × (is_general dst ≡ true)
+pub address_passed : (s : BufferState) (after depth : ℕ) (i : Inst) (dst : Reg) (l : MachLabel) → i ≡ LabelAddress dst l → MembersFit s after depth (branch_size i) (branch_cause s.block_count depth i) → FitsWithoutCause s l.0 6 None × (is_general dst ≡ true)
 unfolding length_of
 address_passed s after depth i dst l e p =
     let size : branch_size i ≡ 6 = ap branch_size e in
@@ -122,26 +122,26 @@ unfolding length_of
 last_of_e opcode = refl
 
 -- instructions that end the run
-pub trap_passed : (s : BufferState) (after depth : ℕ) (i : Inst) (code : TrapKind) → i ≡ Trap code → MembersPassed s after depth (branch_size i) (branch_cause s.block_count depth i) → put_cause s 2 ≡ None
+pub trap_passed : (s : BufferState) (after depth : ℕ) (i : Inst) (code : TrapKind) → i ≡ Trap code → MembersFit s after depth (branch_size i) (branch_cause s.block_count depth i) → put_cause s 2 ≡ None
 unfolding length_of
 trap_passed s after depth i code e p = let size : branch_size i ≡ 2 = ap branch_size e in put_none s 2 p.unpoisoned (omega (arith, p.short, size))
 
-pub trap_if_passed : (s : BufferState) (after depth : ℕ) (i : Inst) (mask : ℕ) (code : TrapKind) → i ≡ TrapIf mask code → MembersPassed s after depth (branch_size i) (branch_cause s.block_count depth i) → put_cause s 6 ≡ None
+pub trap_if_passed : (s : BufferState) (after depth : ℕ) (i : Inst) (mask : ℕ) (code : TrapKind) → i ≡ TrapIf mask code → MembersFit s after depth (branch_size i) (branch_cause s.block_count depth i) → put_cause s 6 ≡ None
 unfolding length_of
 trap_if_passed s after depth i mask code e p = let size : branch_size i ≡ 6 = ap branch_size e in put_none s 6 p.unpoisoned (omega (arith, p.short, size))
 
 -- a vector instruction of several machine instructions
-pub composite_passed : (s : BufferState) (after depth : ℕ) (i : Inst) (v : VecInst) → i ≡ Vector v → MembersPassed s after depth (branch_size i) (branch_cause s.block_count depth i) → (put_cause s (parts_size (row_parts (composite_rows v))) ≡ None) × (composite_cause v ≡ None)
+pub composite_passed : (s : BufferState) (after depth : ℕ) (i : Inst) (v : VecInst) → i ≡ Vector v → MembersFit s after depth (branch_size i) (branch_cause s.block_count depth i) → (put_cause s (parts_size (row_parts (composite_rows v))) ≡ None) × (composite_cause v ≡ None)
 composite_passed s after depth i v e p =
     let size : branch_size i ≡ parts_size (row_parts (composite_rows v)) = ap branch_size e in
     (put_none s (parts_size (row_parts (composite_rows v))) p.unpoisoned (omega (arith, p.short, size)), sym (ap (branch_cause s.block_count depth) e) ∙ p.passed)
 
-pub debug_passed : (s : BufferState) (after depth : ℕ) (i : Inst) → i ≡ Debugtrap → MembersPassed s after depth (branch_size i) (branch_cause s.block_count depth i) → put_cause s 2 ≡ None
+pub debug_passed : (s : BufferState) (after depth : ℕ) (i : Inst) → i ≡ Debugtrap → MembersFit s after depth (branch_size i) (branch_cause s.block_count depth i) → put_cause s 2 ≡ None
 unfolding length_of
 debug_passed s after depth i e p = let size : branch_size i ≡ 2 = ap branch_size e in put_none s 2 p.unpoisoned (omega (arith, p.short, size))
 
 -- an instruction with a memory operand
-pub memory_passed : (flags : IsaFlags) (s : BufferState) (after nominal depth : ℕ) (i : Inst) (x : MemoryInstruction) → None ≡ single_instruction i → memory i ≡ Some x → MembersPassed s after depth (instruction_size i) (leaf_cause flags (declared_in s) (length s.labels) nominal depth i) → (put_cause s (parts_size (memory_parts x)) ≡ None) × (memory_cause (declared_in s) x ≡ None)
+pub memory_passed : (flags : IsaFlags) (s : BufferState) (after nominal depth : ℕ) (i : Inst) (x : MemoryInstruction) → None ≡ single_instruction i → memory i ≡ Some x → MembersFit s after depth (instruction_size i) (leaf_cause flags (declared_in s) (length s.labels) nominal depth i) → (put_cause s (parts_size (memory_parts x)) ≡ None) × (memory_cause (declared_in s) x ≡ None)
 memory_passed flags s after nominal depth i x e m p =
     let own = first_left (instruction_cause flags (declared_in s) nominal depth i) _ p.passed in
     let size : instruction_size i ≡ parts_size (memory_parts x) = none_size i e ∙ ap (λ o. memory_size_or o (branch_size i)) m in
@@ -149,7 +149,7 @@ memory_passed flags s after nominal depth i x e m p =
 
 -- and one that has none, by itself and before its operand was resolved
 pub other_passed : (flags : IsaFlags) (e : Emission) (s : BufferState) (after nominal depth : ℕ) (i : Inst) → None ≡ single_instruction i → None ≡ memory i →
-    MembersPassed s after depth (instruction_size (resolved_instruction e i)) (leaf_cause flags (declared_in s) (length s.labels) nominal depth (resolved_instruction e i)) → MembersPassed s after depth (branch_size i) (branch_cause s.block_count depth i) × (numbers_cause (length s.labels) (instruction_fresh_labels i) ≡ None)
+    MembersFit s after depth (instruction_size (resolved_instruction e i)) (leaf_cause flags (declared_in s) (length s.labels) nominal depth (resolved_instruction e i)) → MembersFit s after depth (branch_size i) (branch_cause s.block_count depth i) × (numbers_cause (length s.labels) (instruction_fresh_labels i) ≡ None)
 other_passed flags e s after nominal depth i a m p =
     let j = resolved_instruction e i in
     let own = first_left (instruction_cause flags (declared_in s) nominal depth j) _ p.passed in

@@ -14,7 +14,7 @@ pub mod Blocks
 pub mod Branches
 pub mod Binding
 pub mod Joining
-pub mod Lacking
+pub mod OnlyMemory
 pub mod Plain
 pub mod Leaves
 pub mod Collecting

@@ -6,7 +6,7 @@ use Rattle.std.proofs.lemmas.Bool.{cases_lt}
 use Rattle.s390x_typed_steps.specs.Folding.{folded_before, next_block, folded_from, folded_trees, peak_from, peak}
 use Rattle.s390x_typed_steps.specs.Sizes.{tree_size, blocks_size}
 use Rattle.s390x_typed_steps.specs.Tree.{Tree}
-use Rattle.s390x_emit_int.specs.Totals.{code_limit}
+use Rattle.s390x_emit_int.specs.CodeSize.{code_limit}
 
 -- before block number k: the greatest length so far, the length there, the blocks that are left, and the greatest length of all and the length in the end
 pub record Counts (k longest bytes : ℕ) (ts : List Tree) (peak last : ℕ) : Type 0 where

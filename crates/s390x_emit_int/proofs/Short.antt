@@ -29,11 +29,11 @@ use Rattle.s390x_typed_steps.specs.Tree.{Tree, empty, leaf, Whole}
 use Rattle.s390x_typed_steps.specs.Baseline.{whole_or_loaded, body_for}
 use Rattle.s390x_typed_steps.specs.Causes.{Declared, first_emit_cause, unless, aligns_of, declared_in, tree_cause}
 use Rattle.s390x_typed_steps.proofs.Causes.{first_left, first_right, unless_true}
-use Rattle.s390x_address.proofs.Lacking.{size_append}
+use Rattle.s390x_address.proofs.OnlyMemory.{size_append}
 use Rattle.s390x_emit_int.specs.Fragments.{StartStep, apply, apply_all}
 use Rattle.s390x_emit_int.specs.Emission.{body_fragments, fragments, own_fragments}
 use Rattle.s390x_emit_int.specs.Instruction.{emit_cause, is_short}
-use Rattle.s390x_emit_int.specs.Room.{HasRoom, TreePassed}
+use Rattle.s390x_emit_int.specs.Room.{HasRoom, TreeFits}
 use Rattle.s390x_emit_int.proofs.Runs.{body_grows, tree_grows}
 use Rattle.s390x_emit_int.specs.Members.{member_of}
 use Rattle.s390x_emit_int.proofs.Trees.{member_begins, own_run}
@@ -197,9 +197,9 @@ three_tests true c b h = absurd (cc)
 three_tests false c b h = (refl, first_left c _ h, unless_true b LabelOutOfRange (first_right c _ h))
 
 -- where no cause stands, the instruction passes
-pub emit_passed : (flags : IsaFlags) (nominal : ℕ) (s : BufferState) (x : Tree) → HasRoom s → emit_cause flags nominal s x ≡ None → TreePassed flags s 0 nominal 0 x
+pub emit_passed : (flags : IsaFlags) (nominal : ℕ) (s : BufferState) (x : Tree) → HasRoom s → emit_cause flags nominal s x ≡ None → TreeFits flags s 0 nominal 0 x
 emit_passed flags nominal s x room h =
-    let t = three_tests s.failed (tree_cause flags (declared_in s) (length s.labels) nominal 0 x) (nat_lt (length s.bytes + tree_size x) limit) h in
+    let t = three_tests s.is_poisoned (tree_cause flags (declared_in s) (length s.labels) nominal 0 x) (nat_lt (length s.bytes + tree_size x) limit) h in
     record {
       unpoisoned = t.0;
       blocks = omega (arith, room);
@@ -220,7 +220,7 @@ own_size flags state i s n after e =
     omega (arith, whole, run, same, bytes_run own s1, bytes_run own s)
 
 -- the first cause, by what is declared and was counted
-pub counted_cause : (flags : IsaFlags) (state next : Emission) (i : Inst) (s : BufferState) (D : Declared) (labels bytes : ℕ) → next ≡ state → s.failed ≡ false → D ≡ declared_in s → labels ≡ length s.labels → bytes ≡ length s.bytes →
+pub counted_cause : (flags : IsaFlags) (state next : Emission) (i : Inst) (s : BufferState) (D : Declared) (labels bytes : ℕ) → next ≡ state → s.is_poisoned ≡ false → D ≡ declared_in s → labels ≡ length s.labels → bytes ≡ length s.bytes →
     first_emit_cause (tree_cause flags D labels next.nominal 0 (member_of flags next i)) (unless (nat_lt (bytes + tree_size (member_of flags next i)) limit) LabelOutOfRange) ≡ emit_cause flags state.nominal s (member_of flags state i)
 counted_cause flags state next i s D labels bytes on unpoisoned declared l b =
     let of : Emission → Declared → ℕ → ℕ → Option EmitError = λ e E n m. first_emit_cause (tree_cause flags E n e.nominal 0 (member_of flags e i)) (unless (nat_lt (m + tree_size (member_of flags e i)) limit) LabelOutOfRange) in
@@ -231,7 +231,7 @@ counted_cause flags state next i s D labels bytes on unpoisoned declared l b =
     ∙ sym (ap (λ f. cond f (Some Failed) (of state (declared_in s) (length s.labels) (length s.bytes))) unpoisoned)
 
 -- what was emitted without a cause, and ends below the limit, has none
-pub emit_none : (flags : IsaFlags) (state : Emission) (i : Inst) (s t : BufferState) (n : ℕ) → s.failed ≡ false → tree_cause flags (declared_in s) (length s.labels) state.nominal 0 (member_of flags state i) ≡ None →
+pub emit_none : (flags : IsaFlags) (state : Emission) (i : Inst) (s t : BufferState) (n : ℕ) → s.is_poisoned ≡ false → tree_cause flags (declared_in s) (length s.labels) state.nominal 0 (member_of flags state i) ≡ None →
     t ≡ apply_all s (own_fragments (length s.labels) 0 (member_of flags state i)) → n ≡ length t.bytes → n < limit → emit_cause flags state.nominal s (member_of flags state i) ≡ None
 emit_none flags state i s t n unpoisoned cause is end below =
     let step = member_of flags state i in
@@ -249,10 +249,10 @@ pub declared_kept : (s t : BufferState) → Extends s t → declared_in t ≡ de
 declared_kept s t kept = ap₂ (λ n cs. declared_by n cs) kept.entries.block_count kept.entries.constants
 
 answered_by : (c d : Option EmitError) (error result : EmitError) → c ≡ d → (c ≡ None → error ≡ NoMemory) → result ≡ unwrap_or c error → (result ≡ NoMemory) ⊎ (d ≡ Some result)
-answered_by None d error result same lacks is = inl (is ∙ lacks refl)
-answered_by (Some e) d error result same lacks is = inr (sym same ∙ ap Some (sym is))
+answered_by None d error result same only_memory is = inl (is ∙ only_memory refl)
+answered_by (Some e) d error result same only_memory is = inr (sym same ∙ ap Some (sym is))
 
 -- what emission is refused by: the first cause where one is found, else its error, which is want of memory
 pub refused_by : (c d found : Option EmitError) (error result : EmitError) → c ≡ d → (found ≡ Some NoMemory) ⊎ (c ≡ found) → (c ≡ None → error ≡ NoMemory) → result ≡ unwrap_or found error → (result ≡ NoMemory) ⊎ (d ≡ Some result)
-refused_by c d found error result same h lacks is =
-    elim h [ inl m ↦ inl (is ∙ ap (λ o. unwrap_or o error) m) | inr x ↦ answered_by c d error result same lacks (is ∙ ap (λ o. unwrap_or o error) (sym x)) ]
+refused_by c d found error result same h only_memory is =
+    elim h [ inl m ↦ inl (is ∙ ap (λ o. unwrap_or o error) m) | inr x ↦ answered_by c d error result same only_memory (is ∙ ap (λ o. unwrap_or o error) (sym x)) ]

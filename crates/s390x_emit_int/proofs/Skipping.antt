@@ -16,7 +16,7 @@ use Rattle.s390x_emit_vec.specs.declared.conditional.MoveUnder.{MoveUnder}
 use Rattle.s390x_emit_int.specs.Fragments.{apply_all}
 use Rattle.s390x_emit_int.specs.Emission.{part_fragments}
 use Rattle.s390x_emit_int.specs.Skips.{is_short_move}
-use Rattle.s390x_emit_int.proofs.Lacking.{put_none, put_parts}
+use Rattle.s390x_emit_int.proofs.OnlyMemory.{put_none, put_parts}
 use Rattle.s390x_emit_int.proofs.Symbols.{room_behind}
 
 -- what was found is a move

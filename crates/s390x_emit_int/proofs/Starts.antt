@@ -64,20 +64,20 @@ function_marks = function_collected fragment_marks own_offset step_offsets colle
 pub record Same (s t : BufferState) : Type 0 where
   pub block_count : t.block_count ≡ s.block_count
   pub constants : t.constants ≡ s.constants
-  pub failed : t.failed ≡ s.failed
+  pub is_poisoned : t.is_poisoned ≡ s.is_poisoned
 
 pub same_run : (ps : List Fragment) (s : BufferState) → Same s (apply_all s ps)
-same_run [] s = record { block_count = refl; constants = refl; failed = refl }
-same_run (Put bs ∷ ps) s = let r = same_run ps (apply s (Put bs)) in record { block_count = r.block_count; constants = r.constants; failed = r.failed }
-same_run (PutReloc bs byte kind name addend ∷ ps) s = let r = same_run ps (apply s (PutReloc bs byte kind name addend)) in record { block_count = r.block_count; constants = r.constants; failed = r.failed }
-same_run (PutTrapping bs byte code ∷ ps) s = let r = same_run ps (apply s (PutTrapping bs byte code)) in record { block_count = r.block_count; constants = r.constants; failed = r.failed }
-same_run (Link k l bs ∷ ps) s = let r = same_run ps (apply s (Link k l bs)) in record { block_count = r.block_count; constants = r.constants; failed = r.failed }
-same_run (LinkConstant c bs ∷ ps) s = let r = same_run ps (apply s (LinkConstant c bs)) in record { block_count = r.block_count; constants = r.constants; failed = r.failed }
-same_run (StartStep ∷ ps) s = let r = same_run ps (apply s StartStep) in record { block_count = r.block_count; constants = r.constants; failed = r.failed }
-same_run (Draw ∷ ps) s = let r = same_run ps (apply s Draw) in record { block_count = r.block_count; constants = r.constants; failed = r.failed }
-same_run (Bind l ∷ ps) s = let r = same_run ps (apply s (Bind l)) in record { block_count = r.block_count; constants = r.constants; failed = r.failed }
-same_run (AddSite site ∷ ps) s = let r = same_run ps (apply s (AddSite site)) in record { block_count = r.block_count; constants = r.constants; failed = r.failed }
-same_run (RecordBranch noted ∷ ps) s = let r = same_run ps (apply s (RecordBranch noted)) in record { block_count = r.block_count; constants = r.constants; failed = r.failed }
+same_run [] s = record { block_count = refl; constants = refl; is_poisoned = refl }
+same_run (Put bs ∷ ps) s = let r = same_run ps (apply s (Put bs)) in record { block_count = r.block_count; constants = r.constants; is_poisoned = r.is_poisoned }
+same_run (PutReloc bs byte kind name addend ∷ ps) s = let r = same_run ps (apply s (PutReloc bs byte kind name addend)) in record { block_count = r.block_count; constants = r.constants; is_poisoned = r.is_poisoned }
+same_run (PutTrapping bs byte code ∷ ps) s = let r = same_run ps (apply s (PutTrapping bs byte code)) in record { block_count = r.block_count; constants = r.constants; is_poisoned = r.is_poisoned }
+same_run (Link k l bs ∷ ps) s = let r = same_run ps (apply s (Link k l bs)) in record { block_count = r.block_count; constants = r.constants; is_poisoned = r.is_poisoned }
+same_run (LinkConstant c bs ∷ ps) s = let r = same_run ps (apply s (LinkConstant c bs)) in record { block_count = r.block_count; constants = r.constants; is_poisoned = r.is_poisoned }
+same_run (StartStep ∷ ps) s = let r = same_run ps (apply s StartStep) in record { block_count = r.block_count; constants = r.constants; is_poisoned = r.is_poisoned }
+same_run (Draw ∷ ps) s = let r = same_run ps (apply s Draw) in record { block_count = r.block_count; constants = r.constants; is_poisoned = r.is_poisoned }
+same_run (Bind l ∷ ps) s = let r = same_run ps (apply s (Bind l)) in record { block_count = r.block_count; constants = r.constants; is_poisoned = r.is_poisoned }
+same_run (AddSite site ∷ ps) s = let r = same_run ps (apply s (AddSite site)) in record { block_count = r.block_count; constants = r.constants; is_poisoned = r.is_poisoned }
+same_run (RecordBranch noted ∷ ps) s = let r = same_run ps (apply s (RecordBranch noted)) in record { block_count = r.block_count; constants = r.constants; is_poisoned = r.is_poisoned }
 
 -- what instructions may name stays the same
 declared_applied : (x : Fragment) (s : BufferState) → declared_in (apply s x) ≡ declared_in s

@@ -18,8 +18,8 @@ use Rattle.s390x_typed_steps.specs.General.{is_general}
 use Rattle.s390x_typed_steps.proofs.Causes.{unless_true}
 use Rattle.s390x_emit_int.specs.Fragments.{PutReloc, apply, apply_all}
 use Rattle.s390x_emit_int.specs.Emission.{branch_size, part_fragments}
-use Rattle.s390x_emit_int.specs.Room.{MembersPassed}
-use Rattle.s390x_emit_int.proofs.Lacking.{put_none, put_parts}
+use Rattle.s390x_emit_int.specs.Room.{MembersFit}
+use Rattle.s390x_emit_int.proofs.OnlyMemory.{put_none, put_parts}
 use Rattle.s390x_emit_int.proofs.Tables.{parts_turns}
 
 -- what still fits behind some parts
@@ -42,7 +42,7 @@ load_room s s1 s2 name offset room e f =
     room_behind s s2 (Row (ri_b opcodes.BRAS 1 6) ∷ SymbolValue name offset ∷ []) 18 6 room (f ∙ ap (λ x. apply x (PutReloc (to_be_bytes w64 0) 0 Abs8 name offset)) e) (omega arith)
 
 -- what the check let pass of the instruction
-pub symbol_passed : (s : BufferState) (after depth : ℕ) (i : Inst) (rd : Reg) (reloc : SymbolReloc) → i ≡ LoadSymbolReloc rd reloc → MembersPassed s after depth (branch_size i) (branch_cause s.block_count depth i) → (put_cause s 18 ≡ None) × (is_general rd ≡ true)
+pub symbol_passed : (s : BufferState) (after depth : ℕ) (i : Inst) (rd : Reg) (reloc : SymbolReloc) → i ≡ LoadSymbolReloc rd reloc → MembersFit s after depth (branch_size i) (branch_cause s.block_count depth i) → (put_cause s 18 ≡ None) × (is_general rd ≡ true)
 unfolding length_of
 symbol_passed s after depth i rd reloc e p =
     let size : branch_size i ≡ 18 = ap branch_size e in

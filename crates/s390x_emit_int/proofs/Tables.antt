@@ -19,8 +19,8 @@ use Rattle.s390x_typed_steps.specs.General.{is_general, is_nonzero, is_scratch}
 use Rattle.s390x_typed_steps.proofs.Causes.{first_left, first_right, unless_true}
 use Rattle.s390x_emit_int.specs.Fragments.{Draw, Bind, apply, apply_all}
 use Rattle.s390x_emit_int.specs.Emission.{branch_size, branch, table_word, table_rows, table_fragments, part_fragments}
-use Rattle.s390x_emit_int.specs.Room.{HasRoom, Passed, MembersPassed}
-use Rattle.s390x_emit_int.proofs.Lacking.{put_none, draw_none, label_none}
+use Rattle.s390x_emit_int.specs.Room.{HasRoom, FitsWithoutCause, MembersFit}
+use Rattle.s390x_emit_int.proofs.OnlyMemory.{put_none, draw_none, label_none}
 use Rattle.s390x_emit_int.proofs.Passing.{Turns, draw_turns, bind_turns, branch_turns, turns_on}
 use Rattle.s390x_emit_int.proofs.Runs.{parts_grow, table_size, begun_grows}
 use Rattle.s390x_emit_int.proofs.Starts.{same_run}
@@ -40,10 +40,10 @@ pub parts_turns : (s t : BufferState) (parts : List CodePart) → t ≡ apply_al
 parts_turns s t parts e =
     let g = parts_grow parts s in
     let same = same_run (part_fragments parts) s in
-    record { unpoisoned = ap (λ x. x.failed) e ∙ same.failed; blocks = ap (λ x. x.block_count) e ∙ same.block_count; constants = ap (λ x. x.constants) e ∙ same.constants; labels = ap (λ x. length x.labels) e ∙ g.labels; bytes = ap (λ x. length x.bytes) e ∙ g.bytes }
+    record { unpoisoned = ap (λ x. x.is_poisoned) e ∙ same.is_poisoned; blocks = ap (λ x. x.block_count) e ∙ same.block_count; constants = ap (λ x. x.constants) e ∙ same.constants; labels = ap (λ x. length x.labels) e ∙ g.labels; bytes = ap (λ x. length x.bytes) e ∙ g.bytes }
 
 -- what still fits after some bytes
-passed_on : (s t : BufferState) (after l n k m r : ℕ) → Passed s after n None → Turns s t k m → m + r ≤ n → l < length t.labels → Passed t l r None
+passed_on : (s t : BufferState) (after l n k m r : ℕ) → FitsWithoutCause s after n None → Turns s t k m → m + r ≤ n → l < length t.labels → FitsWithoutCause t l r None
 passed_on s t after l n k m r p u le lt = record {
   unpoisoned = u.unpoisoned ∙ p.unpoisoned;
   blocks = omega (arith, u.blocks, u.labels, p.blocks);
@@ -52,11 +52,11 @@ passed_on s t after l n k m r p u le lt = record {
   passed = refl;
 }
 
-room_of : (s : BufferState) (after n : ℕ) → Passed s after n None → put_cause s n ≡ None
+room_of : (s : BufferState) (after n : ℕ) → FitsWithoutCause s after n None → put_cause s n ≡ None
 room_of s after n p = put_none s n p.unpoisoned p.short
 
 -- behind each of the machine instructions before a table
-pub first_passed : (s s1 : BufferState) (mask other table : ℕ) → Passed s other 20 None → table < length s.labels → s1 ≡ apply s (branch mask other) → Passed s1 table 6 None
+pub first_passed : (s s1 : BufferState) (mask other table : ℕ) → FitsWithoutCause s other 20 None → table < length s.labels → s1 ≡ apply s (branch mask other) → FitsWithoutCause s1 table 6 None
 first_passed s s1 mask other table p lt e =
     let u = branch_turns s s1 mask other e in
     passed_on s s1 other table 20 0 6 6 p u (omega arith) (omega (arith, u.labels))
@@ -64,7 +64,7 @@ first_passed s s1 mask other table p lt e =
 second_turns : (s s1 s2 : BufferState) (mask other table d : ℕ) → s1 ≡ apply s (branch mask other) → s2 ≡ apply_all s1 (part_fragments (Relative opcodes.LARL d (ToBlock table) ∷ [])) → Turns s s2 0 12
 second_turns s s1 s2 mask other table d e1 e2 = turns_on s s1 s2 0 6 0 6 (branch_turns s s1 mask other e1) (parts_turns s1 s2 (Relative opcodes.LARL d (ToBlock table) ∷ []) e2)
 
-pub second_passed : (s s1 s2 : BufferState) (mask other table d : ℕ) → Passed s other 20 None → s1 ≡ apply s (branch mask other) → s2 ≡ apply_all s1 (part_fragments (Relative opcodes.LARL d (ToBlock table) ∷ [])) → put_cause s2 6 ≡ None
+pub second_passed : (s s1 s2 : BufferState) (mask other table d : ℕ) → FitsWithoutCause s other 20 None → s1 ≡ apply s (branch mask other) → s2 ≡ apply_all s1 (part_fragments (Relative opcodes.LARL d (ToBlock table) ∷ [])) → put_cause s2 6 ≡ None
 second_passed s s1 s2 mask other table d p e1 e2 =
     let u = second_turns s s1 s2 mask other table d e1 e2 in
     room_of s2 other 6 (passed_on s s2 other other 20 0 12 6 p u (omega arith) (omega (arith, u.labels, p.label)))
@@ -73,7 +73,7 @@ sum_turns : (s t : BufferState) (index : ℕ) → t ≡ apply_all s (part_fragme
 unfolding length_of
 sum_turns s t index e = parts_turns s t (Row (rxy opcodes.AGF 1 1 index 0) ∷ []) e
 
-pub third_passed : (s s1 s2 s3 : BufferState) (mask other table d index : ℕ) → Passed s other 20 None → s1 ≡ apply s (branch mask other) → s2 ≡ apply_all s1 (part_fragments (Relative opcodes.LARL d (ToBlock table) ∷ [])) → s3 ≡ apply_all s2 (part_fragments (Row (rxy opcodes.AGF 1 1 index 0) ∷ [])) → put_cause s3 2 ≡ None
+pub third_passed : (s s1 s2 s3 : BufferState) (mask other table d index : ℕ) → FitsWithoutCause s other 20 None → s1 ≡ apply s (branch mask other) → s2 ≡ apply_all s1 (part_fragments (Relative opcodes.LARL d (ToBlock table) ∷ [])) → s3 ≡ apply_all s2 (part_fragments (Row (rxy opcodes.AGF 1 1 index 0) ∷ [])) → put_cause s3 2 ≡ None
 third_passed s s1 s2 s3 mask other table d index p e1 e2 e3 =
     let u = turns_on s s2 s3 0 12 0 6 (second_turns s s1 s2 mask other table d e1 e2) (sum_turns s2 s3 index e3) in
     room_of s3 other 2 (passed_on s s3 other other 20 0 18 2 p u (omega arith) (omega (arith, u.labels, p.label)))
@@ -99,16 +99,16 @@ pub words_done : (ls : List MachLabel) (k : ℕ) (s r : BufferState) → length 
 words_done ls k s r le h = ap (λ l. apply_all s (part_fragments (table_words (4 * k) l))) (sym (drop_all k ls le)) ∙ h
 
 word_turns : (s t : BufferState) (before l : ℕ) → t ≡ apply s (table_word before l) → Turns s t 0 4
-word_turns s t before l e = record { unpoisoned = ap (λ x. x.failed) e; blocks = ap (λ x. x.block_count) e; constants = ap (λ x. x.constants) e; labels = omega (arith, ap (λ x. length x.labels) e); bytes = ap (λ x. length x.bytes) e ∙ length-append s.bytes _ }
+word_turns s t before l e = record { unpoisoned = ap (λ x. x.is_poisoned) e; blocks = ap (λ x. x.block_count) e; constants = ap (λ x. x.constants) e; labels = omega (arith, ap (λ x. length x.labels) e); bytes = ap (λ x. length x.bytes) e ∙ length-append s.bytes _ }
 
 pub word_length : (s t : BufferState) (before l : ℕ) → t ≡ apply s (table_word before l) → length t.bytes ≡ length s.bytes + 4
 word_length s t before l e = (word_turns s t before l e).bytes
 
 -- the words that are left, after the first k
 abbrev pub WordsPassed : BufferState → (after : ℕ) → List MachLabel → Type 0
-WordsPassed s after ls = Passed s after (4 * length ls) (labels_cause s.block_count ls)
+WordsPassed s after ls = FitsWithoutCause s after (4 * length ls) (labels_cause s.block_count ls)
 
-pub word_passed : (s : BufferState) (after : ℕ) (ls : List MachLabel) (k : ℕ) (v d : MachLabel) → k < length ls → v ≡ get_or ls k d → WordsPassed s after (drop k ls) → Passed s v.0 4 None
+pub word_passed : (s : BufferState) (after : ℕ) (ls : List MachLabel) (k : ℕ) (v d : MachLabel) → k < length ls → v ≡ get_or ls k d → WordsPassed s after (drop k ls) → FitsWithoutCause s v.0 4 None
 word_passed s after ls k v d lt at p =
     let q : WordsPassed s after (v ∷ drop (k + 1) ls) = subst (WordsPassed s after) (split_at ls k v d lt at) p in
     let below : v.0 < s.block_count = ltb-true v.0 s.block_count (unless_true (nat_lt v.0 s.block_count) UnboundLabel (first_left _ _ q.passed)) in
@@ -135,7 +135,7 @@ pub record TablePassed (s : BufferState) (index : Reg) (other : MachLabel) (targ
   pub known : other.0 < s.block_count
   pub listed : labels_cause s.block_count targets ≡ None
 
-pub table_passed : (s : BufferState) (after : ℕ) (index : Reg) (other : MachLabel) (targets : List MachLabel) → Passed s after (20 + 4 * length targets) (table_cause s.block_count index other targets) → numbers_cause (length s.labels) 1 ≡ None → TablePassed s index other targets
+pub table_passed : (s : BufferState) (after : ℕ) (index : Reg) (other : MachLabel) (targets : List MachLabel) → FitsWithoutCause s after (20 + 4 * length targets) (table_cause s.block_count index other targets) → numbers_cause (length s.labels) 1 ≡ None → TablePassed s index other targets
 table_passed s after index other targets p numbers =
     let registers = unless_true (is_general index && is_nonzero index) BadRegister (first_left _ _ p.passed) in
     let named = first_right (unless (not (is_scratch index)) ScratchConflict) _ (first_right (unless (is_general index && is_nonzero index) BadRegister) _ p.passed) in
@@ -148,7 +148,7 @@ table_passed s after index other targets p numbers =
     }
 
 -- behind the drawn label
-pub rows_passed : (s sa : BufferState) (after table : ℕ) (index : Reg) (other : MachLabel) (targets : List MachLabel) → Passed s after (20 + 4 * length targets) (table_cause s.block_count index other targets) → TablePassed s index other targets → sa ≡ apply s Draw → table ≡ length s.labels → Passed sa other.0 20 None × (table < length sa.labels)
+pub rows_passed : (s sa : BufferState) (after table : ℕ) (index : Reg) (other : MachLabel) (targets : List MachLabel) → FitsWithoutCause s after (20 + 4 * length targets) (table_cause s.block_count index other targets) → TablePassed s index other targets → sa ≡ apply s Draw → table ≡ length s.labels → FitsWithoutCause sa other.0 20 None × (table < length sa.labels)
 rows_passed s sa after table index other targets p t ea at =
     let u = draw_turns s sa ea in
     (record { unpoisoned = u.unpoisoned ∙ p.unpoisoned; blocks = omega (arith, u.blocks, u.labels, p.blocks); label = omega (arith, u.labels, t.known, p.blocks); short = omega (arith, u.bytes, p.short); passed = refl }, omega (arith, u.labels, at))
@@ -158,10 +158,10 @@ rows_turns s sa sb table index mask other ea eb =
     let e : sb ≡ apply_all s (Draw ∷ table_rows table index mask other) = eb ∙ ap (λ x. apply_all x (table_rows table index mask other)) ea in
     let g = begun_grows s table index mask other in
     let same = same_run (Draw ∷ table_rows table index mask other) s in
-    record { unpoisoned = ap (λ x. x.failed) e ∙ same.failed; blocks = ap (λ x. x.block_count) e ∙ same.block_count; constants = ap (λ x. x.constants) e ∙ same.constants; labels = ap (λ x. length x.labels) e ∙ g.labels; bytes = ap (λ x. length x.bytes) e ∙ g.bytes }
+    record { unpoisoned = ap (λ x. x.is_poisoned) e ∙ same.is_poisoned; blocks = ap (λ x. x.block_count) e ∙ same.block_count; constants = ap (λ x. x.constants) e ∙ same.constants; labels = ap (λ x. length x.labels) e ∙ g.labels; bytes = ap (λ x. length x.bytes) e ∙ g.bytes }
 
 -- the drawn label can be bound
-pub binds : (s sa sb : BufferState) (after table i mask : ℕ) (index : Reg) (other : MachLabel) (targets : List MachLabel) → Passed s after (20 + 4 * length targets) (table_cause s.block_count index other targets) → sa ≡ apply s Draw → table ≡ length s.labels → sb ≡ apply_all sa (table_rows table i mask other.0) → label_cause sb table ≡ None
+pub binds : (s sa sb : BufferState) (after table i mask : ℕ) (index : Reg) (other : MachLabel) (targets : List MachLabel) → FitsWithoutCause s after (20 + 4 * length targets) (table_cause s.block_count index other targets) → sa ≡ apply s Draw → table ≡ length s.labels → sb ≡ apply_all sa (table_rows table i mask other.0) → label_cause sb table ≡ None
 binds s sa sb after table i mask index other targets p ea at eb =
     let u = rows_turns s sa sb table i mask other.0 ea eb in
     label_none sb table (u.unpoisoned ∙ p.unpoisoned) (omega (arith, u.labels, at))
@@ -182,7 +182,7 @@ label_is_drawn s sa sb table i mask other room ea at eb =
     λ lo. omega (arith, room, at, blocks, constants)
 
 -- behind the bound label
-pub words_begin_passed : (s sa sb sc : BufferState) (after table i mask : ℕ) (index : Reg) (other : MachLabel) (targets : List MachLabel) → Passed s after (20 + 4 * length targets) (table_cause s.block_count index other targets) → TablePassed s index other targets → sa ≡ apply s Draw → sb ≡ apply_all sa (table_rows table i mask other.0) → sc ≡ apply sb (Bind table) → WordsPassed sc after targets
+pub words_begin_passed : (s sa sb sc : BufferState) (after table i mask : ℕ) (index : Reg) (other : MachLabel) (targets : List MachLabel) → FitsWithoutCause s after (20 + 4 * length targets) (table_cause s.block_count index other targets) → TablePassed s index other targets → sa ≡ apply s Draw → sb ≡ apply_all sa (table_rows table i mask other.0) → sc ≡ apply sb (Bind table) → WordsPassed sc after targets
 words_begin_passed s sa sb sc after table i mask index other targets p t ea eb ec =
     let u = turns_on s sb sc 1 20 0 0 (rows_turns s sa sb table i mask other.0 ea eb) (bind_turns sb sc table ec) in
     record {
@@ -206,8 +206,8 @@ known_block blocks index other targets h =
     ltb-true other.0 blocks (unless_true (nat_lt other.0 blocks) UnboundLabel (first_left _ _ named))
 
 -- what the check let pass of the instruction
-pub jump_passed : (s : BufferState) (after depth : ℕ) (i : Inst) (index : Reg) (other : MachLabel) (mask : ℕ) (targets : Vec MachLabel Global) → i ≡ JTSequence index other mask targets → MembersPassed s after depth (branch_size i) (branch_cause s.block_count depth i) →
-    numbers_cause (length s.labels) (instruction_fresh_labels i) ≡ None → Passed s other.0 (20 + 4 * length targets.items) (table_cause s.block_count index other targets.items) × (numbers_cause (length s.labels) 1 ≡ None)
+pub jump_passed : (s : BufferState) (after depth : ℕ) (i : Inst) (index : Reg) (other : MachLabel) (mask : ℕ) (targets : Vec MachLabel Global) → i ≡ JTSequence index other mask targets → MembersFit s after depth (branch_size i) (branch_cause s.block_count depth i) →
+    numbers_cause (length s.labels) (instruction_fresh_labels i) ≡ None → FitsWithoutCause s other.0 (20 + 4 * length targets.items) (table_cause s.block_count index other targets.items) × (numbers_cause (length s.labels) 1 ≡ None)
 jump_passed s after depth i index other mask targets e p drawn =
     let size : branch_size i ≡ 20 + 4 * length targets.items = ap branch_size e ∙ table_bytes (number_of index) mask other.0 targets.items in
     let cause : table_cause s.block_count index other targets.items ≡ None = sym (ap (branch_cause s.block_count depth) e) ∙ p.passed in

@@ -15,7 +15,7 @@ abbrev pub LeafBound : (ℕ → ℕ) → (n p : ℕ) → Inst → Type 0
 LeafBound off n p (JTSequence ridx other mask targets) = off n ≡ p + 20
 LeafBound off n p _ = Unit {0}
 
--- the same of a body
+-- the label that a step's body at an offset draws, if it does: a table stands behind 20 bytes
 abbrev pub BodyBound : (ℕ → ℕ) → (n p : ℕ) → StepBody → Type 0
 BodyBound off n p (Whole i) = LeafBound off n p i
 BodyBound off n p _ = Unit {0}
@@ -58,23 +58,23 @@ PartNames count constants (TableWord before (ToStep k)) = ⊥
 PartNames count constants (CallSymbol link name) = Unit {0}
 PartNames count constants (SiteHere site) = SiteNames count site
 
--- the same of each part
+-- the target of each part is one of so many blocks, or one of so many constants
 abbrev pub PartsName : (count constants : ℕ) → List CodePart → Type 0
 PartsName count constants [] = Unit {0}
 PartsName count constants (part ∷ parts) = PartNames count constants part × PartsName count constants parts
 
--- the same of the parts of a body
+-- the targets of a body's parts are among so many blocks and so many constants
 abbrev pub BodyNames : (count constants : ℕ) → StepBody → Type 0
 BodyNames count constants (Whole i) = PartsName count constants (instruction_parts i)
 BodyNames count constants b = PartsName count constants (step_parts (step_of 0 b))
 
--- the same of the bodies in a tree
+-- the targets of the bodies in a tree are among so many blocks and so many constants
 abbrev pub TreeNames : (count constants : ℕ) → Tree → Type 0
 TreeNames count constants empty = Unit {0}
 TreeNames count constants (leaf b rest) = BodyNames count constants b × TreeNames count constants rest
 TreeNames count constants (loop_node mask members rest) = TreeNames count constants members × TreeNames count constants rest
 
--- the same of all blocks
+-- the targets of all blocks' parts are among so many blocks and so many constants
 abbrev pub TreesName : (count constants : ℕ) → List Tree → Type 0
 TreesName count constants [] = Unit {0}
 TreesName count constants (t ∷ ts) = TreeNames count constants t × TreesName count constants ts

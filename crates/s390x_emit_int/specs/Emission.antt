@@ -25,7 +25,7 @@ branch mask label = Link BranchRIL label (bytes_of (ril_c opcodes.BRCL mask 0))
 abbrev pub jump_fragments : (label : ℕ) → List Fragment
 jump_fragments label = RecordBranch (AlwaysTaken label) ∷ branch 15 label ∷ []
 
--- the same of one under the mask, recorded with its code under the inverse mask
+-- a branch under the mask, recorded for the end of its block with its code under the inverse mask
 abbrev pub where_fragments : (mask label : ℕ) → List Fragment
 where_fragments mask label = RecordBranch (TakenWhere label (bytes_of (ril_c opcodes.BRCL (15 - mask) 0))) ∷ branch mask label ∷ []
 

@@ -27,7 +27,7 @@ pub data Fragment : Type 0 where
   PutReloc : List ℕ → (byte : ℕ) → Reloc → ExternalName → (addend : ℤ) → Fragment
   -- bytes that a use of a label patches from their beginning on
   Link : LabelUse → (label : ℕ) → List ℕ → Fragment
-  -- the same of a constant's label, by a distance like that of a branch
+  -- bytes that a use of a constant's label patches, by a distance like that of a branch
   LinkConstant : (constant : ℕ) → List ℕ → Fragment
   -- the offset of the next step
   StartStep : Fragment

@@ -30,7 +30,7 @@ tree_of flags e b = block_members_of flags e b.insts.items
 abbrev pub trees_of : IsaFlags → Emission → AllocatedFunction → List Tree
 trees_of flags e f = map (tree_of flags e) f.blocks.items
 
--- the same as their ends leave them
+-- the blocks of a function as trees, as their ends leave them
 abbrev pub folded_trees_of : IsaFlags → Emission → AllocatedFunction → List Tree
 folded_trees_of flags e f = folded_trees (trees_of flags e f)
 

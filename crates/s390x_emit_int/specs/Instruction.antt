@@ -13,7 +13,7 @@ use Rattle.s390x_typed_steps.specs.Causes.{first_emit_cause, unless, declared_in
 -- why an instruction isn't emitted into a buffer at a nominal size: its mark, the first cause of the instruction's steps by the buffer's blocks and labels, and last the length
 abbrev pub emit_cause : IsaFlags → (nominal : ℕ) → BufferState → Tree → Option EmitError
 emit_cause flags nominal s t =
-    cond s.failed (Some Failed) (first_emit_cause (tree_cause flags (declared_in s) (length s.labels) nominal 0 t) (unless (nat_lt (length s.bytes + tree_size t) limit) LabelOutOfRange))
+    cond s.is_poisoned (Some Failed) (first_emit_cause (tree_cause flags (declared_in s) (length s.labels) nominal 0 t) (unless (nat_lt (length s.bytes + tree_size t) limit) LabelOutOfRange))
 
 -- neither members nor targets nor the instructions of a call come with it, so that its bytes are few
 abbrev pub is_short : Inst → Bool

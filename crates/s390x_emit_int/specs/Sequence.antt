@@ -13,15 +13,15 @@ use Rattle.s390x_typed_steps.specs.Stack.{nominal_after}
 use Rattle.s390x_typed_steps.specs.Tree.{StepBody, Tree, leaves}
 use Rattle.s390x_emit_int.specs.Emission.{fragments, own_fragments}
 use Rattle.s390x_emit_int.specs.Fragments.{apply_all}
-use Rattle.s390x_emit_int.specs.Room.{HasRoom, TreePassed, LacksMemory}
-use Rattle.s390x_emit_int.specs.Totals.{Adds, IsCounted, code_limit}
-use Rattle.s390x_emit_int.specs.declared.check.Totals.{Totals}
+use Rattle.s390x_emit_int.specs.Room.{HasRoom, TreeFits, OnlyOutOfMemory}
+use Rattle.s390x_emit_int.specs.CodeSize.{Adds, IsCounted, code_limit}
+use Rattle.s390x_emit_int.specs.declared.check.CodeSize.{CodeSize}
 
 -- from a buffer before a tree to another one before its rest, at these nominal sizes
 pub record Reaches (flags : IsaFlags) (s t : BufferState) (after depth nominal behind : ℕ) (all rest : Tree) : Type 0 where
   pub put : apply_all t (fragments (length t.labels) after rest) ≡ apply_all s (fragments (length s.labels) after all)
   pub cause : tree_cause flags (declared_in t) (length t.labels) behind depth rest ≡ tree_cause flags (declared_in s) (length s.labels) nominal depth all
-  pub passed : TreePassed flags s after nominal depth all → TreePassed flags t after behind depth rest
+  pub passed : TreeFits flags s after nominal depth all → TreeFits flags t after behind depth rest
   pub ranges : AllInRange rest → AllInRange all
   pub room : HasRoom s → HasRoom t
 
@@ -29,30 +29,30 @@ pub record Reaches (flags : IsaFlags) (s t : BufferState) (after depth nominal b
 -- error is want of memory; what stood still stands
 pub record Emits {T : Type 0} (flags : IsaFlags) (s t : BufferState) (after depth nominal behind : ℕ) (bs : List StepBody) (r : Result T EmitError) : Type 0 where
   pub reaches : OnOk r ((rest : Tree) → Reaches flags s t after depth nominal behind (leaves bs rest) rest)
-  pub lacks : (rest : Tree) → TreePassed flags s after nominal depth (leaves bs rest) → LacksMemory r
+  pub only_memory : (rest : Tree) → TreeFits flags s after nominal depth (leaves bs rest) → OnlyOutOfMemory r
   pub kept : Extends s t
 
--- the same of a whole tree whose first step has its place already
+-- what emission answers of a whole tree whose first step has its place already
 pub record EmitsOwn {T : Type 0} (flags : IsaFlags) (s t : BufferState) (after depth nominal : ℕ) (x : Tree) (r : Result T EmitError) : Type 0 where
   pub answer : OnOk r (t ≡ apply_all s (own_fragments (length s.labels) after x))
   pub cause : OnOk r (tree_cause flags (declared_in s) (length s.labels) nominal depth x ≡ None)
-  pub lacks : TreePassed flags s after nominal depth x → LacksMemory r
+  pub only_memory : TreeFits flags s after nominal depth x → OnlyOutOfMemory r
   pub ranges : OnOk r (AllInRange x)
   pub kept : Extends s t
 
 -- what was counted before a tree, and what before its rest
-pub record Counts (flags : IsaFlags) (D : Declared) (t r : Totals) (depth nominal behind : ℕ) (all rest : Tree) : Type 0 where
+pub record Counts (flags : IsaFlags) (D : Declared) (t r : CodeSize) (depth nominal behind : ℕ) (all rest : Tree) : Type 0 where
   pub cause : tree_cause flags D r.labels behind depth rest ≡ tree_cause flags D t.labels nominal depth all
   pub labels : r.labels + fresh_labels rest ≡ t.labels + fresh_labels all
   pub bytes : min code_limit (r.bytes + tree_size rest) ≡ min code_limit (t.bytes + tree_size all)
 
 -- the check of steps: they have no cause, and this was counted behind them; or the first cause
-abbrev pub Checks : IsaFlags → Declared → Totals → (depth nominal behind : ℕ) → List StepBody → Result Totals EmitError → Type 0
+abbrev pub Checks : IsaFlags → Declared → CodeSize → (depth nominal behind : ℕ) → List StepBody → Result CodeSize EmitError → Type 0
 Checks flags D t depth nominal behind bs result =
     MatchResult result (λ r. IsCounted r × ((rest : Tree) → Counts flags D t r depth nominal behind (leaves bs rest) rest)) (λ e. (rest : Tree) → tree_cause flags D t.labels nominal depth (leaves bs rest) ≡ Some e)
 
 -- the check of a tree: it has no cause, and what it adds; or the first cause, or want of memory
-abbrev pub ChecksTree : IsaFlags → Declared → Totals → (depth nominal : ℕ) → Tree → Result Totals EmitError → Type 0
+abbrev pub ChecksTree : IsaFlags → Declared → CodeSize → (depth nominal : ℕ) → Tree → Result CodeSize EmitError → Type 0
 ChecksTree flags D t depth nominal x result =
     MatchResult result (λ r. (tree_cause flags D t.labels nominal depth x ≡ None) × Adds t r (fresh_labels x) (tree_size x)) (λ e. (e ≡ NoMemory) ⊎ (tree_cause flags D t.labels nominal depth x ≡ Some e))
 

@@ -26,16 +26,16 @@ ghost use Rattle.s390x_typed_steps.specs.Tree.{Whole, TailJump, leaves, empty};
 ghost use Rattle.s390x_typed_steps.specs.Stack.{nominal_after};
 ghost use Rattle.s390x_emit_int.specs.Emission.{part_fragments};
 ghost use Rattle.s390x_emit_int.specs.Fragments.{apply_all};
-ghost use Rattle.s390x_emit_int.specs.Room.{HasRoom, MembersPassed, LacksMemory};
+ghost use Rattle.s390x_emit_int.specs.Room.{HasRoom, MembersFit, OnlyOutOfMemory};
 ghost use Rattle.s390x_emit_int.specs.Sequence.{AllKeepNominal, Emits, EmitsOwn};
 
 use crate::causes::{branchable, label_cause};
 use crate::context::Context;
-use crate::leaf::{emit_branch_register, emit_leaf};
+use crate::instruction::{emit_branch_register, emit_leaf};
 use s390x_address::{general, is_numbered, needs_address};
 use s390x_base::{EmitError, ExternalName, Reg, Reloc};
 use s390x_buffer::{MachBuffer, TryHandler};
-use s390x_emit_rows::find_memory;
+use s390x_emit_rows::memory_rows;
 use s390x_enc::{enc_ril_b, enc_ril_c, enc_rr};
 use s390x_inst::{
     CallInfo, CallInstDest, CallRetPair, EmitState, FrameLayout, Inst, MachInstEmitState, MemArg,
@@ -161,7 +161,8 @@ fn put_call_symbol(sink: &mut MachBuffer, link: Reg, name: ExternalName) -> Resu
     ensures answer { OnOk result
         (sink.new
         ≡ apply_all sink.old (part_fragments (CallSymbol (Some (number_of link)) name ∷ []))) }
-    ensures lacks { put_cause sink.old 6 ≡ None → is_general link ≡ true → LacksMemory result }
+    ensures only_memory { put_cause sink.old 6 ≡ None → is_general link ≡ true
+        → OnlyOutOfMemory result }
     ensures kept { Extends sink.old sink.new }
 {
     let code = enc_ril_b(opcodes::BRASL, link, 0)?;
@@ -174,8 +175,8 @@ fn put_call_symbol(sink: &mut MachBuffer, link: Reg, name: ExternalName) -> Resu
 fn put_call_register(sink: &mut MachBuffer, link: Reg, reg: Reg) -> Result<(), EmitError>
     ensures answer { OnOk result
         (sink.new ≡ apply_all sink.old (part_fragments (call_part link (Indirect reg) ∷ []))) }
-    ensures lacks { put_cause sink.old 2 ≡ None → is_general link ≡ true → is_general reg ≡ true
-        → LacksMemory result }
+    ensures only_memory { put_cause sink.old 2 ≡ None → is_general link ≡ true
+        → is_general reg ≡ true → OnlyOutOfMemory result }
     ensures kept { Extends sink.old sink.new }
 {
     let code = enc_rr(opcodes::BASR, link, reg)?;
@@ -186,8 +187,8 @@ fn put_call_register(sink: &mut MachBuffer, link: Reg, reg: Reg) -> Result<(), E
 fn put_call(sink: &mut MachBuffer, link: Reg, dest: &CallInstDest) -> Result<(), EmitError>
     ensures answer { OnOk result
         (sink.new ≡ apply_all sink.old (part_fragments (call_part link dest.now ∷ []))) }
-    ensures lacks { put_cause sink.old (call_size dest.now) ≡ None → is_general link ≡ true
-        → is_target dest.now ≡ true → LacksMemory result }
+    ensures only_memory { put_cause sink.old (call_size dest.now) ≡ None → is_general link ≡ true
+        → is_target dest.now ≡ true → OnlyOutOfMemory result }
     ensures kept { Extends sink.old sink.new }
 {
     match dest {
@@ -202,7 +203,7 @@ fn put_call(sink: &mut MachBuffer, link: Reg, dest: &CallInstDest) -> Result<(),
 fn record_map(sink: &mut MachBuffer, stack_map: Option<u32>) -> Result<(), EmitError>
     ensures answer { OnOk result
         (sink.new ≡ apply_all sink.old (part_fragments (site_parts (map_site stack_map)))) }
-    ensures lacks { sink.old.failed ≡ false → LacksMemory result }
+    ensures only_memory { sink.old.is_poisoned ≡ false → OnlyOutOfMemory result }
     ensures kept { Extends sink.old sink.new }
 {
     match stack_map {
@@ -235,9 +236,10 @@ fn record_try(
         (sink.new
         ≡ apply_all sink.old
         (part_fragments (site_parts (return_site layout.now (Some info.now) ∷ [])))) }
-    ensures lacks { (blocks : ℕ) → sink.old.failed ≡ false → blocks ≤ length sink.old.labels
+    ensures only_memory { (blocks : ℕ) → sink.old.is_poisoned ≡ false
+        → blocks ≤ length sink.old.labels
         → labels_cause blocks (site_labels (return_site layout.now (Some info.now) ∷ [])) ≡ None
-        → LacksMemory result }
+        → OnlyOutOfMemory result }
     ensures kept { Extends sink.old sink.new }
 {
     match push_handlers(alloc, &info.exception_handlers) {
@@ -257,9 +259,10 @@ fn record_return(
         (sink.new
         ≡ apply_all sink.old
         (part_fragments (site_parts (return_site layout.now info.now ∷ [])))) }
-    ensures lacks { (blocks : ℕ) → sink.old.failed ≡ false → blocks ≤ length sink.old.labels
+    ensures only_memory { (blocks : ℕ) → sink.old.is_poisoned ≡ false
+        → blocks ≤ length sink.old.labels
         → labels_cause blocks (site_labels (return_site layout.now info.now ∷ [])) ≡ None
-        → LacksMemory result }
+        → OnlyOutOfMemory result }
     ensures kept { Extends sink.old sink.new }
 {
     match info {
@@ -278,7 +281,7 @@ fn record_patchable(
         (sink.new
         ≡ apply_all sink.old
         (part_fragments (site_parts (patchable_site patchable dest.now)))) }
-    ensures lacks { sink.old.failed ≡ false → LacksMemory result }
+    ensures only_memory { sink.old.is_poisoned ≡ false → OnlyOutOfMemory result }
     ensures kept { Extends sink.old sink.new }
 {
     if patchable {
@@ -298,9 +301,10 @@ fn record_sites(
     ensures answer { OnOk result
         (sink.new
         ≡ apply_all sink.old (part_fragments (site_parts (sites_of state.now info.now)))) }
-    ensures lacks { (blocks : ℕ) → sink.old.failed ≡ false → blocks ≤ length sink.old.labels
+    ensures only_memory { (blocks : ℕ) → sink.old.is_poisoned ≡ false
+        → blocks ≤ length sink.old.labels
         → labels_cause blocks (site_labels (sites_of state.now info.now)) ≡ None
-        → LacksMemory result }
+        → OnlyOutOfMemory result }
     ensures kept { Extends sink.old sink.new }
 {
     let mut here = *state;
@@ -321,18 +325,18 @@ fn put_call_step(
         (sink.new
         ≡ apply_all sink.old
         (part_fragments (step_parts (CallingStep (calling state.now link.now info.now))))) }
-    ensures lacks { (blocks : ℕ) → put_cause sink.old (call_size info.now.dest) ≡ None
+    ensures only_memory { (blocks : ℕ) → put_cause sink.old (call_size info.now.dest) ≡ None
         → blocks ≤ length sink.old.labels → is_general link.now ≡ true
         → is_target info.now.dest ≡ true
         → labels_cause blocks (site_labels (sites_of state.now info.now)) ≡ None
-        → LacksMemory result }
+        → OnlyOutOfMemory result }
     ensures kept { Extends sink.old sink.new }
 {
     put_call(sink, *link, &info.dest)?;
     record_sites(alloc, sink, state, info)
 }
 
-// The same, where no cause refuses it.
+// Emits a call and records its sites, where no cause refuses it.
 fn emit_call_step(
     alloc: Global,
     sink: &mut MachBuffer,
@@ -348,11 +352,11 @@ fn emit_call_step(
         (sink.new
         ≡ apply_all sink.old
         (part_fragments (step_parts (CallingStep (calling state.now link.now info.now))))) }
-    ensures lacks { (after : ℕ)
-        → MembersPassed sink.old after depth
+    ensures only_memory { (after : ℕ)
+        → MembersFit sink.old after depth
         (step_size (CallingStep (calling state.now link.now info.now)))
         (call_cause sink.old.block_count state.now.nominal depth
-        (calling state.now link.now info.now)) → LacksMemory result }
+        (calling state.now link.now info.now)) → OnlyOutOfMemory result }
     ensures kept { Extends sink.old sink.new }
 {
     match call_cause(sink.block_count(), state, depth, link, info) {
@@ -548,7 +552,7 @@ fn is_operand_helped(mi: MemInstType, operand: &MemArg) -> bool
 fn is_access_helped(inst: &Inst) -> bool
     ensures { result ≡ is_access_helped (memory inst.now) }
 {
-    match find_memory(inst) {
+    match memory_rows(inst) {
         Some(found) => is_operand_helped(found.rows.forms(found.accesses), &found.operand),
         None => false,
     }
@@ -632,7 +636,7 @@ fn keep_target(
     }
 }
 
-// The same of a target and saved registers that may stand there.
+// The instructions that take a frame down, and the target of the jump behind them, for a target and saved registers that may stand there.
 fn take_down(
     alloc: Global,
     layout: &FrameLayout,
@@ -677,7 +681,7 @@ pub fn open_tail_call(
 fn put_jump_symbol(sink: &mut MachBuffer, name: ExternalName) -> Result<(), EmitError>
     ensures answer { OnOk result
         (sink.new ≡ apply_all sink.old (part_fragments (CallSymbol None name ∷ []))) }
-    ensures lacks { put_cause sink.old 6 ≡ None → LacksMemory result }
+    ensures only_memory { put_cause sink.old 6 ≡ None → OnlyOutOfMemory result }
     ensures kept { Extends sink.old sink.new }
 {
     let code = enc_ril_c(opcodes::BRCL, 15, 0)?;
@@ -690,8 +694,8 @@ fn put_jump_symbol(sink: &mut MachBuffer, name: ExternalName) -> Result<(), Emit
 fn put_tail(sink: &mut MachBuffer, dest: &CallInstDest) -> Result<(), EmitError>
     ensures answer { OnOk result
         (sink.new ≡ apply_all sink.old (part_fragments (tail_part dest.now ∷ []))) }
-    ensures lacks { put_cause sink.old (call_size dest.now) ≡ None → is_target dest.now ≡ true
-        → LacksMemory result }
+    ensures only_memory { put_cause sink.old (call_size dest.now) ≡ None → is_target dest.now ≡ true
+        → OnlyOutOfMemory result }
     ensures kept { Extends sink.old sink.new }
 {
     match dest {

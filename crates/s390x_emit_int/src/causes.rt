@@ -14,7 +14,7 @@ use crate::stack::stack_cause;
 use s390x_address::general;
 use s390x_base::{Code, EmitError, MachLabel, Reg, RegClass};
 use s390x_buffer::MachBuffer;
-use s390x_emit_rows::{find_memory, find_single_instruction};
+use s390x_emit_rows::{encode_single, memory_rows};
 use s390x_inst::{EmitState, Inst, InstructionSet, IsaFlags};
 
 /// Whether the register is a real Int one other than `%r0`: one that a branch may go by.
@@ -161,7 +161,7 @@ fn memory_cause(state: &EmitState, sink: &MachBuffer, depth: u32, inst: &Inst) -
         ≡ memory_cause_or (declared_in sink.now) (memory (resolved_instruction state.now inst.now))
         (branch_cause sink.now.block_count depth inst.now) }
 {
-    match find_memory(inst) {
+    match memory_rows(inst) {
         Some(found) => found.cause(sink, state),
         None => branch_cause(sink.block_count(), depth, inst),
     }
@@ -186,13 +186,13 @@ fn other_cause(state: &EmitState, sink: &MachBuffer, depth: u32, inst: &Inst) ->
         (memory (resolved_instruction state.now inst.now))
         (branch_cause sink.now.block_count depth inst.now)) }
 {
-    match find_single_instruction(inst) {
+    match encode_single(inst) {
         Some(found) => found_cause(found),
         None => memory_cause(state, sink, depth, inst),
     }
 }
 
-// The same, behind the cause by the stack sizes.
+// The first cause of an instruction behind the cause by the stack sizes.
 fn later_cause(state: &EmitState, sink: &MachBuffer, depth: u32, inst: &Inst) -> Option<EmitError>
     ensures { result
         ≡ first_emit_cause (stack_cause state.now.nominal depth inst.now)

@@ -16,24 +16,24 @@ ghost use Rattle.s390x_emit_int.specs.Emission.{branch_size, memory_size_or};
 ghost use Rattle.s390x_emit_int.specs.Function.{tree_of};
 ghost use Rattle.s390x_emit_int.specs.Members.{member_of, members_of, block_members_of};
 ghost use Rattle.s390x_emit_int.specs.Sequence.{ChecksTree};
-ghost use Rattle.s390x_emit_int.specs.Totals.{IsCounted, Adds, code_limit};
+ghost use Rattle.s390x_emit_int.specs.CodeSize.{IsCounted, Adds, code_limit};
 
+use crate::baseline::check_on_machine;
 use crate::causes::instruction_cause;
 use crate::check_calls::{check_call, check_tail_call};
 use crate::composite::composite_size;
 use crate::context::Context;
-use crate::loaded::check_on_machine;
 use crate::stack::{advance, end_cause, mark_safepoint};
 use s390x_address::LIMIT;
 use s390x_base::{Code, EmitError, MachLabel};
 use s390x_buffer::MachBuffer;
-use s390x_emit_rows::{find_memory, find_single_instruction};
+use s390x_emit_rows::{encode_single, memory_rows};
 use s390x_inst::{Block, EmitState, Inst, IsaFlags};
 use std::alloc::Global;
 
 /// How many label numbers are in use, and how many bytes the steps have, counted up to the limit of code.
 #[derive(Clone, Copy)]
-pub struct Totals {
+pub struct CodeSize {
     pub labels: u64,
     pub bytes: u64,
 }
@@ -81,7 +81,7 @@ fn other_size(state: &EmitState, inst: &Inst) -> u64
         (branch_size inst.now)) }
     ensures few { result ≤ code_limit }
 {
-    match find_memory(inst) {
+    match memory_rows(inst) {
         Some(found) => found.size(state),
         None => branch_size(inst),
     }
@@ -107,7 +107,7 @@ fn size_of(state: &EmitState, inst: &Inst) -> u64
         ≡ min code_limit (instruction_size (resolved_instruction state.now inst.now)) }
     ensures few { result ≤ code_limit }
 {
-    match find_single_instruction(inst) {
+    match encode_single(inst) {
         Some(found) => found_size(found),
         None => other_size(state, inst),
     }
@@ -125,20 +125,20 @@ pub fn fresh_labels(inst: &Inst) -> u64
 }
 
 /// So many more bytes.
-pub fn add_bytes(t: Totals, bytes: u64) -> Totals
+pub fn add_bytes(t: CodeSize, bytes: u64) -> CodeSize
     requires counted { IsCounted t }
     requires short { bytes ≤ code_limit }
     ensures { Adds t result 0 bytes }
 {
     let sum = t.bytes + bytes;
-    Totals {
+    CodeSize {
         labels: t.labels,
         bytes: if sum > LIMIT { LIMIT } else { sum },
     }
 }
 
 /// So many more labels and bytes. `LabelOutOfRange` comes where so many labels are not left.
-pub fn add(t: Totals, labels: u64, bytes: u64) -> Result<Totals, EmitError>
+pub fn add(t: CodeSize, labels: u64, bytes: u64) -> Result<CodeSize, EmitError>
     requires counted { IsCounted t }
     requires few { labels ≤ 2 }
     requires short { bytes ≤ code_limit }
@@ -149,7 +149,7 @@ pub fn add(t: Totals, labels: u64, bytes: u64) -> Result<Totals, EmitError>
     if t.labels + labels > 4294967296 {
         return Err(EmitError::LabelOutOfRange);
     }
-    let drawn = Totals {
+    let drawn = CodeSize {
         labels: t.labels + labels,
         bytes: t.bytes,
     };
@@ -162,10 +162,10 @@ pub fn check_leaf(
     flags: IsaFlags,
     state: &EmitState,
     sink: &MachBuffer,
-    t: Totals,
+    t: CodeSize,
     depth: u32,
     inst: &Inst,
-) -> Result<Totals, EmitError>
+) -> Result<CodeSize, EmitError>
     requires { IsCounted t }
     ensures { let j = resolved_instruction state.now inst.now in
         let cause = leaf_cause flags (declared_in sink.now) t.labels state.now.nominal depth j in
@@ -181,7 +181,7 @@ pub fn check_leaf(
 
 /// A loop opens: its nesting, and its two labels. `LabelOutOfRange` comes where no two labels are left,
 /// `NestedTooDeep` where loops nest eight deep already.
-pub fn open_loop(t: Totals, depth: u32) -> Result<Totals, EmitError>
+pub fn open_loop(t: CodeSize, depth: u32) -> Result<CodeSize, EmitError>
     requires { IsCounted t }
     ensures { MatchResult result
         (λ r. (first_emit_cause (nesting_cause depth) (numbers_cause t.labels 2) ≡ None)
@@ -203,9 +203,9 @@ pub fn check_members(
     context: Context,
     state: &mut EmitState,
     sink: &MachBuffer,
-    t: Totals,
+    t: CodeSize,
     insts: &[Inst],
-) -> Result<Totals, EmitError>
+) -> Result<CodeSize, EmitError>
     requires { IsCounted t }
     ensures { let members = members_of context.flags state.old insts.now in
         let cause = tree_cause context.flags (declared_in sink.now) t.labels state.old.nominal
@@ -230,9 +230,9 @@ pub fn check_inst(
     context: Context,
     state: &EmitState,
     sink: &MachBuffer,
-    t: Totals,
+    t: CodeSize,
     inst: &Inst,
-) -> Result<Totals, EmitError>
+) -> Result<CodeSize, EmitError>
     requires { IsCounted t }
     ensures { ChecksTree context.flags (declared_in sink.now) t context.depth state.now.nominal
         (member_of context.flags state.now inst.now) result }
@@ -251,9 +251,9 @@ fn check_loop(
     context: Context,
     state: &EmitState,
     sink: &MachBuffer,
-    t: Totals,
+    t: CodeSize,
     body: &[Inst],
-) -> Result<Totals, EmitError>
+) -> Result<CodeSize, EmitError>
     requires { IsCounted t }
     ensures { let members = members_of context.flags (without_map state.now) body.now in
         let cause = first_emit_cause
@@ -282,9 +282,9 @@ fn check_block_members(
     flags: IsaFlags,
     state: &mut EmitState,
     sink: &MachBuffer,
-    t: Totals,
+    t: CodeSize,
     insts: &[Inst],
-) -> Result<Totals, EmitError>
+) -> Result<CodeSize, EmitError>
     requires { IsCounted t }
     ensures { let members = block_members_of flags state.old insts.now in
         let cause = tree_cause flags (declared_in sink.now) t.labels state.old.nominal 0 members in
@@ -313,9 +313,9 @@ pub fn check_block(
     flags: IsaFlags,
     state: &EmitState,
     sink: &MachBuffer,
-    t: Totals,
+    t: CodeSize,
     block: &Block,
-) -> Result<Totals, EmitError>
+) -> Result<CodeSize, EmitError>
     requires counted { IsCounted t }
     requires start { state.now.nominal ≡ 0 }
     ensures { MatchResult result

@@ -7,10 +7,10 @@ ghost use Rattle.s390x_typed_steps.specs.Resolved.{resolved_instruction};
 ghost use Rattle.s390x_typed_steps.specs.Tree.{Whole, leaves, empty};
 ghost use Rattle.s390x_typed_steps.specs.Stack.{nominal_after};
 ghost use Rattle.s390x_emit_int.specs.Sequence.{AllKeepNominal, Checks, ChecksTree};
-ghost use Rattle.s390x_emit_int.specs.Totals.{IsCounted};
+ghost use Rattle.s390x_emit_int.specs.CodeSize.{IsCounted};
 
 use crate::calls::{behind_call, call_cause, call_size, load_result, open_tail_call};
-use crate::check::{Totals, add_bytes, check_leaf};
+use crate::check::{CodeSize, add_bytes, check_leaf};
 use crate::context::Context;
 use s390x_base::{EmitError, Reg};
 use s390x_buffer::MachBuffer;
@@ -25,9 +25,9 @@ fn check_step(
     context: Context,
     state: &EmitState,
     sink: &MachBuffer,
-    t: Totals,
+    t: CodeSize,
     inst: &Inst,
-) -> Result<Totals, EmitError>
+) -> Result<CodeSize, EmitError>
     requires { IsCounted t }
     ensures { Checks context.flags (declared_in sink.now) t context.depth state.now.nominal
         (nominal_after state.now.nominal inst.now)
@@ -41,9 +41,9 @@ fn check_steps(
     context: Context,
     state: &EmitState,
     sink: &MachBuffer,
-    t: Totals,
+    t: CodeSize,
     insts: &[Inst],
-) -> Result<Totals, EmitError>
+) -> Result<CodeSize, EmitError>
     requires counted { IsCounted t }
     requires keep { AllKeepNominal insts.now }
     ensures { Checks context.flags (declared_in sink.now) t context.depth state.now.nominal
@@ -61,9 +61,9 @@ fn check_result(
     context: Context,
     state: &EmitState,
     sink: &MachBuffer,
-    t: Totals,
+    t: CodeSize,
     def: &CallRetPair,
-) -> Result<Totals, EmitError>
+) -> Result<CodeSize, EmitError>
     requires { IsCounted t }
     ensures { Checks context.flags (declared_in sink.now) t context.depth state.now.nominal
         state.now.nominal (load_before state.now def.now.vreg def.now.location []) result }
@@ -82,9 +82,9 @@ fn check_results(
     context: Context,
     state: &EmitState,
     sink: &MachBuffer,
-    t: Totals,
+    t: CodeSize,
     defs: &[CallRetPair],
-) -> Result<Totals, EmitError>
+) -> Result<CodeSize, EmitError>
     requires { IsCounted t }
     ensures { Checks context.flags (declared_in sink.now) t context.depth state.now.nominal
         state.now.nominal (load_bodies state.now defs.now) result }
@@ -96,14 +96,14 @@ fn check_results(
     Ok(sum)
 }
 
-// The same of a call that isn't patchable.
+// The first cause of the loads of a call's results, where it isn't patchable, or what they add.
 fn check_loads(
     context: Context,
     behind: &EmitState,
     sink: &MachBuffer,
-    t: Totals,
+    t: CodeSize,
     info: &CallInfo,
-) -> Result<Totals, EmitError>
+) -> Result<CodeSize, EmitError>
     requires { IsCounted t }
     ensures { (state : Emission) → behind.now ≡ behind_call state info.now.callee_pop_size
         → Checks context.flags (declared_in sink.now) t context.depth behind.now.nominal
@@ -121,9 +121,9 @@ fn check_continuation(
     context: Context,
     state: &EmitState,
     sink: &MachBuffer,
-    t: Totals,
+    t: CodeSize,
     info: &Option<TryCallInfo>,
-) -> Result<Totals, EmitError>
+) -> Result<CodeSize, EmitError>
     requires { IsCounted t }
     ensures { Checks context.flags (declared_in sink.now) t context.depth state.now.nominal
         state.now.nominal (continuation_bodies info.now) result }
@@ -145,10 +145,10 @@ pub fn check_call(
     context: Context,
     state: &EmitState,
     sink: &MachBuffer,
-    t: Totals,
+    t: CodeSize,
     link: Reg,
     info: &CallInfo,
-) -> Result<Totals, EmitError>
+) -> Result<CodeSize, EmitError>
     requires { IsCounted t }
     ensures { ChecksTree context.flags (declared_in sink.now) t context.depth state.now.nominal
         (leaves (call_bodies state.now link info.now) empty) result }
@@ -168,9 +168,9 @@ pub fn check_tail_call(
     context: Context,
     state: &EmitState,
     sink: &MachBuffer,
-    t: Totals,
+    t: CodeSize,
     info: &ReturnCallInfo<CallInstDest>,
-) -> Result<Totals, EmitError>
+) -> Result<CodeSize, EmitError>
     requires { IsCounted t }
     ensures { ChecksTree context.flags (declared_in sink.now) t context.depth state.now.nominal
         (leaves (tail_bodies state.now info.now.callee_pop_size info.now.dest) empty) result }

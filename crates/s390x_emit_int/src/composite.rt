@@ -14,7 +14,7 @@ ghost use Rattle.s390x_typed_steps.specs.VectorComposite.{comparing_rows, compos
 ghost use Rattle.s390x_typed_steps.specs.VectorInstruction.{is_vector};
 ghost use Rattle.s390x_emit_int.specs.Fragments.{apply_all};
 ghost use Rattle.s390x_emit_int.specs.Emission.{part_fragments};
-ghost use Rattle.s390x_emit_int.specs.Room.{LacksMemory};
+ghost use Rattle.s390x_emit_int.specs.Room.{OnlyOutOfMemory};
 
 use crate::conditional::{emit_move, move_cause, move_size, skip_six};
 use s390x_base::{Code, EmitError, Reg, zero_reg};
@@ -99,19 +99,19 @@ pub fn composite_size(inst: &VecInst) -> u64
 fn put_row(sink: &mut MachBuffer, code: &Code) -> Result<(), EmitError>
     ensures answer { (m : MachineInstruction) → code.now ≡ bytes_of m
         → OnOk result (sink.new ≡ apply_all sink.old (part_fragments (Row m ∷ []))) }
-    ensures lacks { (m : MachineInstruction) → code.now ≡ bytes_of m
-        → put_cause sink.old (size_of m) ≡ None → LacksMemory result }
+    ensures only_memory { (m : MachineInstruction) → code.now ≡ bytes_of m
+        → put_cause sink.old (size_of m) ≡ None → OnlyOutOfMemory result }
     ensures kept { Extends sink.old sink.new }
 {
     sink.put_code(code)
 }
 
-// The same, where its registers may stand there.
+// A machine instruction, where its registers may stand there.
 fn put_found(sink: &mut MachBuffer, found: Result<Code, EmitError>) -> Result<(), EmitError>
     ensures answer { (valid : Bool) (m : MachineInstruction) → found ≡ code_where valid m
         → OnOk result (sink.new ≡ apply_all sink.old (part_fragments (Row m ∷ []))) }
-    ensures lacks { (valid : Bool) (m : MachineInstruction) → found ≡ code_where valid m
-        → put_cause sink.old (size_of m) ≡ None → valid ≡ true → LacksMemory result }
+    ensures only_memory { (valid : Bool) (m : MachineInstruction) → found ≡ code_where valid m
+        → put_cause sink.old (size_of m) ≡ None → valid ≡ true → OnlyOutOfMemory result }
     ensures kept { Extends sink.old sink.new }
 {
     match found {
@@ -127,8 +127,8 @@ fn exchange_doublewords(sink: &mut MachBuffer, rd: &Reg, rn: &Reg) -> Result<(),
         ≡ apply_all sink.old
         (part_fragments
         (Row (exchanges_doublewords (number_of rd.now) (number_of rn.now)) ∷ []))) }
-    ensures lacks { put_cause sink.old 6 ≡ None → (is_vector rd.now && is_vector rn.now) ≡ true
-        → LacksMemory result }
+    ensures only_memory { put_cause sink.old 6 ≡ None
+        → (is_vector rd.now && is_vector rn.now) ≡ true → OnlyOutOfMemory result }
     ensures kept { Extends sink.old sink.new }
 {
     let row = VectorOpcode {
@@ -147,7 +147,8 @@ fn exchange_halves(sink: &mut MachBuffer, rd: &Reg, code: u8, half: u32) -> Resu
         (sink.new
         ≡ apply_all sink.old
         (part_fragments (Row (exchanges_halves (number_of rd.now) code half) ∷ []))) }
-    ensures lacks { put_cause sink.old 6 ≡ None → is_vector rd.now ≡ true → LacksMemory result }
+    ensures only_memory { put_cause sink.old 6 ≡ None → is_vector rd.now ≡ true
+        → OnlyOutOfMemory result }
     ensures kept { Extends sink.old sink.new }
 {
     let row = VectorOpcode {
@@ -166,8 +167,8 @@ fn reverse_words(sink: &mut MachBuffer, rd: &Reg, rn: &Reg) -> Result<(), EmitEr
         (part_fragments
         (Row (exchanges_doublewords d (number_of rn.now)) ∷ Row (exchanges_halves d 3 32)
         ∷ []))) }
-    ensures lacks { put_cause sink.old 12 ≡ None → (is_vector rd.now && is_vector rn.now) ≡ true
-        → LacksMemory result }
+    ensures only_memory { put_cause sink.old 12 ≡ None
+        → (is_vector rd.now && is_vector rn.now) ≡ true → OnlyOutOfMemory result }
     ensures kept { Extends sink.old sink.new }
 {
     exchange_doublewords(sink, rd, rn)?;
@@ -182,8 +183,8 @@ fn reverse_halfwords(sink: &mut MachBuffer, rd: &Reg, rn: &Reg) -> Result<(), Em
         (part_fragments
         (Row (exchanges_doublewords d (number_of rn.now)) ∷ Row (exchanges_halves d 3 32)
         ∷ Row (exchanges_halves d 2 16) ∷ []))) }
-    ensures lacks { put_cause sink.old 18 ≡ None → (is_vector rd.now && is_vector rn.now) ≡ true
-        → LacksMemory result }
+    ensures only_memory { put_cause sink.old 18 ≡ None
+        → (is_vector rd.now && is_vector rn.now) ≡ true → OnlyOutOfMemory result }
     ensures kept { Extends sink.old sink.new }
 {
     reverse_words(sink, rd, rn)?;
@@ -198,8 +199,8 @@ fn reverse_bytes(sink: &mut MachBuffer, rd: &Reg, rn: &Reg) -> Result<(), EmitEr
         (part_fragments
         (Row (exchanges_doublewords d (number_of rn.now)) ∷ Row (exchanges_halves d 3 32)
         ∷ Row (exchanges_halves d 2 16) ∷ Row (exchanges_halves d 1 8) ∷ []))) }
-    ensures lacks { put_cause sink.old 24 ≡ None → (is_vector rd.now && is_vector rn.now) ≡ true
-        → LacksMemory result }
+    ensures only_memory { put_cause sink.old 24 ≡ None
+        → (is_vector rd.now && is_vector rn.now) ≡ true → OnlyOutOfMemory result }
     ensures kept { Extends sink.old sink.new }
 {
     reverse_halfwords(sink, rd, rn)?;
@@ -214,9 +215,9 @@ fn emit_reversal(sink: &mut MachBuffer, count: u64, rd: &Reg, rn: &Reg) -> Resul
         (part_fragments
         (row_parts
         (rows_or_none (reversing_rows count (number_of rd.now) (number_of rn.now)))))) }
-    ensures lacks { let rows = reversing_rows count (number_of rd.now) (number_of rn.now) in
+    ensures only_memory { let rows = reversing_rows count (number_of rd.now) (number_of rn.now) in
         put_cause sink.old (parts_size (row_parts (rows_or_none rows))) ≡ None
-        → rows_cause rows (is_vector rd.now && is_vector rn.now) ≡ None → LacksMemory result }
+        → rows_cause rows (is_vector rd.now && is_vector rn.now) ≡ None → OnlyOutOfMemory result }
     ensures kept { Extends sink.old sink.new }
 {
     match count {
@@ -235,8 +236,8 @@ fn compare_left(sink: &mut MachBuffer, opcode: u16, rn: &Reg, rm: &Reg) -> Resul
         ≡ apply_all sink.old
         (part_fragments
         (Row (vrr_a opcode (number_of rn.now) (number_of rm.now) 3) ∷ []))) }
-    ensures lacks { put_cause sink.old 6 ≡ None → (is_vector rn.now && is_vector rm.now) ≡ true
-        → LacksMemory result }
+    ensures only_memory { put_cause sink.old 6 ≡ None
+        → (is_vector rn.now && is_vector rm.now) ≡ true → OnlyOutOfMemory result }
     ensures kept { Extends sink.old sink.new }
 {
     let row = VectorOpcode { opcode, code: 3 };
@@ -252,8 +253,9 @@ fn compare_right(sink: &mut MachBuffer, tmp: &Reg, rn: &Reg, rm: &Reg) -> Result
         (part_fragments
         (Row (vrr_b opcodes.VCHL (number_of tmp.now) (number_of rn.now) (number_of rm.now) 3 1)
         ∷ []))) }
-    ensures lacks { put_cause sink.old 6 ≡ None
-        → (is_vector tmp.now && is_vector rn.now && is_vector rm.now) ≡ true → LacksMemory result }
+    ensures only_memory { put_cause sink.old 6 ≡ None
+        → (is_vector tmp.now && is_vector rn.now && is_vector rm.now) ≡ true
+        → OnlyOutOfMemory result }
     ensures kept { Extends sink.old sink.new }
 {
     let row = VectorOpcode {
@@ -272,8 +274,8 @@ fn compare_first(sink: &mut MachBuffer, opcode: u16, rn: &Reg, rm: &Reg) -> Resu
         (part_fragments
         (Row (vrr_a opcode (number_of rn.now) (number_of rm.now) 3) ∷ Row (ri_c opcodes.BRC 7 5)
         ∷ []))) }
-    ensures lacks { put_cause sink.old 10 ≡ None → (is_vector rn.now && is_vector rm.now) ≡ true
-        → LacksMemory result }
+    ensures only_memory { put_cause sink.old 10 ≡ None
+        → (is_vector rn.now && is_vector rm.now) ≡ true → OnlyOutOfMemory result }
     ensures kept { Extends sink.old sink.new }
 {
     compare_left(sink, opcode, rn, rm)?;
@@ -295,8 +297,9 @@ fn emit_comparison(
         (row_parts
         (comparing_rows opcode (number_of tmp.now) (number_of rn.now)
         (number_of rm.now))))) }
-    ensures lacks { put_cause sink.old 16 ≡ None
-        → (is_vector tmp.now && is_vector rn.now && is_vector rm.now) ≡ true → LacksMemory result }
+    ensures only_memory { put_cause sink.old 16 ≡ None
+        → (is_vector tmp.now && is_vector rn.now && is_vector rm.now) ≡ true
+        → OnlyOutOfMemory result }
     ensures kept { Extends sink.old sink.new }
 {
     compare_first(sink, opcode, rm, rn)?;
@@ -309,8 +312,8 @@ fn emit_comparison(
 pub fn emit_composite(sink: &mut MachBuffer, inst: &VecInst) -> Result<(), EmitError>
     ensures answer { OnOk result
         (sink.new ≡ apply_all sink.old (part_fragments (row_parts (composite_rows inst.now)))) }
-    ensures lacks { put_cause sink.old (parts_size (row_parts (composite_rows inst.now))) ≡ None
-        → composite_cause inst.now ≡ None → LacksMemory result }
+    ensures only_memory { put_cause sink.old (parts_size (row_parts (composite_rows inst.now)))
+        ≡ None → composite_cause inst.now ≡ None → OnlyOutOfMemory result }
     ensures kept { Extends sink.old sink.new }
 {
     match inst {

@@ -12,7 +12,7 @@ ghost use Rattle.s390x_typed_steps.specs.SingleCode.{code_where};
 ghost use Rattle.s390x_typed_steps.specs.VectorComposite.{cause_under, move_under, rows_under};
 ghost use Rattle.s390x_emit_int.specs.Fragments.{apply_all};
 ghost use Rattle.s390x_emit_int.specs.Emission.{part_fragments};
-ghost use Rattle.s390x_emit_int.specs.Room.{LacksMemory};
+ghost use Rattle.s390x_emit_int.specs.Room.{OnlyOutOfMemory};
 ghost use Rattle.s390x_emit_int.specs.Skips.{is_short_move};
 
 use crate::causes::found_cause;
@@ -77,7 +77,7 @@ fn skip_two(sink: &mut MachBuffer, mask: u8) -> Result<(), EmitError>
     requires { mask < 16 }
     ensures answer { OnOk result
         (sink.new ≡ apply_all sink.old (part_fragments (Row (ri_c opcodes.BRC mask 3) ∷ []))) }
-    ensures lacks { put_cause sink.old 4 ≡ None → LacksMemory result }
+    ensures only_memory { put_cause sink.old 4 ≡ None → OnlyOutOfMemory result }
     ensures kept { Extends sink.old sink.new }
 {
     let code = enc_ri_c(opcodes::BRC, mask, 6)?;
@@ -90,7 +90,7 @@ pub fn skip_six(sink: &mut MachBuffer, mask: u8) -> Result<(), EmitError>
     requires { mask < 16 }
     ensures answer { OnOk result
         (sink.new ≡ apply_all sink.old (part_fragments (Row (ri_c opcodes.BRC mask 5) ∷ []))) }
-    ensures lacks { put_cause sink.old 4 ≡ None → LacksMemory result }
+    ensures only_memory { put_cause sink.old 4 ≡ None → OnlyOutOfMemory result }
     ensures kept { Extends sink.old sink.new }
 {
     let code = enc_ri_c(opcodes::BRC, mask, 10)?;
@@ -102,7 +102,7 @@ fn put_skip(sink: &mut MachBuffer, mask: u8, short: bool) -> Result<(), EmitErro
     ensures answer { OnOk result
         (sink.new
         ≡ apply_all sink.old (part_fragments (Row (ri_c opcodes.BRC mask (cond short 3 5)) ∷ []))) }
-    ensures lacks { put_cause sink.old 4 ≡ None → LacksMemory result }
+    ensures only_memory { put_cause sink.old 4 ≡ None → OnlyOutOfMemory result }
     ensures kept { Extends sink.old sink.new }
 {
     if short {
@@ -120,15 +120,15 @@ fn put_under(sink: &mut MachBuffer, mask: u8, short: bool, code: &Code) -> Resul
         (sink.new
         ≡ apply_all sink.old
         (part_fragments (Row (ri_c opcodes.BRC mask (cond short 3 5)) ∷ Row m ∷ []))) }
-    ensures lacks { (m : MachineInstruction) → code.now ≡ bytes_of m
-        → put_cause sink.old (4 + size_of m) ≡ None → LacksMemory result }
+    ensures only_memory { (m : MachineInstruction) → code.now ≡ bytes_of m
+        → put_cause sink.old (4 + size_of m) ≡ None → OnlyOutOfMemory result }
     ensures kept { Extends sink.old sink.new }
 {
     put_skip(sink, mask, short)?;
     sink.put_code(code)
 }
 
-// The same, where its registers may stand there.
+// Emits a move under a condition, where its registers may stand there.
 fn emit_under(
     sink: &mut MachBuffer,
     mask: u8,
@@ -141,8 +141,8 @@ fn emit_under(
         (sink.new
         ≡ apply_all sink.old
         (part_fragments (Row (ri_c opcodes.BRC mask (cond short 3 5)) ∷ Row m ∷ []))) }
-    ensures lacks { (valid : Bool) (m : MachineInstruction) → found ≡ code_where valid m
-        → put_cause sink.old (4 + size_of m) ≡ None → valid ≡ true → LacksMemory result }
+    ensures only_memory { (valid : Bool) (m : MachineInstruction) → found ≡ code_where valid m
+        → put_cause sink.old (4 + size_of m) ≡ None → valid ≡ true → OnlyOutOfMemory result }
     ensures kept { Extends sink.old sink.new }
 {
     match found {
@@ -158,8 +158,9 @@ pub fn emit_move(sink: &mut MachBuffer, inst: &VecInst) -> Result<(), EmitError>
     ensures answer { OnOk result
         (sink.new
         ≡ apply_all sink.old (part_fragments (row_parts (rows_under (move_under inst.now))))) }
-    ensures lacks { put_cause sink.old (parts_size (row_parts (rows_under (move_under inst.now))))
-        ≡ None → cause_under (move_under inst.now) ≡ None → LacksMemory result }
+    ensures only_memory { put_cause sink.old
+        (parts_size (row_parts (rows_under (move_under inst.now)))) ≡ None
+        → cause_under (move_under inst.now) ≡ None → OnlyOutOfMemory result }
     ensures kept { Extends sink.old sink.new }
 {
     let short = is_short(inst);

@@ -9,17 +9,17 @@ ghost use Rattle.s390x_inst.specs.Emission.{Emission};
 ghost use Rattle.s390x_buffer.specs.State.{BufferState, FailsWith, poisoned, put_cause, limit};
 ghost use Rattle.s390x_typed_steps.specs.Causes.{first_emit_cause, unless, declared_in, tree_cause};
 ghost use Rattle.s390x_typed_steps.specs.Sizes.{tree_size};
-ghost use Rattle.s390x_emit_int.specs.Totals.{IsCounted};
+ghost use Rattle.s390x_emit_int.specs.CodeSize.{IsCounted};
 ghost use Rattle.s390x_emit_int.specs.Members.{member_of};
 ghost use Rattle.s390x_emit_int.specs.Emission.{own_fragments};
 ghost use Rattle.s390x_emit_int.specs.Instruction.{emit_cause, is_short};
 ghost use Rattle.s390x_emit_int.specs.Fragments.{Put, PutTrapping, apply, apply_all};
-ghost use Rattle.s390x_emit_int.specs.Room.{HasRoom, TreePassed, LacksMemory};
+ghost use Rattle.s390x_emit_int.specs.Room.{HasRoom, TreeFits, OnlyOutOfMemory};
 ghost use Rattle.s390x_inst.specs.declared.inst.Inst.TheVariants.{Vector};
 ghost use Rattle.s390x_inst.specs.declared.state.IsaFlags.{IsaFlags};
 ghost use Rattle.s390x_typed_steps.specs.Stack.{state_after};
 
-use crate::check::{Totals, check_inst};
+use crate::check::{CodeSize, check_inst};
 use crate::context::Context;
 use crate::stack::advance;
 use crate::tree::emit_inst;
@@ -30,7 +30,7 @@ use s390x_inst::{EmitInfo, EmitState, Inst, IsaFlags, VecInst};
 use std::alloc::Global;
 
 /// Appends bytes. Refused by `Failed` where the buffer bears the mark, and by `LabelOutOfRange` where the length would reach 2^31;
-/// the buffer is marked then (cranelift-codegen, `emit.rs`, `put`).
+/// the buffer is poisoned then (cranelift-codegen, `emit.rs`, `put`).
 pub fn put(sink: &mut MachBuffer, enc: &[u8]) -> Result<(), EmitError>
     ensures answer { MatchResult result
         (λ _. (put_cause sink.old (length enc.now) ≡ None)
@@ -45,7 +45,7 @@ pub fn put(sink: &mut MachBuffer, enc: &[u8]) -> Result<(), EmitError>
 fn put_cause(sink: &MachBuffer, size: usize) -> Option<EmitError>
     ensures { result ≡ put_cause sink.now size }
 {
-    if sink.is_failed() {
+    if sink.is_poisoned() {
         Some(EmitError::Failed)
     } else if size as u64 >= LIMIT - u64::from(sink.cur_offset()) {
         Some(EmitError::LabelOutOfRange)
@@ -59,7 +59,7 @@ fn put_trapped(sink: &mut MachBuffer, enc: &[u8], trap_code: TrapCode) -> Result
     requires some { 0 < length enc.now }
     ensures answer { OnOk result
         (sink.new ≡ apply sink.old (PutTrapping enc.now (length enc.now - 1) trap_code)) }
-    ensures lacks { put_cause sink.old (length enc.now) ≡ None → LacksMemory result }
+    ensures only_memory { put_cause sink.old (length enc.now) ≡ None → OnlyOutOfMemory result }
     ensures kept { Extends sink.old sink.new }
 {
     let last = enc.len() - 1;
@@ -69,7 +69,7 @@ fn put_trapped(sink: &mut MachBuffer, enc: &[u8], trap_code: TrapCode) -> Result
 }
 
 /// Appends bytes and records a trap at the last of them. Refused by `Failed` where the buffer bears the mark, and by `LabelOutOfRange`
-/// where the length would reach 2^31; the buffer is marked then, and what stood in it still stands (cranelift-codegen, `emit.rs`, `put_with_trap`).
+/// where the length would reach 2^31; the buffer is poisoned then, and what stood in it still stands (cranelift-codegen, `emit.rs`, `put_with_trap`).
 pub fn put_with_trap(
     sink: &mut MachBuffer,
     enc: &[u8],
@@ -80,17 +80,17 @@ pub fn put_with_trap(
         (λ _. (put_cause sink.old (length enc.now) ≡ None)
         × (sink.new ≡ apply sink.old (PutTrapping enc.now (length enc.now - 1) trap_code)))
         (λ e. ((e ≡ NoMemory) ⊎ (put_cause sink.old (length enc.now) ≡ Some e))
-        × IsTrue sink.new.failed) }
+        × IsTrue sink.new.is_poisoned) }
     ensures kept { Extends sink.old sink.new }
 {
     if let Some(error) = put_cause(sink, enc.len()) {
-        sink.fail();
+        sink.poison();
         return Err(error);
     }
     match put_trapped(sink, enc, trap_code) {
         Ok(()) => Ok(()),
         Err(error) => {
-            sink.fail();
+            sink.poison();
             Err(error)
         }
     }
@@ -102,7 +102,7 @@ fn first_cause(
     flags: IsaFlags,
     sink: &MachBuffer,
     state: &EmitState,
-    used: Totals,
+    used: CodeSize,
     inst: &Inst,
 ) -> Option<EmitError>
     requires { IsCounted used }
@@ -143,8 +143,8 @@ fn emit_and_advance(
     ensures cause { OnOk result
         (tree_cause flags (declared_in sink.old) (length sink.old.labels) state.old.nominal 0
         (member_of flags state.old inst.now) ≡ None) }
-    ensures lacks { TreePassed flags sink.old 0 state.old.nominal 0
-        (member_of flags state.old inst.now) → LacksMemory result }
+    ensures only_memory { TreeFits flags sink.old 0 state.old.nominal 0
+        (member_of flags state.old inst.now) → OnlyOutOfMemory result }
     ensures kept { Extends sink.old sink.new }
 {
     let outside = Context {
@@ -165,7 +165,7 @@ fn emit_in(
     state: &mut EmitState,
     inst: &Inst,
 ) -> Result<(), EmitError>
-    requires { sink.old.failed ≡ false }
+    requires { sink.old.is_poisoned ≡ false }
     ensures answer { let step = member_of flags state.old inst.now in
         let cause = emit_cause flags state.old.nominal sink.old step in
         MatchResult result
@@ -175,7 +175,7 @@ fn emit_in(
         (λ e. ((e ≡ NoMemory) ⊎ (cause ≡ Some e)) × (state.new ≡ state.old)) }
     ensures kept { Extends sink.old sink.new }
 {
-    let used = Totals {
+    let used = CodeSize {
         labels: sink.label_count(),
         bytes: u64::from(sink.cur_offset()),
     };
@@ -210,9 +210,9 @@ pub trait MachInstEmit {
             (λ _. (cause ≡ None)
             × (sink.new ≡ buffer_behind emit_info.now.isa_flags state.old sink.old self.now)
             × (state.new ≡ state_behind state.old self.now))
-            (λ e. ((e ≡ NoMemory) ⊎ (cause ≡ Some e)) × IsTrue sink.new.failed
+            (λ e. ((e ≡ NoMemory) ⊎ (cause ≡ Some e)) × IsTrue sink.new.is_poisoned
             × (state.new ≡ state.old)) }
-        ensures refused { OnErr result (IsTrue sink.new.failed × (state.new ≡ state.old)) }
+        ensures refused { OnErr result (IsTrue sink.new.is_poisoned × (state.new ≡ state.old)) }
         ensures kept { Extends sink.old sink.new };
 }
 
@@ -243,21 +243,21 @@ impl MachInstEmit for Inst {
             (λ _. (cause ≡ None)
             × (sink.new ≡ apply_all sink.old (own_fragments (length sink.old.labels) 0 step))
             × (state.new ≡ record (state_after state.old self.now) { stack_map = None }))
-            (λ e. ((e ≡ NoMemory) ⊎ (cause ≡ Some e)) × IsTrue sink.new.failed
+            (λ e. ((e ≡ NoMemory) ⊎ (cause ≡ Some e)) × IsTrue sink.new.is_poisoned
             × (state.new ≡ state.old)) }
-        ensures refused { OnErr result (IsTrue sink.new.failed × (state.new ≡ state.old)) }
+        ensures refused { OnErr result (IsTrue sink.new.is_poisoned × (state.new ≡ state.old)) }
         ensures few { is_short self.now ≡ true
             → OnOk result (length sink.new.bytes ≤ length sink.old.bytes + 44) }
         ensures kept { Extends sink.old sink.new }
     {
-        if sink.is_failed() {
-            sink.fail();
+        if sink.is_poisoned() {
+            sink.poison();
             return Err(EmitError::Failed);
         }
         match emit_in(alloc, emit_info.isa_flags, sink, state, self) {
             Ok(()) => Ok(()),
             Err(error) => {
-                sink.fail();
+                sink.poison();
                 Err(error)
             }
         }
@@ -266,7 +266,7 @@ impl MachInstEmit for Inst {
 
 /// Appends a vector or floating-point instruction as `Inst::emit` does, and leaves the state whole, its stack map too.
 ///
-/// Refused by the same causes, with the buffer marked then.
+/// Refused by the same causes, with the buffer poisoned then.
 pub fn emit_vector(
     alloc: Global,
     inst: &VecInst,
@@ -279,8 +279,8 @@ pub fn emit_vector(
         MatchResult result
         (λ _. (cause ≡ None)
         × (sink.new ≡ apply_all sink.old (own_fragments (length sink.old.labels) 0 step)))
-        (λ e. ((e ≡ NoMemory) ⊎ (cause ≡ Some e)) × IsTrue sink.new.failed) }
-    ensures refused { OnErr result (IsTrue sink.new.failed) }
+        (λ e. ((e ≡ NoMemory) ⊎ (cause ≡ Some e)) × IsTrue sink.new.is_poisoned) }
+    ensures refused { OnErr result (IsTrue sink.new.is_poisoned) }
     ensures kept { Extends sink.old sink.new }
 {
     let mut behind = *state;

@@ -15,11 +15,11 @@ ghost use Rattle.s390x_emit_int.specs.Emission.{fragments, function_fragments};
 ghost use Rattle.s390x_typed_steps.specs.Ranges.{AllInRange, BlocksInRange};
 ghost use Rattle.s390x_emit_int.specs.Function.{tree_of, trees_of, folded_trees_of, constants_of, number_of_next, IsFinishedCode, start_cause, code_length_cause, checked_cause, function_cause};
 ghost use Rattle.s390x_emit_int.specs.Fragments.{apply_all};
-ghost use Rattle.s390x_emit_int.specs.Totals.{AreCounted};
+ghost use Rattle.s390x_emit_int.specs.CodeSize.{AreCounted};
 ghost use Rattle.s390x_emit_int.specs.Members.{block_members_of};
-ghost use Rattle.s390x_emit_int.specs.Room.{HasRoom, MembersPassed, TreePassed, LacksMemory};
+ghost use Rattle.s390x_emit_int.specs.Room.{HasRoom, MembersFit, TreeFits, OnlyOutOfMemory};
 
-use crate::check::{Totals, check_block};
+use crate::check::{CodeSize, check_block};
 use crate::context::Context;
 use crate::folding::folded_bytes;
 use crate::stack::{advance, end_cause, mark_safepoint};
@@ -75,7 +75,7 @@ fn check_blocks(
         (λ r. (blocks_cause flags (declared_in sink.now) labels ts ≡ None) × AreCounted r ts)
         (λ e. (e ≡ NoMemory) ⊎ (blocks_cause flags (declared_in sink.now) labels ts ≡ Some e)) }
 {
-    let mut sum = Totals { labels, bytes: 0 };
+    let mut sum = CodeSize { labels, bytes: 0 };
     let mut longest = 0;
     let mut number: u32 = 0;
     for block in blocks {
@@ -123,8 +123,8 @@ fn emit_block_members(
         (block_members_of flags state.old insts.now) ≡ None)
         × (state.new.nominal
         ≡ nominal_behind state.old.nominal (block_members_of flags state.old insts.now))) }
-    ensures lacks { TreePassed flags sink.old 0 state.old.nominal 0
-        (block_members_of flags state.old insts.now) → LacksMemory result }
+    ensures only_memory { TreeFits flags sink.old 0 state.old.nominal 0
+        (block_members_of flags state.old insts.now) → OnlyOutOfMemory result }
     ensures ranges { OnOk result (AllInRange (block_members_of flags state.old insts.now)) }
     ensures kept { Extends sink.old sink.new }
 {
@@ -164,9 +164,9 @@ fn emit_block(
     ensures cause { OnOk result
         (block_cause flags (declared_in sink.old) (length sink.old.labels)
         (tree_of flags state.now block.now) ≡ None) }
-    ensures lacks { MembersPassed sink.old 0 0 (tree_size (tree_of flags state.now block.now))
+    ensures only_memory { MembersFit sink.old 0 0 (tree_size (tree_of flags state.now block.now))
         (block_cause flags (declared_in sink.old) (length sink.old.labels)
-        (tree_of flags state.now block.now)) → LacksMemory result }
+        (tree_of flags state.now block.now)) → OnlyOutOfMemory result }
     ensures ranges { OnOk result (AllInRange (tree_of flags state.now block.now)) }
     ensures declared { declared_in sink.new ≡ declared_in sink.old }
 {
@@ -205,10 +205,10 @@ fn emit_blocks(
     ensures cause { OnOk result
         (blocks_cause flags (declared_in sink.old) (length sink.old.labels)
         (map (tree_of flags state.now) blocks.now) ≡ None) }
-    ensures lacks { sink.old.failed ≡ false
+    ensures only_memory { sink.old.is_poisoned ≡ false
         → peak_from 0 (length sink.old.bytes) (map (tree_of flags state.now) blocks.now) < limit
         → blocks_cause flags (declared_in sink.old) (length sink.old.labels)
-        (map (tree_of flags state.now) blocks.now) ≡ None → LacksMemory result }
+        (map (tree_of flags state.now) blocks.now) ≡ None → OnlyOutOfMemory result }
     ensures ranges { OnOk result (BlocksInRange (map (tree_of flags state.now) blocks.now)) }
     ensures declared { declared_in sink.new ≡ declared_in sink.old }
 {
@@ -278,7 +278,7 @@ fn refusal(
     requires new { new_cause (length function.now.blocks.items) (constants_of function.now) ≡ None }
     requires declared { declared_in sink.now
         ≡ declared_of (trees_of flags state.now function.now) (constants_of function.now) }
-    requires lacks { checked_cause flags (trees_of flags state.now function.now)
+    requires only_memory { checked_cause flags (trees_of flags state.now function.now)
         (constants_of function.now) ≡ None → error ≡ NoMemory }
     ensures { (result ≡ NoMemory)
         ⊎ (checked_cause flags (trees_of flags state.now function.now) (constants_of function.now)

@@ -1,6 +1,7 @@
 //! Emission: from typed instructions to finished code.
 #![tactic(auto)]
 
+mod baseline;
 mod calls;
 mod causes;
 mod check;
@@ -10,21 +11,21 @@ mod composite;
 mod conditional;
 mod context;
 mod emit;
+mod fast_path;
 mod folding;
 mod function;
 mod headline;
 mod image;
-mod kinds;
-mod leaf;
-mod loaded;
+mod instruction;
 mod stack;
 mod symbol;
 mod table;
 mod tree;
 
+pub use baseline::{check_on_machine, emit_on_machine};
 pub use calls::{emit_call, emit_tail_call};
 pub use causes::branch_cause;
-pub use check::{Totals, check_block, check_inst, check_leaf, check_members, open_loop};
+pub use check::{CodeSize, check_block, check_inst, check_leaf, check_members, open_loop};
 pub use check_calls::{check_call, check_tail_call};
 pub use completeness::{accesses_are_emitted, checked_functions_finish};
 pub use context::Context;
@@ -32,7 +33,6 @@ pub use emit::{MachInstEmit, emit_vector, put, put_with_trap};
 pub use function::emit_function;
 pub use headline::{linked_code_is_placed, linked_code_runs_as_typed, premises_can_be_met};
 pub use image::{ImageError, emit_image};
-pub use leaf::{emit_leaf, put_branch};
-pub use loaded::{check_on_machine, emit_on_machine};
+pub use instruction::{emit_leaf, put_branch};
 pub use stack::{advance, mark_safepoint};
 pub use tree::{emit_inst, emit_members};

@@ -48,7 +48,7 @@ fn outgoing_after(outgoing: u32, inst: &Inst) -> u32
     }
 }
 
-// The same behind the members of a loop.
+// The outgoing size behind the members of a loop.
 #[cycle(outgoing)]
 fn outgoing_behind(outgoing: u32, insts: &[Inst]) -> u32
     ensures { result ≡ outgoing_behind_all outgoing insts.now }

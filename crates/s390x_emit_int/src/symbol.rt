@@ -13,7 +13,7 @@ ghost use Rattle.s390x_typed_steps.specs.Parts.{Row, name_in, offset_in, symbol_
 ghost use Rattle.s390x_typed_steps.specs.General.{is_general};
 ghost use Rattle.s390x_emit_int.specs.Fragments.{PutReloc, apply, apply_all};
 ghost use Rattle.s390x_emit_int.specs.Emission.{part_fragments};
-ghost use Rattle.s390x_emit_int.specs.Room.{LacksMemory};
+ghost use Rattle.s390x_emit_int.specs.Room.{OnlyOutOfMemory};
 
 use s390x_base::{EmitError, ExternalName, Reg, Reloc, gpr};
 use s390x_buffer::MachBuffer;
@@ -25,7 +25,7 @@ use s390x_rows::opcodes;
 fn put_branch_over(sink: &mut MachBuffer) -> Result<(), EmitError>
     ensures answer { OnOk result
         (sink.new ≡ apply_all sink.old (part_fragments (Row (ri_b opcodes.BRAS 1 6) ∷ []))) }
-    ensures lacks { put_cause sink.old 4 ≡ None → LacksMemory result }
+    ensures only_memory { put_cause sink.old 4 ≡ None → OnlyOutOfMemory result }
     ensures kept { Extends sink.old sink.new }
 {
     let code = enc_ri_b(opcodes::BRAS, gpr(1), 12)?;
@@ -36,7 +36,7 @@ fn put_branch_over(sink: &mut MachBuffer) -> Result<(), EmitError>
 fn put_symbol(sink: &mut MachBuffer, name: ExternalName, offset: i64) -> Result<(), EmitError>
     ensures answer { OnOk result
         (sink.new ≡ apply sink.old (PutReloc (to_be_bytes w64 0) 0 Abs8 name offset)) }
-    ensures lacks { put_cause sink.old 8 ≡ None → LacksMemory result }
+    ensures only_memory { put_cause sink.old 8 ≡ None → OnlyOutOfMemory result }
     ensures kept { Extends sink.old sink.new }
 {
     sink.add_reloc(Reloc::Abs8, name, offset)?;
@@ -50,7 +50,7 @@ fn put_reloc(sink: &mut MachBuffer, symbol_reloc: &SymbolReloc) -> Result<(), Em
         ≡ apply sink.old
         (PutReloc (to_be_bytes w64 0) 0 Abs8 (name_in symbol_reloc.now)
         (offset_in symbol_reloc.now))) }
-    ensures lacks { put_cause sink.old 8 ≡ None → LacksMemory result }
+    ensures only_memory { put_cause sink.old 8 ≡ None → OnlyOutOfMemory result }
     ensures kept { Extends sink.old sink.new }
 {
     match symbol_reloc {
@@ -63,7 +63,8 @@ fn put_load(sink: &mut MachBuffer, rd: Reg) -> Result<(), EmitError>
     ensures answer { OnOk result
         (sink.new
         ≡ apply_all sink.old (part_fragments (Row (rxy opcodes.LG (number_of rd) 1 0 0) ∷ []))) }
-    ensures lacks { put_cause sink.old 6 ≡ None → is_general rd ≡ true → LacksMemory result }
+    ensures only_memory { put_cause sink.old 6 ≡ None → is_general rd ≡ true
+        → OnlyOutOfMemory result }
     ensures kept { Extends sink.old sink.new }
 {
     let code = enc_rxy(opcodes::LG, rd, gpr(1), gpr(0), 0)?;
@@ -81,7 +82,8 @@ pub fn emit_symbol_load(
     ensures answer { OnOk result
         (sink.new
         ≡ apply_all sink.old (part_fragments (symbol_parts (number_of rd) symbol_reloc.now))) }
-    ensures lacks { put_cause sink.old 18 ≡ None → is_general rd ≡ true → LacksMemory result }
+    ensures only_memory { put_cause sink.old 18 ≡ None → is_general rd ≡ true
+        → OnlyOutOfMemory result }
     ensures kept { Extends sink.old sink.new }
 {
     put_branch_over(sink)?;

@@ -13,9 +13,9 @@ ghost use Rattle.s390x_typed_steps.specs.General.{is_general};
 ghost use Rattle.s390x_typed_steps.specs.Ranges.{IsConditionMask};
 ghost use Rattle.s390x_emit_int.specs.Fragments.{apply, apply_all};
 ghost use Rattle.s390x_emit_int.specs.Emission.{table_word, table_rows, table_fragments, part_fragments};
-ghost use Rattle.s390x_emit_int.specs.Room.{HasRoom, Passed, LacksMemory};
+ghost use Rattle.s390x_emit_int.specs.Room.{HasRoom, FitsWithoutCause, OnlyOutOfMemory};
 
-use crate::leaf::{emit_address, emit_branch_register, put_branch};
+use crate::instruction::{emit_address, emit_branch_register, put_branch};
 use s390x_base::{Cond, EmitError, MachLabel, Reg, gpr};
 use s390x_buffer::{LabelUse, MachBuffer};
 use s390x_enc::enc_rxy;
@@ -24,7 +24,7 @@ use s390x_rows::opcodes;
 // A word of a table, so far its distance from the table's beginning; the buffer's end adds the distance to the label.
 fn put_word(sink: &mut MachBuffer, before: u32, label: MachLabel) -> Result<(), EmitError>
     ensures answer { OnOk result (sink.new ≡ apply sink.old (table_word before label.0)) }
-    ensures lacks { Passed sink.old label.0 4 None → LacksMemory result }
+    ensures only_memory { FitsWithoutCause sink.old label.0 4 None → OnlyOutOfMemory result }
     ensures kept { Extends sink.old sink.new }
 {
     let offset = sink.cur_offset();
@@ -36,9 +36,9 @@ fn put_word(sink: &mut MachBuffer, before: u32, label: MachLabel) -> Result<(), 
 fn put_words(sink: &mut MachBuffer, targets: &[MachLabel]) -> Result<(), EmitError>
     ensures answer { OnOk result
         (sink.new ≡ apply_all sink.old (part_fragments (table_words 0 targets.now))) }
-    ensures lacks { (after : ℕ)
-        → Passed sink.old after (4 * length targets.now)
-        (labels_cause sink.old.block_count targets.now) → LacksMemory result }
+    ensures only_memory { (after : ℕ)
+        → FitsWithoutCause sink.old after (4 * length targets.now)
+        (labels_cause sink.old.block_count targets.now) → OnlyOutOfMemory result }
     ensures kept { Extends sink.old sink.new }
 {
     let table = sink.cur_offset();
@@ -55,7 +55,8 @@ fn put_word_sum(sink: &mut MachBuffer, index: Reg) -> Result<(), EmitError>
         (sink.new
         ≡ apply_all sink.old
         (part_fragments (Row (rxy opcodes.AGF 1 1 (number_of index) 0) ∷ []))) }
-    ensures lacks { put_cause sink.old 6 ≡ None → is_general index ≡ true → LacksMemory result }
+    ensures only_memory { put_cause sink.old 6 ≡ None → is_general index ≡ true
+        → OnlyOutOfMemory result }
     ensures kept { Extends sink.old sink.new }
 {
     let code = enc_rxy(opcodes::AGF, gpr(1), gpr(1), index, 0)?;
@@ -73,8 +74,8 @@ fn put_table_rows(
     requires { mask < 16 }
     ensures answer { OnOk result
         (sink.new ≡ apply_all sink.old (table_rows table.0 (number_of index) mask other.0)) }
-    ensures lacks { Passed sink.old other.0 20 None → table.0 < length sink.old.labels
-        → is_general index ≡ true → LacksMemory result }
+    ensures only_memory { FitsWithoutCause sink.old other.0 20 None
+        → table.0 < length sink.old.labels → is_general index ≡ true → OnlyOutOfMemory result }
     ensures kept { Extends sink.old sink.new }
 {
     put_branch(sink, mask, other)?;
@@ -99,10 +100,10 @@ pub fn emit_table(
         ≡ apply_all sink.old
         (table_fragments (length sink.old.labels) (number_of index) cond other.0
         targets.now)) }
-    ensures lacks { (after : ℕ)
-        → Passed sink.old after (20 + 4 * length targets.now)
+    ensures only_memory { (after : ℕ)
+        → FitsWithoutCause sink.old after (20 + 4 * length targets.now)
         (table_cause sink.old.block_count index other targets.now)
-        → numbers_cause (length sink.old.labels) 1 ≡ None → LacksMemory result }
+        → numbers_cause (length sink.old.labels) 1 ≡ None → OnlyOutOfMemory result }
     ensures range { IsConditionMask cond }
     ensures kept { Extends sink.old sink.new }
 {

@@ -10,13 +10,13 @@ ghost use Rattle.s390x_emit_int.specs.Fragments.{apply_all};
 ghost use Rattle.s390x_emit_int.specs.Members.{member_of, members_of};
 ghost use Rattle.s390x_emit_int.specs.Emission.{fragments, own_fragments};
 ghost use Rattle.s390x_typed_steps.specs.Ranges.{AllInRange};
-ghost use Rattle.s390x_emit_int.specs.Room.{HasRoom, TreePassed, LacksMemory};
+ghost use Rattle.s390x_emit_int.specs.Room.{HasRoom, TreeFits, OnlyOutOfMemory};
 
+use crate::baseline::emit_on_machine;
 use crate::calls::{emit_call, emit_tail_call};
-use crate::check::{Totals, open_loop};
+use crate::check::{CodeSize, open_loop};
 use crate::context::Context;
-use crate::leaf::put_branch;
-use crate::loaded::emit_on_machine;
+use crate::instruction::put_branch;
 use crate::stack::advance;
 use s390x_base::{Cond, EmitError};
 use s390x_buffer::MachBuffer;
@@ -29,7 +29,7 @@ fn loop_cause(sink: &MachBuffer, depth: u32) -> Option<EmitError>
         ≡ first_emit_cause (nesting_cause depth) (numbers_cause (length sink.now.labels) 2) }
     ensures few { result ≡ None → depth < 8 }
 {
-    let used = Totals {
+    let used = CodeSize {
         labels: sink.label_count(),
         bytes: 0,
     };
@@ -57,8 +57,8 @@ pub fn emit_members(
         state.old.nominal context.depth (members_of context.flags state.old insts.now) ≡ None)
         × (state.new.nominal
         ≡ nominal_behind state.old.nominal (members_of context.flags state.old insts.now))) }
-    ensures lacks { TreePassed context.flags sink.old context.after.0 state.old.nominal
-        context.depth (members_of context.flags state.old insts.now) → LacksMemory result }
+    ensures only_memory { TreeFits context.flags sink.old context.after.0 state.old.nominal
+        context.depth (members_of context.flags state.old insts.now) → OnlyOutOfMemory result }
     ensures ranges { OnOk result (AllInRange (members_of context.flags state.old insts.now)) }
     ensures kept { Extends sink.old sink.new }
 {
@@ -89,8 +89,8 @@ pub fn emit_inst(
     ensures cause { OnOk result
         (tree_cause context.flags (declared_in sink.old) (length sink.old.labels)
         state.now.nominal context.depth (member_of context.flags state.now inst.now) ≡ None) }
-    ensures lacks { TreePassed context.flags sink.old context.after.0 state.now.nominal
-        context.depth (member_of context.flags state.now inst.now) → LacksMemory result }
+    ensures only_memory { TreeFits context.flags sink.old context.after.0 state.now.nominal
+        context.depth (member_of context.flags state.now inst.now) → OnlyOutOfMemory result }
     ensures ranges { OnOk result (AllInRange (member_of context.flags state.now inst.now)) }
     ensures kept { Extends sink.old sink.new }
 {
@@ -129,10 +129,10 @@ fn emit_loop(
         state.now.nominal context.depth
         (loop_node cond (members_of context.flags (without_map state.now) body.now) empty)
         ≡ None) }
-    ensures lacks { (after : ℕ)
-        → TreePassed context.flags sink.old after state.now.nominal context.depth
+    ensures only_memory { (after : ℕ)
+        → TreeFits context.flags sink.old after state.now.nominal context.depth
         (loop_node cond (members_of context.flags (without_map state.now) body.now) empty)
-        → LacksMemory result }
+        → OnlyOutOfMemory result }
     ensures ranges { OnOk result
         (AllInRange
         (loop_node cond (members_of context.flags (without_map state.now) body.now) empty)) }

@@ -38,7 +38,7 @@ unmarked true o h = absurd (cc)
 
 module _ (off : ℕ → ℕ) (flags : IsaFlags) (e : Emission) (s : BufferState) (i : Inst) (is : IsAppended off flags e s i) where
   pub own_valid : tree_cause flags (declared_in s) (length s.labels) e.nominal 0 (member_of flags e i) ≡ None
-  own_valid = first_left (tree_cause flags (declared_in s) (length s.labels) e.nominal 0 (member_of flags e i)) _ (unmarked s.failed _ is.valid)
+  own_valid = first_left (tree_cause flags (declared_in s) (length s.labels) e.nominal 0 (member_of flags e i)) _ (unmarked s.is_poisoned _ is.valid)
 
   pub placed_bytes : patched_bytes off (emitted flags e s i) ≡ patched_bytes off s ++ code (placed_offsets off s (alone flags e i)) 0 (function_steps (alone flags e i))
   placed_bytes = appended flags e.nominal (member_of flags e i) s off (member_begins flags e i) own_valid is.within is.labels

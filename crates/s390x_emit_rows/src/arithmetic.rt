@@ -11,11 +11,11 @@ ghost use Rattle.s390x_typed_steps.specs.SingleInstruction.{single_with, unary_r
 ghost use Rattle.s390x_emit_rows.specs.SingleInstruction.{opcode_of, takes_general};
 
 use crate::codes::{
-    halfword, masked, short, short_where, three_operands, two_and_halfword, two_operands, word,
+    halfword, masked_code, short, short_where, three_operands, two_and_halfword, two_operands, word,
 };
+use crate::encode::encode_rr_into;
 use crate::opcode::ShortOpcode;
 use crate::registers::{same_number, three_general, two_general};
-use crate::shapes::into_row;
 use s390x_base::{Code, EmitError, Reg, Writable, gpr};
 use s390x_inst::{ALUOp, CmpOp, UnaryOp};
 use s390x_rows::opcodes;
@@ -116,13 +116,13 @@ fn count_ones(rd: &Writable<Reg>, rn: &Reg, mode: u8) -> Result<Code, EmitError>
         (rrf_cde opcodes.POPCNT (number_of rd.now) (number_of rn.now) mode 0) }
 {
     let output = rd.to_reg();
-    masked(two_general(&output, rn), opcodes::POPCNT, output, *rn, mode)
+    masked_code(two_general(&output, rn), opcodes::POPCNT, output, *rn, mode)
 }
 
 /// One operand. The count of ones has its mode in a mask. None where there is no row; `BadRegister` comes where a
 /// register is not general, or an input that has to be the output isn't it.
 #[tactic(auto, using(crate::proofs::Encoding::unary_two_general))]
-pub fn unary_row(op: UnaryOp, rd: &Writable<Reg>, rn: &Reg) -> Option<Result<Code, EmitError>>
+pub fn encode_unary(op: UnaryOp, rd: &Writable<Reg>, rn: &Reg) -> Option<Result<Code, EmitError>>
     ensures { result
         ≡ single_code
         (single_with (is_general rd.now && is_general rn.now)
@@ -131,14 +131,14 @@ pub fn unary_row(op: UnaryOp, rd: &Writable<Reg>, rn: &Reg) -> Option<Result<Cod
     match op {
         UnaryOp::PopcntByte => Some(count_ones(rd, rn, 0)),
         UnaryOp::PopcntReg => Some(count_ones(rd, rn, 8)),
-        _ => into_row(unary_opcode(op), rd, rn),
+        _ => encode_rr_into(unary_opcode(op), rd, rn),
     }
 }
 
 /// The row of three operands, or that of two where there is one and the first input is the output. None where there
 /// is no row; `BadRegister` comes where a register is not general, or an input that has to be the output isn't it.
 #[tactic(auto, using(crate::proofs::Encoding::alu_two_general))]
-pub fn three_row(
+pub fn encode_rrr(
     op: ALUOp,
     rd: &Writable<Reg>,
     rn: &Reg,
@@ -177,7 +177,7 @@ fn shorter_code(three: u16, two: u16, rd: &Reg, rn: &Reg, rm: &Reg) -> Result<Co
 /// Into another register, or two operands where the input is the output. None where there is no row; `BadRegister`
 /// comes where a register is not general, or an input that has to be the output isn't it.
 #[tactic(auto, using(crate::proofs::Encoding::itself))]
-pub fn three_halfword_row(
+pub fn encode_rri(
     op: ALUOp,
     rd: &Writable<Reg>,
     rn: &Reg,
@@ -223,7 +223,7 @@ fn shorter_halfword_code(
 /// So many bytes are taken from the stack pointer: their number is added with a minus sign where that fits, else it
 /// is subtracted. None where there is no row; `BadRegister` comes where a register is not general, or an input that
 /// has to be the output isn't it.
-pub fn allocate_row(size: u32) -> Option<Result<Code, EmitError>>
+pub fn encode_allocate(size: u32) -> Option<Result<Code, EmitError>>
     ensures { result ≡ single_code (single_with true (Some (allocate_row size))) }
 {
     if size < 32768 {

@@ -10,7 +10,9 @@ ghost use Rattle.s390x_typed_steps.specs.SingleCode.{code_where, single_code};
 ghost use Rattle.s390x_typed_steps.specs.SingleInstruction.{single_instruction, single_with, two_operands, rotated_row};
 ghost use Rattle.s390x_emit_rows.specs.SingleInstruction.{opcode_of, takes_general};
 
-use crate::codes::{BitRange, selected, shifted, short_where, three_operands, two_operands};
+use crate::codes::{
+    BitRange, selected_code, shifted_code, short_where, three_operands, two_operands,
+};
 use crate::opcode::ShortOpcode;
 use crate::registers::{is_even_pair, is_reused, three_general, two_general};
 use s390x_address::general;
@@ -83,7 +85,7 @@ pub fn rotated_row(
     let rotated = rotation(amount);
     if bits.start < 64 && bits.end < 64 {
         let valid = is_reused(&output, ri) && general(rn);
-        Some(selected(valid, rotate_opcode(op), output, *rn, bits, rotated))
+        Some(selected_code(valid, rotate_opcode(op), output, *rn, bits, rotated))
     } else {
         None
     }
@@ -112,7 +114,7 @@ pub fn tested_row(
             start: bits.start + 128,
             end: bits.end,
         };
-        Some(selected(two_general(rd, rn), opcode, *rd, *rn, tested, rotated))
+        Some(selected_code(two_general(rd, rn), opcode, *rd, *rn, tested, rotated))
     } else {
         None
     }
@@ -133,7 +135,7 @@ fn shift_row(
         (single_instruction (Inst.ShiftRR op rd.now rn.now amount register.now)) }
 {
     let output = rd.to_reg();
-    Some(shifted(
+    Some(shifted_code(
         three_general(&output, rn, register),
         shift_opcode(op),
         output,

@@ -12,7 +12,7 @@ ghost use Rattle.s390x_typed_steps.specs.SingleInstruction.{two_operands};
 ghost use Rattle.s390x_emit_rows.specs.SingleInstruction.{opcode_of, takes_general, implies};
 
 use crate::opcode::ShortOpcode;
-use crate::registers::read_number;
+use crate::registers::reveal_number_range;
 use s390x_base::{Code, EmitError, Reg, SImm20};
 use s390x_enc::{
     enc_ri_a, enc_rie_a, enc_rie_d, enc_rie_f, enc_rie_g, enc_ril_a, enc_rr, enc_rre, enc_rrf_ab,
@@ -70,9 +70,9 @@ pub fn three_operands(opcode: u16, r1: &Reg, r2: &Reg, r3: &Reg) -> Result<Code,
         ≡ code_where (is_general r1.now && is_general r2.now && is_general r3.now)
         (rrf_ab opcode (number_of r1.now) (number_of r2.now) (number_of r3.now) 0) }
 {
-    read_number(r1);
-    read_number(r2);
-    read_number(r3);
+    reveal_number_range(r1);
+    reveal_number_range(r2);
+    reveal_number_range(r3);
     enc_rrf_ab(opcode, *r1, *r2, *r3, 0)
 }
 
@@ -119,7 +119,7 @@ pub fn word(valid: bool, opcode: ShortOpcode, r1: Reg, imm: u32) -> Result<Code,
 }
 
 /// Two registers and a mask of 4 bits. `BadRegister` comes where a register may not stand there.
-pub fn masked(valid: bool, opcode: u16, r1: Reg, r2: Reg, mask: u8) -> Result<Code, EmitError>
+pub fn masked_code(valid: bool, opcode: u16, r1: Reg, r2: Reg, mask: u8) -> Result<Code, EmitError>
     requires { implies valid (is_general r1 && is_general r2) ≡ true }
     ensures { result
         ≡ code_where valid (rrf_cde opcode (number_of r1) (number_of r2) (four_bits mask) 0) }
@@ -178,7 +178,7 @@ pub struct BitRange {
 
 /// Two registers, and the bits that are selected of the second one once it is rotated. `BadRegister` comes where a
 /// register may not stand there.
-pub fn selected(
+pub fn selected_code(
     valid: bool,
     opcode: u16,
     r1: Reg,
@@ -200,7 +200,7 @@ pub fn selected(
 
 /// Two registers, and an amount that is the sum of another register and a number. `BadRegister` comes where a
 /// register may not stand there.
-pub fn shifted(
+pub fn shifted_code(
     valid: bool,
     opcode: u16,
     r1: Reg,
@@ -221,7 +221,7 @@ pub fn shifted(
 
 /// A register, and the address of a base, an index and a displacement. `BadRegister` comes where a register may not
 /// stand there.
-pub fn indexed(
+pub fn indexed_code(
     valid: bool,
     opcode: u16,
     r1: Reg,

@@ -4,15 +4,15 @@
 mod arithmetic;
 mod bits;
 mod codes;
+mod encode;
 mod memory;
 mod moves;
 mod opcode;
 mod registers;
-mod shapes;
 mod single_instruction;
-mod stops;
+mod trapping;
 
-pub use arithmetic::three_row;
-pub use memory::{find_memory, memory_of_load, memory_of_store};
-pub use single_instruction::find_single_instruction;
-pub use stops::stop_code;
+pub use arithmetic::encode_rrr;
+pub use memory::{memory_of_load, memory_of_store, memory_rows};
+pub use single_instruction::encode_single;
+pub use trapping::stop_code;

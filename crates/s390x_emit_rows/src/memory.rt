@@ -12,7 +12,7 @@ ghost use Rattle.s390x_typed_steps.specs.Storage.{alu_rx, alu_rxy, cmp_rx, cmp_r
 use crate::registers::{is_reused, two_general};
 use s390x_address::{MemoryInst, StorageRows, general, holds_scratch, is_numbered, number};
 use s390x_base::{Reg, Writable};
-use s390x_emit_vec::find_vector_memory;
+use s390x_emit_vec::vector_memory_rows;
 use s390x_inst::{ALUOp, CmpOp, Inst, Load, MemArg, Store};
 use s390x_rows::opcodes;
 use s390x_typed_steps::{low_byte, rows_of_alu, rows_of_cmp, rows_of_load, rows_of_store};
@@ -351,12 +351,12 @@ fn find_transfer(inst: &Inst) -> Option<MemoryInst>
 
 /// The machine rows and the operand of an instruction with a memory operand, where it is one.
 #[rattlefmt::skip]
-pub fn find_memory(inst: &Inst) -> Option<MemoryInst>
+pub fn memory_rows(inst: &Inst) -> Option<MemoryInst>
     ensures row { option_map memory_instruction_of result ≡ memory inst.now }
     ensures encodes { IfSome result (λ x. may_encode x ≡ true) }
 {
     match inst {
-        Inst::Vector(inst) => find_vector_memory(inst),
+        Inst::Vector(inst) => vector_memory_rows(inst),
         Inst::LoadAddr { rd, mem } => load_address(rd, mem),
         Inst::StoreImm8 { imm, mem } => store_byte(*imm, mem),
         Inst::StoreImm16 { imm, mem } => store_halfword(*imm, opcodes::MVHHI, mem),

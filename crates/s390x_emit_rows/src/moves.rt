@@ -10,10 +10,12 @@ ghost use Rattle.s390x_typed_steps.specs.SingleCode.{code_where, single_code};
 ghost use Rattle.s390x_typed_steps.specs.SingleInstruction.{single_instruction, single_with, two_operands, indexed_row};
 ghost use Rattle.s390x_emit_rows.specs.SingleInstruction.{opcode_of, takes_general, implies};
 
-use crate::codes::{always, conditional_halfword, indexed, masked, short_where, two_operands};
+use crate::codes::{
+    always, conditional_halfword, indexed_code, masked_code, short_where, two_operands,
+};
+use crate::encode::{encode_ril_into, encode_signed_ri_into, encode_signed_ril_into};
 use crate::opcode::ShortOpcode;
 use crate::registers::{is_access, is_reused, three_general};
-use crate::shapes::{into_signed_halfword_row, into_signed_word_row, into_word_row};
 use s390x_address::general;
 use s390x_base::{Code, Cond, EmitError, Reg, SImm20, Writable, gpr};
 use s390x_inst::Inst;
@@ -135,7 +137,7 @@ pub fn conditional_row(
         (Some (rrf_cde opcode (number_of rd.now) (number_of rm.now) (four_bits cond) 0))) }
 {
     let output = rd.to_reg();
-    Some(masked(
+    Some(masked_code(
         is_reused(&output, ri) && general(rm),
         opcode,
         output,
@@ -202,7 +204,7 @@ pub fn set_word(rd: &Writable<Reg>, imm: u32) -> Option<Result<Code, EmitError>>
     ensures { (i : _) → i ≡ Inst.Mov32Imm rd.now imm
         → result ≡ single_code (single_instruction i) }
 {
-    into_word_row(always(opcodes::IILF), rd, bits_of_unsigned(imm))
+    encode_ril_into(always(opcodes::IILF), rd, bits_of_unsigned(imm))
 }
 
 /// A signed immediate of 16 bits becomes a word. `BadRegister` comes where the register is not general.
@@ -210,7 +212,7 @@ pub fn set_short_word(rd: &Writable<Reg>, imm: &i16) -> Option<Result<Code, Emit
     ensures { (i : _) → i ≡ Inst.Mov32SImm16 rd.now imm.now
         → result ≡ single_code (single_instruction i) }
 {
-    into_signed_halfword_row(always(opcodes::LHI), rd, imm)
+    encode_signed_ri_into(always(opcodes::LHI), rd, imm)
 }
 
 /// A signed immediate of 16 bits becomes a doubleword. `BadRegister` comes where the register is not general.
@@ -218,7 +220,7 @@ pub fn set_short_doubleword(rd: &Writable<Reg>, imm: &i16) -> Option<Result<Code
     ensures { (i : _) → i ≡ Inst.Mov64SImm16 rd.now imm.now
         → result ≡ single_code (single_instruction i) }
 {
-    into_signed_halfword_row(always(opcodes::LGHI), rd, imm)
+    encode_signed_ri_into(always(opcodes::LGHI), rd, imm)
 }
 
 /// A signed immediate of 32 bits becomes a doubleword. `BadRegister` comes where the register is not general.
@@ -226,7 +228,7 @@ pub fn set_doubleword(rd: &Writable<Reg>, imm: &i32) -> Option<Result<Code, Emit
     ensures { (i : _) → i ≡ Inst.Mov64SImm32 rd.now imm.now
         → result ≡ single_code (single_instruction i) }
 {
-    into_signed_word_row(always(opcodes::LGFI), rd, imm)
+    encode_signed_ril_into(always(opcodes::LGFI), rd, imm)
 }
 
 /// An indexed address, where there is a row. None where there is no row; `BadRegister` comes where a register is not
@@ -248,7 +250,7 @@ pub fn indexed_row(
 {
     let output = rd.to_reg();
     match opcode {
-        Some(opcode) => Some(indexed(
+        Some(opcode) => Some(indexed_code(
             three_general(&output, base, index),
             opcode,
             output,

@@ -8,7 +8,7 @@ use s390x_address::{general, number};
 use s390x_base::{Reg, RegPair, WritableRegPair, valid_regpair};
 
 /// A register's number is below the count of its class, so that its class alone tells whether it is general.
-pub fn read_number(r: &Reg)
+pub fn reveal_number_range(r: &Reg)
     ensures { is_general r.now ≡ is_general_class r.now }
 {
     if let Reg::Real(preg) = r {

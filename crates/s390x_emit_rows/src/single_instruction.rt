@@ -6,31 +6,31 @@ ghost use Rattle.s390x_typed_steps.specs.SingleCode.{single_code};
 ghost use Rattle.s390x_typed_steps.specs.SingleInstruction.{single_instruction};
 
 use crate::arithmetic::{
-    allocate_row, compare_halfword_opcode, compare_opcode, compare_signed_word_opcode,
-    compare_unsigned_word_opcode, halfword_opcode, signed_word_opcode, three_halfword_row,
-    three_row, two_opcode, unary_row, unsigned_word_opcode,
+    compare_halfword_opcode, compare_opcode, compare_signed_word_opcode,
+    compare_unsigned_word_opcode, encode_allocate, encode_rri, encode_rrr, encode_unary,
+    halfword_opcode, signed_word_opcode, two_opcode, unsigned_word_opcode,
 };
 use crate::bits::{
     half_opcode, pair_row, part_opcode, product_row, reused_low_row, rotated_row, shift, tested_row,
 };
 use crate::codes::BitRange;
+use crate::encode::{
+    encode_ri, encode_ri_into, encode_ri_reused, encode_ril, encode_ril_into, encode_ril_reused,
+    encode_rr, encode_rr_into, encode_rr_reused,
+};
 use crate::moves::{
     branch_nowhere, conditional_doubleword, conditional_row, conditional_word, extend_opcode,
     indexed_opcode, indexed_row, insert_access_row, insert_half, insert_part, load_access_row,
     load_half, load_part, logical_indexed_opcode, set_doubleword, set_short_doubleword,
     set_short_word, set_word,
 };
-use crate::shapes::{
-    halfword_row, into_halfword_row, into_row, into_word_row, reused_halfword_row, reused_row,
-    reused_word_row, two_row, word_row,
-};
-use crate::stops::{
+use crate::trapping::{
     compare_opcode as trap_opcode, compare_signed_opcode as trap_signed_opcode,
-    compare_unsigned_opcode as trap_unsigned_opcode, masked_halfword_row, masked_row,
-    reused_pair_row,
+    compare_unsigned_opcode as trap_unsigned_opcode, encode_masked, encode_masked_ri,
+    encode_reused_pair,
 };
 use s390x_base::{Code, EmitError, Reg};
-use s390x_emit_vec::find_vector;
+use s390x_emit_vec::encode_vector;
 use s390x_inst::Inst;
 use s390x_rows::opcodes;
 use s390x_typed_steps::{
@@ -41,65 +41,65 @@ use s390x_typed_steps::{
 /// ones, and the input that has to be the output is it.
 ///
 /// What it calls takes references and small values alone, so that little has to be made ready for an instruction that is none of these.
-pub fn find_single_instruction(inst: &Inst) -> Option<Result<Code, EmitError>>
+pub fn encode_single(inst: &Inst) -> Option<Result<Code, EmitError>>
     ensures { result ≡ single_code (single_instruction inst.now) }
 {
     match inst {
-        Inst::AluRRR { alu_op, rd, rn, rm } => three_row(*alu_op, rd, rn, rm),
-        Inst::AluRR { alu_op, rd, ri, rm } => reused_row(two_opcode(*alu_op), rd, ri, rm),
-        Inst::UnaryRR { op, rd, rn } => unary_row(*op, rd, rn),
-        Inst::CmpRR { op, rn, rm } => two_row(compare_opcode(*op), rn, rm),
+        Inst::AluRRR { alu_op, rd, rn, rm } => encode_rrr(*alu_op, rd, rn, rm),
+        Inst::AluRR { alu_op, rd, ri, rm } => encode_rr_reused(two_opcode(*alu_op), rd, ri, rm),
+        Inst::UnaryRR { op, rd, rn } => encode_unary(*op, rd, rn),
+        Inst::CmpRR { op, rn, rm } => encode_rr(compare_opcode(*op), rn, rm),
         Inst::AluRRSImm16 {
             alu_op,
             rd,
             rn,
             imm,
-        } => three_halfword_row(*alu_op, rd, rn, *imm),
+        } => encode_rri(*alu_op, rd, rn, *imm),
         Inst::AluRSImm16 {
             alu_op,
             rd,
             ri,
             imm,
-        } => reused_halfword_row(halfword_opcode(*alu_op), rd, ri, bits_of_halfword(*imm)),
+        } => encode_ri_reused(halfword_opcode(*alu_op), rd, ri, bits_of_halfword(*imm)),
         Inst::AluRSImm32 {
             alu_op,
             rd,
             ri,
             imm,
-        } => reused_word_row(signed_word_opcode(*alu_op), rd, ri, bits_of_word(*imm)),
+        } => encode_ril_reused(signed_word_opcode(*alu_op), rd, ri, bits_of_word(*imm)),
         Inst::AluRUImm32 {
             alu_op,
             rd,
             ri,
             imm,
-        } => reused_word_row(
+        } => encode_ril_reused(
             unsigned_word_opcode(*alu_op),
             rd,
             ri,
             bits_of_unsigned(*imm),
         ),
-        Inst::CmpRSImm16 { op, rn, imm } => halfword_row(
+        Inst::CmpRSImm16 { op, rn, imm } => encode_ri(
             compare_halfword_opcode(*op),
             rn,
             bits_of_halfword(*imm),
         ),
-        Inst::CmpRSImm32 { op, rn, imm } => word_row(
+        Inst::CmpRSImm32 { op, rn, imm } => encode_ril(
             compare_signed_word_opcode(*op),
             rn,
             bits_of_word(*imm),
         ),
-        Inst::CmpRUImm32 { op, rn, imm } => word_row(
+        Inst::CmpRUImm32 { op, rn, imm } => encode_ril(
             compare_unsigned_word_opcode(*op),
             rn,
             bits_of_unsigned(*imm),
         ),
-        Inst::AllocateArgs { size } => allocate_row(*size),
+        Inst::AllocateArgs { size } => encode_allocate(*size),
         Inst::AluRUImm16Shifted {
             alu_op,
             rd,
             ri,
             imm,
-        } => reused_halfword_row(
+        } => encode_ri_reused(
             part_opcode(*alu_op, imm.shift),
             rd,
             ri,
@@ -110,7 +110,7 @@ pub fn find_single_instruction(inst: &Inst) -> Option<Result<Code, EmitError>>
             rd,
             ri,
             imm,
-        } => reused_word_row(
+        } => encode_ril_reused(
             half_opcode(*alu_op, imm.shift),
             rd,
             ri,
@@ -155,30 +155,30 @@ pub fn find_single_instruction(inst: &Inst) -> Option<Result<Code, EmitError>>
         Inst::SMulWide { rd, rn, rm } => product_row(rd, rn, rm),
         Inst::UMulWide { rd, ri, rn } => reused_low_row(opcodes::MLGR, rd, ri, rn),
         Inst::Flogr { rd, rn } => pair_row(opcodes::FLOGR, rd, rn),
-        Inst::Mov64 { rd, rm } => into_row(Some(opcodes::LGR), rd, rm),
-        Inst::MovPReg { rd, rm } => into_row(Some(opcodes::LGR), rd, &Reg::Real(*rm)),
-        Inst::Mov32 { rd, rm } => into_row(Some(opcodes::LR), rd, rm),
+        Inst::Mov64 { rd, rm } => encode_rr_into(Some(opcodes::LGR), rd, rm),
+        Inst::MovPReg { rd, rm } => encode_rr_into(Some(opcodes::LGR), rd, &Reg::Real(*rm)),
+        Inst::Mov32 { rd, rm } => encode_rr_into(Some(opcodes::LR), rd, rm),
         Inst::Mov32Imm { rd, imm } => set_word(rd, *imm),
         Inst::Mov32SImm16 { rd, imm } => set_short_word(rd, imm),
         Inst::Mov64SImm16 { rd, imm } => set_short_doubleword(rd, imm),
         Inst::Mov64SImm32 { rd, imm } => set_doubleword(rd, imm),
-        Inst::Mov64UImm16Shifted { rd, imm } => into_halfword_row(
+        Inst::Mov64UImm16Shifted { rd, imm } => encode_ri_into(
             load_part(imm.shift),
             rd,
             bits_of_unsigned_halfword(imm.bits),
         ),
-        Inst::Mov64UImm32Shifted { rd, imm } => into_word_row(
+        Inst::Mov64UImm32Shifted { rd, imm } => encode_ril_into(
             load_half(imm.shift),
             rd,
             bits_of_unsigned(imm.bits),
         ),
-        Inst::Insert64UImm16Shifted { rd, ri, imm } => reused_halfword_row(
+        Inst::Insert64UImm16Shifted { rd, ri, imm } => encode_ri_reused(
             insert_part(imm.shift),
             rd,
             ri,
             bits_of_unsigned_halfword(imm.bits),
         ),
-        Inst::Insert64UImm32Shifted { rd, ri, imm } => reused_word_row(
+        Inst::Insert64UImm32Shifted { rd, ri, imm } => encode_ril_reused(
             insert_half(imm.shift),
             rd,
             ri,
@@ -194,7 +194,7 @@ pub fn find_single_instruction(inst: &Inst) -> Option<Result<Code, EmitError>>
             signed,
             from_bits,
             to_bits,
-        } => into_row(extend_opcode(*signed, *from_bits, *to_bits), rd, rn),
+        } => encode_rr_into(extend_opcode(*signed, *from_bits, *to_bits), rd, rn),
         Inst::LoadAR { rd, ar } => load_access_row(rd, *ar),
         Inst::InsertAR { rd, ri, ar } => insert_access_row(rd, ri, *ar),
         Inst::LoadIndexedAddr {
@@ -215,35 +215,35 @@ pub fn find_single_instruction(inst: &Inst) -> Option<Result<Code, EmitError>>
         Inst::Nop2 => branch_nowhere(0, 7),
         Inst::SDivMod32 { rd, ri, rn } => reused_low_row(opcodes::DSGFR, rd, ri, rn),
         Inst::SDivMod64 { rd, ri, rn } => reused_low_row(opcodes::DSGR, rd, ri, rn),
-        Inst::UDivMod32 { rd, ri, rn } => reused_pair_row(opcodes::DLR, rd, ri, rn),
-        Inst::UDivMod64 { rd, ri, rn } => reused_pair_row(opcodes::DLGR, rd, ri, rn),
+        Inst::UDivMod32 { rd, ri, rn } => encode_reused_pair(opcodes::DLR, rd, ri, rn),
+        Inst::UDivMod64 { rd, ri, rn } => encode_reused_pair(opcodes::DLGR, rd, ri, rn),
         Inst::CmpTrapRR {
             op,
             rn,
             rm,
             cond,
             ..
-        } => masked_row(trap_opcode(*op), rn, rm, *cond),
+        } => encode_masked(trap_opcode(*op), rn, rm, *cond),
         Inst::CmpTrapRSImm16 {
             op,
             rn,
             imm,
             cond,
             ..
-        } => masked_halfword_row(trap_signed_opcode(*op), rn, bits_of_halfword(*imm), *cond),
+        } => encode_masked_ri(trap_signed_opcode(*op), rn, bits_of_halfword(*imm), *cond),
         Inst::CmpTrapRUImm16 {
             op,
             rn,
             imm,
             cond,
             ..
-        } => masked_halfword_row(
+        } => encode_masked_ri(
             trap_unsigned_opcode(*op),
             rn,
             bits_of_unsigned_halfword(*imm),
             *cond,
         ),
-        Inst::Vector(inst) => find_vector(inst),
+        Inst::Vector(inst) => encode_vector(inst),
         _ => None,
     }
 }

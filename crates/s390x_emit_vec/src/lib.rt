@@ -12,5 +12,5 @@ pub use codes::{
     compared_vectors, shifted_vector, three_vectors, two_vectors, vector as real_vector,
 };
 pub use conditional::{MoveUnder, find_move_under};
-pub use memory::find_vector_memory;
-pub use single_vector::{find_vector, stop_of};
+pub use memory::vector_memory_rows;
+pub use single_vector::{encode_vector, stop_of};

@@ -87,7 +87,7 @@ fn bit_mask_of(size: u32, v1: Reg, start: u8, end: u8) -> Option<Result<Code, Em
 
 /// The code of a vector instruction that is one machine instruction; None for any other. `BadRegister` exactly where a register
 /// isn't a real one of the row's class, or an input that has to be the output isn't it.
-pub fn find_vector(inst: &VecInst) -> Option<Result<Code, EmitError>>
+pub fn encode_vector(inst: &VecInst) -> Option<Result<Code, EmitError>>
     ensures { result
         ≡ single_code (single_with (vector_operands_valid inst.now) (vector_row inst.now)) }
 {

@@ -18,7 +18,7 @@ pub record IsFetch (bytes : List ℕ) (d : Decoded) : Type 0 where
   pub reading : IsReading machine_rows bytes (record { row = d.row; slots = slots })
   pub fields : d.fields ≡ fields_of d.row.format slots
 
--- the same, and the table's row at the place has the opcode
+-- a fetched instruction whose place is that of its row in the table
 pub record IsLocated (bytes : List ℕ) (l : Located) : Type 0 where
   pub fetch : IsFetch bytes l.decoded
   pub row : HasOpcode machine_rows l.decoded.row.opcode l.at

@@ -31,7 +31,7 @@ pub fn unpack_as(kind: FormatKind, n: u64) -> Unpacked
     }
 }
 
-/// The same, part by part.
+/// The slots of an instruction's bits, part by part.
 fn unpack_parts(kind: FormatKind, n: u64) -> Unpacked
     ensures ten { length result.slots ≡ 10 }
     ensures values { (k : ℕ) → k < 10 → slice_index result.slots k ≡ field (layout_of kind) n k }

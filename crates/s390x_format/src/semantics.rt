@@ -83,7 +83,7 @@ pub enum RowSemantics {
     DivideLogical(Size),
     /// A stop where the first mask selects the order of r1 and r2.
     CompareAndTrap(Signedness, Size),
-    /// The same of r1 and the immediate of 16 bits.
+    /// A stop where the first mask selects the order of r1 and the immediate of 16 bits.
     CompareImmediateAndTrap(Signedness, Size),
     /// The pair r1 gets the number of leading zeros of r2, and r2 without its leftmost one.
     FindLeftmostOne,
@@ -95,7 +95,7 @@ pub enum RowSemantics {
     Store(SecondOperand),
     /// Memory at base r1 plus a displacement gets the immediate of 8 bits.
     StoreByte,
-    /// The same gets the immediate of 16 bits, extended to this width with its sign.
+    /// Memory at base r1 plus a displacement gets the immediate of 16 bits, extended to this width with its sign.
     StoreImmediate(Width),
     /// The registers from r1 to r2, register 0 after 15, get the doublewords at base r3 plus a displacement.
     LoadMultiple,
@@ -107,11 +107,11 @@ pub enum RowSemantics {
     CompareAndSwap(Size),
     /// Register r1 gets the address of the next instruction; a branch to the address in r2, none for r2 = 0.
     BranchAndSaveToRegister,
-    /// The same with a branch to a distance from the instruction.
+    /// Register r1 gets the address of the next instruction; a branch to a distance from the instruction.
     BranchAndSaveRelative,
     /// Vector register r1 gets what the row makes of the vector registers that it names, under its masks and its immediate.
     Elements(VectorRow),
-    /// The same of vector register r3, by the amount at base r2 plus a displacement.
+    /// Vector register r1 gets what the row makes of vector register r3, by the amount at base r2 plus a displacement.
     ShiftElements(VectorRow),
     /// Vector register r1 gets what is in memory at base r2 plus index r3 plus a displacement.
     LoadVector(VectorStorage),

@@ -25,7 +25,7 @@ abbrev pub CanLoad : RetLocation → Type 0
 CanLoad (Stack off ty) = ty ≢ I8X8
 CanLoad _ = Unit {0}
 
--- the same of a result
+-- a call's result can be loaded, where it comes back on the stack
 abbrev pub HasLoad : CallRetPair → Type 0
 HasLoad d = CanLoad d.location
 

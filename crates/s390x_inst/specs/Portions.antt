@@ -78,7 +78,7 @@ abbrev mutual
   row_portions end_of-Inst = []
   row_portions (more_of-Inst i rest) = portions i ++ row_portions rest
 
--- the same of members in a list
+-- instructions in a list, in portions
 abbrev pub members_portions : List Inst → List Portion
 members_portions [] = []
 members_portions (i ∷ is) = portions i ++ members_portions is

@@ -130,7 +130,7 @@ Opens n mask members k (leaf b rest) = Opens n mask members (k + 1) rest
 Opens n mask members k (loop_node mask' members' rest) =
     ((n ≡ k) × (mask' ≡ mask) × (members' ≡ members)) ⊎ (Opens n mask members (k + 1) members' ⊎ Opens n mask members (k + 2 + step_count members') rest)
 
--- the same among the blocks of a function
+-- among the blocks of a function a loop under this mask with these members opens, at step n
 abbrev pub OpensInBlocks : (n mask : ℕ) → (members : Tree) → (k : ℕ) → List Tree → Type 0
 OpensInBlocks n mask members k [] = ⊥
 OpensInBlocks n mask members k (t ∷ ts) = Opens n mask members k t ⊎ OpensInBlocks n mask members (k + step_count t) ts

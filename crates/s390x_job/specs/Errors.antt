@@ -5,15 +5,15 @@ use Rattle.s390x_job.specs.Completions.{pieces, completion, IsText, IsFirstWrong
 use Rattle.s390x_job.specs.declared.job.Job.{Job}
 use Rattle.s390x_job.specs.declared.job.LineError.{LineError}
 use Rattle.s390x_job.specs.declared.job.LineError.TheVariants.{Syntax, NoMemory}
-use Rattle.s390x_job.specs.declared.lines.Found.{Found}
-use Rattle.s390x_job.specs.declared.lines.Found.TheVariants.{Whole, Stuck}
+use Rattle.s390x_job.specs.declared.lines.ParseOutcome.{ParseOutcome}
+use Rattle.s390x_job.specs.declared.lines.ParseOutcome.TheVariants.{Whole, Stuck}
 
 -- no job has this text, and no completion of more than k lines is one
 abbrev pub IsStuckAt : List ℕ → ℕ → Type 0
 IsStuckAt bytes k = IsStuck IsText completion bytes k
 
 -- what was found is so: the job has this text, or no job has it and no completion of more lines is one
-abbrev pub IsReadJob : List ℕ → Found → Type 0
+abbrev pub IsReadJob : List ℕ → ParseOutcome → Type 0
 IsReadJob bytes (Whole j) = IsJob j × (text_of_job j ≡ bytes)
 IsReadJob bytes (Stuck k) = IsStuckAt bytes k
 

@@ -21,7 +21,7 @@ use std::alloc::{AllocError, Global};
 
 /// What a reader found: a job, or a number of lines where the text is no job's: no more of them can be completed to one.
 #[derive(Drop)]
-pub enum Found {
+pub enum ParseOutcome {
     Whole(Job),
     Stuck(usize),
 }
@@ -65,8 +65,8 @@ impl Completes for JobText {
 
     fn is_whole(alloc: Global, bytes: &[u8]) -> Result<bool, AllocError> {
         match find_job(alloc, bytes)? {
-            Found::Whole(_) => Ok(true),
-            Found::Stuck(_) => Ok(false),
+            ParseOutcome::Whole(_) => Ok(true),
+            ParseOutcome::Stuck(_) => Ok(false),
         }
     }
 }
@@ -112,7 +112,7 @@ fn read_line(
 }
 
 /// The job whose text this is. Where there is none, a number of its lines: no more of them can be completed to a job's text.
-pub fn find_job(alloc: Global, bytes: &[u8]) -> Result<Found, AllocError>
+pub fn find_job(alloc: Global, bytes: &[u8]) -> Result<ParseOutcome, AllocError>
     ensures { IfOk result (IsReadJob bytes.now) }
 {
     let mut body = start(alloc);
@@ -123,18 +123,18 @@ pub fn find_job(alloc: Global, bytes: &[u8]) -> Result<Found, AllocError>
     while !rest.is_empty() {
         let line = before(rest, b'\n');
         if line.len() == rest.len() {
-            return Ok(Found::Stuck(n));
+            return Ok(ParseOutcome::Stuck(n));
         }
         match read_line(alloc, &mut body, &mut text, progress, line)? {
-            None => return Ok(Found::Stuck(n)),
+            None => return Ok(ParseOutcome::Stuck(n)),
             Some(p) => progress = p,
         }
         rest = tail(rest, line.len() + 1);
         n += 1;
     }
     match progress {
-        Progress::Done => Ok(Found::Whole(job_of(body))),
-        _ => Ok(Found::Stuck(n)),
+        Progress::Done => Ok(ParseOutcome::Whole(job_of(body))),
+        _ => Ok(ParseOutcome::Stuck(n)),
     }
 }
 
@@ -144,8 +144,8 @@ fn read_inner(alloc: Global, bytes: &[u8]) -> Result<Result<Job, LineError>, All
         (λ r. MatchResult r (λ j. IsJob j × (text_of_job j ≡ bytes.now)) (IsError bytes.now)) }
 {
     match find_job(alloc, bytes)? {
-        Found::Whole(j) => Ok(Ok(j)),
-        Found::Stuck(k) => {
+        ParseOutcome::Whole(j) => Ok(Ok(j)),
+        ParseOutcome::Stuck(k) => {
             let line = first_wrong::<JobText>(alloc, bytes, k)?;
             Ok(Err(LineError::Syntax { line }))
         }

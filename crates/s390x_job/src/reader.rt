@@ -14,8 +14,8 @@ use crate::read_line::item;
 use s390x_inst::Inst;
 use s390x_job_exact::exact_line;
 use s390x_job_fields::Cursor;
-use s390x_job_fields::marks::front;
 use s390x_job_fields::number::tail;
+use s390x_job_fields::separators::until_separator;
 use s390x_job_lines::find_name;
 use std::alloc::{AllocError, Global};
 
@@ -31,7 +31,7 @@ fn parse(alloc: Global, w: &[u8]) -> Result<Item, AllocError>
     ensures line { IfOk result (λ i. item_line i ≡ line_of w.now) }
     ensures is { IfOk result IsItem }
 {
-    let name = front(w);
+    let name = until_separator(w);
     let mut fields = fields_of(w, name);
     item(alloc, find_name(name), &mut fields)
 }

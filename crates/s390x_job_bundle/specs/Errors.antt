@@ -6,8 +6,8 @@ use Rattle.s390x_job_bundle.specs.Text.{AreFunctionsOf, close_line, head_line}
 use Rattle.s390x_job_bundle.specs.Completions.{IsBundleText, IsFirstWrongOfBundle, bundle_completion}
 use Rattle.s390x_job_bundle.specs.declared.head.Head.{Head}
 use Rattle.s390x_job_bundle.specs.declared.head.Head.TheVariants.{Function, Close, Other}
-use Rattle.s390x_job_bundle.specs.declared.find.Found.{Found}
-use Rattle.s390x_job_bundle.specs.declared.find.Found.TheVariants.{Whole, Stuck}
+use Rattle.s390x_job_bundle.specs.declared.find.ParseOutcome.{ParseOutcome}
+use Rattle.s390x_job_bundle.specs.declared.find.ParseOutcome.TheVariants.{Whole, Stuck}
 use Rattle.s390x_job_bundle.specs.declared.error.BundleTextError.{BundleTextError}
 use Rattle.s390x_job_bundle.specs.declared.error.BundleTextError.TheVariants.{Syntax, NoMemory}
 
@@ -26,9 +26,9 @@ abbrev pub IsStuckAt : List ℕ → ℕ → Type 0
 IsStuckAt bytes k = IsStuck IsBundleText bundle_completion bytes k
 
 -- what was found is so: the functions whose text the bytes are, or a number of lines that none of these texts goes past
-abbrev pub IsFound : List ℕ → Found → Type 0
-IsFound bytes (Whole functions) = AreFunctionsOf bytes functions.items
-IsFound bytes (Stuck k) = IsStuckAt bytes k
+abbrev pub IsParseOutcome : List ℕ → ParseOutcome → Type 0
+IsParseOutcome bytes (Whole functions) = AreFunctionsOf bytes functions.items
+IsParseOutcome bytes (Stuck k) = IsStuckAt bytes k
 
 -- `Syntax` exactly where the bytes are the text of no functions, with the line by completions
 abbrev pub HasNoFunctions : List ℕ → BundleTextError → Type 0

@@ -7,7 +7,7 @@ ghost use Rattle.s390x_job_bundle.specs.Errors.{HasNoJob};
 
 use crate::completeness::ends_job;
 use s390x_job::{Job, LineError, read_lines};
-use s390x_job_fields::marks::{after, before};
+use s390x_job_fields::separators::{after, before};
 use std::alloc::{AllocError, Global};
 
 /// How many lines a text has.

@@ -1,17 +1,17 @@
 //! The functions of a text.
 ghost use Rattle.std.specs.Prelude.{◌≡◌, ◌+◌, ◌≤◌, ◌<◌, IfOk, length};
 ghost use Rattle.s390x_job.specs.Completions.{pieces};
-ghost use Rattle.s390x_job_bundle.specs.Errors.{IsFound};
+ghost use Rattle.s390x_job_bundle.specs.Errors.{IsParseOutcome};
 
 use crate::cut::{count_lines, job_size, read_job};
 use crate::head::{Head, read_head};
 use crate::named_job::NamedJob;
-use s390x_job_fields::marks::{after, before};
+use s390x_job_fields::separators::{after, before};
 use std::alloc::{AllocError, Global};
 
 /// What a reader found: the functions, or a number of lines where the text is no functions': no more of them can be completed to one.
 #[derive(Drop)]
-pub enum Found {
+pub enum ParseOutcome {
     Whole(Vec<NamedJob>),
     Stuck(usize),
 }
@@ -26,31 +26,33 @@ fn lines_before(bytes: &[u8], rest: &[u8]) -> usize
 }
 
 /// The functions whose text this is. Where there are none, a number of its lines: no more of them can be completed to the text of functions.
-pub fn find_functions(alloc: Global, bytes: &[u8]) -> Result<Found, AllocError>
+pub fn find_functions(alloc: Global, bytes: &[u8]) -> Result<ParseOutcome, AllocError>
     requires { length bytes.now < 4294967295 }
-    ensures { IfOk result (IsFound bytes.now) }
+    ensures { IfOk result (IsParseOutcome bytes.now) }
 {
     let mut functions = Vec::new(alloc);
     let mut rest = bytes;
     while !rest.is_empty() {
         let line = before(rest, b'\n');
         if line.len() == rest.len() {
-            return Ok(Found::Stuck(lines_before(bytes, rest)));
+            return Ok(ParseOutcome::Stuck(lines_before(bytes, rest)));
         }
         let behind = after(rest, b'\n');
         match read_head(alloc, line)? {
-            Head::Other => return Ok(Found::Stuck(lines_before(bytes, rest))),
-            Head::Close if behind.is_empty() => return Ok(Found::Whole(functions)),
-            Head::Close => return Ok(Found::Stuck(lines_before(bytes, rest) + 1)),
+            Head::Other => return Ok(ParseOutcome::Stuck(lines_before(bytes, rest))),
+            Head::Close if behind.is_empty() => return Ok(ParseOutcome::Whole(functions)),
+            Head::Close => return Ok(ParseOutcome::Stuck(lines_before(bytes, rest) + 1)),
             Head::Function(name) => {
                 let size = job_size(behind);
                 match read_job(alloc, &behind[..size])? {
                     Ok(job) => functions.push(NamedJob { name, job })?,
-                    Err(line) => return Ok(Found::Stuck(lines_before(bytes, rest) + line as usize)),
+                    Err(line) => return Ok(ParseOutcome::Stuck(
+                        lines_before(bytes, rest) + line as usize,
+                    )),
                 }
                 rest = &behind[size..];
             }
         }
     }
-    Ok(Found::Stuck(lines_before(bytes, rest)))
+    Ok(ParseOutcome::Stuck(lines_before(bytes, rest)))
 }

@@ -6,7 +6,7 @@ ghost use Rattle.s390x_job_bundle.specs.Text.{AreFunctionsOf};
 
 use crate::completeness::complete;
 use crate::error::BundleTextError;
-use crate::find::{Found, find_functions};
+use crate::find::{ParseOutcome, find_functions};
 use crate::named_job::NamedJob;
 use s390x_job::{Completes, first_wrong};
 use std::alloc::{AllocError, Global};
@@ -27,8 +27,8 @@ impl Completes for BundleText {
 
     fn is_whole(alloc: Global, bytes: &[u8]) -> Result<bool, AllocError> {
         match find_functions(alloc, bytes)? {
-            Found::Whole(_) => Ok(true),
-            Found::Stuck(_) => Ok(false),
+            ParseOutcome::Whole(_) => Ok(true),
+            ParseOutcome::Stuck(_) => Ok(false),
         }
     }
 }
@@ -43,8 +43,8 @@ fn read_inner(
         (HasNoFunctions bytes.now)) }
 {
     match find_functions(alloc, bytes)? {
-        Found::Whole(functions) => Ok(Ok(functions)),
-        Found::Stuck(top) => {
+        ParseOutcome::Whole(functions) => Ok(Ok(functions)),
+        ParseOutcome::Stuck(top) => {
             let line = first_wrong::<BundleText>(alloc, bytes, top)?;
             Ok(Err(BundleTextError::Syntax { line }))
         }

@@ -13,8 +13,8 @@ use s390x_base::{
 use s390x_inst::{
     ALUOp, CmpOp, ShiftOp, UnaryOp, VecBinaryOp, VecIntCmpOp, VecShiftOp, VecUnaryOp,
 };
-use s390x_job_fields::marks::front;
 use s390x_job_fields::operators::{ALU_NAMES, CMP_NAMES, SHIFT_NAMES, UNARY_NAMES};
+use s390x_job_fields::separators::until_separator;
 use s390x_job_fields::vector_operators::{
     VEC_BINARY_NAMES, VEC_COMPARE_NAMES, VEC_SHIFT_NAMES, VEC_UNARY_NAMES,
 };
@@ -209,7 +209,7 @@ impl<'a> ExactCursor<'a> {
     pub fn word<T: Word>(&mut self, names: Names<T>, other: T) -> Option<T>
         ensures { IfSome result (λ o. self.old ≡ T.spelling o ++ self.new) }
     {
-        let value = find(names, front(self.rest()), other);
+        let value = find(names, until_separator(self.rest()), other);
         self.text(value.text().as_bytes())?;
         Some(value)
     }

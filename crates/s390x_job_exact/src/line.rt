@@ -10,7 +10,7 @@ use crate::integer::integer;
 use crate::memory::{load, memory, store, whole};
 use crate::vector::vector;
 use s390x_inst::{Direction, Inst, LoadOp, StoreOp, WholeLayout};
-use s390x_job_fields::marks::before;
+use s390x_job_fields::separators::before;
 use s390x_job_fields::word::Word;
 use s390x_job_lines::{ControlName, IntegerName, LineName, VectorName, candidate};
 use std::alloc::Global;

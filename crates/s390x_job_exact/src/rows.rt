@@ -9,7 +9,7 @@ macro_rules! take_fields {
     }};
 }
 
-/// The same on vector or float registers.
+/// The instruction on vector or float registers, by its fields, each with the call that takes it.
 macro_rules! take_vector_fields {
     ($n:ident, $cursor:expr, $($f:ident : $m:ident),*) => {{
         $(let $f = $cursor.$m()?;)*

@@ -3,8 +3,8 @@ ghost use Rattle.std.specs.Prelude.{◌≡◌, ◌++◌, ◌∷◌, [], ◌<◌,
 ghost use Rattle.s390x_job_fields.specs.Atoms.{real_text, real_register_of, reg_text, reg_of, mask_of, trap_text, trap_of, user_number_of, access_text, access_of, aligned_text, trap_suffix, suffix_of, bool_text, bool_of, name_of};
 ghost use Rattle.std.specs.Fmt.{decimal};
 
-use crate::marks::{behind, word};
 use crate::number::{first, natural, natural32, put, put_char, put_natural, second, tail};
+use crate::separators::{rest_behind, word};
 use s390x_base::{
     Cond, ExternalName, MachMemFlags, PReg, Reg, RegClass, TrapCode, TrapKind, Writable, gpr_preg,
     vr_preg,
@@ -203,7 +203,7 @@ pub fn access(s: &[u8]) -> MachMemFlags
     let known = word(s);
     MachMemFlags {
         aligned: first(known) == b'a',
-        trap: suffix(behind(s, known)),
+        trap: suffix(rest_behind(s, known)),
     }
 }
 

@@ -3,8 +3,8 @@ ghost use Rattle.std.specs.Prelude.{◌≡◌, ◌++◌, ◌∷◌, [], ◌+◌,
 ghost use Rattle.hex.specs.Hex.{lower_digits};
 ghost use Rattle.s390x_job_fields.specs.Bytes.{bytes_text, bytes_of_text, digits_text, vector_text, digit_of, hex_from, facility_text, facilities_text, facilities_of, is_next, after_next};
 
-use crate::marks::{after_word, word};
 use crate::number::put;
+use crate::separators::{after_word, word};
 use s390x_inst::IsaFlags;
 use std::alloc::{AllocError, Global};
 

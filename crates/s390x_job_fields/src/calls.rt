@@ -6,9 +6,9 @@ ghost use Rattle.s390x_job_fields.specs.Marks.{word};
 
 use crate::atoms::{name, put_name, put_real, put_reg, real, reg, written};
 use crate::list::{Element, list, put_list};
-use crate::marks::{after_word, word};
 use crate::number::{first, integer64, natural32, put, put_integer, put_natural, second, tail};
 use crate::operators::value_type;
+use crate::separators::{after_word, word};
 use crate::word::Word;
 use s390x_base::{MachLabel, PReg, Reg, ValueType};
 use s390x_inst::{

@@ -2,8 +2,8 @@
 ghost use Rattle.std.specs.Prelude.{◌≡◌, drop};
 ghost use Rattle.s390x_job_fields.specs.Marks.{word, after_word};
 
-use crate::marks::front;
 use crate::number::tail;
+use crate::separators::until_separator;
 use std::marker::Model;
 
 /// A place in a line. Contracts see it as the bytes that are left.
@@ -49,7 +49,7 @@ impl<'a> Cursor<'a> {
         ensures after { self.new ≡ after_word self.old }
     {
         let from = tail(self.left, 1);
-        let found = front(from);
+        let found = until_separator(from);
         self.left = tail(from, found.len());
         found
     }

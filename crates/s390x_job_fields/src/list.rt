@@ -2,8 +2,8 @@
 ghost use Rattle.std.specs.Prelude.{◌≡◌, ◌++◌, ◌∷◌, ℕ, List, OnOk, IfOk, string_bytes};
 ghost use Rattle.s390x_job_fields.specs.Lists.{more_text, open_text, list_text, begins_element, elements, list_of};
 
-use crate::marks::before;
 use crate::number::put;
+use crate::separators::before;
 use std::alloc::{AllocError, Global};
 
 /// An element of a list in a line.

@@ -6,10 +6,10 @@ ghost use Rattle.s390x_job_fields.specs.Numbers.{natural_of, integer_of, W12, S2
 ghost use Rattle.s390x_job_fields.specs.Memory.{form_text, form_of, memory_form_of, inside_text, memory_text, memory_with, memory_operand_of};
 
 use crate::atoms::{access, name, put_access, put_name, put_reg, reg};
-use crate::marks::{behind, word};
 use crate::number::{
     integer20, integer32, integer64, natural12, natural32, put, put_char, put_integer, put_natural,
 };
+use crate::separators::{rest_behind, word};
 use crate::word::{Names, Word, find, name_at};
 use s390x_base::{MachLabel, MachMemFlags, Reg, SImm20, UImm12, VCodeConstant};
 use s390x_inst::MemArg;
@@ -189,15 +189,15 @@ fn indexed12(s: &[u8]) -> MemArg
     ensures { result ≡ memory_with MemoryForm.BXD12 s.now }
 {
     let base = word(s);
-    let t = behind(s, base);
+    let t = rest_behind(s, base);
     let index = word(t);
-    let u = behind(t, index);
+    let u = rest_behind(t, index);
     let disp = word(u);
     MemArg::BXD12 {
         base: reg(base),
         index: reg(index),
         disp: displacement12(disp),
-        flags: access(behind(u, disp)),
+        flags: access(rest_behind(u, disp)),
     }
 }
 
@@ -205,15 +205,15 @@ fn indexed20(s: &[u8]) -> MemArg
     ensures { result ≡ memory_with MemoryForm.BXD20 s.now }
 {
     let base = word(s);
-    let t = behind(s, base);
+    let t = rest_behind(s, base);
     let index = word(t);
-    let u = behind(t, index);
+    let u = rest_behind(t, index);
     let disp = word(u);
     MemArg::BXD20 {
         base: reg(base),
         index: reg(index),
         disp: displacement20(disp),
-        flags: access(behind(u, disp)),
+        flags: access(rest_behind(u, disp)),
     }
 }
 
@@ -221,12 +221,12 @@ fn symbol(s: &[u8]) -> MemArg
     ensures { result ≡ memory_with MemoryForm.Symbol s.now }
 {
     let symbol = word(s);
-    let t = behind(s, symbol);
+    let t = rest_behind(s, symbol);
     let offset = word(t);
     MemArg::Symbol {
         name: name(symbol),
         offset: integer32(offset),
-        flags: access(behind(t, offset)),
+        flags: access(rest_behind(t, offset)),
     }
 }
 
@@ -234,12 +234,12 @@ fn reg_offset(s: &[u8]) -> MemArg
     ensures { result ≡ memory_with MemoryForm.RegOffset s.now }
 {
     let base = word(s);
-    let t = behind(s, base);
+    let t = rest_behind(s, base);
     let offset = word(t);
     MemArg::RegOffset {
         reg: reg(base),
         off: integer64(offset),
-        flags: access(behind(t, offset)),
+        flags: access(rest_behind(t, offset)),
     }
 }
 
@@ -280,5 +280,5 @@ pub fn memory(s: &[u8]) -> MemArg
     ensures { result ≡ memory_operand_of s.now }
 {
     let form = word(s);
-    memory_with(form_named(form), behind(s, form))
+    memory_with(form_named(form), rest_behind(s, form))
 }

@@ -18,12 +18,12 @@ use crate::bytes::{bytes, facilities};
 use crate::calls::{handlers, reloc, target};
 use crate::cursor::Cursor;
 use crate::list::list;
-use crate::marks::{after, word};
 use crate::memory::{displacement20, memory};
 use crate::number::{
     integer8, integer16, integer32, natural8, natural16, natural32, natural64, tail,
 };
 use crate::operators::{alu, cmp, convention, rxsbg, shift, unary};
+use crate::separators::{after, word};
 use crate::sets::set_of;
 use crate::vector_operators::{vec_binary, vec_compare, vec_element_compare, vec_shift, vec_unary};
 use s390x_base::{

@@ -26,7 +26,7 @@ use Rattle.s390x_job_lines.specs.declared.inst_name.VectorName.{VectorName}
 use Rattle.s390x_job_lines.specs.declared.inst_name.VectorName.TheVariants as VectorIs
 use Rattle.s390x_job_lines.specs.declared.name.LineName.{LineName}
 use Rattle.s390x_job_lines.specs.declared.name.LineName.TheVariants as N
-use Rattle.s390x_job_lines.specs.declared.all_names.TheConstants.{ALL_NAMES}
+use Rattle.s390x_job_lines.specs.declared.name_hash.TheConstants.{ALL_NAMES}
 
 -- the name that stands at the slot of a word
 abbrev pub name_at : List ℕ → LineName

@@ -21,7 +21,7 @@ use Rattle.s390x_job_lines.specs.declared.inst_name.VectorName.{VectorName}
 use Rattle.s390x_job_lines.specs.contracts.inst_name.VectorName as the_vector
 use Rattle.s390x_job_lines.specs.declared.name.LineName.{LineName}
 use Rattle.s390x_job_lines.specs.declared.name.LineName.TheVariants as N
-use Rattle.s390x_job_lines.specs.declared.all_names.TheConstants.{ALL_NAMES}
+use Rattle.s390x_job_lines.specs.declared.name_hash.TheConstants.{ALL_NAMES}
 
 -- of the instructions on general registers alone
 abbrev pub integer_text : IntegerName → List ℕ

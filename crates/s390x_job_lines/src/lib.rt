@@ -2,10 +2,10 @@
 #![tactic(auto)]
 
 mod access_names;
-mod all_names;
 mod inst_name;
 mod law;
 mod name;
+mod name_hash;
 mod print;
 mod print_call;
 mod print_vector;

@@ -5,8 +5,8 @@ ghost use Rattle.s390x_job_lines.specs.Slots.{mix, slot_of};
 ghost use Rattle.s390x_job_lines.specs.declared.name.LineName.{LineName};
 
 use crate::access_names::{load_name, store_name, whole_name};
-use crate::all_names::ALL_NAMES;
 use crate::inst_name::{ControlName, IntegerName, MemoryName, VectorName};
+use crate::name_hash::ALL_NAMES;
 use s390x_inst::{Direction, LoadOp, StoreOp, WholeLayout};
 use s390x_job_fields::word::Word;
 

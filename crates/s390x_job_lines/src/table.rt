@@ -155,7 +155,7 @@ macro_rules! read_rows {
     };
 }
 
-/// The same of a control instruction; those that are in no table have arms of their own.
+/// The control instruction of a name, of which each field is read; those that are in no table have arms of their own.
 macro_rules! read_control_rows {
     (($name:expr, $c:expr, { $($other:tt)* }) $($n:ident { $($f:ident : $m:ident),* })*) => {
         match $name {
@@ -197,7 +197,7 @@ macro_rules! put_rows {
     };
 }
 
-/// The same of an instruction on vector or float registers.
+/// The line of an instruction on vector or float registers, by its name and its fields; else what is said instead.
 macro_rules! put_vector_rows {
     (($alloc:expr, $out:expr, $inst:expr, { $($other:tt)* }) $($n:ident { $($f:ident : $m:ident),* })*) => {
         match $inst {

@@ -17,9 +17,9 @@ use Rattle.s390x_job_bundle.proofs.Heads.{cut_at, first, free_of}
 use Rattle.s390x_job_bundle.proofs.JobLines.{job_ended, job_free, job_joined, words_of}
 use Rattle.s390x_job_bundle.proofs.Lines.{AllFree, free_append, free_take, joined_append, pieces_free, pieces_joined, pieces_whole, same_lines}
 use Rattle.s390x_job_plan.specs.Completions.{IsPlannedText, has_line, line_ending, plan_completion}
-use Rattle.s390x_job_plan.specs.Errors.{IsPlanFound, IsPlanStuckAt, IsStuckAt}
+use Rattle.s390x_job_plan.specs.Errors.{IsPlanOutcome, IsPlanStuckAt, IsStuckAt}
 use Rattle.s390x_job_plan.specs.Text.{IsPlannedOf, text_of_planned}
-use Rattle.s390x_job_plan.specs.declared.find.PlanFound.TheVariants.{Whole}
+use Rattle.s390x_job_plan.specs.declared.find.PlanOutcome.TheVariants.{Whole}
 use Rattle.s390x_job_plan.specs.declared.planned_job.PlannedJob.{PlannedJob}
 use Rattle.s390x_job_plan.proofs.Parts.{Fits, behind_job, one_planned, plan_words, planned_free, planned_joined, planned_words, text_fits, text_words}
 use Rattle.s390x_job_plan.proofs.Plans.{take_front}
@@ -232,7 +232,7 @@ module _ (bytes : List ℕ) (size : ℕ) (job : Job) (is : IsJob job) (part : te
             s.above k tail (omega (arith, h, ap length part_pieces)) (omega (arith, q, counted, ap length part_pieces)) (behind_job job (take k (pieces (drop size bytes)) ++ tail) is (subst Fits f (taken_fits bytes m t)));
       }
 
-  pub whole_plan : (plan : Plan) → IsPlanFound (pieces (drop size bytes)) (Whole plan) → joined (pieces (drop size bytes)) ≡ drop size bytes → IsPlannedOf bytes (record { job = job; plan = plan })
+  pub whole_plan : (plan : Plan) → IsPlanOutcome (pieces (drop size bytes)) (Whole plan) → joined (pieces (drop size bytes)) ≡ drop size bytes → IsPlannedOf bytes (record { job = job; plan = plan })
   whole_plan plan found all =
       let p : PlannedJob = record { job = job; plan = plan } in
       let spelled : text_of_planned p ≡ bytes = ap₂ (λ a b. a ++ b) part (ap joined found.1 ∙ all) ∙ take-append-drop size bytes in

@@ -9,10 +9,10 @@ use Rattle.s390x_job_plan.specs.declared.progress.Progress.{Progress}
 use Rattle.s390x_job_plan.specs.declared.progress.Progress.TheVariants.{Start, Between, Entering, Editing, Done}
 use Rattle.s390x_job_plan.specs.declared.error.PlanTextError.{PlanTextError}
 use Rattle.s390x_job_plan.specs.declared.error.PlanTextError.TheVariants.{Syntax, NoMemory}
-use Rattle.s390x_job_plan.specs.declared.find.Found.{Found}
-use Rattle.s390x_job_plan.specs.declared.find.Found.TheVariants as F
-use Rattle.s390x_job_plan.specs.declared.find.PlanFound.{PlanFound}
-use Rattle.s390x_job_plan.specs.declared.find.PlanFound.TheVariants as P
+use Rattle.s390x_job_plan.specs.declared.find.ParseOutcome.{ParseOutcome}
+use Rattle.s390x_job_plan.specs.declared.find.ParseOutcome.TheVariants as F
+use Rattle.s390x_job_plan.specs.declared.find.PlanOutcome.{PlanOutcome}
+use Rattle.s390x_job_plan.specs.declared.find.PlanOutcome.TheVariants as P
 use Rattle.s390x_job_plan.specs.declared.line.Line.{Line}
 use Rattle.s390x_job_plan.specs.declared.line.Line.TheVariants as L
 use Rattle.s390x_job_plan.specs.Order.{Stage, AtStart, Ahead, InEntry, InEdits, AtEnd, next}
@@ -62,18 +62,18 @@ pub record IsPlanStuckAt (ws : List (List ℕ)) (k : ℕ) : Type 0 where
   pub above : (m : ℕ) (more : List (List ℕ)) → k < m → m ≤ length ws → FitsPlan (take m ws ++ more) → ⊥
 
 -- what was found is so: the plan whose lines these are, or a number of lines that no plan goes past
-abbrev pub IsPlanFound : List (List ℕ) → PlanFound → Type 0
-IsPlanFound ws (P.Whole plan) = AllLines (plan_lines plan.blocks.items) × (map line_text (plan_lines plan.blocks.items) ≡ ws)
-IsPlanFound ws (P.Stuck k) = IsPlanStuckAt ws k
+abbrev pub IsPlanOutcome : List (List ℕ) → PlanOutcome → Type 0
+IsPlanOutcome ws (P.Whole plan) = AllLines (plan_lines plan.blocks.items) × (map line_text (plan_lines plan.blocks.items) ≡ ws)
+IsPlanOutcome ws (P.Stuck k) = IsPlanStuckAt ws k
 
 -- the bytes are the text of no planned job, and no completion of more than k lines is one
 abbrev pub IsStuckAt : List ℕ → ℕ → Type 0
 IsStuckAt bytes k = IsStuck IsPlannedText plan_completion bytes k
 
 -- what was found is so: the planned job whose text the bytes are, or a number of lines that none of these texts goes past
-abbrev pub IsFound : List ℕ → Found → Type 0
-IsFound bytes (F.Whole p) = IsPlannedOf bytes p
-IsFound bytes (F.Stuck k) = IsStuckAt bytes k
+abbrev pub IsParseOutcome : List ℕ → ParseOutcome → Type 0
+IsParseOutcome bytes (F.Whole p) = IsPlannedOf bytes p
+IsParseOutcome bytes (F.Stuck k) = IsStuckAt bytes k
 
 -- `Syntax` exactly where the bytes are the text of no planned job, with the line by completions
 abbrev pub HasNoPlan : List ℕ → PlanTextError → Type 0

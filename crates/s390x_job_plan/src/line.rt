@@ -9,8 +9,8 @@ ghost use Rattle.s390x_job_plan.specs.Lines.{Stepping, line_of, line_text, place
 use s390x_alloc::{Edit, EntryPair, Place};
 use s390x_base::Reg;
 use s390x_job_fields::atoms::{put_real, put_reg, real, reg};
-use s390x_job_fields::marks::{after_word, before, word};
 use s390x_job_fields::number::{first, natural16, put, put_char, put_natural, tail};
+use s390x_job_fields::separators::{after_word, before, word};
 use std::alloc::{AllocError, Global};
 
 /// What a line of a plan says.

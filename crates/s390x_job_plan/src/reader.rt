@@ -6,7 +6,7 @@ ghost use Rattle.s390x_job_plan.specs.Text.{IsPlannedOf};
 
 use crate::completeness::complete;
 use crate::error::PlanTextError;
-use crate::find::{Found, find_planned};
+use crate::find::{ParseOutcome, find_planned};
 use crate::planned_job::PlannedJob;
 use s390x_job::{Completes, first_wrong};
 use std::alloc::{AllocError, Global};
@@ -27,8 +27,8 @@ impl Completes for PlannedText {
 
     fn is_whole(alloc: Global, bytes: &[u8]) -> Result<bool, AllocError> {
         match find_planned(alloc, bytes)? {
-            Found::Whole(_) => Ok(true),
-            Found::Stuck(_) => Ok(false),
+            ParseOutcome::Whole(_) => Ok(true),
+            ParseOutcome::Stuck(_) => Ok(false),
         }
     }
 }
@@ -38,8 +38,8 @@ fn read_inner(alloc: Global, bytes: &[u8]) -> Result<Result<PlannedJob, PlanText
     ensures { IfOk result (λ r. MatchResult r (IsPlannedOf bytes.now) (HasNoPlan bytes.now)) }
 {
     match find_planned(alloc, bytes)? {
-        Found::Whole(planned) => Ok(Ok(planned)),
-        Found::Stuck(top) => {
+        ParseOutcome::Whole(planned) => Ok(Ok(planned)),
+        ParseOutcome::Stuck(top) => {
             let line = first_wrong::<PlannedText>(alloc, bytes, top)?;
             Ok(Err(PlanTextError::Syntax { line }))
         }

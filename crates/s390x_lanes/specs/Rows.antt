@@ -82,7 +82,7 @@ abbrev pub immediate_bits : ℤ → Option ℕ
 immediate_bits (pos n) = if nat_lt n (2 ^ 16) then Some n else None
 immediate_bits (negsuc n) = None
 
--- the same, where there is an immediate
+-- the operation of a row with masks and the bits of an immediate, where there is one
 abbrev pub with_immediate : VectorRow → List ℕ → Option ℕ → Option VectorOperation
 with_immediate row masks None = None
 with_immediate row masks (Some k) = row_operation row masks k

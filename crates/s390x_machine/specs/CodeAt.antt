@@ -112,13 +112,13 @@ SymbolReached L p name offset =
     let half = L.offsets.environment.symbol_distance p name offset in
     (half < 2 ^ 32) × (low Doubleword (pos (wrapping_add64 L.image.base p) +ℤ pos 2 *ℤ cast_signed w32 half) ≡ L.offsets.environment.symbol_value name offset)
 
--- the same of a part that is relative to a symbol
+-- the distance of a part that is relative to a symbol leads from its beginning to what the symbol's doubleword would hold
 abbrev pub PartReaches : Layout → ℕ → CodePart → Type 0
 PartReaches L p (RelativeSymbol opcode register name offset) = SymbolReached L p name offset
 PartReaches L p (CallSymbol link name) = SymbolReached L p name (pos 0)
 PartReaches L p _ = Unit {0}
 
--- the same of parts from an offset on
+-- each part from an offset on that is relative to a symbol leads to what the symbol's doubleword would hold
 abbrev pub PartsReach : Layout → ℕ → List CodePart → Type 0
 PartsReach L p [] = Unit {0}
 PartsReach L p (part ∷ parts) = PartReaches L p part × PartsReach L (p + part_size part) parts

@@ -320,7 +320,7 @@ abbrev pub rotates_into : RxSBGOp → (d n first last amount : ℕ) → Register
 rotates_into op d n first last amount r =
     with_rule (rotate_rule op) (Compute (O.SelectedBits (rotate_operator op) (selection first last)) Doubleword d (r.general d) (rotated_operand r n amount))
 
--- the same for the code alone
+-- the code alone is set by the bits of register d joined with those of register n, rotated to the left
 abbrev pub rotates_to_test : RxSBGOp → (d n first last amount : ℕ) → Registers → Operation
 rotates_to_test op d n first last amount r = with_rule Set (Test (O.SelectedBits (rotate_operator op) (selection first last)) Doubleword (r.general d) (rotated_operand r n amount))
 
@@ -338,7 +338,7 @@ multiplies_logical pair m r = with_rule Kept (MultiplyPair Unsigned pair (r.gene
 abbrev pub divides_signed : Width → (pair m : ℕ) → Registers → Operation
 divides_signed width pair m r = with_rule Kept (DividePair pair (r.general (pair + 1)) (extended Signed width Doubleword (r.general m)))
 
--- the same of the number that its two parts make, without signs
+-- a pair becomes the remainder and the quotient of the number that its two parts make by register m, without signs
 abbrev pub divides_logical : Size → (pair m : ℕ) → Registers → Operation
 divides_logical size pair m r = with_rule Kept (DivideLogicalPair size pair (value_in size r pair) (value_in size r (pair + 1)) (value_in size r m))
 
@@ -352,7 +352,7 @@ finds_leftmost pair n r = with_rule Set (FindLeftmostOne pair (r.general n))
 abbrev pub compares_and_traps : Comparison → (n m mask : ℕ) → Registers → Operation
 compares_and_traps c n m mask r = with_rule Kept (CompareAndTrap c.sign c.size (value_in c.size r n) (value_in c.size r m) mask)
 
--- the same of register n and the 16 bits of an immediate
+-- a stop where the mask selects the order of register n and the 16 bits of an immediate
 abbrev pub compares_immediate_and_traps : Comparison → (n bits mask : ℕ) → Registers → Operation
 compares_immediate_and_traps c n bits mask r = with_rule Kept (CompareAndTrap c.sign c.size (value_in c.size r n) (extended c.sign Bits16 c.size bits) mask)
 

@@ -40,7 +40,7 @@ abbrev pub Holds : Option ℕ → List Region → ℕ → Type 0
 Holds None rs a = Unit {0}
 Holds (Some i) rs a = IsHolder rs a i
 
--- the same of n addresses from one on
+-- the region of this number is the first that has each of n addresses from one on, where a number is given
 abbrev pub HoldsAll : Option ℕ → List Region → ℕ → ℕ → Type 0
 HoldsAll region rs a n = (i : ℕ) → i < n → Holds region rs (wrapping_add64 a i)
 

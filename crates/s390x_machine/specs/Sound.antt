@@ -78,7 +78,7 @@ HasOutcome (Effect.ComputeVector operation target first second third fourth) c =
 HasOutcome (Effect.LoadVector layout target old known address) c = loaded layout old (number_at c.memory.get address (layout_bytes layout)) < 2 ^ 128
 HasOutcome _ c = Unit {0}
 
--- the same of what a row does; a branch that saves has a register for it
+-- what a row does is sound; a branch that saves has a register for it
 abbrev pub IsSoundAction : Action → Type 0
 IsSoundAction (Perform op) = IsSound op.effect
 IsSoundAction (Branch mask target) = Unit {0}
@@ -129,7 +129,7 @@ abbrev pub ShiftFits : OperandSource → Fields → Type 0
 ShiftFits (ShiftedImmediate n) f = (n < 64) × (low Doubleword f.imm * 2 ^ n < 2 ^ 64)
 ShiftFits _ f = Unit {0}
 
--- the same of a row's second operand
+-- a row's second operand, where it is an immediate, still has 64 bits further to the left
 abbrev pub IsRoomy : RowSemantics → Fields → Type 0
 IsRoomy (Row.Compute operator size second rule) f = ShiftFits second.operand_source f
 IsRoomy (Row.Compare sign size second) f = ShiftFits second.operand_source f
@@ -219,7 +219,7 @@ register_bits false = 4
 abbrev pub fits_field : RowSemantics → FormatKind → ℕ → Bool
 fits_field semantics format i = nat_le (width_of_part (suc i) (layout_of format)) (register_bits (is_vector_field semantics i))
 
--- the same of all four fields
+-- each of the four fields of the format has no more bits than the number of a register of its kind
 abbrev pub has_registers : RowSemantics → FormatKind → Bool
 has_registers semantics format = fits_field semantics format 0 && fits_field semantics format 1 && fits_field semantics format 2 && fits_field semantics format 3
 

@@ -50,7 +50,7 @@ stored_by (Perform op) m = store_event (access op.effect) m
 stored_by (Branch mask target) m = None
 stored_by (BranchAndSave link target) m = None
 
--- the same of an action
+-- the quotients of what an action performs fit
 abbrev pub ActionFits : Action → Type 0
 ActionFits (Perform op) = QuotientsFit op
 ActionFits (Branch mask target) = Unit {0}

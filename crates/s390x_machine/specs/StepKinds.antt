@@ -105,7 +105,7 @@ on_registers operation = Some (record { operation = operation; needs = false; co
 abbrev pub may_stop : (StopKind → Option TrapKind) → (Registers → Operation) → Option Performed
 may_stop code operation = Some (record { operation = operation; needs = false; code = code })
 
--- the same of one that needs `%r1`
+-- an operation on registers and immediates that needs `%r1`
 abbrev pub by_scratch : (Registers → Operation) → Option Performed
 by_scratch operation = Some (record { operation = operation; needs = true; code = no_code })
 
@@ -189,7 +189,7 @@ performed_at x None = None
 performed_at x (Some address) =
     Some (record { operation = λ r. aligned_where (is_relative_access x) (x.operation (address r) r); needs = needs_scratch x.forms x.operand; code = fault_codes x })
 
--- the same, where it is such an instruction
+-- an instruction does its operation at its operand's address, where it is one with an operand in memory
 abbrev pub performed_by : Layout → Option OperandStep → Option Performed
 performed_by L None = None
 performed_by L (Some x) = performed_at x (operand_address L x.operand)

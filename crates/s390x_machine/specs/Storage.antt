@@ -223,7 +223,7 @@ pub record OperandStep : Type 0 where
 abbrev pub is_relative_access : OperandStep → Bool
 is_relative_access x = is_relative x.operand && (x.accesses && not (needs_scratch x.forms x.operand))
 
--- the same where its address is loaded first: no row takes an operand relative to the instruction
+-- what an instruction does with an operand whose address is loaded first: no row takes an operand relative to the instruction
 abbrev pub loaded_step : OperandStep → OperandStep
 loaded_step x = record x { forms = record x.forms { have_pcrel = false } }
 
@@ -331,7 +331,7 @@ rest_operand_step (AtomicCas64 rd ri rn mem) = accesses_at (based_forms false tr
 rest_operand_step (Vector v) = vector_operand_step v
 rest_operand_step _ = None
 
--- the same where it is no load
+-- what an instruction does with its operand in storage, where it is no load of one register
 abbrev pub other_operand_step : Inst → Option OperandStep
 other_operand_step i = by_store store_step (rest_operand_step i) (as_store i)
 

@@ -30,11 +30,11 @@ use Rattle.s390x_machine.specs.VectorOperations.{binary_operation, unary_operati
 abbrev pub computes_two_vectors : VectorOperation → (d n m : ℕ) → Registers → Operation
 computes_two_vectors o d n m r = with_rule Set (Effect.ComputeVector o d (r.vector d) (r.vector n) (r.vector m) 0)
 
--- the same of vector register n
+-- vector register d becomes what an operation makes of vector register n
 abbrev pub computes_one_vector : VectorOperation → (d n : ℕ) → Registers → Operation
 computes_one_vector o d n r = with_rule Set (Effect.ComputeVector o d (r.vector d) (r.vector n) 0 0)
 
--- the same of vector registers n, m and a
+-- vector register d becomes what an operation makes of vector registers n, m and a
 abbrev pub computes_three_vectors : VectorOperation → (d n m a : ℕ) → Registers → Operation
 computes_three_vectors o d n m a r = with_rule Set (Effect.ComputeVector o d (r.vector d) (r.vector n) (r.vector m) (r.vector a))
 
@@ -80,7 +80,7 @@ element_index r base displacement = based r base (pos displacement)
 abbrev pub inserts_lane : ElementSize → (d n base displacement : ℕ) → Registers → Operation
 inserts_lane size d n base displacement r = puts_element size all_bits d (element_index r base displacement) (r.general n) r
 
--- the same, where the other elements may become any
+-- general register n in one element of vector register d, where the other elements may become any
 abbrev pub inserts_lane_alone : ElementSize → (d n base displacement : ℕ) → Registers → Operation
 inserts_lane_alone size d n base displacement r = puts_element size (lane_bits size (element_index r base displacement)) d (element_index r base displacement) (r.general n) r
 

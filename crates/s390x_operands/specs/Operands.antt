@@ -183,7 +183,7 @@ abbrev mutual
   row_requests end_of-Inst = []
   row_requests (more_of-Inst i rest) = requests i ++ row_requests rest
 
--- the same of members in a list
+-- what is reported of members in a list
 abbrev pub members_requests : List Inst → List (Option Reported)
 members_requests [] = []
 members_requests (i ∷ is) = requests i ++ members_requests is

@@ -13,11 +13,11 @@ use Rattle.s390x_typed_steps.specs.Tree.{empty}
 use Rattle.s390x_typed_steps.proofs.Causes.{first_none}
 use Rattle.s390x_typed_steps.proofs.Trees.{prepend_loop}
 use Rattle.s390x_emit_int.specs.Members.{members_of}
-use Rattle.s390x_refusal.specs.Members.{IsReached, IsRefusedAmong, IsRefusedAt, Point, marked, member_cause, members_at, members_cause, members_in, nth_member, nth_point, own_cause, point_inside}
+use Rattle.s390x_refusal.specs.Members.{IsReached, IsRefusedAmong, IsRefusedAt, Point, with_safepoint, member_cause, members_at, members_cause, members_in, nth_member, nth_point, own_cause, point_inside}
 use Rattle.s390x_refusal.specs.Search.{IsPathAmong, IsPathTo}
 
 -- inside of loops no call is a safepoint
-pub unmarked : (depth : ℕ) (e : Emission) (i : Inst) → depth ≢ 0 → marked depth e i ≡ e
+pub unmarked : (depth : ℕ) (e : Emission) (i : Inst) → depth ≢ 0 → with_safepoint depth e i ≡ e
 unmarked zero e i h = absurd (h refl)
 unmarked (suc depth) e i h = refl
 

@@ -10,7 +10,7 @@ use Rattle.s390x_inst.specs.declared.state.IsaFlags.{IsaFlags}
 use Rattle.s390x_typed_steps.specs.Causes.{Declared, fresh_labels}
 use Rattle.s390x_typed_steps.specs.Stack.{state_after}
 use Rattle.s390x_emit_int.specs.Members.{member_of}
-use Rattle.s390x_refusal.specs.Members.{Point, marked, member_cause, members_at, members_cause, nth_member, nth_point, state_behind}
+use Rattle.s390x_refusal.specs.Members.{Point, with_safepoint, member_cause, members_at, members_cause, nth_member, nth_point, state_behind}
 use Rattle.s390x_refusal.specs.Search.{IsChecked, IsFirstMember, point_of}
 use Rattle.s390x_refusal.specs.declared.members.Checked.TheVariants.{Passed, Refused}
 use Rattle.s390x_refusal.specs.declared.members.Scope.{Scope}
@@ -32,20 +32,20 @@ same_member is k i lt at = at ∙ get_or_default is k i Nop0 lt
 
 -- where the next one stands
 next_point : (flags : IsaFlags) (D : Declared) (s : Scope) (e : Emission) (is : List Inst) (k : ℕ) (state : Emission) (labels depth : ℕ) (i : Inst) → Walked flags D s e is k state labels depth → i ≡ nth_member is k
-    → (d : ℕ) → d ≡ s.depth → point_of (record { labels = labels; depth = d }) (marked depth state i) ≡ nth_point flags (point_of s e) is k
+    → (d : ℕ) → d ≡ s.depth → point_of (record { labels = labels; depth = d }) (with_safepoint depth state i) ≡ nth_point flags (point_of s e) is k
 next_point flags D s e is k state labels depth i w same d around =
-    ap (λ r. point_of (record { labels = labels; depth = r }) (marked depth state i)) around
-    ∙ ap (λ r. point_of (record { labels = labels; depth = s.depth }) (marked r state i)) w.around
-    ∙ ap (λ t. point_of (record { labels = labels; depth = s.depth }) (marked s.depth t i)) w.state_is
-    ∙ ap (λ j. point_of (record { labels = labels; depth = s.depth }) (marked s.depth (state_behind e (take k is)) j)) same
-    ∙ ap (λ n. point_of (record { labels = n; depth = s.depth }) (marked s.depth (state_behind e (take k is)) (nth_member is k))) w.labels_are
+    ap (λ r. point_of (record { labels = labels; depth = r }) (with_safepoint depth state i)) around
+    ∙ ap (λ r. point_of (record { labels = labels; depth = s.depth }) (with_safepoint r state i)) w.around
+    ∙ ap (λ t. point_of (record { labels = labels; depth = s.depth }) (with_safepoint s.depth t i)) w.state_is
+    ∙ ap (λ j. point_of (record { labels = labels; depth = s.depth }) (with_safepoint s.depth (state_behind e (take k is)) j)) same
+    ∙ ap (λ n. point_of (record { labels = n; depth = s.depth }) (with_safepoint s.depth (state_behind e (take k is)) (nth_member is k))) w.labels_are
 
 pub walk_on : (flags : IsaFlags) (D : Declared) (s : Scope) (e : Emission) (is : List Inst) (k : ℕ) (state state' : Emission) (labels depth behind : ℕ) (i : Inst) → k < length is → i ≡ get_or is k i → Walked flags D s e is k state labels depth
     → IsChecked flags D (record { labels = labels; depth = depth }) state state' i (Passed behind) → Walked flags D s e is (k + 1) state' behind depth
 walk_on flags D s e is k state state' labels depth behind i lt at w checked =
     let same = same_member is k i lt at in
     let point = next_point flags D s e is k state labels depth i w same depth w.around in
-    let own : fresh_labels (member_of flags (marked depth state i) i) ≡ fresh_labels (member_of flags (marked s.depth (state_behind e (take k is)) (nth_member is k)) (nth_member is k)) = ap₂ (λ (q : Point) j. fresh_labels (member_of flags q.state j)) point same in
+    let own : fresh_labels (member_of flags (with_safepoint depth state i) i) ≡ fresh_labels (member_of flags (with_safepoint s.depth (state_behind e (take k is)) (nth_member is k)) (nth_member is k)) = ap₂ (λ (q : Point) j. fresh_labels (member_of flags q.state j)) point same in
     record {
       around = w.around;
       state_is = checked.3 ∙ ap₂ state_after w.state_is same ∙ sym (state_more e is k lt);

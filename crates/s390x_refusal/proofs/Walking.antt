@@ -15,7 +15,7 @@ use Rattle.s390x_typed_steps.proofs.Causes.{first_left, joined_cause}
 use Rattle.s390x_typed_steps.proofs.Trees.{joined, joined_behind, joined_fresh_labels}
 use Rattle.s390x_emit_int.specs.Members.{member_of}
 use Rattle.s390x_emit_int.proofs.Members.{member_nominal}
-use Rattle.s390x_refusal.specs.Members.{Point, marked, member_cause, members_at, members_cause, nth_member, nth_point, state_behind}
+use Rattle.s390x_refusal.specs.Members.{Point, with_safepoint, member_cause, members_at, members_cause, nth_member, nth_point, state_behind}
 
 joined_assoc : (t u v : Tree) → joined (joined t u) v ≡ joined t (joined u v)
 joined_assoc empty u v = refl
@@ -23,7 +23,7 @@ joined_assoc (leaf b t) u v = ap (leaf b) (joined_assoc t u v)
 joined_assoc (loop_node mask members t) u v = ap (loop_node mask members) (joined_assoc t u v)
 
 -- where a member stands before others
-begun : (flags : IsaFlags) (depth : ℕ) (e : Emission) (i : Inst) (is : List Inst) → members_at flags depth e (i ∷ is) ≡ joined (member_of flags (marked depth e i) i) (members_at flags depth (state_after e i) is)
+begun : (flags : IsaFlags) (depth : ℕ) (e : Emission) (i : Inst) (is : List Inst) → members_at flags depth e (i ∷ is) ≡ joined (member_of flags (with_safepoint depth e i) i) (members_at flags depth (state_after e i) is)
 begun flags zero e i is = for_prepend flags (safepoint e i) i (block_tree (state_after e i) is)
 begun flags (suc depth) e i is = for_prepend flags e i (tree (state_after e i) is)
 
@@ -35,7 +35,7 @@ no_members flags (suc depth) e t = refl
 members_append : (flags : IsaFlags) (depth : ℕ) (e : Emission) (xs ys : List Inst) → members_at flags depth e (xs ++ ys) ≡ joined (members_at flags depth e xs) (members_at flags depth (state_behind e xs) ys)
 members_append flags depth e [] ys = sym (no_members flags depth e (members_at flags depth e ys))
 members_append flags depth e (i ∷ xs) ys =
-    let own = member_of flags (marked depth e i) i in
+    let own = member_of flags (with_safepoint depth e i) i in
     let e' = state_after e i in
     let rest = members_at flags depth (state_behind e' xs) ys in
     begun flags depth e i (xs ++ ys)
@@ -48,18 +48,18 @@ members_nominal : (flags : IsaFlags) (depth : ℕ) (e : Emission) (is : List Ins
 members_nominal flags zero e [] = refl
 members_nominal flags (suc depth) e [] = refl
 members_nominal flags depth e (i ∷ is) =
-    let own = member_of flags (marked depth e i) i in
+    let own = member_of flags (with_safepoint depth e i) i in
     let rest = members_at flags depth (state_after e i) is in
     ap (nominal_behind e.nominal) (begun flags depth e i is)
     ∙ joined_behind e.nominal own rest
-    ∙ ap (λ m. nominal_behind m rest) (member_nominal flags (marked depth e i) e.nominal i)
+    ∙ ap (λ m. nominal_behind m rest) (member_nominal flags (with_safepoint depth e i) e.nominal i)
     ∙ members_nominal flags depth (state_after e i) is
 
 pub state_append : (e : Emission) (xs ys : List Inst) → state_behind e (xs ++ ys) ≡ state_behind (state_behind e xs) ys
 state_append e [] ys = refl
 state_append e (i ∷ xs) ys = state_append (state_after e i) xs ys
 
-pub alone : (flags : IsaFlags) (depth : ℕ) (e : Emission) (i : Inst) → members_at flags depth e (i ∷ []) ≡ member_of flags (marked depth e i) i
+pub alone : (flags : IsaFlags) (depth : ℕ) (e : Emission) (i : Inst) → members_at flags depth e (i ∷ []) ≡ member_of flags (with_safepoint depth e i) i
 alone flags zero e i = refl
 alone flags (suc depth) e i = refl
 
@@ -72,7 +72,7 @@ safepoint_after e (Call link info) = refl
 safepoint_after e i = refl
 
 -- the state behind a member is the same, whether it was a safepoint or not
-pub marked_after : (depth : ℕ) (e : Emission) (i : Inst) → state_after (marked depth e i) i ≡ state_after e i
+pub marked_after : (depth : ℕ) (e : Emission) (i : Inst) → state_after (with_safepoint depth e i) i ≡ state_after e i
 marked_after zero e i = safepoint_after e i
 marked_after (suc depth) e i = refl
 
@@ -81,7 +81,7 @@ pub no_stack_cause : (flags : IsaFlags) (D : Declared) (e : Emission) (n nominal
 no_stack_cause flags D e n nominal depth (AllocateArgs size) h = first_left _ _ (first_left _ _ (first_left _ _ h))
 no_stack_cause flags D e n nominal depth i h = refl
 
-pub marked_nominal : (depth : ℕ) (e : Emission) (i : Inst) → (marked depth e i).nominal ≡ e.nominal
+pub marked_nominal : (depth : ℕ) (e : Emission) (i : Inst) → (with_safepoint depth e i).nominal ≡ e.nominal
 marked_nominal zero e i = safepoint_nominal e i
 marked_nominal (suc depth) e i = refl
 
@@ -114,10 +114,10 @@ cause_append flags D p xs ys =
     ∙ ap (λ k. first_emit_cause (tree_cause flags D n m d t) (tree_cause flags D (n + fresh_labels t) k d u)) (members_nominal flags d p.state xs)
 
 -- the cause of a single one
-pub alone_cause : (flags : IsaFlags) (D : Declared) (p : Point) (i : Inst) → members_cause flags D p (i ∷ []) ≡ member_cause flags D (record p { state = marked p.depth p.state i }) i
+pub alone_cause : (flags : IsaFlags) (D : Declared) (p : Point) (i : Inst) → members_cause flags D p (i ∷ []) ≡ member_cause flags D (record p { state = with_safepoint p.depth p.state i }) i
 alone_cause flags D p i =
     ap (tree_cause flags D p.labels p.state.nominal p.depth) (alone flags p.depth p.state i)
-    ∙ ap (λ m. tree_cause flags D p.labels m p.depth (member_of flags (marked p.depth p.state i) i)) (sym (marked_nominal p.depth p.state i))
+    ∙ ap (λ m. tree_cause flags D p.labels m p.depth (member_of flags (with_safepoint p.depth p.state i) i)) (sym (marked_nominal p.depth p.state i))
 
 -- those before member number k, and it
 pub one_more : (flags : IsaFlags) (D : Declared) (p : Point) (is : List Inst) (k : ℕ) → k < length is → members_cause flags D p (take k is) ≡ None → members_cause flags D p (take (k + 1) is) ≡ member_cause flags D (nth_point flags p is k) (nth_member is k)
@@ -130,7 +130,7 @@ one_more flags D p is k lt none =
     ∙ alone_cause flags D q i
 
 -- how many labels are in use behind member number k
-pub labels_more : (flags : IsaFlags) (depth : ℕ) (e : Emission) (is : List Inst) (k : ℕ) → k < length is → fresh_labels (members_at flags depth e (take (k + 1) is)) ≡ fresh_labels (members_at flags depth e (take k is)) + fresh_labels (member_of flags (marked depth (state_behind e (take k is)) (nth_member is k)) (nth_member is k))
+pub labels_more : (flags : IsaFlags) (depth : ℕ) (e : Emission) (is : List Inst) (k : ℕ) → k < length is → fresh_labels (members_at flags depth e (take (k + 1) is)) ≡ fresh_labels (members_at flags depth e (take k is)) + fresh_labels (member_of flags (with_safepoint depth (state_behind e (take k is)) (nth_member is k)) (nth_member is k))
 labels_more flags depth e is k lt =
     let i = nth_member is k in
     let e' = state_behind e (take k is) in

@@ -23,9 +23,9 @@ state_behind e [] = e
 state_behind e (i ∷ is) = state_behind (state_after e i) is
 
 -- a call that stands in a block itself is a safepoint, one inside of loops is none
-abbrev pub marked : (depth : ℕ) → Emission → Inst → Emission
-marked zero e i = safepoint e i
-marked (suc depth) e i = e
+abbrev pub with_safepoint : (depth : ℕ) → Emission → Inst → Emission
+with_safepoint zero e i = safepoint e i
+with_safepoint (suc depth) e i = e
 
 -- the members of a block, or of a loop, as a tree
 abbrev pub members_at : IsaFlags → (depth : ℕ) → Emission → List Inst → Tree
@@ -61,7 +61,7 @@ nth_member is k = get_or is k Nop0
 -- where member number k stands
 abbrev pub nth_point : IsaFlags → Point → List Inst → ℕ → Point
 nth_point flags p is k = record {
-  state = marked p.depth (state_behind p.state (take k is)) (nth_member is k);
+  state = with_safepoint p.depth (state_behind p.state (take k is)) (nth_member is k);
   labels = p.labels + fresh_labels (members_at flags p.depth p.state (take k is));
   depth = p.depth;
 }
@@ -80,7 +80,7 @@ IsRefusedAt flags D p i error (k ∷ path) =
     × IsReached flags D (point_inside p) (members_in i) k
     × IsRefusedAt flags D (nth_point flags (point_inside p) (members_in i) k) (nth_member (members_in i) k) error path
 
--- the same of the members of a block or of a loop, of which the path's first number tells one
+-- an instruction is refused at this path among the members of a block or of a loop, of which the path's first number names one
 abbrev pub IsRefusedAmong : IsaFlags → Declared → Point → List Inst → EmitError → List ℕ → Type 0
 IsRefusedAmong flags D p is error [] = ⊥
 IsRefusedAmong flags D p is error (k ∷ path) =

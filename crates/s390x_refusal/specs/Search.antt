@@ -12,7 +12,7 @@ use Rattle.s390x_typed_steps.specs.Causes.{Declared, block_cause, fresh_labels}
 use Rattle.s390x_typed_steps.specs.Stack.{state_after}
 use Rattle.s390x_emit_int.specs.Function.{constants_of, tree_of}
 use Rattle.s390x_emit_int.specs.Members.{member_of}
-use Rattle.s390x_refusal.specs.Members.{IsReached, IsRefusedAmong, IsRefusedAt, Point, marked, member_cause, members_cause, nth_member, nth_point}
+use Rattle.s390x_refusal.specs.Members.{IsReached, IsRefusedAmong, IsRefusedAt, Point, with_safepoint, member_cause, members_cause, nth_member, nth_point}
 use Rattle.s390x_refusal.specs.Refusal.{IsRefusedBy, emission_cause, opening_cause}
 use Rattle.s390x_refusal.specs.declared.members.Checked.{Checked}
 use Rattle.s390x_refusal.specs.declared.members.Checked.TheVariants.{Passed, Refused}
@@ -27,12 +27,12 @@ point_of s e = record { state = e; labels = s.labels; depth = s.depth }
 -- a member has no cause, and this is left behind it; or it has this one in the state that is left
 abbrev pub IsChecked : IsaFlags → Declared → Scope → (state state' : Emission) → Inst → Checked → Type 0
 IsChecked flags D s state state' i (Passed labels) =
-    (member_cause flags D (point_of s (marked s.depth state i)) i ≡ None)
-    × (labels ≡ s.labels + fresh_labels (member_of flags (marked s.depth state i) i))
+    (member_cause flags D (point_of s (with_safepoint s.depth state i)) i ≡ None)
+    × (labels ≡ s.labels + fresh_labels (member_of flags (with_safepoint s.depth state i) i))
     × (labels ≤ label_limit)
     × (state' ≡ state_after state i)
 IsChecked flags D s state state' i (Refused error) =
-    (member_cause flags D (point_of s (marked s.depth state i)) i ≡ Some error) × (state' ≡ marked s.depth state i)
+    (member_cause flags D (point_of s (with_safepoint s.depth state i)) i ≡ Some error) × (state' ≡ with_safepoint s.depth state i)
 
 -- a block has no cause, and so many labels are in use behind it; or this is its first one
 abbrev pub IsBlockChecked : IsaFlags → Declared → (labels : ℕ) → Emission → Block → Checked → Type 0

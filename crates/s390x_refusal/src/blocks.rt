@@ -10,7 +10,7 @@ use crate::members::{Checked, Scope, path_among};
 use crate::position::Position;
 use s390x_base::{EmitError, NoMemory};
 use s390x_buffer::MachBuffer;
-use s390x_emit_int::{Totals, check_block};
+use s390x_emit_int::{CodeSize, check_block};
 use s390x_inst::{AllocatedFunction, Block, EmitState, IsaFlags};
 use std::alloc::Global;
 
@@ -58,7 +58,7 @@ fn check_whole_block(
         (λ checked. IsBlockChecked flags (declared_in sink.now) labels state.now block.now
         checked) }
 {
-    let before = Totals { labels, bytes: 0 };
+    let before = CodeSize { labels, bytes: 0 };
     match check_block(alloc, flags, state, sink, before, block) {
         Ok(behind) => Ok(Checked::Passed(behind.labels)),
         Err(EmitError::NoMemory) => Err(NoMemory),

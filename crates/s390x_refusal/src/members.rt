@@ -2,12 +2,12 @@
 ghost use Rattle.std.specs.Prelude.{◌≡◌, ◌≤◌, IfOk};
 ghost use Rattle.s390x_buffer.specs.State.{label_limit};
 ghost use Rattle.s390x_typed_steps.specs.Causes.{declared_in};
-ghost use Rattle.s390x_refusal.specs.Members.{marked};
+ghost use Rattle.s390x_refusal.specs.Members.{with_safepoint};
 ghost use Rattle.s390x_refusal.specs.Search.{IsChecked, IsFirstMember, IsPathAmong, IsPathTo, point_of};
 
 use s390x_base::{EmitError, MachLabel, NoMemory};
 use s390x_buffer::MachBuffer;
-use s390x_emit_int::{Context, Totals, advance, check_inst, mark_safepoint, open_loop};
+use s390x_emit_int::{CodeSize, Context, advance, check_inst, mark_safepoint, open_loop};
 use s390x_inst::{EmitState, Inst, IsaFlags};
 use std::alloc::Global;
 
@@ -35,7 +35,7 @@ pub enum Checked {
 
 // A call that stands in a block itself is a safepoint.
 fn mark_member(state: &mut EmitState, depth: u32, inst: &Inst)
-    ensures { state.new ≡ marked depth state.old inst.now }
+    ensures { state.new ≡ with_safepoint depth state.old inst.now }
 {
     if depth == 0 {
         mark_safepoint(state, inst);
@@ -58,7 +58,7 @@ fn check_member(
         checked) }
 {
     mark_member(state, scope.depth, inst);
-    let before = Totals {
+    let before = CodeSize {
         labels: scope.labels,
         bytes: 0,
     };
@@ -128,7 +128,7 @@ fn path_to(
     let Inst::Loop { body, .. } = inst else {
         return Ok(Vec::new(alloc));
     };
-    let before = Totals {
+    let before = CodeSize {
         labels: scope.labels,
         bytes: 0,
     };

@@ -8,5 +8,5 @@ mod smp;
 
 pub use drawn::drawn_schedule;
 pub use error::SmpError;
-pub use report::simulated;
+pub use report::simulation_text;
 pub use smp::Smp;

@@ -11,7 +11,7 @@ use std::alloc::{AllocError, Global};
 /// `start` on. There are `count` processors, and processor I adds I + 1.
 ///
 /// Refused as `Smp::new` refuses the base and the word's address; else an error comes for want of memory alone.
-pub fn simulated(
+pub fn simulation_text(
     alloc: Global,
     base: u64,
     word: u64,

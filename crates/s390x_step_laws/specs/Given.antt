@@ -20,7 +20,7 @@ use Rattle.s390x_machine.specs.Storage.{aligned_where}
 abbrev pub given_tree : Emission → Block → Tree
 given_tree e b = block_tree e b.insts.items
 
--- the same on a machine by its flags
+-- a block's instructions as they are given, on a machine by its flags
 abbrev pub flagged_tree : IsaFlags → Emission → Block → Tree
 flagged_tree flags e b = tree_for flags (given_tree e b)
 

@@ -8,8 +8,8 @@ use crate::known_step::KnownStep;
 use crate::region::Region;
 use s390x_case_runner::LineError;
 use s390x_job_fields::bytes::{bytes, hex_number};
-use s390x_job_fields::marks::{after_word, back, front, word};
 use s390x_job_fields::number::{first, natural, tail};
+use s390x_job_fields::separators::{after_word, from_separator, until_separator, word};
 use s390x_machine::{Machine, StepEnd};
 use s390x_operations::StopKind;
 use std::alloc::Global;
@@ -19,11 +19,11 @@ const PLACE: u64 = 0x1000;
 
 /// Reads a line.
 pub fn read_line(alloc: Global, line: &[u8]) -> Result<KnownStep, LineError> {
-    let source = back(line);
+    let source = from_separator(line);
     if !is_source(word(source)) {
         return Err(LineError::Unreadable);
     }
-    let code = hex_bytes(alloc, front(line))?;
+    let code = hex_bytes(alloc, until_separator(line))?;
     let behind = PLACE.wrapping_add(code.len() as u64);
     let mut before = Contents {
         machine: Machine::new(PLACE),

@@ -64,7 +64,7 @@ abbrev mutual
   row_text flags depth e end_of-Inst = fixed []
   row_text flags depth e (more_of-Inst i rest) = followed (inst_text flags depth e i) (row_text flags depth (after e i) rest)
 
--- the same of instructions in a list
+-- instructions in a list: the state behind them, and their texts, each before a semicolon
 abbrev pub insts_after : Emission → List Inst → Emission
 insts_after e [] = e
 insts_after e (i ∷ is) = insts_after (after e i) is

@@ -25,14 +25,14 @@ names_row cause = true
 abbrev pub has_rows : (blocks depth : ℕ) → Inst → Bool
 has_rows blocks depth i = is_some (single_instruction i) || is_some (memory i) || names_row (branch_cause blocks depth i)
 
--- the same of a step's body. A result of a type without a load has none, nor has a tail call whose frame saves general registers from one outside 6 to 14 on
+-- a step's body has machine rows. A result of a type without a load has none, nor has a tail call whose frame saves general registers from one outside 6 to 14 on
 abbrev pub body_has_rows : (blocks depth : ℕ) → StepBody → Bool
 body_has_rows blocks depth (Whole i) = has_rows blocks depth i
 body_has_rows blocks depth NoLoad = false
 body_has_rows blocks depth (TailOpening target first_saved is_lost) = is_first_saved first_saved
 body_has_rows blocks depth b = true
 
--- the same of all bodies inside so many loops, of which there are at most 8
+-- all bodies inside so many loops, of which there are at most 8, have machine rows
 abbrev pub tree_has_rows : (blocks depth : ℕ) → Tree → Bool
 tree_has_rows blocks depth empty = true
 tree_has_rows blocks depth (leaf b rest) = body_has_rows blocks depth b && tree_has_rows blocks depth rest

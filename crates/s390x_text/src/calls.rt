@@ -36,7 +36,7 @@ fn put_pop_size(out: &mut String, size: u32) -> Result<(), AllocError>
     put_natural(out, u64::from(size))
 }
 
-// The same, where it takes any.
+// How many bytes of arguments the callee takes, where it takes any.
 fn put_popped(out: &mut String, size: u32) -> Result<(), AllocError>
     ensures { OnOk result (string_bytes out.new ≡ string_bytes out.old ++ popped_text size) }
 {

@@ -53,7 +53,7 @@ extend_name signed from to = option_map stem_of (extend_two signed from to)
 abbrev pub indexed_name : ℕ → Option (List ℕ)
 indexed_name size = option_map stem_of (indexed_opcode size)
 
--- the same, the index without a sign
+-- an indexed address by the size of its elements, the index without a sign
 abbrev pub logical_indexed_name : ℕ → Option (List ℕ)
 logical_indexed_name size = option_map stem_of (logical_indexed_opcode size)
 
@@ -82,7 +82,7 @@ pair_row name rd xs = record { cause = pair_cause rd.hi rd.lo; bytes = spelled n
 abbrev pub conditional : List ℕ → (mask : ℕ) → List (List ℕ) → Text
 conditional name mask xs = fixed (spelled (name ++ cond_text mask) xs)
 
--- the same where there may be no row
+-- a row with a condition, where there may be no row
 abbrev pub conditional_row : Option (List ℕ) → (mask : ℕ) → List (List ℕ) → Text
 conditional_row None mask xs = row None []
 conditional_row (Some name) mask xs = conditional name mask xs

@@ -29,7 +29,7 @@ alu_two_name op = option_map stem_of (alu_two op)
 unfoldable pub alu_halfword_name : ALUOp → Option (List ℕ)
 alu_halfword_name op = option_map stem_of (alu_halfword op)
 
--- the same into another register
+-- a register and an immediate of 16 bits, into another register
 unfoldable pub alu_three_halfword_name : ALUOp → Option (List ℕ)
 alu_three_halfword_name op = option_map stem_of (alu_three_halfword op)
 
@@ -45,7 +45,7 @@ alu_unsigned_word_name op = option_map stem_of (alu_unsigned_word op)
 unfoldable pub alu_short_name : ALUOp → Option (List ℕ)
 alu_short_name op = option_map stem_of (alu_rx op)
 
--- the same with one of 20 bits
+-- an operand in memory with a displacement of 20 bits
 unfoldable pub alu_long_name : ALUOp → Option (List ℕ)
 alu_long_name op = option_map stem_of (alu_rxy op)
 
@@ -73,7 +73,7 @@ cmp_unsigned_word_name op = option_map stem_of (cmp_unsigned_word op)
 unfoldable pub cmp_short_name : CmpOp → Option (List ℕ)
 cmp_short_name op = option_map stem_of (cmp_rx op)
 
--- the same with one of 20 bits
+-- with an operand in memory with a displacement of 20 bits
 unfoldable pub cmp_long_name : CmpOp → Option (List ℕ)
 cmp_long_name op = option_map stem_of (cmp_rxy op)
 

@@ -150,7 +150,7 @@ finalized_text r f before after = helpers_text f.helpers ++ spelled (name_at r f
 abbrev pub access_where : (has_relative : Bool) → Rows → Emission → (before : List (List ℕ)) → MemArg → (after : List (List ℕ)) → Text
 access_where has r e before m after = record { cause = access_cause has r (resolved e m); bytes = finalized_text r (finalized (type_of_rows has r) (resolved e m)) before after }
 
--- the same of one that has no row relative to the instruction, or of LOAD ADDRESS, which each machine has
+-- the text of an instruction with an operand in memory that has no row relative to the instruction, or of LOAD ADDRESS, which each machine has
 abbrev pub access : Rows → Emission → (before : List (List ℕ)) → MemArg → (after : List (List ℕ)) → Text
 access r e before m after = access_where true r e before m after
 

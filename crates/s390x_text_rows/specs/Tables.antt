@@ -20,7 +20,7 @@ some_name (c ∷ cs) = Some (c ∷ cs)
 abbrev pub name_in : List (List (List ℕ)) → (n column : ℕ) → List ℕ
 name_in table n column = get_or (get_or table n []) column []
 
--- the same, where it isn't empty
+-- the name in a column of the n-th row, where it isn't empty
 abbrev pub in_column : List (List (List ℕ)) → (n column : ℕ) → Option (List ℕ)
 in_column table n column = some_name (name_in table n column)
 

@@ -39,7 +39,7 @@ operands (x ∷ xs) = codes " " ++ (x ++ more_operands xs)
 abbrev pub spelled : List ℕ → List (List ℕ) → List ℕ
 spelled mnemonic xs = mnemonic ++ operands xs
 
--- the same where there may be no row
+-- a machine instruction, its mnemonic and its operands, where there may be no row
 abbrev pub row : Option (List ℕ) → List (List ℕ) → Text
 row None xs = record { cause = Some NoRow; bytes = [] }
 row (Some mnemonic) xs = fixed (spelled mnemonic xs)
@@ -53,7 +53,7 @@ RefusedBy cause e = cause ≡ Some e
 abbrev pub Prints : {T : Type 0} → Result T TextError → (old new : List ℕ) → Text → Type 0
 Prints result old new t = MatchResult result (λ _. (t.cause ≡ None) × (new ≡ old ++ t.bytes)) (λ e. RefusedBy t.cause e)
 
--- the same of a call that appends a text where there is one, and otherwise appends nothing
+-- what a call answers that appends a text where there is one, and otherwise appends nothing
 abbrev pub PrintsWhere : {T : Type 0} → Option (Result T TextError) → (old new : List ℕ) → Option Text → Type 0
 PrintsWhere None old new None = new ≡ old
 PrintsWhere None old new (Some t) = false ≡ true

@@ -26,7 +26,7 @@ lane_name b h f g size lane =
     cond (nat_eq size 8 && nat_lt lane 16) (Some b)
     (cond (nat_eq size 16 && nat_lt lane 8) (Some h) (cond (nat_eq size 32 && nat_lt lane 4) (Some f) (cond (nat_eq size 64 && nat_lt lane 2) (Some g) None)))
 
--- the same from 16 bits on, where bytes are reversed
+-- by the width of a lane in bits from 16 on, where bytes are reversed
 abbrev pub reversed_name : (h f g : List ℕ) → (size lane : ℕ) → Option (List ℕ)
 reversed_name h f g size lane = cond (nat_eq size 16 && nat_lt lane 8) (Some h) (cond (nat_eq size 32 && nat_lt lane 4) (Some f) (cond (nat_eq size 64 && nat_lt lane 2) (Some g) None))
 

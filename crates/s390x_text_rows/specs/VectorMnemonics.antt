@@ -69,7 +69,7 @@ vec_shift_name op = sized (shift_row op)
 unfoldable pub vec_compare_name : VecIntCmpOp → List ℕ
 vec_compare_name op = sized (comparison_row op)
 
--- the same, which sets the condition code
+-- a comparison of lanes that sets the condition code
 abbrev pub vec_compare_set_name : VecIntCmpOp → List ℕ
 vec_compare_set_name op = vec_compare_name op ++ codes "s"
 

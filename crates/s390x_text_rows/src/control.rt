@@ -7,7 +7,7 @@ ghost use Rattle.s390x_text_rows.specs.Control.{branch_text, labels_text, conven
 
 use crate::error::TextError;
 use crate::operand::{Operand, cond_name};
-use crate::row::{answered, fixed1, fixed2, spelled1};
+use crate::row::{fixed1, fixed2, spelled1, text_result};
 use s390x_base::{Cond, MachLabel, Reg, TrapCode, Writable};
 use s390x_inst::{ArgPair, Inst, RetPair, SymbolReloc};
 use s390x_job_fields::atoms::{put_name, put_reg, put_trap};
@@ -123,7 +123,7 @@ fn put_table_jump(out: &mut String) -> Result<(), AllocError>
     put(out, ", %r1) ; br %r1 ; jt_entries")
 }
 
-// The same, and the jump.
+// The word of a table that is added to its address, and the jump.
 fn put_table_sum(out: &mut String, index: Reg) -> Result<(), AllocError>
     ensures { OnOk result (string_bytes out.new ≡ string_bytes out.old ++ table_sum_text index) }
 {
@@ -256,18 +256,18 @@ pub fn put_control(out: &mut String, inst: &Inst) -> Option<Result<(), TextError
         (control_text inst.now) }
 {
     match inst {
-        Inst::Fence => Some(answered(put(out, "bcr 14, 0"))),
-        Inst::Nop0 => Some(answered(put(out, "nop-zero-len"))),
-        Inst::Nop2 => Some(answered(put(out, "nop"))),
-        Inst::Debugtrap => Some(answered(put(out, ".word 0x0001 # debugtrap"))),
-        Inst::Trap { trap_code } => Some(answered(put_trap_word(out, *trap_code))),
-        Inst::TrapIf { cond, trap_code } => Some(answered(put_trap_if(out, *cond, *trap_code))),
+        Inst::Fence => Some(text_result(put(out, "bcr 14, 0"))),
+        Inst::Nop0 => Some(text_result(put(out, "nop-zero-len"))),
+        Inst::Nop2 => Some(text_result(put(out, "nop"))),
+        Inst::Debugtrap => Some(text_result(put(out, ".word 0x0001 # debugtrap"))),
+        Inst::Trap { trap_code } => Some(text_result(put_trap_word(out, *trap_code))),
+        Inst::TrapIf { cond, trap_code } => Some(text_result(put_trap_if(out, *cond, *trap_code))),
         Inst::Jump { dest } => Some(fixed1(out, "jg", dest)),
         Inst::CondBr {
             taken,
             not_taken,
             cond,
-        } => Some(answered(put_two_branches(out, *cond, *taken, *not_taken))),
+        } => Some(text_result(put_two_branches(out, *cond, *taken, *not_taken))),
         Inst::IndirectBr { rn, .. } => Some(fixed1(out, "br", rn)),
         Inst::Ret { link } => Some(fixed1(out, "br", link)),
         Inst::JTSequence {
@@ -275,17 +275,17 @@ pub fn put_control(out: &mut String, inst: &Inst) -> Option<Result<(), TextError
             default,
             default_cond,
             targets,
-        } => Some(answered(put_table(out, *ridx, *default, *default_cond, targets))),
-        Inst::CondBreak { cond } => Some(answered(put_jump(out, *cond, " 1f"))),
-        Inst::AllocateArgs { size } => Some(answered(put_allocate(out, *size))),
+        } => Some(text_result(put_table(out, *ridx, *default, *default_cond, targets))),
+        Inst::CondBreak { cond } => Some(text_result(put_jump(out, *cond, " 1f"))),
+        Inst::AllocateArgs { size } => Some(text_result(put_allocate(out, *size))),
         Inst::LoadSymbolReloc { rd, symbol_reloc } => {
-            Some(answered(put_symbol_load(out, *rd, *symbol_reloc)))
+            Some(text_result(put_symbol_load(out, *rd, *symbol_reloc)))
         }
         Inst::LabelAddress { dst, label } => Some(fixed2(out, "label_address", dst, label)),
-        Inst::Args { args } => Some(answered(put_args(out, args))),
-        Inst::Rets { rets } => Some(answered(put_rets(out, rets))),
+        Inst::Args { args } => Some(text_result(put_args(out, args))),
+        Inst::Rets { rets } => Some(text_result(put_rets(out, rets))),
         Inst::DummyUse { reg } => Some(fixed1(out, "dummy_use", reg)),
-        Inst::SequencePoint => Some(answered(put(out, "sequence_point"))),
+        Inst::SequencePoint => Some(text_result(put(out, "sequence_point"))),
         _ => None,
     }
 }

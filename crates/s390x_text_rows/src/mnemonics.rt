@@ -23,7 +23,7 @@ pub fn stem_where(opcode: Option<u16>) -> Option<&'static str>
     }
 }
 
-// The same of an opcode of two digits.
+// The stem of a row whose opcode has two digits; None where there is none.
 fn short_stem(opcode: Option<u8>) -> Option<&'static str>
     ensures { option_map (λ s. s.now) result ≡ option_map stem_of opcode }
 {

@@ -16,7 +16,7 @@ use s390x_job_fields::number::put;
 use std::alloc::AllocError;
 
 /// A writer's answer as that of a text.
-pub fn answered(written: Result<(), AllocError>) -> Result<(), TextError>
+pub fn text_result(written: Result<(), AllocError>) -> Result<(), TextError>
     ensures { result ≡ answer_of written }
 {
     match written {

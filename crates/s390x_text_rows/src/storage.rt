@@ -176,7 +176,7 @@ fn put_helper(out: &mut String, helper: &Inst) -> Result<(), AllocError>
     }
 }
 
-// The same, and a semicolon behind it.
+// An instruction that comes before an access, and a semicolon behind it.
 fn put_before(out: &mut String, helper: &Inst) -> Result<(), AllocError>
     ensures { OnOk result
         (string_bytes out.new ≡ string_bytes out.old ++ (helper_text helper.now ++ codes " ; ")) }
@@ -241,7 +241,7 @@ fn near_offset(mi: MemInstType, reg: Reg, off: i64, flags: MachMemFlags) -> Opti
     }
 }
 
-// The same of an operand; None where it isn't such an offset.
+// The operand of an access at an offset that a displacement holds; None where it isn't such an offset.
 fn near_operand(mi: MemInstType, mem: &MemArg) -> Option<MemArg>
     ensures { result ≡ near_operand mi mem.now }
 {
@@ -275,7 +275,7 @@ fn open_helped(
     }
 }
 
-// The same; the list, which is large, isn't made where it is seen at once that there are no helpers.
+// Appends the helpers of an operand, and gives the operand of the access; the list, which is large, isn't made where it is seen at once that there are no helpers.
 fn open_access(
     alloc: Global,
     out: &mut String,

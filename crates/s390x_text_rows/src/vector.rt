@@ -12,8 +12,8 @@ use crate::error::TextError;
 use crate::operand::{Amount, Float, Reused, cond_name, is_zero};
 use crate::regs::is_float;
 use crate::row::{
-    answered, fixed2, fixed3, lettered2, lettered3, lettered4, row2, row3, spelled2, spelled3,
-    spelled4, spelled5,
+    fixed2, fixed3, lettered2, lettered3, lettered4, row2, row3, spelled2, spelled3, spelled4,
+    spelled5, text_result,
 };
 use crate::vector_mnemonics::{
     vec_binary_name, vec_compare_name, vec_element_compare_name, vec_shift_name, vec_unary_name,
@@ -126,7 +126,7 @@ fn put_doublewords(
         (doublewords_text rd rn rm idx1 idx2) }
 {
     if idx1 < 2 && idx2 < 2 {
-        answered(spelled4(out, "vpdi", &rd, &rn, &rm, &(4 * idx1 + idx2)))
+        text_result(spelled4(out, "vpdi", &rd, &rn, &rm, &(4 * idx1 + idx2)))
     } else {
         Err(TextError::NoRow)
     }
@@ -175,10 +175,10 @@ pub fn put_vec_operator(out: &mut String, inst: &VecInst) -> Option<Result<(), T
 {
     match inst {
         VecInst::VecRRR { op, rd, rn, rm } => {
-            Some(answered(put_binary(out, *op, rd.to_reg(), *rn, *rm)))
+            Some(text_result(put_binary(out, *op, rd.to_reg(), *rn, *rm)))
         }
         VecInst::VecRR { op, rd, rn } => {
-            Some(answered(lettered2(out, vec_unary_name(*op), rd, rn)))
+            Some(text_result(lettered2(out, vec_unary_name(*op), rd, rn)))
         }
         VecInst::VecShiftRR {
             shift_op,
@@ -186,7 +186,7 @@ pub fn put_vec_operator(out: &mut String, inst: &VecInst) -> Option<Result<(), T
             rn,
             shift_imm,
             shift_reg,
-        } => Some(answered(lettered3(
+        } => Some(text_result(lettered3(
             out,
             vec_shift_name(*shift_op),
             rd,
@@ -197,13 +197,13 @@ pub fn put_vec_operator(out: &mut String, inst: &VecInst) -> Option<Result<(), T
             },
         ))),
         VecInst::VecSelect { rd, rn, rm, ra } => {
-            Some(answered(spelled4(out, "vsel", rd, rn, rm, ra)))
+            Some(text_result(spelled4(out, "vsel", rd, rn, rm, ra)))
         }
         VecInst::VecPermute { rd, rn, rm, ra } => {
-            Some(answered(spelled4(out, "vperm", rd, rn, rm, ra)))
+            Some(text_result(spelled4(out, "vperm", rd, rn, rm, ra)))
         }
         VecInst::VecBlend { rd, rn, rm, ra } => {
-            Some(answered(spelled4(out, "vblend", rd, rn, rm, ra)))
+            Some(text_result(spelled4(out, "vblend", rd, rn, rm, ra)))
         }
         VecInst::VecEvaluate {
             imm,
@@ -211,7 +211,7 @@ pub fn put_vec_operator(out: &mut String, inst: &VecInst) -> Option<Result<(), T
             rn,
             rm,
             ra,
-        } => Some(answered(spelled5(out, "veval", rd, rn, rm, ra, imm))),
+        } => Some(text_result(spelled5(out, "veval", rd, rn, rm, ra, imm))),
         VecInst::VecPermuteDWImm {
             rd,
             rn,
@@ -220,25 +220,25 @@ pub fn put_vec_operator(out: &mut String, inst: &VecInst) -> Option<Result<(), T
             idx2,
         } => Some(put_doublewords(out, rd.to_reg(), *rn, *rm, *idx1, *idx2)),
         VecInst::VecIntCmp { op, rd, rn, rm } => {
-            Some(answered(lettered3(out, vec_compare_name(*op), rd, rn, rm)))
+            Some(text_result(lettered3(out, vec_compare_name(*op), rd, rn, rm)))
         }
         VecInst::VecIntCmpS { op, rd, rn, rm } => {
-            Some(answered(put_compare_set(out, *op, rd.to_reg(), *rn, *rm)))
+            Some(text_result(put_compare_set(out, *op, rd.to_reg(), *rn, *rm)))
         }
-        VecInst::VecIntEltCmp { op, rn, rm } => Some(answered(lettered2(
+        VecInst::VecIntEltCmp { op, rn, rm } => Some(text_result(lettered2(
             out,
             vec_element_compare_name(*op),
             rn,
             rm,
         ))),
-        VecInst::VecInt128SCmpHi { tmp, rn, rm } => Some(answered(put_wide_compare(
+        VecInst::VecInt128SCmpHi { tmp, rn, rm } => Some(text_result(put_wide_compare(
             out,
             "vecg",
             tmp.to_reg(),
             *rn,
             *rm,
         ))),
-        VecInst::VecInt128UCmpHi { tmp, rn, rm } => Some(answered(put_wide_compare(
+        VecInst::VecInt128UCmpHi { tmp, rn, rm } => Some(text_result(put_wide_compare(
             out,
             "veclg",
             tmp.to_reg(),
@@ -323,19 +323,19 @@ pub fn put_vec_move(out: &mut String, inst: &VecInst) -> Option<Result<(), TextE
     match inst {
         VecInst::VecMov { rd, rn } => Some(fixed2(out, "vlr", rd, rn)),
         VecInst::FpuMove32 { rd, rn } => {
-            Some(answered(put_float_move(out, "ler", &rd.to_reg(), rn)))
+            Some(text_result(put_float_move(out, "ler", &rd.to_reg(), rn)))
         }
         VecInst::FpuMove64 { rd, rn } => {
-            Some(answered(put_float_move(out, "ldr", &rd.to_reg(), rn)))
+            Some(text_result(put_float_move(out, "ldr", &rd.to_reg(), rn)))
         }
-        VecInst::FpuCMov32 { rd, cond, rm, .. } => Some(answered(put_float_cmov(
+        VecInst::FpuCMov32 { rd, cond, rm, .. } => Some(text_result(put_float_cmov(
             out,
             "ler",
             &rd.to_reg(),
             *cond,
             rm,
         ))),
-        VecInst::FpuCMov64 { rd, cond, rm, .. } => Some(answered(put_float_cmov(
+        VecInst::FpuCMov64 { rd, cond, rm, .. } => Some(text_result(put_float_cmov(
             out,
             "ldr",
             &rd.to_reg(),
@@ -343,7 +343,7 @@ pub fn put_vec_move(out: &mut String, inst: &VecInst) -> Option<Result<(), TextE
             rm,
         ))),
         VecInst::VecCMov { rd, cond, ri, rm } => {
-            Some(answered(put_vec_cmov(out, &reused(rd, ri), *cond, *rm)))
+            Some(text_result(put_vec_cmov(out, &reused(rd, ri), *cond, *rm)))
         }
         VecInst::MovToVec128 { rd, rn, rm } => Some(fixed3(out, "vlvgp", rd, rn, rm)),
         VecInst::VecImmByteMask { rd, mask } => Some(fixed2(out, "vgbm", rd, mask)),
@@ -460,10 +460,10 @@ fn put_reverse(out: &mut String, rd: Reg, rn: Reg, count: u64) -> Result<(), Tex
         (reverse_text rd rn count) }
 {
     match count {
-        2 => answered(put_reverse2(out, rd, rn)),
-        4 => answered(put_reverse4(out, rd, rn)),
-        8 => answered(put_reverse8(out, rd, rn)),
-        16 => answered(put_reverse16(out, rd, rn)),
+        2 => text_result(put_reverse2(out, rd, rn)),
+        4 => text_result(put_reverse4(out, rd, rn)),
+        8 => text_result(put_reverse8(out, rd, rn)),
+        16 => text_result(put_reverse16(out, rd, rn)),
         _ => Err(TextError::NoRow),
     }
 }

@@ -13,7 +13,7 @@ use Rattle.s390x_tool.specs.declared.words.Command.TheVariants.{Bundle}
 use Rattle.s390x_tool.specs.Bundled.{CanBeBundled, IsBundleAccepted, member_of}
 use Rattle.s390x_tool.specs.Causes.{FaultCountRose}
 use Rattle.s390x_tool.specs.Lines.{line}
-use Rattle.s390x_tool.specs.Replies.{Found, IsDelivered, IsReply}
+use Rattle.s390x_tool.specs.Replies.{CallContext, IsDelivered, IsReply}
 use Rattle.s390x_tool.specs.declared.status.Status.{Status}
 use Rattle.s390x_tool.specs.declared.status.Status.TheVariants as status
 use Rattle.s390x_tool.proofs.Asking.{answered, not_simulation}
@@ -30,7 +30,7 @@ not_refused base members (cause.AddressTooHigh name) h named why = let clash = s
 not_refused base members (cause.Link name error) h named why = let clash = sym (h.linked why.codes why.emitted) ∙ why.first in cc
 not_refused base members cause.NoMemory h named why = named refl
 
-bundled_reply : (f : Found) (s : Status) (text : List ℕ) (base : ℕ) (input : List ℕ) → IsReply f s text → IsForm f.words (Bundle base) → f.left ≡ Some input → IsBundleAccepted base input
+bundled_reply : (f : CallContext) (s : Status) (text : List ℕ) (base : ℕ) (input : List ℕ) → IsReply f s text → IsForm f.words (Bundle base) → f.left ≡ Some input → IsBundleAccepted base input
     → (FaultCountRose f.faults f.faults' → ⊥) → (s ≡ status.Ok) ⊎ (s ≡ status.NoMemory)
 bundled_reply f status.Ok text base input reply form left accepted quiet = inl refl
 bundled_reply f status.NoMemory text base input reply form left accepted quiet = inr refl
@@ -56,7 +56,7 @@ bundled_reply f status.BundleRefused text base input reply form left accepted qu
     absurd (not_refused base (map member_of answer.functions) answer.error (same_bundled base answer.functions accepted.functions answer.are.are accepted.are same accepted.bundled) answer.named answer.cause)
 
 -- how a call on such an input ends, where nothing failed
-pub bundled_result : (f : Found) (told told' : Option (List ℕ)) (faults faults' : ℕ) (s : Status) (text : List ℕ) (result : Status)
+pub bundled_result : (f : CallContext) (told told' : Option (List ℕ)) (faults faults' : ℕ) (s : Status) (text : List ℕ) (result : Status)
     → IsReply f s text → IsDelivered told told' faults faults' s text result
     → (base : ℕ) (input : List ℕ) → IsForm f.words (Bundle base) → f.left ≡ Some input → IsBundleAccepted base input
     → (FaultCountRose f.faults f.faults' → ⊥) → (FaultCountRose faults faults' → ⊥) → (result ≡ status.Ok) ⊎ (result ≡ status.NoMemory)

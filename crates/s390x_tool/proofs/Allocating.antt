@@ -22,7 +22,7 @@ use Rattle.s390x_tool.proofs.Parts.{whole_part}
 use Rattle.s390x_tool.specs.Allocated.{IsAllocateAnswer, IsPlanRefusal, fault_line}
 use Rattle.s390x_tool.specs.Ends.{IsRead}
 use Rattle.s390x_tool.specs.Lines.{IsMade, line}
-use Rattle.s390x_tool.specs.Replies.{Found, IsReply}
+use Rattle.s390x_tool.specs.Replies.{CallContext, IsReply}
 use Rattle.s390x_tool.specs.declared.status.Status.{Status}
 use Rattle.s390x_tool.specs.declared.status.Status.TheVariants as status
 
@@ -54,7 +54,7 @@ answer_of_fault input s text p f is (inr cause) (inl told) = rw told.1 (record {
 answer_of_fault input s text p f is cause (inr short) = rw short.0 short.1
 
 -- the program's reply
-pub reply_to_allocate : (f : Found) (input : List ℕ) (s : Status) (text : List ℕ) → IsForm f.words Allocate → IsRead f.left f.left' input → f.faults' ≡ f.faults
+pub reply_to_allocate : (f : CallContext) (input : List ℕ) (s : Status) (text : List ℕ) → IsForm f.words Allocate → IsRead f.left f.left' input → f.faults' ≡ f.faults
     → IsAllocateAnswer input s text → IsReply f s text
 reply_to_allocate f input status.Ok text form read same answer = inl (record { command = Allocate; form = form; input = input; read = read; same = same; answer = answer })
 reply_to_allocate f input status.PlanRefused text form read same answer = record { command = Allocate; form = form; input = input; read = read; same = same; answer = answer }

@@ -18,7 +18,7 @@ use Rattle.s390x_tool.proofs.Parts.{whole_part}
 use Rattle.s390x_tool.specs.Bundled.{IsBundleAnswer, IsBundleRefusal, member_of, refusal_of_bundle}
 use Rattle.s390x_tool.specs.Ends.{IsRead}
 use Rattle.s390x_tool.specs.Lines.{IsMade, line}
-use Rattle.s390x_tool.specs.Replies.{Found, IsReply}
+use Rattle.s390x_tool.specs.Replies.{CallContext, IsReply}
 use Rattle.s390x_tool.specs.declared.status.Status.{Status}
 use Rattle.s390x_tool.specs.declared.status.Status.TheVariants as status
 
@@ -48,7 +48,7 @@ answer_of_bundle_refusal base input s text functions members e are is none (inl 
 answer_of_bundle_refusal base input s text functions members e are is none (inr short) = rw short.0 short.1
 
 -- the program's reply
-pub reply_to_bundle : (f : Found) (base : ℕ) (input : List ℕ) (s : Status) (text : List ℕ) → IsForm f.words (AskBundle base) → IsRead f.left f.left' input → f.faults' ≡ f.faults
+pub reply_to_bundle : (f : CallContext) (base : ℕ) (input : List ℕ) (s : Status) (text : List ℕ) → IsForm f.words (AskBundle base) → IsRead f.left f.left' input → f.faults' ≡ f.faults
     → IsBundleAnswer base input s text → IsReply f s text
 reply_to_bundle f base input status.Ok text form read same answer = inl (record { command = AskBundle base; form = form; input = input; read = read; same = same; answer = answer })
 reply_to_bundle f base input status.BundleRefused text form read same answer = record { command = AskBundle base; form = form; input = input; read = read; same = same; answer = answer }

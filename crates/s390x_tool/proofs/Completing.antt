@@ -14,7 +14,7 @@ use Rattle.s390x_tool.proofs.SameJob.{same_cause, same_links}
 use Rattle.s390x_tool.proofs.SameOperands.{same_operands_cause}
 use Rattle.s390x_tool.proofs.Asking.{about, answered, not_generated, not_simulation}
 use Rattle.s390x_tool.proofs.Replying.{of_job}
-use Rattle.s390x_tool.specs.Replies.{Found, IsReply, IsDelivered}
+use Rattle.s390x_tool.specs.Replies.{CallContext, IsReply, IsDelivered}
 use Rattle.s390x_tool.specs.declared.words.Command.TheVariants.{OnJob, Generate, Simulate}
 use Rattle.s390x_tool.specs.declared.words.JobCommand.{JobCommand}
 use Rattle.s390x_tool.specs.declared.words.JobCommand.TheVariants.{Image, Emit, Run, Operands, Show}
@@ -74,7 +74,7 @@ linked_not (Run base steps) j text links reply =
     cc
 
 -- the reply to an accepted input
-completed_reply : (f : Found) (s : Status) (text : List ℕ) (command : JobCommand) (input : List ℕ)
+completed_reply : (f : CallContext) (s : Status) (text : List ℕ) (command : JobCommand) (input : List ℕ)
     → IsReply f s text → IsForm f.words (OnJob command) → f.left ≡ Some input → IsAccepted command input → (FaultCountRose f.faults f.faults' → ⊥)
     → (s ≡ status.Ok) ⊎ (s ≡ status.NoMemory)
 completed_reply f status.Ok text command input reply form left accepted quiet = inl refl
@@ -109,7 +109,7 @@ completed_reply f status.BundleRefused text command input reply form left accept
     absurd (of_job command answer.job status.BundleRefused text answer.reply)
 
 -- how a call on an accepted input ends, where nothing failed
-pub completed : (f : Found) (told told' : Option (List ℕ)) (faults faults' : ℕ) (s : Status) (text : List ℕ) (result : Status)
+pub completed : (f : CallContext) (told told' : Option (List ℕ)) (faults faults' : ℕ) (s : Status) (text : List ℕ) (result : Status)
     → IsReply f s text → IsDelivered told told' faults faults' s text result
     → (command : JobCommand) (input : List ℕ) → IsForm f.words (OnJob command) → f.left ≡ Some input → IsAccepted command input
     → (FaultCountRose f.faults f.faults' → ⊥) → (FaultCountRose faults faults' → ⊥) → (result ≡ status.Ok) ⊎ (result ≡ status.NoMemory)
@@ -118,7 +118,7 @@ completed f told told' faults faults' s text result reply (inl whole) command in
 completed f told told' faults faults' s text result reply (inr part) command input form left accepted quiet silent = absurd (silent part.2)
 
 -- the reply to words that ask for a generated function
-generated_reply : (f : Found) (s : Status) (text : List ℕ) (count start : ℕ) → IsReply f s text → IsForm f.words (Generate count start) → (s ≡ status.Ok) ⊎ (s ≡ status.NoMemory)
+generated_reply : (f : CallContext) (s : Status) (text : List ℕ) (count start : ℕ) → IsReply f s text → IsForm f.words (Generate count start) → (s ≡ status.Ok) ⊎ (s ≡ status.NoMemory)
 generated_reply f status.Ok text count start reply form = inl refl
 generated_reply f status.NoMemory text count start reply form = inr refl
 generated_reply f status.Usage text count start reply form = absurd (reply.0.none (Generate count start) form)
@@ -134,7 +134,7 @@ generated_reply f status.PlanRefused text count start reply form = absurd (answe
 generated_reply f status.BundleRefused text count start reply form = absurd (answered f status.BundleRefused text (Generate count start) reply form)
 
 -- how a call ends that asks for a generated function, where no write failed
-pub generated_result : (f : Found) (told told' : Option (List ℕ)) (faults faults' : ℕ) (s : Status) (text : List ℕ) (result : Status)
+pub generated_result : (f : CallContext) (told told' : Option (List ℕ)) (faults faults' : ℕ) (s : Status) (text : List ℕ) (result : Status)
     → IsReply f s text → IsDelivered told told' faults faults' s text result
     → (count start : ℕ) → IsForm f.words (Generate count start) → (FaultCountRose faults faults' → ⊥) → (result ≡ status.Ok) ⊎ (result ≡ status.NoMemory)
 generated_result f told told' faults faults' s text result reply (inl whole) count start form silent =
@@ -150,7 +150,7 @@ usable words base word count steps start base' word' count' steps' start' a b no
     let word_is : word ≡ word' = cc in
     subst (λ w. start_cause base' w ≡ None) word_is (subst (λ b. start_cause b word ≡ None) base_is none)
 
-simulated_reply : (f : Found) (s : Status) (text : List ℕ) (base word count steps start : ℕ) → IsReply f s text → IsForm f.words (Simulate base word count steps start) → start_cause base word ≡ None
+simulated_reply : (f : CallContext) (s : Status) (text : List ℕ) (base word count steps start : ℕ) → IsReply f s text → IsForm f.words (Simulate base word count steps start) → start_cause base word ≡ None
     → (s ≡ status.Ok) ⊎ (s ≡ status.NoMemory)
 simulated_reply f status.Ok text base word count steps start reply form none = inl refl
 simulated_reply f status.NoMemory text base word count steps start reply form none = inr refl
@@ -171,7 +171,7 @@ simulated_reply f status.BadWord text base word count steps start reply form non
     absurd cc
 
 -- how a call ends that asks for one, where no write failed
-pub simulated_result : (f : Found) (told told' : Option (List ℕ)) (faults faults' : ℕ) (s : Status) (text : List ℕ) (result : Status)
+pub simulated_result : (f : CallContext) (told told' : Option (List ℕ)) (faults faults' : ℕ) (s : Status) (text : List ℕ) (result : Status)
     → IsReply f s text → IsDelivered told told' faults faults' s text result
     → (base word count steps start : ℕ) → IsForm f.words (Simulate base word count steps start) → start_cause base word ≡ None → (FaultCountRose faults faults' → ⊥) → (result ≡ status.Ok) ⊎ (result ≡ status.NoMemory)
 simulated_result f told told' faults faults' s text result reply (inl whole) base word count steps start form none silent =

@@ -29,7 +29,7 @@ use Rattle.s390x_typed_steps.specs.Sizes.{blocks_size}
 use Rattle.s390x_typed_steps.specs.Tree.{block_tree}
 use Rattle.s390x_tool.specs.Generated.{IsGenerateReply, generated_base, summary_line}
 use Rattle.s390x_tool.specs.Lines.{IsLinkRefusal, IsMade, IsRefusal}
-use Rattle.s390x_tool.specs.Replies.{Found, IsReply}
+use Rattle.s390x_tool.specs.Replies.{CallContext, IsReply}
 use Rattle.s390x_typed_steps.proofs.Baseline.{for_relative_machine}
 use Rattle.s390x_tool.specs.Words.{IsForm}
 use Rattle.s390x_tool.specs.declared.words.Command.TheVariants.{Generate}
@@ -122,7 +122,7 @@ reply_of_generated n start f bytes s text h image (inl made) =
 reply_of_generated n start f bytes s text h image (inr short) = rw short.0 short.1
 
 -- the program's reply
-pub reply_to_generate : (f : Found) (n start : ℕ) (s : Status) (text : List ℕ) → IsForm f.words (Generate n start) → f.left' ≡ f.left → f.faults' ≡ f.faults
+pub reply_to_generate : (f : CallContext) (n start : ℕ) (s : Status) (text : List ℕ) → IsForm f.words (Generate n start) → f.left' ≡ f.left → f.faults' ≡ f.faults
     → IsGenerateReply n start s text → IsReply f s text
 reply_to_generate f n start status.Ok text form kept same told = inr (inl (record { count = n; start = start; form = form; kept = kept; same = same; told = told }))
 reply_to_generate f n start status.NoMemory text form kept same told = (record { command = Generate n start; form = form; left = kept; same = same }, told)

@@ -9,7 +9,7 @@ use Rattle.s390x_job_plan.specs.Example.{no_blocks}
 use Rattle.s390x_job_plan.proofs.Example.{no_blocks_are_text}
 use Rattle.s390x_tool.specs.Allocated.{IsPlanAccepted}
 use Rattle.s390x_tool.specs.Causes.{FaultCountRose}
-use Rattle.s390x_tool.specs.Replies.{Found, IsDelivered, IsReply}
+use Rattle.s390x_tool.specs.Replies.{CallContext, IsDelivered, IsReply}
 use Rattle.s390x_tool.specs.declared.status.Status.{Status}
 use Rattle.s390x_tool.specs.declared.status.Status.TheVariants as status
 use Rattle.s390x_tool.proofs.Asking.{answered, not_simulation}
@@ -19,7 +19,7 @@ use Rattle.s390x_tool.proofs.Completing.{read_less, read_whole}
 no_error : {T E : Type 0} (r : Result T E) (e : E) → IsOk r → r ≡ Err e → ⊥
 no_error r e is same = false≢true (subst IsOk same is)
 
-allocated_reply : (f : Found) (s : Status) (text : List ℕ) (input : List ℕ) → IsReply f s text → IsForm f.words Allocate → f.left ≡ Some input → IsPlanAccepted input
+allocated_reply : (f : CallContext) (s : Status) (text : List ℕ) (input : List ℕ) → IsReply f s text → IsForm f.words Allocate → f.left ≡ Some input → IsPlanAccepted input
     → (FaultCountRose f.faults f.faults' → ⊥) → (s ≡ status.Ok) ⊎ (s ≡ status.NoMemory)
 allocated_reply f status.Ok text input reply form left accepted quiet = inl refl
 allocated_reply f status.NoMemory text input reply form left accepted quiet = inr refl
@@ -44,7 +44,7 @@ allocated_reply f status.PlanRefused text input reply form left accepted quiet =
 allocated_reply f status.BundleRefused text input reply form left accepted quiet = absurd (answered f status.BundleRefused text Allocate reply form)
 
 -- how a call on such an input ends, where nothing failed
-pub allocated_result : (f : Found) (told told' : Option (List ℕ)) (faults faults' : ℕ) (s : Status) (text : List ℕ) (result : Status)
+pub allocated_result : (f : CallContext) (told told' : Option (List ℕ)) (faults faults' : ℕ) (s : Status) (text : List ℕ) (result : Status)
     → IsReply f s text → IsDelivered told told' faults faults' s text result
     → (input : List ℕ) → IsForm f.words Allocate → f.left ≡ Some input → IsPlanAccepted input
     → (FaultCountRose f.faults f.faults' → ⊥) → (FaultCountRose faults faults' → ⊥) → (result ≡ status.Ok) ⊎ (result ≡ status.NoMemory)

@@ -12,7 +12,7 @@ use Rattle.s390x_tool.specs.Answers.{IsAnswer, IsJobReply}
 use Rattle.s390x_tool.specs.Causes.{FaultCountRose}
 use Rattle.s390x_tool.specs.Ends.{IsPartRead, IsRead, IsTooLong, most_bytes, too_many}
 use Rattle.s390x_tool.specs.Lines.{IsUnread}
-use Rattle.s390x_tool.specs.Replies.{Found, IsAboutInput, IsReply, IsDelivered, IsDone, IsReadFor}
+use Rattle.s390x_tool.specs.Replies.{CallContext, IsAboutInput, IsReply, IsDelivered, IsDone, IsReadFor}
 use Rattle.s390x_tool.specs.declared.input.InputError.{InputError}
 use Rattle.s390x_tool.specs.declared.input.InputError.TheVariants as input
 use Rattle.s390x_tool.specs.declared.status.Status.{Status}
@@ -40,7 +40,7 @@ of_job Operands j s text reply = absurd reply
 of_job Show j s text reply = absurd reply
 
 -- the answer to a command about a job is the reply
-pub reply_to_job : (f : Found) (command : JobCommand) (input : List ℕ) (s : Status) (text : List ℕ) → IsForm f.words (OnJob command) → IsRead f.left f.left' input → f.faults' ≡ f.faults
+pub reply_to_job : (f : CallContext) (command : JobCommand) (input : List ℕ) (s : Status) (text : List ℕ) → IsForm f.words (OnJob command) → IsRead f.left f.left' input → f.faults' ≡ f.faults
     → IsAnswer command input s text → IsReply f s text
 reply_to_job f command input status.Ok text form read same answer = inl (record { command = OnJob command; form = form; input = input; read = read; same = same; answer = answer })
 reply_to_job f command input status.Syntax text form read same answer = record { command = OnJob command; form = form; input = input; read = read; same = same; answer = answer }
@@ -56,7 +56,7 @@ reply_to_job f command input status.PlanRefused text form read same answer = abs
 reply_to_job f command input status.BundleRefused text form read same answer = absurd (of_job command answer.job status.BundleRefused text answer.reply)
 
 -- a part was read for a command about the input
-read_for : (command : Command) (f : Found) → IsAboutInput command → IsPartRead f.left f.left' too_many → IsReadFor command f
+read_for : (command : Command) (f : CallContext) → IsAboutInput command → IsPartRead f.left f.left' too_many → IsReadFor command f
 read_for (OnJob command) f about part = part
 read_for (Generate count start) f about part = absurd about
 read_for (Simulate base word count steps start) f about part = absurd about
@@ -64,7 +64,7 @@ read_for Allocate f about part = part
 read_for (Bundle base) f about part = part
 
 -- so is that the input isn't read to its end
-pub reply_unread : (f : Found) (command : Command) (e : InputError) (s : Status) (text : List ℕ) → IsForm f.words command → IsAboutInput command
+pub reply_unread : (f : CallContext) (command : Command) (e : InputError) (s : Status) (text : List ℕ) → IsForm f.words command → IsAboutInput command
     → (e ≡ input.TooLong → IsTooLong f.left f.left') → (e ≡ input.Fault → FaultCountRose f.faults f.faults')
     → (e ≡ input.Fault → IsPartRead f.left f.left' most_bytes) → (e ≡ input.NoMemory → IsPartRead f.left f.left' too_many) → (e ≡ input.Fault) ⊎ (f.faults' ≡ f.faults) → IsUnread e s text → IsReply f s text
 reply_unread f command input.Fault s text form about long rose failed stopped same told = rw told.0 (record { command = command; form = form; about = about; part = failed refl; rose = rose refl }, told.1)
@@ -76,7 +76,7 @@ reply_unread f command input.NoMemory s text form about long rose failed stopped
 -- ---- what follows from it
 
 -- where the words are no command the reply is that
-usage_reply : (f : Found) (s : Status) (text : List ℕ) → IsNoForm f.words → IsReply f s text → s ≡ status.Usage
+usage_reply : (f : CallContext) (s : Status) (text : List ℕ) → IsNoForm f.words → IsReply f s text → s ≡ status.Usage
 usage_reply f status.Usage text none reply = refl
 usage_reply f status.ReadFault text none reply = absurd (none reply.0.command reply.0.form)
 usage_reply f status.InputTooLong text none reply = absurd (none reply.0.command reply.0.form)
@@ -99,14 +99,14 @@ delivered_status : (told told' : Option (List ℕ)) (faults faults' : ℕ) (s : 
 delivered_status told told' faults faults' s text result (inl whole) = inl whole.0
 delivered_status told told' faults faults' s text result (inr part) = inr part.0
 
-pub usage_result : (f : Found) (told told' : Option (List ℕ)) (faults faults' : ℕ) (s : Status) (text : List ℕ) (result : Status)
+pub usage_result : (f : CallContext) (told told' : Option (List ℕ)) (faults faults' : ℕ) (s : Status) (text : List ℕ) (result : Status)
     → IsReply f s text → IsDelivered told told' faults faults' s text result → IsNoForm f.words
     → (result ≡ status.Usage) ⊎ (result ≡ status.WriteFault)
 usage_result f told told' faults faults' s text result reply delivered none =
     rw (usage_reply f s text none reply) at (delivered_status told told' faults faults' s text result delivered)
 
 -- at `Ok` all was done
-pub done_result : (f : Found) (told told' : Option (List ℕ)) (faults faults' : ℕ) (s : Status) (text : List ℕ) (result : Status)
+pub done_result : (f : CallContext) (told told' : Option (List ℕ)) (faults faults' : ℕ) (s : Status) (text : List ℕ) (result : Status)
     → IsReply f s text → IsDelivered told told' faults faults' s text result → result ≡ status.Ok → IsDone f told told'
 done_result f told told' faults faults' s text result reply (inl whole) ok =
     record { text = text; reply = rw (sym whole.0 ∙ ok) at reply; appended = whole.1 }

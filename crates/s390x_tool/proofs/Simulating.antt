@@ -5,7 +5,7 @@ use Rattle.s390x_smp.specs.declared.error.SmpError.{SmpError}
 use Rattle.s390x_smp.specs.declared.error.SmpError.TheVariants as cause
 use Rattle.s390x_tool.specs.Words.{IsForm}
 use Rattle.s390x_tool.specs.declared.words.Command.TheVariants.{Simulate}
-use Rattle.s390x_tool.specs.Replies.{Found, IsReply}
+use Rattle.s390x_tool.specs.Replies.{CallContext, IsReply}
 use Rattle.s390x_tool.specs.Simulated.{IsSimulateReply, IsSimulationRefusal}
 use Rattle.s390x_tool.specs.declared.status.Status.{Status}
 use Rattle.s390x_tool.specs.declared.status.Status.TheVariants as status
@@ -22,7 +22,7 @@ reply_of_unsimulated base word count steps start cause.BadWord s text (inr is) t
 reply_of_unsimulated base word count steps start cause.NoMemory s text why told = rw told.0 told.1
 
 -- the program's reply
-pub reply_to_simulate : (f : Found) (base word count steps start : ℕ) (s : Status) (text : List ℕ) → IsForm f.words (Simulate base word count steps start) → f.left' ≡ f.left → f.faults' ≡ f.faults
+pub reply_to_simulate : (f : CallContext) (base word count steps start : ℕ) (s : Status) (text : List ℕ) → IsForm f.words (Simulate base word count steps start) → f.left' ≡ f.left → f.faults' ≡ f.faults
     → IsSimulateReply base word count steps start s text → IsReply f s text
 reply_to_simulate f base word count steps start status.Ok text form kept same told =
     inr (inr (record { base = base; word = word; count = count; steps = steps; start = start; form = form; kept = kept; same = same; told = told }))

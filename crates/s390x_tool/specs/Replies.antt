@@ -16,7 +16,7 @@ use Rattle.s390x_tool.specs.declared.status.Status.{Status}
 use Rattle.s390x_tool.specs.declared.status.Status.TheVariants as status
 
 -- what a call found: the words, what the source had left before and after, and its count of faults before and after
-pub record Found : Type 0 where
+pub record CallContext : Type 0 where
   pub words : List (List ℕ)
   pub left : Option (List ℕ)
   pub left' : Option (List ℕ)
@@ -24,7 +24,7 @@ pub record Found : Type 0 where
   pub faults' : ℕ
 
 -- the words are no command, and nothing was read
-pub record IsUsage (f : Found) : Type 0 where
+pub record IsUsage (f : CallContext) : Type 0 where
   pub none : IsNoForm f.words
   pub kept : f.left' ≡ f.left
   pub same : f.faults' ≡ f.faults
@@ -46,7 +46,7 @@ IsInputAnswer Allocate input s text = IsAllocateAnswer input s text
 IsInputAnswer (Bundle base) input s text = IsBundleAnswer base input s text
 
 -- the words are a command about the input, and a read failed, after others of not too many bytes; the source has left what stands behind them
-pub record IsReadFault (f : Found) : Type 0 where
+pub record IsReadFault (f : CallContext) : Type 0 where
   pub command : Command
   pub form : IsForm f.words command
   pub about : IsAboutInput command
@@ -54,7 +54,7 @@ pub record IsReadFault (f : Found) : Type 0 where
   pub rose : FaultCountRose f.faults f.faults'
 
 -- the words are a command about the input, and too many bytes came
-pub record IsInputTooLong (f : Found) : Type 0 where
+pub record IsInputTooLong (f : CallContext) : Type 0 where
   pub command : Command
   pub form : IsForm f.words command
   pub about : IsAboutInput command
@@ -62,7 +62,7 @@ pub record IsInputTooLong (f : Found) : Type 0 where
   pub same : f.faults' ≡ f.faults
 
 -- how much is read at most: a part of the input for a command about it, and else nothing
-abbrev pub IsReadFor : Command → Found → Type 0
+abbrev pub IsReadFor : Command → CallContext → Type 0
 IsReadFor (OnJob command) f = IsPartRead f.left f.left' too_many
 IsReadFor (Generate count start) f = f.left' ≡ f.left
 IsReadFor (Simulate base word count steps start) f = f.left' ≡ f.left
@@ -70,14 +70,14 @@ IsReadFor Allocate f = IsPartRead f.left f.left' too_many
 IsReadFor (Bundle base) f = IsPartRead f.left f.left' too_many
 
 -- the words are a command, and memory didn't suffice
-pub record IsOutOfMemory (f : Found) : Type 0 where
+pub record IsOutOfMemory (f : CallContext) : Type 0 where
   pub command : Command
   pub form : IsForm f.words command
   pub left : IsReadFor command f
   pub same : f.faults' ≡ f.faults
 
 -- the words are a command about the input, the source was read to its end, and this is the answer to what it held
-pub record IsAnswered (f : Found) (s : Status) (text : List ℕ) : Type 0 where
+pub record IsAnswered (f : CallContext) (s : Status) (text : List ℕ) : Type 0 where
   pub command : Command
   pub form : IsForm f.words command
   pub input : List ℕ
@@ -86,7 +86,7 @@ pub record IsAnswered (f : Found) (s : Status) (text : List ℕ) : Type 0 where
   pub answer : IsInputAnswer command input s text
 
 -- the words ask for a generated function, nothing was read, and this is what is told of it
-pub record IsGeneratedReply (f : Found) (text : List ℕ) : Type 0 where
+pub record IsGeneratedReply (f : CallContext) (text : List ℕ) : Type 0 where
   pub count : ℕ
   pub start : ℕ
   pub form : IsForm f.words (Generate count start)
@@ -95,7 +95,7 @@ pub record IsGeneratedReply (f : Found) (text : List ℕ) : Type 0 where
   pub told : IsGeneratedText count start text
 
 -- the words ask for a simulation, nothing was read, and this is its reply
-pub record IsSimulationReply (f : Found) (s : Status) (text : List ℕ) : Type 0 where
+pub record IsSimulationReply (f : CallContext) (s : Status) (text : List ℕ) : Type 0 where
   pub base : ℕ
   pub word : ℕ
   pub count : ℕ
@@ -107,11 +107,11 @@ pub record IsSimulationReply (f : Found) (s : Status) (text : List ℕ) : Type 0
   pub told : IsSimulateReply base word count steps start s text
 
 -- the reply where all was done
-abbrev pub IsOkReply : Found → List ℕ → Type 0
+abbrev pub IsOkReply : CallContext → List ℕ → Type 0
 IsOkReply f text = IsAnswered f status.Ok text ⊎ (IsGeneratedReply f text ⊎ IsSimulationReply f status.Ok text)
 
 -- the status and the text that are replied
-abbrev pub IsReply : Found → Status → List ℕ → Type 0
+abbrev pub IsReply : CallContext → Status → List ℕ → Type 0
 IsReply f status.Usage text = IsUsage f × (text ≡ line (codes "usage"))
 IsReply f status.ReadFault text = IsReadFault f × (text ≡ line (codes "read fault"))
 IsReply f status.InputTooLong text = IsInputTooLong f × (text ≡ line (codes "input too long"))
@@ -129,7 +129,7 @@ IsDelivered told told' faults faults' s text result =
     ⊎ ((result ≡ status.WriteFault) × IsCutShort told told' text × FaultCountRose faults faults')
 
 -- how a call ended: what was replied, and how it was written
-pub record IsEnded (f : Found) (told told' : Option (List ℕ)) (faults faults' : ℕ) (result : Status) : Type 0 where
+pub record IsEnded (f : CallContext) (told told' : Option (List ℕ)) (faults faults' : ℕ) (result : Status) : Type 0 where
   pub status : Status
   pub text : List ℕ
   pub reply : IsReply f status text
@@ -137,7 +137,7 @@ pub record IsEnded (f : Found) (told told' : Option (List ℕ)) (faults faults' 
 
 -- all was done: the source was read to its end and the command's text for what it held was told, or, with nothing read, that for a generated
 -- function or a simulation, and nothing else
-pub record IsDone (f : Found) (told told' : Option (List ℕ)) : Type 0 where
+pub record IsDone (f : CallContext) (told told' : Option (List ℕ)) : Type 0 where
   pub text : List ℕ
   pub reply : IsOkReply f text
   pub appended : Appends told told' text

@@ -6,7 +6,7 @@ ghost use Rattle.s390x_tool.specs.Allocated.{IsAllocateAnswer, IsPlanRefusal, nu
 ghost use Rattle.s390x_tool.specs.Lines.{IsMade, line};
 
 use crate::error_names::operand_error_name;
-use crate::reply::{Reply, fixed, made, no_memory, syntax, with_text};
+use crate::reply::{Reply, no_memory, static_reply, syntax, text_reply, with_text};
 use crate::status::Status;
 use s390x_alloc::{PlanFault, check_plan};
 use s390x_inst::MachInstEmitState;
@@ -20,7 +20,7 @@ use std::alloc::Global;
 /// - `PlanRefused`, where the plan has a fault: the line of its first one;
 /// - `Syntax`, where the input is the text of no job with a plan: the number of its first wrong line;
 /// - `NoMemory`, which may come in place of any of these.
-pub fn allocated(alloc: Global, input: &[u8]) -> Reply
+pub fn alloc_reply(alloc: Global, input: &[u8]) -> Reply
     requires { length input.now < 268435456 }
     ensures { IsAllocateAnswer input.now result.status (cow_str_bytes result.text) }
 {
@@ -57,7 +57,7 @@ fn plan_refused(alloc: Global, fault: PlanFault) -> Reply
     ensures { IsPlanRefusal fault result.status (cow_str_bytes result.text) }
 {
     match fault {
-        PlanFault::Blocks => fixed(Status::PlanRefused, "plan Blocks\n"),
+        PlanFault::Blocks => static_reply(Status::PlanRefused, "plan Blocks\n"),
         PlanFault::Unsupported { block, inst } => refused_at(alloc, "Unsupported", block, inst),
         PlanFault::Shape { block, inst } => refused_at(alloc, "Shape", block, inst),
         PlanFault::Order { block, edit } => refused_at(alloc, "Order", block, edit),
@@ -87,7 +87,7 @@ fn refused_at(alloc: Global, name: &'static str, block: u32, place: u32) -> Repl
         (line (codes "plan " ++ numbered_fault name.entry.now (block ∷ place ∷ []))) result.status
         (cow_str_bytes result.text) }
 {
-    made(
+    text_reply(
         Status::PlanRefused,
         format!(in alloc; "plan {name} {block} {place}\n"),
     )
@@ -99,7 +99,7 @@ fn refused_operand(alloc: Global, name: &'static str, block: u32, edit: u32, ope
         (line (codes "plan " ++ numbered_fault name.entry.now (block ∷ edit ∷ operand ∷ [])))
         result.status (cow_str_bytes result.text) }
 {
-    made(
+    text_reply(
         Status::PlanRefused,
         format!(in alloc; "plan {name} {block} {edit} {operand}\n"),
     )
@@ -119,7 +119,7 @@ fn refused_cause(
         ++ (numbered_fault name.entry.now (block ∷ edit ∷ []) ++ (32 ∷ cause.entry.now))))
         result.status (cow_str_bytes result.text) }
 {
-    made(
+    text_reply(
         Status::PlanRefused,
         format!(in alloc; "plan {name} {block} {edit} {cause}\n"),
     )

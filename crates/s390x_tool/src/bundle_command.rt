@@ -7,7 +7,7 @@ ghost use Rattle.s390x_tool.specs.Bundled.{IsBundleAnswer, IsBundleRefusal, inne
 ghost use Rattle.s390x_tool.specs.Lines.{IsMade, line};
 
 use crate::error_names::{emit_error_name, link_error_name};
-use crate::reply::{Reply, in_hex, made, no_memory, syntax};
+use crate::reply::{Reply, in_hex, no_memory, syntax, text_reply};
 use crate::status::Status;
 use s390x_base::ExternalName;
 use s390x_bundle::{BundleError, Member, bundle};
@@ -20,7 +20,7 @@ use std::alloc::{AllocError, Global};
 /// - `BundleRefused`, where it is the text of others: the line of the first cause by which they have none (`BundleError` of `s390x_bundle`);
 /// - `Syntax`, where it is the text of no functions: the number of its first wrong line;
 /// - `NoMemory`, which may come in place of any of these.
-pub fn bundled(alloc: Global, base: u64, input: &[u8]) -> Reply
+pub fn bundle_reply(alloc: Global, base: u64, input: &[u8]) -> Reply
     requires { length input.now < 268435456 }
     ensures { IsBundleAnswer base input.now result.status (cow_str_bytes result.text) }
 {
@@ -71,36 +71,51 @@ pub fn bundle_refused(alloc: Global, error: BundleError) -> Reply
     ensures { IsBundleRefusal error result.status (cow_str_bytes result.text) }
 {
     match error {
-        BundleError::DuplicateName { name } => told(alloc, "DuplicateName", name),
-        BundleError::Emit { name, error } => told_with(alloc, "Emit", name, emit_error_name(error)),
-        BundleError::EmptyMember { name } => told(alloc, "EmptyMember", name),
-        BundleError::TooLong { name } => told(alloc, "TooLong", name),
-        BundleError::AddressTooHigh { name } => told(alloc, "AddressTooHigh", name),
-        BundleError::Link { name, error } => told_with(alloc, "Link", name, link_error_name(error)),
+        BundleError::DuplicateName { name } => bundle_line(alloc, "DuplicateName", name),
+        BundleError::Emit { name, error } => bundle_line_with(
+            alloc,
+            "Emit",
+            name,
+            emit_error_name(error),
+        ),
+        BundleError::EmptyMember { name } => bundle_line(alloc, "EmptyMember", name),
+        BundleError::TooLong { name } => bundle_line(alloc, "TooLong", name),
+        BundleError::AddressTooHigh { name } => bundle_line(alloc, "AddressTooHigh", name),
+        BundleError::Link { name, error } => bundle_line_with(
+            alloc,
+            "Link",
+            name,
+            link_error_name(error),
+        ),
         BundleError::NoMemory => no_memory(),
     }
 }
 
 // The reply with a cause and the name of a function.
-fn told(alloc: Global, cause: &'static str, name: ExternalName) -> Reply
+fn bundle_line(alloc: Global, cause: &'static str, name: ExternalName) -> Reply
     ensures { IsMade Status.BundleRefused (line (named_refusal cause.entry.now name)) result.status
         (cow_str_bytes result.text) }
 {
     let number = name.0;
-    made(
+    text_reply(
         Status::BundleRefused,
         format!(in alloc; "bundle {cause} u{number}\n"),
     )
 }
 
 // The reply with a cause, the name of a function and the cause by which it is refused.
-fn told_with(alloc: Global, cause: &'static str, name: ExternalName, inner: &'static str) -> Reply
+fn bundle_line_with(
+    alloc: Global,
+    cause: &'static str,
+    name: ExternalName,
+    inner: &'static str,
+) -> Reply
     ensures { IsMade Status.BundleRefused
         (line (inner_refusal cause.entry.now name inner.entry.now)) result.status
         (cow_str_bytes result.text) }
 {
     let number = name.0;
-    made(
+    text_reply(
         Status::BundleRefused,
         format!(in alloc; "bundle {cause} u{number} {inner}\n"),
     )

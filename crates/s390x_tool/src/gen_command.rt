@@ -5,7 +5,7 @@ ghost use Rattle.s390x_generator.specs.Generator.{IsGenerated};
 ghost use Rattle.s390x_tool.specs.Generated.{IsGenerateReply, summary_line};
 ghost use Rattle.s390x_tool.specs.Lines.{IsMade};
 
-use crate::reply::{Reply, link_refused, made, no_memory, refused};
+use crate::reply::{Reply, link_refused, no_memory, refusal_reply, text_reply};
 use crate::status::Status;
 use s390x_emit_int::{ImageError, emit_image};
 use s390x_generator::{byte_sum, generated_function, generated_functions_are_valid};
@@ -38,7 +38,7 @@ fn image_told(alloc: Global, count: u32, start: u32, function: &AllocatedFunctio
     let symbols = SymbolTable::new(alloc);
     match emit_image(alloc, function, &info, EmitState::default(), BASE, &symbols) {
         Ok(image) => summary(alloc, count, &image.bytes),
-        Err(ImageError::Refused(error)) => refused(error),
+        Err(ImageError::Refused(error)) => refusal_reply(error),
         Err(ImageError::Link(error)) => link_refused(error),
     }
 }
@@ -50,7 +50,7 @@ fn summary(alloc: Global, count: u32, bytes: &[u8]) -> Reply
 {
     let size = bytes.len();
     let total = byte_sum(bytes);
-    made(
+    text_reply(
         Status::Ok,
         format!(in alloc; "blocks {count} bytes {size} sum {total}\n"),
     )

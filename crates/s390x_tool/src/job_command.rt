@@ -7,7 +7,7 @@ ghost use Rattle.s390x_tool.specs.Answers.{IsAnswer, IsCodeOfJob, IsEmitReply, I
 
 use crate::JobCommand;
 use crate::reply::{
-    Reply, in_hex, link_refused, no_memory, operands_refused, refused, syntax, with_tables,
+    Reply, in_hex, link_refused, no_memory, operands_refused, refusal_reply, syntax, with_tables,
     with_text,
 };
 use crate::status::Status;
@@ -54,7 +54,7 @@ fn emit(alloc: Global, job: &Job) -> Reply
 {
     match emit_function(alloc, &job.function, &job.info, job.state) {
         Ok(code) => with_tables(alloc, &code),
-        Err(error) => refused(error),
+        Err(error) => refusal_reply(error),
     }
 }
 
@@ -80,7 +80,7 @@ fn show(alloc: Global, job: &Job) -> Reply
             valid_blocks_have_texts();
             texts(alloc, job)
         }
-        Err(error) => refused(error),
+        Err(error) => refusal_reply(error),
     }
 }
 
@@ -107,13 +107,13 @@ fn image(alloc: Global, base: u64, job: &Job) -> Reply
     ensures { IsImageReply base job.now result.status (cow_str_bytes result.text) }
 {
     match emit_function(alloc, &job.function, &job.info, job.state) {
-        Ok(code) => linked(alloc, base, job, &code),
-        Err(error) => refused(error),
+        Ok(code) => image_reply(alloc, base, job, &code),
+        Err(error) => refusal_reply(error),
     }
 }
 
 // The image of the job's code at the base.
-fn linked(alloc: Global, base: u64, job: &Job, code: &MachBufferFinalized) -> Reply
+fn image_reply(alloc: Global, base: u64, job: &Job, code: &MachBufferFinalized) -> Reply
     requires { IsCodeOfJob job.now code.now }
     ensures { IsImageReply base job.now result.status (cow_str_bytes result.text) }
 {
@@ -152,13 +152,13 @@ fn execution(alloc: Global, base: u64, steps: u32, job: &Job) -> Reply
     ensures { IsRunReply base steps job.now result.status (cow_str_bytes result.text) }
 {
     match emit_function(alloc, &job.function, &job.info, job.state) {
-        Ok(code) => executed(alloc, base, steps, job, &code),
-        Err(error) => refused(error),
+        Ok(code) => run_reply(alloc, base, steps, job, &code),
+        Err(error) => refusal_reply(error),
     }
 }
 
 // What the machine does with the image of the job's code at the base.
-fn executed(alloc: Global, base: u64, steps: u32, job: &Job, code: &MachBufferFinalized) -> Reply
+fn run_reply(alloc: Global, base: u64, steps: u32, job: &Job, code: &MachBufferFinalized) -> Reply
     requires job { IsJob job.now }
     requires code { IsCodeOfJob job.now code.now }
     ensures { IsRunReply base steps job.now result.status (cow_str_bytes result.text) }

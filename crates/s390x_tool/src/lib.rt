@@ -20,8 +20,8 @@ mod status;
 mod top_call;
 mod words;
 
-pub use alloc_command::allocated;
-pub use bundle_command::{bundle_refused, bundled, members_of};
+pub use alloc_command::alloc_reply;
+pub use bundle_command::{bundle_refused, bundle_reply, members_of};
 pub use emitted::emitted_text;
 pub use ends::{Failed, Sink, Source};
 pub use error_names::{emit_error_line, emit_error_name};
@@ -34,7 +34,9 @@ pub use law::{
     one_job_is_accepted, one_step_is_accepted,
 };
 pub use output::write_text;
-pub use reply::{Reply, fixed, in_hex, link_refused, no_memory, refused, syntax, unread};
+pub use reply::{
+    Reply, in_hex, link_refused, no_memory, refusal_reply, static_reply, syntax, unread,
+};
 pub use smp_command::simulate;
 pub use standard::{StdSink, StdSource};
 pub use status::Status;

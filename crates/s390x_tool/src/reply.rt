@@ -25,7 +25,7 @@ pub struct Reply {
 }
 
 /// A reply with a line that is the same each time.
-pub fn fixed(status: Status, text: &'static str) -> Reply
+pub fn static_reply(status: Status, text: &'static str) -> Reply
     ensures status { result.status ≡ status }
     ensures text { cow_str_bytes result.text ≡ text.entry.now }
 {
@@ -40,7 +40,7 @@ pub fn no_memory() -> Reply
     ensures status { result.status ≡ Status.NoMemory }
     ensures text { cow_str_bytes result.text ≡ line (codes "no memory") }
 {
-    fixed(Status::NoMemory, "no memory\n")
+    static_reply(Status::NoMemory, "no memory\n")
 }
 
 /// The reply where the input isn't read to its end.
@@ -48,14 +48,14 @@ pub fn unread(error: InputError) -> Reply
     ensures { IsUnread error result.status (cow_str_bytes result.text) }
 {
     match error {
-        InputError::Fault => fixed(Status::ReadFault, "read fault\n"),
-        InputError::TooLong => fixed(Status::InputTooLong, "input too long\n"),
+        InputError::Fault => static_reply(Status::ReadFault, "read fault\n"),
+        InputError::TooLong => static_reply(Status::InputTooLong, "input too long\n"),
         InputError::NoMemory => no_memory(),
     }
 }
 
 /// A reply with a text that was made, or that memory doesn't suffice for.
-pub fn made(status: Status, text: Result<String, AllocError>) -> Reply
+pub fn text_reply(status: Status, text: Result<String, AllocError>) -> Reply
     ensures ok { IfOk text
         (λ t. (result.status ≡ status) × (cow_str_bytes result.text ≡ string_bytes t)) }
     ensures err { OnErr text
@@ -76,7 +76,7 @@ pub fn syntax(alloc: Global, number: u32) -> Reply
     ensures { IsMade Status.Syntax (line (codes "syntax " ++ decimal number)) result.status
         (cow_str_bytes result.text) }
 {
-    made(Status::Syntax, format!(in alloc; "syntax {number}\n"))
+    text_reply(Status::Syntax, format!(in alloc; "syntax {number}\n"))
 }
 
 /// The reply with bytes in hex.
@@ -84,7 +84,7 @@ pub fn in_hex(alloc: Global, bytes: &[u8]) -> Reply
     ensures { IsMade Status.Ok (line (encode_lower bytes.now)) result.status
         (cow_str_bytes result.text) }
 {
-    made(Status::Ok, hex_line(alloc, bytes))
+    text_reply(Status::Ok, hex_line(alloc, bytes))
 }
 
 // Bytes in lower-case hex, and a line feed.
@@ -100,7 +100,7 @@ fn hex_line(alloc: Global, bytes: &[u8]) -> Result<String, AllocError>
 pub fn with_tables(alloc: Global, code: &MachBufferFinalized) -> Reply
     ensures { IsMade Status.Ok (emit_text code.now) result.status (cow_str_bytes result.text) }
 {
-    made(Status::Ok, emitted_text(alloc, code))
+    text_reply(Status::Ok, emitted_text(alloc, code))
 }
 
 /// The reply with a text that was made, or that memory doesn't suffice for.
@@ -120,12 +120,12 @@ pub fn with_text(text: Result<String, NoMemory>) -> Reply
 }
 
 /// The reply to a job that emission refuses.
-pub fn refused(error: EmitError) -> Reply
+pub fn refusal_reply(error: EmitError) -> Reply
     ensures { IsRefusal error result.status (cow_str_bytes result.text) }
 {
     match error {
         EmitError::NoMemory => no_memory(),
-        _ => fixed(Status::Refused, emit_error_line(error)),
+        _ => static_reply(Status::Refused, emit_error_line(error)),
     }
 }
 
@@ -135,7 +135,7 @@ pub fn link_refused(error: LinkError) -> Reply
 {
     match error {
         LinkError::NoMemory => no_memory(),
-        _ => fixed(Status::LinkRefused, link_error_line(error)),
+        _ => static_reply(Status::LinkRefused, link_error_line(error)),
     }
 }
 
@@ -145,6 +145,6 @@ pub fn operands_refused(error: OperandError) -> Reply
 {
     match error {
         OperandError::NoMemory => no_memory(),
-        _ => fixed(Status::Refused, operand_error_line(error)),
+        _ => static_reply(Status::Refused, operand_error_line(error)),
     }
 }

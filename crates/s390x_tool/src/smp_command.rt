@@ -3,9 +3,9 @@ ghost use Rattle.std.specs.Prelude.{◌<◌};
 ghost use Rattle.std.specs.Cow.{cow_str_bytes};
 ghost use Rattle.s390x_tool.specs.Simulated.{IsSimulateReply, IsSimulationRefusal};
 
-use crate::reply::{Reply, fixed, no_memory};
+use crate::reply::{Reply, no_memory, static_reply};
 use crate::status::Status;
-use s390x_smp::{SmpError, simulated};
+use s390x_smp::{SmpError, simulation_text};
 use std::alloc::Global;
 use std::borrow::CowStr;
 
@@ -15,7 +15,7 @@ pub fn simulate(alloc: Global, base: u64, word: u64, count: u32, steps: u32, sta
     ensures { IsSimulateReply base word count steps start result.status
         (cow_str_bytes result.text) }
 {
-    match simulated(alloc, base, word, count, steps, start) {
+    match simulation_text(alloc, base, word, count, steps, start) {
         Ok(text) => Reply {
             status: Status::Ok,
             text: CowStr::Owned(text),
@@ -29,9 +29,9 @@ fn simulation_refused(error: SmpError) -> Reply
     ensures { IsSimulationRefusal error result.status (cow_str_bytes result.text) }
 {
     match error {
-        SmpError::MisalignedBase => fixed(Status::LinkRefused, "link MisalignedBase\n"),
-        SmpError::ImageTooHigh => fixed(Status::LinkRefused, "link ImageTooHigh\n"),
-        SmpError::BadWord => fixed(Status::BadWord, "bad word\n"),
+        SmpError::MisalignedBase => static_reply(Status::LinkRefused, "link MisalignedBase\n"),
+        SmpError::ImageTooHigh => static_reply(Status::LinkRefused, "link ImageTooHigh\n"),
+        SmpError::BadWord => static_reply(Status::BadWord, "bad word\n"),
         SmpError::NoMemory => no_memory(),
     }
 }

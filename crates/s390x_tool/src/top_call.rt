@@ -12,14 +12,14 @@ ghost use Rattle.s390x_tool.specs.Ends.{IsTooLong, too_many};
 ghost use Rattle.s390x_tool.specs.Replies.{IsAboutInput, IsDelivered, IsDone, IsEnded, IsInputAnswer, IsReply};
 ghost use Rattle.s390x_tool.specs.Words.{IsForm, IsNoForm, texts};
 
-use crate::alloc_command::allocated;
-use crate::bundle_command::bundled;
+use crate::alloc_command::alloc_reply;
+use crate::bundle_command::bundle_reply;
 use crate::ends::{Failed, Sink, Source};
 use crate::gen_command::generate;
 use crate::input::read_input;
 use crate::job_command::answer;
 use crate::output::write_text;
-use crate::reply::{Reply, fixed, unread};
+use crate::reply::{Reply, static_reply, unread};
 use crate::smp_command::simulate;
 use crate::status::Status;
 use crate::{Command, read_words};
@@ -116,7 +116,7 @@ fn reply_to<S: Source>(alloc: Global, words: &[String], source: &mut S) -> Reply
         (cow_str_bytes result.text) }
 {
     let Some(command) = read_words(words) else {
-        return fixed(Status::Usage, "usage\n");
+        return static_reply(Status::Usage, "usage\n");
     };
     match command {
         Command::Generate { count, start } => generate(alloc, count, start),
@@ -142,8 +142,8 @@ fn answer_to_input(alloc: Global, command: Command, input: &[u8]) -> Reply
 {
     match command {
         Command::OnJob(command) => answer(alloc, command, input),
-        Command::Allocate => allocated(alloc, input),
-        Command::Bundle { base } => bundled(alloc, base, input),
+        Command::Allocate => alloc_reply(alloc, input),
+        Command::Bundle { base } => bundle_reply(alloc, base, input),
         Command::Generate { .. } | Command::Simulate { .. } => unreachable!(),
     }
 }

@@ -42,7 +42,7 @@ folded next (leaf b (leaf c rest)) = leaf b (folded next (leaf c rest))
 folded next (leaf b (loop_node mask members rest)) = leaf b (folded next (loop_node mask members rest))
 folded next (loop_node mask members rest) = loop_node mask members (folded next rest)
 
--- the same before that block, if there is one
+-- the members of a block, folded before the next block, if there is one
 abbrev pub folded_before : Option ℕ → Tree → Tree
 folded_before None t = t
 folded_before (Some next) t = folded next t

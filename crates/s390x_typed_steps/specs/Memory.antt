@@ -254,7 +254,7 @@ rest_memory (AtomicCas64 rd ri rn mem) = compare_and_swap None opcodes.CSG rd ri
 rest_memory (Vector v) = vector_memory v
 rest_memory _ = None
 
--- the same of one that is no load of one register
+-- the machine rows and the operand of an instruction that is no load of one register
 abbrev pub other_memory : Inst → Option MemoryInstruction
 other_memory i = by_store store_memory (rest_memory i) (as_store i)
 
@@ -292,6 +292,6 @@ abbrev pub without_relative : Option MemoryInstruction → Option MemoryInstruct
 without_relative None = None
 without_relative (Some x) = option_map (with_rows x) (other_rows x.form x.accesses)
 
--- the same of an instruction
+-- the access of an instruction by its rows that aren't relative, where it has one that is
 abbrev pub loaded_memory : Inst → Option MemoryInstruction
 loaded_memory i = without_relative (memory i)

@@ -54,7 +54,7 @@ unary_two op = get_or UNARY_ROWS (tag_of the_unary.the_type op) None
 abbrev pub alu_halfword : ALUOp → Option ℕ
 alu_halfword op = (alu_rows op).halfword
 
--- the same into another register
+-- a register and an immediate of 16 bits with its sign, into another register
 abbrev pub alu_three_halfword : ALUOp → Option ℕ
 alu_three_halfword op = (alu_rows op).three_halfword
 
@@ -173,6 +173,6 @@ of_size rows size =
 abbrev pub indexed_opcode : ℕ → Option ℕ
 indexed_opcode size = of_size INDEXED_ROWS size
 
--- the same, the index without a sign
+-- an indexed address by the size of its elements, the index without a sign
 abbrev pub logical_indexed_opcode : ℕ → Option ℕ
 logical_indexed_opcode size = of_size LOGICAL_INDEXED_ROWS size

@@ -107,7 +107,7 @@ abbrev pub widened : MemInstType → MemArg → MemArg
 widened mi (BXD12 base index disp flags) = cond (not mi.have_d12 && mi.have_d20) (BXD20 base index (pos disp) flags) (BXD12 base index disp flags)
 widened mi m = m
 
--- the same of an operand with its helpers
+-- an operand with its helpers, a displacement of 12 bits as one of 20 where the rows have that alone
 abbrev pub with_widened : MemInstType → Finalized → Finalized
 with_widened mi f = record { helpers = f.helpers; operand = widened mi f.operand }
 

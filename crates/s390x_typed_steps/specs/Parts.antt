@@ -39,9 +39,9 @@ pub data CodePart : Type 0 where
   Branch : (mask : ℕ) → Target → CodePart
   -- one of format RIL-B: a register, and an address relative to the instruction
   Relative : (opcode register : ℕ) → Target → CodePart
-  -- the same with the address of a constant
+  -- one of format RIL-B: a register, and the address of a constant
   RelativeConstant : (opcode register constant : ℕ) → CodePart
-  -- the same with a symbol's address plus an offset, to which linking fills in the distance
+  -- one of format RIL-B: a register, and a symbol's address plus an offset, to which linking fills in the distance
   RelativeSymbol : (opcode register : ℕ) → (name : ExternalName) → (offset : ℤ) → CodePart
   -- eight bytes that linking fills: a symbol's address plus an offset
   SymbolValue : (name : ExternalName) → (offset : ℤ) → CodePart

@@ -32,7 +32,7 @@ OperandInRange (SlotOffset off) = ⊥
 OperandInRange (SpillOffset off) = ⊥
 OperandInRange _ = Unit {0}
 
--- the same of the operand of an instruction, where it has one
+-- the operand in memory of an instruction, where it has one, has its displacement in range
 abbrev pub MemoryInRange : Option MemoryInstruction → Type 0
 MemoryInRange None = Unit {0}
 MemoryInRange (Some x) = OperandInRange x.operand
@@ -41,7 +41,7 @@ MemoryInRange (Some x) = OperandInRange x.operand
 abbrev pub InRange : Inst → Type 0
 InRange i = MaskInRange i × MemoryInRange (memory i)
 
--- the same of a body. None is folded before its block has ended
+-- the mask and the operand of a step's body. None is folded before its block has ended
 abbrev pub BodyInRange : StepBody → Type 0
 BodyInRange (Whole i) = InRange i
 BodyInRange (Folded r i) = ⊥
@@ -54,7 +54,7 @@ AllInRange empty = Unit {0}
 AllInRange (leaf b rest) = BodyInRange b × AllInRange rest
 AllInRange (loop_node mask members rest) = IsConditionMask mask × AllInRange members × AllInRange rest
 
--- the same of the blocks of a function
+-- in the blocks of a function each mask and displacement
 abbrev pub BlocksInRange : List Tree → Type 0
 BlocksInRange [] = Unit {0}
 BlocksInRange (t ∷ ts) = AllInRange t × BlocksInRange ts

@@ -43,7 +43,7 @@ resolved_rest e (AtomicCas64 rd ri rn mem) = AtomicCas64 rd ri rn (resolved e me
 resolved_rest e (Vector v) = Vector (resolved_vector e v)
 resolved_rest e i = i
 
--- the same of one that is no load
+-- an instruction that is no load of one register, with its operand resolved
 abbrev pub resolved_other : Emission → Inst → Inst
 resolved_other e i = by_store (λ s. store_instruction s.op s.rd (resolved e s.mem)) (resolved_rest e i) (as_store i)
 

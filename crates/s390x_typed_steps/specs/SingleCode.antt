@@ -9,7 +9,7 @@ use Rattle.s390x_typed_steps.specs.SingleInstruction.{SingleInstruction}
 unfoldable pub code_where : (operands_valid : Bool) → MachineInstruction → Result (List ℕ) EmitError
 code_where operands_valid row = cond operands_valid (Ok (bytes_of row)) (Err BadRegister)
 
--- the same of an instruction; none where it isn't one machine instruction
+-- the bytes of an instruction that is one machine instruction, or its refusal; none where it isn't one
 abbrev pub single_code : Option SingleInstruction → Option (Result (List ℕ) EmitError)
 single_code None = None
 single_code (Some x) = Some (code_where x.operands_valid x.row)

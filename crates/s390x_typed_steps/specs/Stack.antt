@@ -18,7 +18,7 @@ abbrev mutual
   outgoing_after outgoing (Loop' mask body all) = outgoing_behind outgoing all
   outgoing_after outgoing _ = outgoing
 
-  -- the same behind the members of a loop
+  -- the outgoing size behind the members of a loop
   pub outgoing_behind : (outgoing : ℕ) → {m : _} → Row_of-Inst m → ℕ
   outgoing_behind outgoing end_of-Inst = outgoing
   outgoing_behind outgoing (more_of-Inst i rest) = outgoing_behind (outgoing_after outgoing i) rest

@@ -10,7 +10,7 @@ use Rattle.s390x_typed_steps.specs.Opcodes.{alu_rows, cmp_rows}
 abbrev pub alu_rx : ALUOp → Option ℕ
 alu_rx op = (alu_rows op).rx
 
--- the same, with a displacement of 20 bits
+-- a register and an operand in memory, with a displacement of 20 bits
 abbrev pub alu_rxy : ALUOp → Option ℕ
 alu_rxy op = (alu_rows op).rxy
 
@@ -18,11 +18,11 @@ alu_rxy op = (alu_rows op).rxy
 abbrev pub cmp_rx : CmpOp → Option ℕ
 cmp_rx op = (cmp_rows op).rx
 
--- the same, with a displacement of 20 bits
+-- a comparison with an operand in memory, with a displacement of 20 bits
 abbrev pub cmp_rxy : CmpOp → Option ℕ
 cmp_rxy op = (cmp_rows op).rxy
 
--- the same, relative to the instruction
+-- a comparison with an operand in memory, relative to the instruction
 abbrev pub cmp_ril : CmpOp → ℕ
 cmp_ril op = (cmp_rows op).ril
 

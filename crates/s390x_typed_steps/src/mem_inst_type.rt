@@ -10,7 +10,7 @@ pub struct MemInstType {
     pub have_d20: bool,
     /// An address relative to the instruction.
     pub have_pcrel: bool,
-    /// The same for an address that needn't be a multiple of the width.
+    /// An address relative to the instruction that needn't be a multiple of the width.
     pub have_unaligned_pcrel: bool,
     /// An index register.
     pub have_index: bool,

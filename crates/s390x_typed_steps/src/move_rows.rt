@@ -20,7 +20,7 @@ pub const LOAD_PARTS: PartRows = PartRows::Four(
     opcodes::LLIHH,
 );
 
-/// The same at a half of 32 bits (RIL).
+/// A load of an immediate at a half of 32 bits, into a register that is zero elsewhere (RIL).
 pub const LOAD_HALVES: PartRows = PartRows::Two(opcodes::LLILF, opcodes::LLIHF);
 
 /// An immediate at a part of 16 bits, in a register that is left elsewhere (RI).
@@ -31,7 +31,7 @@ pub const INSERT_PARTS: PartRows = PartRows::Four(
     opcodes::IIHH,
 );
 
-/// The same at a half of 32 bits (RIL).
+/// An immediate at a half of 32 bits, in a register that is left elsewhere (RIL).
 pub const INSERT_HALVES: PartRows = PartRows::Two(opcodes::IILF, opcodes::IIHF);
 
 /// A byte becomes a number of 32 bits.
@@ -67,7 +67,7 @@ pub const WORD_TO_DOUBLEWORD: ExtendRows = ExtendRows {
 /// The address of an element, by its size of 2, 4, 8 or 16 bytes, where the index has a sign (RXY).
 pub const INDEXED_ROWS: [u16; 4] = [opcodes::LXAH, opcodes::LXAF, opcodes::LXAG, opcodes::LXAQ];
 
-/// The same where it has none (RXY).
+/// The address of an element, by its size of 2, 4, 8 or 16 bytes, where the index has no sign (RXY).
 pub const LOGICAL_INDEXED_ROWS: [u16; 4] = [
     opcodes::LLXAH,
     opcodes::LLXAF,

@@ -27,15 +27,15 @@ pub struct AluRows {
     pub two: Option<u16>,
     /// A register and an immediate of 16 bits with its sign (RI).
     pub halfword: Option<u16>,
-    /// The same into another register (RIE).
+    /// A register and an immediate of 16 bits with its sign, into another register (RIE).
     pub three_halfword: Option<u16>,
     /// A register and an immediate of 32 bits with its sign (RIL).
     pub signed_word: Option<u16>,
-    /// The same without a sign (RIL).
+    /// A register and an immediate of 32 bits without a sign (RIL).
     pub unsigned_word: Option<u16>,
     /// An operand in memory, with a displacement of 12 bits.
     pub rx: Option<u8>,
-    /// The same with one of 20 bits.
+    /// An operand in memory, with a displacement of 20 bits.
     pub rxy: Option<u16>,
     /// An operand in memory that is changed in one access (RSY).
     pub atomic: Option<u16>,
@@ -54,19 +54,19 @@ pub struct CmpRows {
     pub halfword: Option<u16>,
     /// One of 32 bits with its sign (RIL).
     pub signed_word: Option<u16>,
-    /// The same without a sign (RIL).
+    /// A register and an immediate of 32 bits without a sign (RIL).
     pub unsigned_word: Option<u16>,
     /// A register, where the comparison traps (RRF).
     pub trap: Option<u16>,
     /// An immediate of 16 bits with its sign, where the comparison traps (RIE).
     pub trap_signed: Option<u16>,
-    /// The same without a sign (RIE).
+    /// An immediate of 16 bits without a sign, where the comparison traps (RIE).
     pub trap_unsigned: Option<u16>,
     /// An operand in memory, with a displacement of 12 bits.
     pub rx: Option<u8>,
-    /// The same with one of 20 bits.
+    /// An operand in memory, with a displacement of 20 bits.
     pub rxy: Option<u16>,
-    /// The same relative to the instruction.
+    /// An operand in memory that is relative to the instruction.
     pub ril: u16,
 }
 

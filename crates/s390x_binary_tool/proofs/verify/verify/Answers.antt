@@ -10,4 +10,4 @@ pub returns-in-Err-Syntax : goal.returns-in-Err-Syntax
 returns-in-Err-Syntax c =
     let n = c.in-Err-Syntax.line in
     verify_job_syntax c.args.base c.args.input.now c.job_size-size.result n c.syntax.result.status _ _ c.job_size-size.ensures.cut (rw c.in-Err-Syntax.field-0-is at c.in-Err-Syntax.ensures.error)
-    (subst (λ t. IsMade status.Syntax (line (codes "syntax " ++ decimal n)) c.syntax.result.status t) (sym c.shared.ensures.text) c.syntax.ensures) c.shared.ensures.status
+    (subst (λ t. IsMade status.Syntax (line (codes "syntax " ++ decimal n)) c.syntax.result.status t) (sym c.shared_reply.ensures.text) c.syntax.ensures) c.shared_reply.ensures.status

@@ -28,4 +28,4 @@ returns-in-Ok-Err c =
     let lines = c.count_lines.result in
     let wrong = subst (λ t. IsWrongLine t number) (all_behind c.args.size c.args.input.now) (rw c.in-Ok-Err.field-0-is at c.in-Ok-Err.ensures.lines) in
     verify_image_syntax c.args.base c.args.input.now c.args.size lines number (lines + number) c.args.job.now c.syntax.result.status _ _ c.requires.cut wrong c.count_lines.ensures.count refl
-    (subst (λ t. IsMade status.Syntax (line (codes "syntax " ++ decimal (lines + number))) c.syntax.result.status t) (sym c.shared.ensures.text) c.syntax.ensures) c.shared.ensures.status
+    (subst (λ t. IsMade status.Syntax (line (codes "syntax " ++ decimal (lines + number))) c.syntax.result.status t) (sym c.shared_reply.ensures.text) c.syntax.ensures) c.shared_reply.ensures.status

@@ -10,7 +10,7 @@ returns-in_err-emit_call_step c =
     let e = c.args.state.now in
     let info = c.args.info.now in
     call_step_failed c.args.context.flags c.args.sink.now c.emit_call_step.new.sink c.args.context.after.0 c.args.context.depth e.nominal (calling e c.args.link info) (result_bodies e info ++ continuation_bodies info.try_call_info) c.from_residual.result _
-    c.from_residual.ensures.1 (c.in_err-emit_call_step.ensures.lacks c.args.context.after.0) c.emit_call_step.ensures.kept
+    c.from_residual.ensures.1 (c.in_err-emit_call_step.ensures.only_memory c.args.context.after.0) c.emit_call_step.ensures.kept
 
 pub emit_loads-requires : goal.emit_loads-requires
 emit_loads-requires c =

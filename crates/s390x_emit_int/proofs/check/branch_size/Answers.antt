@@ -1,7 +1,7 @@
 use Rattle.std.proofs.Common.{◌+◌, ◌*◌, min, ap, sym, ◌∙◌}
 use Rattle.s390x_base.specs.Regs.{number_of}
 use Rattle.s390x_emit_int.specs.Emission.{branch_size}
-use Rattle.s390x_emit_int.specs.Totals.{code_limit}
+use Rattle.s390x_emit_int.specs.CodeSize.{code_limit}
 use Rattle.s390x_emit_int.proofs.Tables.{table_bytes}
 use Rattle.s390x_emit_int.proofs.check.branch_size.Goals as goal
 

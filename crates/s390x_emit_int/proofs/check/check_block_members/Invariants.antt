@@ -2,7 +2,7 @@ use Rattle.std.proofs.Common.{◌≡◌, ◌+◌, drop, min}
 use Rattle.s390x_typed_steps.specs.Sizes.{tree_size}
 use Rattle.s390x_typed_steps.specs.Causes.{declared_in, fresh_labels, tree_cause, nominal_behind}
 use Rattle.s390x_emit_int.specs.Members.{block_members_of}
-use Rattle.s390x_emit_int.specs.Totals.{IsCounted, code_limit}
+use Rattle.s390x_emit_int.specs.CodeSize.{IsCounted, code_limit}
 use Rattle.s390x_emit_int.proofs.check.check_block_members.Given as goal
 
 abbrev pub invariant-loop-inst : goal.invariant-loop-inst

@@ -2,7 +2,7 @@ use Rattle.std.proofs.Common.{min, None, sym, ap, ◌∙◌}
 use Rattle.s390x_typed_steps.specs.Causes.{memory_cause_or}
 use Rattle.s390x_address.specs.Rows.{memory_instruction_of}
 use Rattle.s390x_emit_int.specs.Emission.{branch_size, memory_size_or}
-use Rattle.s390x_emit_int.specs.Totals.{code_limit}
+use Rattle.s390x_emit_int.specs.CodeSize.{code_limit}
 use Rattle.s390x_emit_int.proofs.Resolving.{found_memory, no_memory}
 use Rattle.s390x_emit_int.proofs.check.other_size.Goals as goal
 

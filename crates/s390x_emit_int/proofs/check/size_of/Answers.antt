@@ -7,7 +7,7 @@ use Rattle.s390x_typed_steps.proofs.Causes.{unless_true}
 use Rattle.s390x_emit_int.specs.Emission.{memory_size_or}
 use Rattle.s390x_emit_int.proofs.Resolving.{single_resolved, size_resolved, or_none}
 use Rattle.s390x_emit_int.proofs.Single.{some_single, no_single, some_cause, none_cause, some_size, none_size}
-use Rattle.s390x_emit_int.specs.Totals.{code_limit}
+use Rattle.s390x_emit_int.specs.CodeSize.{code_limit}
 use Rattle.s390x_emit_int.proofs.check.size_of.Goals as goal
 
 -- the size of the code that was found

@@ -2,7 +2,7 @@ use Rattle.std.proofs.Common.{ap, sym, subst, ◌∙◌}
 use Rattle.s390x_typed_steps.specs.Calls.{calling, result_bodies, continuation_bodies}
 use Rattle.s390x_typed_steps.specs.Causes.{call_cause, declared_in}
 use Rattle.s390x_typed_steps.specs.Tree.{CallStep}
-use Rattle.s390x_emit_int.specs.Totals.{Adds}
+use Rattle.s390x_emit_int.specs.CodeSize.{Adds}
 use Rattle.s390x_emit_int.proofs.CallSites.{call_step_size}
 use Rattle.s390x_emit_int.proofs.Sequence.{body_checks, steps_refused}
 use Rattle.s390x_emit_int.proofs.check_calls.check_call.Goals as goal

@@ -2,7 +2,7 @@ use Rattle.std.proofs.Common.{drop}
 use Rattle.s390x_typed_steps.specs.Calls.{wholes}
 use Rattle.s390x_typed_steps.specs.Causes.{declared_in}
 use Rattle.s390x_emit_int.specs.Sequence.{AllKeepNominal}
-use Rattle.s390x_emit_int.specs.Totals.{IsCounted}
+use Rattle.s390x_emit_int.specs.CodeSize.{IsCounted}
 use Rattle.s390x_emit_int.proofs.Sequence.{CountsOn}
 use Rattle.s390x_emit_int.proofs.check_calls.check_steps.Given as goal
 

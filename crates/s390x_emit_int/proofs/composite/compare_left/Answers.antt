@@ -3,6 +3,6 @@ use Rattle.s390x_format.specs.Formats.{length_of}
 use Rattle.s390x_typed_steps.specs.MachineInstruction.{vrr_a}
 use Rattle.s390x_emit_int.proofs.composite.compare_left.Goals as goal
 
-pub returns-clause-lacks : goal.returns-clause-lacks
+pub returns-clause-only_memory : goal.returns-clause-only_memory
 unfolding length_of
-returns-clause-lacks c = λ put valid. c.put_found.ensures.lacks _ (vrr_a c.args.opcode (number_of c.args.rn.now) (number_of c.args.rm.now) 3) c.two_vectors-found.ensures put valid
+returns-clause-only_memory c = λ put valid. c.put_found.ensures.only_memory _ (vrr_a c.args.opcode (number_of c.args.rn.now) (number_of c.args.rm.now) 3) c.two_vectors-found.ensures put valid

@@ -5,30 +5,30 @@ use Rattle.std.proofs.Common.{◌&&◌}
 use Rattle.s390x_emit_int.proofs.Composing.{passed_at, valid_of}
 use Rattle.s390x_emit_int.proofs.composite.emit_reversal.Goals as goal
 
-pub returns-in-2-clause-lacks : goal.returns-in-2-clause-lacks
+pub returns-in-2-clause-only_memory : goal.returns-in-2-clause-only_memory
 unfolding length_of
-returns-in-2-clause-lacks c = λ put none.
+returns-in-2-clause-only_memory c = λ put none.
     let valid = is_vector c.args.rd.now && is_vector c.args.rn.now in
     let p = passed_at c.args.sink.now c.args.count 2 (number_of c.args.rd.now) (number_of c.args.rn.now) valid c.in-2.is put none in
-    c.exchange_doublewords.ensures.lacks p.0 (valid_of valid p.1)
+    c.exchange_doublewords.ensures.only_memory p.0 (valid_of valid p.1)
 
-pub returns-in-4-clause-lacks : goal.returns-in-4-clause-lacks
+pub returns-in-4-clause-only_memory : goal.returns-in-4-clause-only_memory
 unfolding length_of
-returns-in-4-clause-lacks c = λ put none.
+returns-in-4-clause-only_memory c = λ put none.
     let valid = is_vector c.args.rd.now && is_vector c.args.rn.now in
     let p = passed_at c.args.sink.now c.args.count 4 (number_of c.args.rd.now) (number_of c.args.rn.now) valid c.in-4.is put none in
-    c.reverse_words.ensures.lacks p.0 (valid_of valid p.1)
+    c.reverse_words.ensures.only_memory p.0 (valid_of valid p.1)
 
-pub returns-in-8-clause-lacks : goal.returns-in-8-clause-lacks
+pub returns-in-8-clause-only_memory : goal.returns-in-8-clause-only_memory
 unfolding length_of
-returns-in-8-clause-lacks c = λ put none.
+returns-in-8-clause-only_memory c = λ put none.
     let valid = is_vector c.args.rd.now && is_vector c.args.rn.now in
     let p = passed_at c.args.sink.now c.args.count 8 (number_of c.args.rd.now) (number_of c.args.rn.now) valid c.in-8.is put none in
-    c.reverse_halfwords.ensures.lacks p.0 (valid_of valid p.1)
+    c.reverse_halfwords.ensures.only_memory p.0 (valid_of valid p.1)
 
-pub returns-in-16-clause-lacks : goal.returns-in-16-clause-lacks
+pub returns-in-16-clause-only_memory : goal.returns-in-16-clause-only_memory
 unfolding length_of
-returns-in-16-clause-lacks c = λ put none.
+returns-in-16-clause-only_memory c = λ put none.
     let valid = is_vector c.args.rd.now && is_vector c.args.rn.now in
     let p = passed_at c.args.sink.now c.args.count 16 (number_of c.args.rd.now) (number_of c.args.rn.now) valid c.in-16.is put none in
-    c.reverse_bytes.ensures.lacks p.0 (valid_of valid p.1)
+    c.reverse_bytes.ensures.only_memory p.0 (valid_of valid p.1)

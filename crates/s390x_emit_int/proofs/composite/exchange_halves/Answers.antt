@@ -17,9 +17,9 @@ returns-clause-answer c =
     let found = c.shifted_vector-found.ensures ∙ ap (λ (z : Reg). code_where (is_vector d && is_vector d && is_general z) (vrs_a opcodes.VERLL (number_of d) (number_of z) (number_of d) c.args.code c.args.half)) c.zero_reg.ensures in
     c.put_found.ensures.answer _ (exchanges_halves (number_of d) c.args.code c.args.half) found
 
-pub returns-clause-lacks : goal.returns-clause-lacks
+pub returns-clause-only_memory : goal.returns-clause-only_memory
 unfolding length_of
-returns-clause-lacks c = λ put valid.
+returns-clause-only_memory c = λ put valid.
     let d = c.args.rd.now in
     let found = c.shifted_vector-found.ensures ∙ ap (λ (z : Reg). code_where (is_vector d && is_vector d && is_general z) (vrs_a opcodes.VERLL (number_of d) (number_of z) (number_of d) c.args.code c.args.half)) c.zero_reg.ensures in
-    c.put_found.ensures.lacks _ (exchanges_halves (number_of d) c.args.code c.args.half) found put (first_again (is_vector d) valid)
+    c.put_found.ensures.only_memory _ (exchanges_halves (number_of d) c.args.code c.args.half) found put (first_again (is_vector d) valid)

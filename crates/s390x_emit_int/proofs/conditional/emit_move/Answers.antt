@@ -14,8 +14,8 @@ returns-in-Some-clause-answer c =
     let size = short_move v f.move f.is ∙ ap (λ t. cond t 2 6) (sym c.is_short-short.ensures) in
     subst (λ (parts : List CodePart). OnOk c.emit_under.result (c.emit_under.new.sink ≡ apply_all c.args.sink.now (part_fragments parts))) (found_rows c.in-Some.found (move_under v) f c.is_short-short.result size) (c.emit_under.ensures.answer f.move.operands_valid f.move.row f.code)
 
-pub returns-in-Some-clause-lacks : goal.returns-in-Some-clause-lacks
-returns-in-Some-clause-lacks c = λ put none.
+pub returns-in-Some-clause-only_memory : goal.returns-in-Some-clause-only_memory
+returns-in-Some-clause-only_memory c = λ put none.
     let v = c.args.inst.now in
     let f = found_move c.in-Some.found (move_under v) c.in-Some.ensures in
-    c.emit_under.ensures.lacks f.move.operands_valid f.move.row f.code (ap (put_cause c.args.sink.now) (found_length c.in-Some.found (move_under v) f) ∙ put) (valid_found c.in-Some.found (move_under v) f none)
+    c.emit_under.ensures.only_memory f.move.operands_valid f.move.row f.code (ap (put_cause c.args.sink.now) (found_length c.in-Some.found (move_under v) f) ∙ put) (valid_found c.in-Some.found (move_under v) f none)

@@ -17,4 +17,4 @@ returns-in-Err-clause-answer c =
     let step = member_of c.args.flags c.args.state.now c.args.inst.now in
     let room : HasRoom s = omega (arith, c.label_count.ensures.room, c.label_count.ensures.value) in
     let cause = counted_cause c.args.flags c.args.state.now c.emit_and_advance.new.state c.args.inst.now s (declared_in t) c.label_count.result c.from.result c.in-Err.ensures.answer c.requires (declared_kept s t c.emit_and_advance.ensures.kept) c.label_count.ensures.value (c.from.ensures ∙ c.cur_offset.ensures.value) in
-    (refused_by _ _ _ _ _ cause c.first_cause.ensures (λ none. c.in-Err.ensures.lacks (emit_passed c.args.flags c.args.state.now.nominal s step room (sym cause ∙ none))) c.unwrap_or.ensures, c.in-Err.ensures.answer)
+    (refused_by _ _ _ _ _ cause c.first_cause.ensures (λ none. c.in-Err.ensures.only_memory (emit_passed c.args.flags c.args.state.now.nominal s step room (sym cause ∙ none))) c.unwrap_or.ensures, c.in-Err.ensures.answer)

@@ -3,7 +3,7 @@ use Rattle.s390x_typed_steps.specs.Causes.{declared_in, blocks_cause}
 use Rattle.s390x_typed_steps.specs.Folding.{folded_trees, peak}
 use Rattle.s390x_typed_steps.specs.Sizes.{blocks_size}
 use Rattle.s390x_emit_int.specs.Function.{tree_of}
-use Rattle.s390x_emit_int.specs.Totals.{IsCounted}
+use Rattle.s390x_emit_int.specs.CodeSize.{IsCounted}
 use Rattle.s390x_emit_int.proofs.Peaks.{Counts}
 use Rattle.s390x_emit_int.proofs.function.check_blocks.Given as goal
 

@@ -10,7 +10,7 @@ use Rattle.s390x_emit_int.specs.Fragments.{apply_all, apply, Bind}
 use Rattle.s390x_emit_int.proofs.Imaging.{block_more, block_room, block_ranges, NextBlock, next_free}
 use Rattle.s390x_emit_int.proofs.Blocks.{block_passed, others_passed, more_blocks, block_declared, more_longest, next_is}
 use Rattle.s390x_emit_int.proofs.Passing.{bind_turns, tree_turns}
-use Rattle.s390x_emit_int.proofs.Lacking.{fails_with_none, lacks_again, label_none}
+use Rattle.s390x_emit_int.proofs.OnlyMemory.{fails_with_none, only_memory_again, label_none}
 use Rattle.s390x_emit_int.proofs.function.emit_blocks.Goals as goal
 
 pub loop-block-preserved : goal.loop-block-preserved
@@ -52,18 +52,18 @@ loop-block-preserved c =
 pub emit_block-requires-clause-clear : goal.emit_block-requires-clause-clear
 emit_block-requires-clause-clear c = ap (λ (s : BufferState). s.branches) c.in_ok-bind_label.ensures.answer.1
 
-pub returns-in_err-bind_label-clause-lacks : goal.returns-in_err-bind_label-clause-lacks
-returns-in_err-bind_label-clause-lacks c = λ unpoisoned short cause.
+pub returns-in_err-bind_label-clause-only_memory : goal.returns-in_err-bind_label-clause-only_memory
+returns-in_err-bind_label-clause-only_memory c = λ unpoisoned short cause.
     let s = c.loop-block.sink in
     let p = c.loop-block.invariant.passed unpoisoned short cause in
     let below : c.loop-block.label < length s.labels = omega (arith, c.loop-block.invariant.label, c.loop-block.invariant.room, c.loop-block.invariant.count) in
-    lacks_again c.from_residual.result _ c.from_residual.ensures.1 (fails_with_none _ _ (label_none s c.loop-block.label p.unpoisoned below) c.in_err-bind_label.ensures.answer.0)
+    only_memory_again c.from_residual.result _ c.from_residual.ensures.1 (fails_with_none _ _ (label_none s c.loop-block.label p.unpoisoned below) c.in_err-bind_label.ensures.answer.0)
 
-pub returns-in_err-emit_block-clause-lacks : goal.returns-in_err-emit_block-clause-lacks
-returns-in_err-emit_block-clause-lacks c = λ unpoisoned short cause.
+pub returns-in_err-emit_block-clause-only_memory : goal.returns-in_err-emit_block-clause-only_memory
+returns-in_err-emit_block-clause-only_memory c = λ unpoisoned short cause.
     let s = c.loop-block.sink in
     let k = c.loop-block.block-index in
     let s1 = c.bind_label.new.self in
     let e1 : s1 ≡ apply s (Bind k) = c.in_ok-bind_label.ensures.answer.1 ∙ ap (λ l. apply s (Bind l)) c.loop-block.invariant.label in
-    lacks_again c.from_residual-in_err-emit_block.result _ c.from_residual-in_err-emit_block.ensures.1
-    (c.in_err-emit_block.ensures.lacks (block_passed c.args.state.now c.args.flags c.args.blocks.now k (declared_in c.args.sink.now) c.block-item.result s s1 (omega arith) c.block-item.is e1 (omega (arith, c.loop-block.invariant.count)) c.loop-block.invariant.room (c.loop-block.invariant.passed unpoisoned short cause)))
+    only_memory_again c.from_residual-in_err-emit_block.result _ c.from_residual-in_err-emit_block.ensures.1
+    (c.in_err-emit_block.ensures.only_memory (block_passed c.args.state.now c.args.flags c.args.blocks.now k (declared_in c.args.sink.now) c.block-item.result s s1 (omega arith) c.block-item.is e1 (omega (arith, c.loop-block.invariant.count)) c.loop-block.invariant.room (c.loop-block.invariant.passed unpoisoned short cause)))

@@ -18,7 +18,7 @@ invariant-loop-block l = record {
   ranges : BlocksInRange (map (tree_of l.fn.flags l.fn.state) (drop l.block-index l.blocks)) → BlocksInRange (map (tree_of l.fn.flags l.fn.state) l.blocks);
   cause : blocks_cause l.fn.flags (declared_in l.sink) (length l.sink.labels) (map (tree_of l.fn.flags l.fn.state) (drop l.block-index l.blocks)) ≡ blocks_cause l.fn.flags (declared_in l.initial.sink) (length l.initial.sink.labels) (map (tree_of l.fn.flags l.fn.state) l.blocks);
   declared : declared_in l.sink ≡ declared_in l.initial.sink;
-  passed : l.initial.sink.failed ≡ false → peak_from 0 (length l.initial.sink.bytes) (map (tree_of l.fn.flags l.fn.state) l.blocks) < limit → blocks_cause l.fn.flags (declared_in l.initial.sink) (length l.initial.sink.labels) (map (tree_of l.fn.flags l.fn.state) l.blocks) ≡ None →
+  passed : l.initial.sink.is_poisoned ≡ false → peak_from 0 (length l.initial.sink.bytes) (map (tree_of l.fn.flags l.fn.state) l.blocks) < limit → blocks_cause l.fn.flags (declared_in l.initial.sink) (length l.initial.sink.labels) (map (tree_of l.fn.flags l.fn.state) l.blocks) ≡ None →
       BlocksPassed l.fn.flags l.sink (declared_in l.initial.sink) l.block-index (map (tree_of l.fn.flags l.fn.state) (drop l.block-index l.blocks));
   label : l.label ≡ l.block-index;
   count : l.sink.block_count ≡ length l.blocks;

@@ -56,8 +56,8 @@ refusal-requires-clause-declared c =
     c.emit_blocks.ensures.declared ∙ ap declared_in (c.requires.fresh ∙ ap (λ n. fresh_buffer n cs) (sym (length-map f.blocks.items (tree_of c.args.flags c.args.state.now))))
 
 -- where no cause stands there is room for all, so that an error is want of memory
-pub refusal-requires-clause-lacks : goal.refusal-requires-clause-lacks
-refusal-requires-clause-lacks c = λ checked.
+pub refusal-requires-clause-only_memory : goal.refusal-requires-clause-only_memory
+refusal-requires-clause-only_memory c = λ checked.
     let f = c.args.function.now in
     let ts = trees_of c.args.flags c.args.state.now f in
     let cs = constants_of f in
@@ -70,4 +70,4 @@ refusal-requires-clause-lacks c = λ checked.
     subst (λ l. peak_from 0 (length s0.bytes) (map (tree_of c.args.flags c.args.state.now) l) < limit) (sym c.deref.ensures.value) (subst (λ n. peak_from 0 n ts < limit) (sym empty) (peak_below c.args.flags ts cs checked)) in
     let cause : blocks_cause c.args.flags (declared_in s0) (length s0.labels) (map (tree_of c.args.flags c.args.state.now) c.deref.result.now) ≡ None =
     ap₂ (λ m l. blocks_cause c.args.flags (declared_in s0) m (map (tree_of c.args.flags c.args.state.now) l)) labels c.deref.ensures.value ∙ ap (λ (s : BufferState). blocks_cause c.args.flags (declared_in s) n ts) start ∙ first_left (blocks_cause c.args.flags (declared_of ts cs) n ts) _ (first_right (new_cause (length ts) cs) _ checked) in
-    c.in-Err.ensures.lacks (ap (λ (s : BufferState). s.failed) start) short cause
+    c.in-Err.ensures.only_memory (ap (λ (s : BufferState). s.is_poisoned) start) short cause

@@ -1,7 +1,7 @@
 use Rattle.std.proofs.Common.{◌≡◌, ◌*◌, ◌-◌, get_or, refl, arith}
 use Rattle.s390x_base.specs.declared.ir.MachLabel.{MachLabel}
 use Rattle.s390x_buffer.proofs.Extending.{extends_on}
-use Rattle.s390x_emit_int.proofs.Lacking.{lacks_again}
+use Rattle.s390x_emit_int.proofs.OnlyMemory.{only_memory_again}
 use Rattle.s390x_emit_int.proofs.Tables.{words_more, word_length, word_passed, words_passed}
 use Rattle.s390x_emit_int.proofs.table.put_words.Goals as goal
 
@@ -25,8 +25,8 @@ loop-target-preserved c =
       passed = λ after p. words_passed s s1 after before ls k (get_or ls k nothing) nothing (omega arith) refl c.in_ok-put_word.ensures.answer (c.loop-target.invariant.passed after p);
     }
 
-pub returns-in_err-put_word-clause-lacks : goal.returns-in_err-put_word-clause-lacks
-returns-in_err-put_word-clause-lacks c = λ after p.
+pub returns-in_err-put_word-clause-only_memory : goal.returns-in_err-put_word-clause-only_memory
+returns-in_err-put_word-clause-only_memory c = λ after p.
     let ls = c.args.targets.now in
     let k = c.loop-target.target-index in
-    lacks_again c.from_residual.result _ c.from_residual.ensures.1 (c.in_err-put_word.ensures.lacks (word_passed c.loop-target.sink after ls k (get_or ls k nothing) nothing (omega arith) refl (c.loop-target.invariant.passed after p)))
+    only_memory_again c.from_residual.result _ c.from_residual.ensures.1 (c.in_err-put_word.ensures.only_memory (word_passed c.loop-target.sink after ls k (get_or ls k nothing) nothing (omega arith) refl (c.loop-target.invariant.passed after p)))

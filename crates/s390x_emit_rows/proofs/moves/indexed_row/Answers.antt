@@ -14,5 +14,5 @@ returns-in-Some c =
     let displacement = low_displacement c.args.displacement in
     let row : Reg → MachineInstruction = λ r. rxy c.in-Some.opcode (number_of r) (number_of base) (number_of index) displacement in
     let valid : Reg → Bool = λ r. is_general r && is_general base && is_general index in
-    ap Some (c.indexed.ensures ∙ ap (λ v. code_where v (row c.to_reg-output.result)) c.three_general.ensures ∙ ap (λ r. code_where (valid r) (row r)) c.to_reg-output.ensures)
+    ap Some (c.indexed_code.ensures ∙ ap (λ v. code_where v (row c.to_reg-output.result)) c.three_general.ensures ∙ ap (λ r. code_where (valid r) (row r)) c.to_reg-output.ensures)
     ∙ ap (λ o. single_code (single_with (valid c.args.rd.now) (indexed_row o (number_of c.args.rd.now) (number_of base) (number_of index) displacement))) (sym c.in-Some.is)

@@ -9,6 +9,6 @@ use Rattle.s390x_emit_rows.proofs.moves.set_doubleword.Goals as goal
 pub returns : goal.returns
 returns c = λ i e.
     let rd = c.args.rd.now in
-    c.into_signed_word_row.ensures
+    c.encode_signed_ril_into.ensures
     ∙ ap (λ o. single_code (single_with (is_general rd) (word_row o (number_of rd) (low_word c.args.imm.now)))) c.always.ensures
     ∙ ap (λ (k : Inst). single_code (single_instruction k)) (sym e)

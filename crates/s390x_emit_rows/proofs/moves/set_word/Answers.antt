@@ -11,7 +11,7 @@ pub returns : goal.returns
 returns c = λ i e.
     let rd = c.args.rd.now in
     let bits = c.bits_of_unsigned in
-    c.into_word_row.ensures
+    c.encode_ril_into.ensures
     ∙ ap (λ o. single_code (single_with (is_general rd) (word_row o (number_of rd) bits.result))) c.always.ensures
     ∙ ap (λ n. single_code (single_with (is_general rd) (word_row (Some opcodes.IILF) (number_of rd) n))) bits.ensures
     ∙ ap (λ (k : Inst). single_code (single_instruction k)) (sym e)

@@ -4,7 +4,7 @@ use Rattle.std.proofs.lemmas.List.{get_or_default}
 use Rattle.s390x_job_lines.specs.Names.{name_text}
 use Rattle.s390x_job_lines.specs.Slots.{slot_of}
 use Rattle.s390x_job_lines.specs.declared.name.LineName.TheVariants.{FlagsLine, EndLine}
-use Rattle.s390x_job_lines.specs.declared.all_names.TheConstants.{ALL_NAMES}
+use Rattle.s390x_job_lines.specs.declared.name_hash.TheConstants.{ALL_NAMES}
 use Rattle.s390x_job_lines.proofs.Slots.{name-slot}
 use Rattle.s390x_job_lines.proofs.name.candidate.Goals as goal
 

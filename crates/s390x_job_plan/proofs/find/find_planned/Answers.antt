@@ -3,8 +3,8 @@ use Rattle.std.proofs.lemmas.Bool.{false≢true}
 use Rattle.std.proofs.lemmas.List.{length-drop, length-map}
 use Rattle.std.proofs.Math.Seq.{take-length}
 use Rattle.s390x_job.specs.Completions.{joined, pieces}
-use Rattle.s390x_job_plan.specs.Errors.{IsPlanFound, IsPlanStuckAt, IsStuckAt}
-use Rattle.s390x_job_plan.specs.declared.find.PlanFound.TheVariants.{Whole}
+use Rattle.s390x_job_plan.specs.Errors.{IsPlanOutcome, IsPlanStuckAt, IsStuckAt}
+use Rattle.s390x_job_plan.specs.declared.find.PlanOutcome.TheVariants.{Whole}
 use Rattle.s390x_job_plan.proofs.Stopping.{stuck_job, stuck_plan, stuck_rest, whole_plan}
 use Rattle.s390x_job_plan.proofs.find.find_planned.Goals as goal
 
@@ -37,7 +37,7 @@ returns-then-branch c =
     let size = c.job_size-size.result in
     let words = words_behind c.deref.result.now c.in_ok-lines.lines.items size c.args.bytes.now c.deref.ensures.value c.in_ok-lines.ensures in
     let again = words_behind c.deref-in-Whole.result.now c.in_ok-lines.lines.items size c.args.bytes.now c.deref-in-Whole.ensures.value c.in_ok-lines.ensures in
-    let found = subst (λ ws. IsPlanFound ws (Whole c.in-Whole.plan)) words (rw c.in-Whole.is at c.in_ok-n.ensures) in
+    let found = subst (λ ws. IsPlanOutcome ws (Whole c.in-Whole.plan)) words (rw c.in-Whole.is at c.in_ok-n.ensures) in
     let all = sym (ap joined again) ∙ c.in_ok-is_all-in-Whole.ensures.0 c.if-branch.true ∙ all_behind size c.args.bytes.now in
     whole_plan c.args.bytes.now size c.in-Ok.job job.0 job.1 c.in-Whole.plan found all
 

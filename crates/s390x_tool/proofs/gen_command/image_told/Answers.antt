@@ -18,7 +18,7 @@ returns-in-Err-Refused c =
     let error = c.in-Err-Refused.error in
     let cause = rw c.in-Err-Refused.field-0-is at c.in-Err-Refused.ensures.refused in
     let none = by_default (λ a b t. HasNoImage a b f generated_base t (Refused error)) _ _ _ _ c.new-info.ensures c.default.ensures c.default-2.ensures c.new-symbols.ensures.empty cause in
-    reply_of_refusal law.count law.valid law.size c.args.count c.args.start f error _ _ c.requires.few c.requires.generated none (rw c.in-Err-Refused.field-0-is at c.refused.ensures)
+    reply_of_refusal law.count law.valid law.size c.args.count c.args.start f error _ _ c.requires.few c.requires.generated none (rw c.in-Err-Refused.field-0-is at c.refusal_reply.ensures)
 
 pub returns : goal.returns
 returns c =

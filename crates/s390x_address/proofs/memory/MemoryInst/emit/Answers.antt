@@ -6,31 +6,31 @@ use Rattle.s390x_typed_steps.specs.Memory.{type_of, fault_code}
 use Rattle.s390x_typed_steps.specs.Operands.{finalized}
 use Rattle.s390x_typed_steps.specs.Parts.{finalized_parts, parts_size}
 use Rattle.s390x_address.specs.Appended.{appended}
-use Rattle.s390x_address.specs.Plans.{finalized_of}
+use Rattle.s390x_address.specs.Lowerings.{finalized_of}
 use Rattle.s390x_address.specs.Rows.{relative_encodes, rows_encode, memory_instruction_of, in_state}
 use Rattle.s390x_address.proofs.Planning.{resolved_flags, on_ok}
-use Rattle.s390x_address.proofs.Refusing.{Stands, passes, finalized_stands, plan_may_stand}
+use Rattle.s390x_address.proofs.Refusing.{Stands, passes, finalized_stands, lowering_may_stand}
 use Rattle.s390x_address.proofs.memory.MemoryInst.emit.Goals as goal
 
 pub returns-in-Ok-clause-answer : goal.returns-in-Ok-clause-answer
 returns-in-Ok-clause-answer c =
     let s = c.args.sink.now in
     let x = in_state c.args.state.now (memory_instruction_of c.args.self.now) in
-    let p = c.in-Ok.plan in
+    let p = c.in-Ok.lowering in
     let forms : c.forms.result ≡ type_of x.form x.accesses = c.forms.ensures in
     let same : finalized_of p ≡ finalized (type_of x.form x.accesses) x.operand = c.in-Ok.ensures.1 ∙ ap (λ mi. finalized mi x.operand) forms in
     let code : c.fault_code.result ≡ fault_code x = c.fault_code.ensures ∙ ap (λ f. cond x.accesses f.trap None) (sym (resolved_flags c.args.state.now c.args.self.now.operand)) in
-    on_ok c.put_plan.result c.put_plan.ensures.answer (λ h. h ∙ ap (λ k. appended s (finalized_parts x.form k (finalized_of p))) code ∙ ap (λ f. appended s (finalized_parts x.form (fault_code x) f)) same)
+    on_ok c.put_lowering.result c.put_lowering.ensures.answer (λ h. h ∙ ap (λ k. appended s (finalized_parts x.form k (finalized_of p))) code ∙ ap (λ f. appended s (finalized_parts x.form (fault_code x) f)) same)
 
 follows : (s t : Bool) → (not s || t) ≡ true → s ≡ true → t ≡ true
 follows true t h e = h
 follows false t h e = absurd (cc)
 
-pub returns-in-Ok-clause-lacks : goal.returns-in-Ok-clause-lacks
-returns-in-Ok-clause-lacks c = λ put none.
+pub returns-in-Ok-clause-only_memory : goal.returns-in-Ok-clause-only_memory
+returns-in-Ok-clause-only_memory c = λ put none.
     let s = c.args.sink.now in
     let x = in_state c.args.state.now (memory_instruction_of c.args.self.now) in
-    let p = c.in-Ok.plan in
+    let p = c.in-Ok.lowering in
     let mi = type_of x.form x.accesses in
     let forms : c.forms.result ≡ mi = c.forms.ensures in
     let same : finalized_of p ≡ finalized mi x.operand = c.in-Ok.ensures.1 ∙ ap (λ m. finalized m x.operand) forms in
@@ -39,10 +39,10 @@ returns-in-Ok-clause-lacks c = λ put none.
     let free = passes D x none in
     let encoded = (and_parts (relative_encodes c.args.self.now.rows) (not x.operands_valid || rows_encode c.args.self.now.rows) c.requires).1 in
     let size = ap (λ k. put_cause s (parts_size (finalized_parts x.form k (finalized_of p)))) code ∙ ap (λ f. put_cause s (parts_size (finalized_parts x.form (fault_code x) f))) same ∙ put in
-    c.put_plan.ensures.lacks size (follows x.operands_valid (rows_encode c.args.self.now.rows) encoded free.operands_valid) (plan_may_stand D p (subst (Stands D) (sym same) (finalized_stands D mi x.operand free.stands)))
+    c.put_lowering.ensures.only_memory size (follows x.operands_valid (rows_encode c.args.self.now.rows) encoded free.operands_valid) (lowering_may_stand D p (subst (Stands D) (sym same) (finalized_stands D mi x.operand free.stands)))
 
-pub returns-in-Err-clause-lacks : goal.returns-in-Err-clause-lacks
-returns-in-Err-clause-lacks c = λ put none.
+pub returns-in-Err-clause-only_memory : goal.returns-in-Err-clause-only_memory
+returns-in-Err-clause-only_memory c = λ put none.
     let x = in_state c.args.state.now (memory_instruction_of c.args.self.now) in
     let forms : c.forms.result ≡ type_of x.form x.accesses = c.forms.ensures in
     let p = passes (declared_in c.args.sink.now) x none in

@@ -27,11 +27,11 @@ returns-in-Some-clause-answer c =
       h ∙ ap (λ k. appended s (access_parts (Some m) k)) code ∙ ap (appended s) (sym (plain_parts y.form (fault_code y) f m plain.0 plain.1 row)),
     )))
 
-pub returns-in-Some-clause-lacks : goal.returns-in-Some-clause-lacks
-returns-in-Some-clause-lacks c = λ put none.
+pub returns-in-Some-clause-only_memory : goal.returns-in-Some-clause-only_memory
+returns-in-Some-clause-only_memory c = λ put none.
     let s = c.args.sink.now in
     let y = in_state c.args.state.now (memory_instruction_of c.args.self.now) in
     let f = finalized (type_of y.form y.accesses) y.operand in
     let plain = c.in-Some.ensures in
     row_found (storage_row y.form f.operand) c.in-Some.code plain.2 (λ m row same.
-    c.put_row.ensures.lacks (ap (λ n. put_cause s n) (ap length same ∙ sym (plain_size (fault_code y) m) ∙ ap parts_size (sym (plain_parts y.form (fault_code y) f m plain.0 plain.1 row))) ∙ put))
+    c.put_row.ensures.only_memory (ap (λ n. put_cause s n) (ap length same ∙ sym (plain_size (fault_code y) m) ∙ ap parts_size (sym (plain_parts y.form (fault_code y) f m plain.0 plain.1 row))) ∙ put))

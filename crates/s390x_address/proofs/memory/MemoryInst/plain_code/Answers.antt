@@ -2,7 +2,7 @@ use Rattle.std.proofs.Common.{◌≡◌, rules, IfSome, sym, subst, to_z, of_z}
 use Rattle.std.specs.Int.{w128}
 use Rattle.s390x_inst.specs.Memory.{flags_of}
 use Rattle.s390x_inst.specs.declared.args.MemArg.TheVariants.{RegOffset}
-use Rattle.s390x_address.specs.Plans.{IsPlain}
+use Rattle.s390x_address.specs.Lowerings.{IsPlain}
 use Rattle.s390x_address.specs.Rows.{storage_form_of}
 use Rattle.s390x_address.proofs.memory.MemoryInst.plain_code.Goals as goal
 

@@ -1,0 +1,62 @@
+-- How the code's lowering of an operand stands for its helpers and the operand of the access.
+use Rattle.std.specs.Prelude.{◌≡◌, ℕ, ℤ, List, [], ◌∷◌, ◌++◌, length, Bool, true, false, not, ◌&&◌, nat_lt, Option, Some, None, option_map}
+use Rattle.s390x_base.specs.declared.error.EmitError.{EmitError}
+use Rattle.s390x_base.specs.declared.error.EmitError.TheVariants.{BadRegister, ScratchConflict, OffsetOutOfRange}
+use Rattle.s390x_inst.specs.declared.args.MemArg.{MemArg}
+use Rattle.s390x_inst.specs.declared.args.MemArg.TheVariants.{Label, Constant}
+use Rattle.s390x_inst.specs.declared.inst.Inst.{Inst}
+use Rattle.s390x_inst.specs.declared.inst.Inst.TheVariants.{Mov64SImm32, LoadAddr}
+use Rattle.s390x_typed_steps.specs.MachineInstruction.{bytes_of}
+use Rattle.s390x_typed_steps.specs.Operands.{Finalized, finalized, is_relative, scratch, loses_base, offset_fits, operand_general}
+use Rattle.s390x_typed_steps.specs.Causes.{Declared, first_emit_cause, unless, is_helped, addend_fits, target_cause, memory_cause}
+use Rattle.s390x_typed_steps.specs.Memory.{MemoryInstruction, type_of, storage_row}
+use Rattle.s390x_address.specs.declared.lowering.Lowering.{Lowering}
+
+-- the helper that loads an offset, where there is one
+abbrev pub far_helper : Option ℤ → List Inst
+far_helper None = []
+far_helper (Some off) = Mov64SImm32 scratch off ∷ []
+
+-- the helper that loads an address, where there is one
+abbrev pub address_helper : Option MemArg → List Inst
+address_helper None = []
+address_helper (Some mem) = LoadAddr scratch mem ∷ []
+
+-- the helpers and the operand that a lowering stands for
+abbrev pub finalized_of : Lowering → Finalized
+finalized_of p = record { helpers = far_helper p.offset_load ++ address_helper p.address_load; operand = p.operand }
+
+-- the causes of an offset: it is loaded over its base, or doesn't fit 32 bits
+abbrev pub offset_cause : MemArg → Option EmitError
+offset_cause m = first_emit_cause (unless (not (loses_base m)) ScratchConflict) (unless (offset_fits m) OffsetOutOfRange)
+
+-- the operand's label is a block's, its constant is declared
+abbrev pub is_bound_operand : Declared → MemArg → Bool
+is_bound_operand D (Label target) = nat_lt target.0 D.blocks
+is_bound_operand D (Constant c) = nat_lt c.0 (length D.aligns)
+is_bound_operand D m = true
+
+-- an operand can stand in an instruction: so it is, and its registers are real Int ones
+abbrev pub may_stand : Declared → MemArg → Bool
+may_stand D m = operand_general m && is_bound_operand D m
+
+-- the operand whose address is loaded can, where there is one
+abbrev pub address_stands : Declared → Option MemArg → Bool
+address_stands D None = true
+address_stands D (Some mem) = may_stand D mem
+
+-- those of a lowering can
+abbrev pub lowering_stands : Declared → Lowering → Bool
+lowering_stands D p = address_stands D p.address_load && may_stand D p.operand
+
+-- the causes behind those of the rows, the registers and the operand: %r1 is read behind a helper, an addend doesn't fit 32 bits, the place that is named
+abbrev pub lowered_cause : Declared → MemoryInstruction → Finalized → Option EmitError
+lowered_cause D x f =
+    first_emit_cause (first_emit_cause (unless (not (x.reads_scratch && is_helped f.helpers)) ScratchConflict) (unless (addend_fits x.operand) OffsetOutOfRange)) (target_cause D x)
+
+-- an instruction whose access is behind no helper, by the row that has this code; only its registers may refuse it
+abbrev pub IsPlain : MemoryInstruction → List ℕ → Type 0
+IsPlain x code =
+    let f = finalized (type_of x.form x.accesses) x.operand in
+    (f.helpers ≡ []) × (is_relative f.operand ≡ false) × (option_map bytes_of (storage_row x.form f.operand) ≡ Some code)
+    × ((D : Declared) → memory_cause D x ≡ unless (x.operands_valid && operand_general x.operand) BadRegister)
