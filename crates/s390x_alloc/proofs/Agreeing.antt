@@ -9,11 +9,11 @@ use Rattle.s390x_operands.specs.declared.constraint.OperandKind.{OperandKind}
 use Rattle.s390x_operands.specs.declared.constraint.OperandKind.TheVariants.{Def, Use}
 use Rattle.s390x_operands.specs.declared.constraint.Reported.{Reported}
 use Rattle.s390x_operands.specs.declared.constraint.Reported.TheVariants.{Operand, Fixed, Clobbers}
-use Rattle.s390x_alloc.specs.declared.given.GivenOperand.{GivenOperand}
+use Rattle.s390x_alloc.specs.declared.assigned.GivenOperand.{GivenOperand}
 use Rattle.s390x_alloc.specs.declared.plan.EntryPair.{EntryPair}
 use Rattle.s390x_alloc.specs.declared.plan.Place.{Place}
 use Rattle.s390x_alloc.specs.declared.plan.Place.TheVariants.{Reg as InReg}
-use Rattle.s390x_alloc.specs.Held.{carried, holds, is_in_set, moved, stepped, with_operand, with_operands, with_output, without_item, without_items, without_place}
+use Rattle.s390x_alloc.specs.Contents.{carried, holds, is_in_set, moved, stepped, with_operand, with_operands, with_output, without_item, without_items, without_place}
 use Rattle.s390x_alloc.specs.Same.{same_pair, same_place, same_register}
 use Rattle.s390x_alloc.specs.Steps.{first_unheld, is_held}
 use Rattle.s390x_alloc.specs.Walks.{AllReadAlike, Fresh, ReadsAlike, Values, after_inst, copied, is_lost, is_lost_by, with_output_value, with_outputs, without}

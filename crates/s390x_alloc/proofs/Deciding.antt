@@ -12,15 +12,15 @@ use Rattle.s390x_alloc.specs.declared.fault.EditCause.{EditCause}
 use Rattle.s390x_alloc.specs.declared.fault.EditCause.TheVariants.{Miscounted, NoMemory as NoRoom}
 use Rattle.s390x_alloc.specs.declared.fault.PlanFault.{PlanFault}
 use Rattle.s390x_alloc.specs.declared.fault.PlanFault.TheVariants.{Blocks, NoMemory}
-use Rattle.s390x_alloc.specs.declared.given.GivenOperand.{GivenOperand}
+use Rattle.s390x_alloc.specs.declared.assigned.GivenOperand.{GivenOperand}
 use Rattle.s390x_alloc.specs.declared.location_map.LocationMap.{LocationMap}
 use Rattle.s390x_alloc.specs.declared.plan.BlockPlan.{BlockPlan}
 use Rattle.s390x_alloc.specs.declared.plan.EntryPair.{EntryPair}
 use Rattle.s390x_alloc.specs.Blocks.{IsFault, after_blocks}
 use Rattle.s390x_alloc.specs.Checked.{checked, then_entries, unless_entry}
 use Rattle.s390x_alloc.specs.Entries.{entry_fault}
-use Rattle.s390x_alloc.specs.Given.{given_operands, is_operand}
-use Rattle.s390x_alloc.specs.Held.{stepped}
+use Rattle.s390x_alloc.specs.Assigned.{given_operands, is_operand}
+use Rattle.s390x_alloc.specs.Contents.{stepped}
 use Rattle.s390x_alloc.specs.Locations.{AllLeadTo, AreMapsOf, IsMapOf, LeadsTo}
 use Rattle.s390x_alloc.specs.Steps.{IsCause, after_step, cause_or, miscounted, operands_fault, step_cause, unless_cause, unreported}
 use Rattle.s390x_alloc.proofs.Sameness.{number-self}

@@ -9,7 +9,7 @@ use Rattle.s390x_operands.specs.declared.constraint.Reported.{Reported}
 use Rattle.s390x_alloc.specs.declared.fault.EditCause.{EditCause}
 use Rattle.s390x_alloc.specs.declared.fault.PlanFault.{PlanFault}
 use Rattle.s390x_alloc.specs.declared.fault.PlanFault.TheVariants.{Order}
-use Rattle.s390x_alloc.specs.declared.given.GivenOperand.{GivenOperand}
+use Rattle.s390x_alloc.specs.declared.assigned.GivenOperand.{GivenOperand}
 use Rattle.s390x_alloc.specs.declared.location_map.LocationMap.{LocationMap}
 use Rattle.s390x_alloc.specs.declared.plan.BlockPlan.{BlockPlan}
 use Rattle.s390x_alloc.specs.declared.plan.Edit.{Edit}
@@ -18,7 +18,7 @@ use Rattle.s390x_alloc.specs.declared.plan.Place.{Place}
 use Rattle.s390x_alloc.specs.Blocks.{IsFault, after_block, after_blocks, after_edit, after_edits, after_move, steps_in}
 use Rattle.s390x_alloc.specs.Entries.{all_hold, first_unfounded, is_founded, is_held_there}
 use Rattle.s390x_alloc.specs.Faults.{IsTold, edit_fault}
-use Rattle.s390x_alloc.specs.Held.{with_operand, with_operands, without_item, without_items}
+use Rattle.s390x_alloc.specs.Contents.{with_operand, with_operands, without_item, without_items}
 use Rattle.s390x_alloc.specs.Locations.{AllLeadTo, AreMapsOf, IsMapOf, LeadsTo, is_located, pair_of}
 use Rattle.s390x_alloc.specs.Steps.{IsCause, first_unheld, is_held}
 use Rattle.s390x_alloc.proofs.Turning.{block_refused, block_turn, cons_of, edit_refused, edit_turn, edits_done, edits_missing}

@@ -16,7 +16,7 @@ use Rattle.s390x_alloc.specs.declared.plan.Place.{Place}
 use Rattle.s390x_alloc.specs.declared.plan.Place.TheVariants.{Reg as InReg}
 use Rattle.s390x_alloc.specs.declared.register_homes.RegisterHomes.{RegisterHomes}
 use Rattle.s390x_alloc.specs.declared.register_set.RegisterSet.{RegisterSet}
-use Rattle.s390x_alloc.specs.Held.{carried, holds, is_in_set, moved, with_output, without_place}
+use Rattle.s390x_alloc.specs.Contents.{carried, holds, is_in_set, moved, with_output, without_place}
 use Rattle.s390x_alloc.specs.Moves.{holds_other_class, is_of_other_class}
 use Rattle.s390x_alloc.specs.Locations.{IsAlone, IsApart, IsMapOf, at_value, in_set, is_located, is_value_of, pair_of, value_of}
 use Rattle.s390x_alloc.specs.Registers.{HasNoOther, HasOther, has_register, is_home, same_virtual}

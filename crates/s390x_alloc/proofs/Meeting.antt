@@ -15,7 +15,7 @@ use Rattle.s390x_operands.specs.declared.constraint.Reported.{Reported}
 use Rattle.s390x_operands.specs.declared.constraint.Reported.TheVariants.{Operand, Fixed, Clobbers}
 use Rattle.s390x_alloc.specs.declared.fault.EditCause.{EditCause}
 use Rattle.s390x_alloc.specs.declared.plan.EntryPair.{EntryPair}
-use Rattle.s390x_alloc.specs.Given.{given_behind, given_operand, given_operands, is_operand}
+use Rattle.s390x_alloc.specs.Assigned.{given_behind, given_operand, given_operands, is_operand}
 use Rattle.s390x_alloc.specs.Same.{is_reserved, same_class}
 use Rattle.s390x_alloc.specs.Steps.{cause_or, first_unheld, first_unsuited, is_given, miscounted, operands_fault, step_cause, suits_constraint, suits_operand, unheld, unreported, unsuited}
 use Rattle.s390x_alloc.proofs.Sameness.{class-same, register-same}

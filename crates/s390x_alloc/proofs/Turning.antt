@@ -9,13 +9,13 @@ use Rattle.s390x_operands.specs.declared.constraint.Reported.{Reported}
 use Rattle.s390x_alloc.specs.declared.fault.EditCause.{EditCause}
 use Rattle.s390x_alloc.specs.declared.fault.PlanFault.{PlanFault}
 use Rattle.s390x_alloc.specs.declared.fault.PlanFault.TheVariants.{Order}
-use Rattle.s390x_alloc.specs.declared.given.GivenOperand.{GivenOperand}
+use Rattle.s390x_alloc.specs.declared.assigned.GivenOperand.{GivenOperand}
 use Rattle.s390x_alloc.specs.declared.plan.BlockPlan.{BlockPlan}
 use Rattle.s390x_alloc.specs.declared.plan.Edit.{Edit}
 use Rattle.s390x_alloc.specs.declared.plan.EntryPair.{EntryPair}
 use Rattle.s390x_alloc.specs.Blocks.{IsFault, after_block, after_blocks, after_edit, after_edits, left_behind, or_block_fault, or_fault, steps_in}
 use Rattle.s390x_alloc.specs.Faults.{IsTold, edit_fault}
-use Rattle.s390x_alloc.specs.Given.{given_behind, given_operand}
+use Rattle.s390x_alloc.specs.Assigned.{given_behind, given_operand}
 use Rattle.s390x_alloc.specs.Steps.{IsCause}
 
 pub cons_of : {T : Type 0} (xs : List T) (k : ℕ) (x : T) → k < length xs → x ≡ get_or xs k x → drop k xs ≡ x ∷ drop (k + 1) xs

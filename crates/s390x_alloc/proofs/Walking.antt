@@ -18,8 +18,8 @@ use Rattle.s390x_alloc.specs.declared.plan.EntryPair.{EntryPair}
 use Rattle.s390x_alloc.specs.Blocks.{after_block, after_blocks, after_edits, after_move, fault_or, or_block_fault, or_fault}
 use Rattle.s390x_alloc.specs.Checked.{checked, then_entries, unless_entry}
 use Rattle.s390x_alloc.specs.Entries.{all_hold, entry_fault, entry_or, first_unfounded, is_founded, is_held_there, is_virtual, predecessors}
-use Rattle.s390x_alloc.specs.Given.{given_operands, is_operand}
-use Rattle.s390x_alloc.specs.Held.{holds, moved, stepped}
+use Rattle.s390x_alloc.specs.Assigned.{given_operands, is_operand}
+use Rattle.s390x_alloc.specs.Contents.{holds, moved, stepped}
 use Rattle.s390x_alloc.specs.Moves.{is_no_move}
 use Rattle.s390x_alloc.specs.Same.{same_pair}
 use Rattle.s390x_alloc.specs.Shape.{block_ending, first_misshapen, first_unsupported, is_empty, is_end, precedes}

@@ -13,7 +13,7 @@ use Rattle.s390x_alloc.specs.declared.plan.Edit.{Edit}
 use Rattle.s390x_alloc.specs.declared.plan.Edit.TheVariants.{Move, Step}
 use Rattle.s390x_alloc.specs.declared.plan.EntryPair.{EntryPair}
 use Rattle.s390x_alloc.specs.Faults.{edit_fault}
-use Rattle.s390x_alloc.specs.Held.{moved}
+use Rattle.s390x_alloc.specs.Contents.{moved}
 use Rattle.s390x_alloc.specs.Moves.{is_no_move}
 use Rattle.s390x_alloc.specs.Shape.{block_ending, first_misshapen, first_unsupported, is_empty, is_end}
 use Rattle.s390x_alloc.specs.Steps.{after_step}

@@ -8,7 +8,7 @@ use Rattle.s390x_alloc.specs.declared.fault.PlanFault.{PlanFault}
 use Rattle.s390x_alloc.specs.declared.fault.PlanFault.TheVariants.{Entry, NoMemory}
 use Rattle.s390x_alloc.specs.declared.plan.BlockPlan.{BlockPlan}
 use Rattle.s390x_alloc.specs.declared.plan.EntryPair.{EntryPair}
-use Rattle.s390x_alloc.specs.Held.{holds}
+use Rattle.s390x_alloc.specs.Contents.{holds}
 use Rattle.s390x_alloc.specs.Shape.{precedes}
 
 -- the numbers of those of `count` blocks that have a block as a successor, where the first of these has this number

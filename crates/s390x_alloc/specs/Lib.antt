@@ -1,12 +1,12 @@
 pub mod Answered
 pub mod Answers
+pub mod Assigned
 pub mod Blocks
 pub mod Checked
+pub mod Contents
 pub mod Entries
 pub mod Example
 pub mod Faults
-pub mod Given
-pub mod Held
 pub mod Locations
 pub mod Moves
 pub mod Registers

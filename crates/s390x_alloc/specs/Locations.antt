@@ -12,7 +12,7 @@ use Rattle.s390x_alloc.specs.declared.plan.EntryPair.{EntryPair}
 use Rattle.s390x_alloc.specs.declared.plan.Place.{Place}
 use Rattle.s390x_alloc.specs.declared.plan.Place.TheVariants.{Reg as InReg, Slot}
 use Rattle.s390x_alloc.specs.declared.register_set.RegisterSet.{RegisterSet}
-use Rattle.s390x_alloc.specs.Held.{holds}
+use Rattle.s390x_alloc.specs.Contents.{holds}
 use Rattle.s390x_alloc.specs.Registers.{has_register, is_home}
 use Rattle.s390x_alloc.specs.Same.{same_place, same_real}
 

@@ -17,7 +17,7 @@ use Rattle.s390x_alloc.specs.declared.fault.EditCause.TheVariants.{Immovable, No
 use Rattle.s390x_alloc.specs.declared.plan.EntryPair.{EntryPair}
 use Rattle.s390x_alloc.specs.declared.plan.Place.{Place}
 use Rattle.s390x_alloc.specs.declared.plan.Place.TheVariants.{Reg as InReg, Slot}
-use Rattle.s390x_alloc.specs.Held.{moved}
+use Rattle.s390x_alloc.specs.Contents.{moved}
 use Rattle.s390x_alloc.specs.Same.{is_reserved, same_class, same_place}
 
 -- ---- which instruction a move is

@@ -11,11 +11,11 @@ use Rattle.s390x_operands.specs.declared.constraint.OperandKind.{OperandKind}
 use Rattle.s390x_operands.specs.declared.constraint.OperandKind.TheVariants.{Def, Use}
 use Rattle.s390x_alloc.specs.declared.fault.EditCause.{EditCause}
 use Rattle.s390x_alloc.specs.declared.fault.EditCause.TheVariants.{Unreported, Miscounted, Unsuited, Unheld, NoMemory}
-use Rattle.s390x_alloc.specs.declared.given.GivenOperand.{GivenOperand}
+use Rattle.s390x_alloc.specs.declared.assigned.GivenOperand.{GivenOperand}
 use Rattle.s390x_alloc.specs.declared.plan.EntryPair.{EntryPair}
 use Rattle.s390x_alloc.specs.declared.plan.Place.TheVariants.{Reg as InReg}
-use Rattle.s390x_alloc.specs.Given.{given_operands, is_operand}
-use Rattle.s390x_alloc.specs.Held.{holds, stepped}
+use Rattle.s390x_alloc.specs.Assigned.{given_operands, is_operand}
+use Rattle.s390x_alloc.specs.Contents.{holds, stepped}
 use Rattle.s390x_alloc.specs.Same.{is_reserved, same_class, same_register}
 
 -- ---- constraints

@@ -10,14 +10,14 @@ use Rattle.s390x_operands.specs.declared.constraint.OperandKind.{OperandKind}
 use Rattle.s390x_operands.specs.declared.constraint.OperandKind.TheVariants.{Def, Use}
 use Rattle.s390x_operands.specs.declared.constraint.Reported.{Reported}
 use Rattle.s390x_operands.specs.declared.constraint.Reported.TheVariants.{Operand, Fixed, Clobbers}
-use Rattle.s390x_alloc.specs.declared.given.GivenOperand.{GivenOperand}
+use Rattle.s390x_alloc.specs.declared.assigned.GivenOperand.{GivenOperand}
 use Rattle.s390x_alloc.specs.declared.plan.BlockPlan.{BlockPlan}
 use Rattle.s390x_alloc.specs.declared.plan.Edit.{Edit}
 use Rattle.s390x_alloc.specs.declared.plan.Edit.TheVariants.{Move, Step}
 use Rattle.s390x_alloc.specs.declared.plan.Place.{Place}
 use Rattle.s390x_alloc.specs.declared.plan.Place.TheVariants.{Reg as InReg}
-use Rattle.s390x_alloc.specs.Given.{given_operands}
-use Rattle.s390x_alloc.specs.Held.{is_in_set}
+use Rattle.s390x_alloc.specs.Assigned.{given_operands}
+use Rattle.s390x_alloc.specs.Contents.{is_in_set}
 use Rattle.s390x_alloc.specs.Same.{same_place, same_register}
 use Rattle.s390x_alloc.specs.Shape.{precedes}
 

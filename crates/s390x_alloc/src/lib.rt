@@ -2,19 +2,19 @@
 #![tactic(auto)]
 
 mod answer;
-mod checking;
+mod assigned;
+mod blocks;
+mod contents;
 mod edits;
 mod entries;
 mod fault;
-mod given;
-mod held;
 mod law;
 mod location_map;
 mod memory;
 mod moves;
 mod place_values;
 mod plan;
-mod planning;
+mod plan_check;
 mod register_homes;
 mod register_set;
 mod same;
@@ -26,4 +26,4 @@ pub use entries::entry_fault;
 pub use fault::PlanFault;
 pub use law::{accepted_registers_meet, some_plan_is_accepted, walks_read_alike};
 pub use plan::{BlockPlan, Edit, EntryPair, Place, Plan};
-pub use planning::check_plan;
+pub use plan_check::check_plan;

@@ -1,6 +1,6 @@
 //! Which moves there are, and which instructions they are.
 ghost use Rattle.std.specs.Prelude.{◌≡◌, IfOk, List, Some};
-ghost use Rattle.s390x_alloc.specs.Held.{moved};
+ghost use Rattle.s390x_alloc.specs.Contents.{moved};
 ghost use Rattle.s390x_alloc.specs.Locations.{IsMapOf};
 ghost use Rattle.s390x_alloc.specs.Moves.{IsMoved, copy_of, is_no_move, is_unlike, is_unlike_register, is_unmovable, load_of, move_inst, slot_operand, store_of};
 ghost use Rattle.s390x_alloc.specs.declared.plan.EntryPair.{EntryPair as Pair};

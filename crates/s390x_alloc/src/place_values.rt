@@ -1,6 +1,6 @@
 //! The values that stand in places, by their numbers.
 ghost use Rattle.std.specs.Prelude.{◌≡◌, None, Some, IfOk, cond, not, filter};
-ghost use Rattle.s390x_alloc.specs.Held.{is_in_set};
+ghost use Rattle.s390x_alloc.specs.Contents.{is_in_set};
 ghost use Rattle.s390x_alloc.specs.Locations.{value_in, value_of};
 ghost use Rattle.s390x_alloc.specs.Same.{same_place};
 ghost use Rattle.s390x_alloc.specs.declared.plan.Place.{Place as AnyPlace};

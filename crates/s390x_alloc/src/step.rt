@@ -5,9 +5,9 @@ ghost use Rattle.s390x_operands.specs.Operands.{operands, operands_cause};
 ghost use Rattle.s390x_alloc.specs.Steps.{IsCause, after_step, first_unheld, first_unsuited, is_given, is_held, operands_fault, suits_constraint, suits_operand, unreported};
 ghost use Rattle.s390x_alloc.specs.declared.plan.EntryPair.{EntryPair as Pair};
 
+use crate::assigned::{GivenOperand, count_operands, given_operands};
+use crate::contents::take_step;
 use crate::fault::EditCause;
-use crate::given::{GivenOperand, count_operands, given_operands};
-use crate::held::take_step;
 use crate::location_map::LocationMap;
 use crate::plan::Place;
 use crate::same::{is_reserved, same_class, same_register};

@@ -13,14 +13,14 @@ use Rattle.s390x_operands.specs.declared.constraint.OperandKind.TheVariants.{Def
 use Rattle.s390x_operands.specs.declared.constraint.Reported.{Reported}
 use Rattle.s390x_operands.specs.declared.constraint.Reported.TheVariants.{Operand, Fixed, Clobbers}
 use Rattle.s390x_alloc.specs.declared.fault.EditCause.{EditCause}
-use Rattle.s390x_alloc.specs.declared.given.GivenOperand.{GivenOperand}
+use Rattle.s390x_alloc.specs.declared.assigned.GivenOperand.{GivenOperand}
 use Rattle.s390x_alloc.specs.declared.plan.Edit.TheVariants.{Move, Step}
 use Rattle.s390x_alloc.specs.declared.plan.EntryPair.{EntryPair}
 use Rattle.s390x_alloc.specs.declared.plan.Place.{Place}
 use Rattle.s390x_alloc.specs.declared.plan.Place.TheVariants.{Reg as InReg, Slot}
 use Rattle.s390x_alloc.specs.Blocks.{after_move, after_step_of}
-use Rattle.s390x_alloc.specs.Given.{given_operands, is_operand}
-use Rattle.s390x_alloc.specs.Held.{carried, is_in_set, moved, stepped, with_operand, with_operands, without_item, without_items, without_place}
+use Rattle.s390x_alloc.specs.Assigned.{given_operands, is_operand}
+use Rattle.s390x_alloc.specs.Contents.{carried, is_in_set, moved, stepped, with_operand, with_operands, without_item, without_items, without_place}
 use Rattle.s390x_alloc.specs.Moves.{holds_other_class, is_no_move, is_of_other_class, is_unlike, is_unmovable}
 use Rattle.s390x_alloc.specs.Same.{is_reserved, same_class, same_place, same_register}
 use Rattle.s390x_alloc.specs.Shape.{is_empty}

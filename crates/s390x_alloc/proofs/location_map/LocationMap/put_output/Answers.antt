@@ -2,7 +2,7 @@ use Rattle.std.proofs.Common.{◌∷◌, ◌++◌, [], sym, subst}
 use Rattle.std.specs.Prelude.{IfOk, filter, not}
 use Rattle.s390x_base.specs.declared.regs.Reg.{Reg}
 use Rattle.s390x_base.specs.declared.regs.Reg.TheVariants.{Virtual, Real}
-use Rattle.s390x_alloc.specs.Held.{with_output, without_place}
+use Rattle.s390x_alloc.specs.Contents.{with_output, without_place}
 use Rattle.s390x_alloc.specs.Locations.{IsMapOf, pair_of}
 use Rattle.s390x_alloc.specs.Same.{same_register}
 use Rattle.s390x_alloc.specs.declared.plan.EntryPair.{EntryPair}

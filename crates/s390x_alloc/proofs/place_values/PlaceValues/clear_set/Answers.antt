@@ -1,7 +1,7 @@
 use Rattle.std.specs.Prelude.{not}
 use Rattle.std.proofs.Common.{refl, rules}
 use Rattle.std.proofs.lemmas.Fn.{filter_same}
-use Rattle.s390x_alloc.specs.Held.{is_in_set}
+use Rattle.s390x_alloc.specs.Contents.{is_in_set}
 use Rattle.s390x_alloc.specs.declared.place_values.RegisterValue.{RegisterValue}
 use Rattle.s390x_alloc.specs.declared.plan.Place.TheVariants.{Reg as InReg}
 use Rattle.s390x_alloc.proofs.Placing.{cleared}

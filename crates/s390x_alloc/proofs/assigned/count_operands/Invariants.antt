@@ -1,6 +1,6 @@
 use Rattle.std.proofs.Common.{◌≡◌, ◌≤◌, count_by, take}
-use Rattle.s390x_alloc.specs.Given.{is_operand}
-use Rattle.s390x_alloc.proofs.given.count_operands.Given as goal
+use Rattle.s390x_alloc.specs.Assigned.{is_operand}
+use Rattle.s390x_alloc.proofs.assigned.count_operands.Given as goal
 
 abbrev pub invariant-loop-item : goal.invariant-loop-item
 invariant-loop-item l = record {

@@ -6,7 +6,7 @@ ghost use Rattle.s390x_alloc.specs.Checked.{checked};
 ghost use Rattle.s390x_alloc.specs.Walks.{EveryWalkReadsAlike};
 
 use crate::answer::{answer_blocks, copy_constants};
-use crate::checking::check_faults;
+use crate::blocks::check_faults;
 use crate::fault::PlanFault;
 use crate::plan::Plan;
 use s390x_inst::{AllocatedFunction, FrameLayout};

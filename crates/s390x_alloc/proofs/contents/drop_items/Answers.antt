@@ -1,6 +1,6 @@
 use Rattle.std.proofs.Common.{refl, arith}
 use Rattle.s390x_alloc.proofs.Following.{items_done, items_turn}
-use Rattle.s390x_alloc.proofs.held.drop_items.Goals as goal
+use Rattle.s390x_alloc.proofs.contents.drop_items.Goals as goal
 
 pub loop-item-init : goal.loop-item-init
 loop-item-init c = λ list is. record { now = list; map = is; goes = refl }

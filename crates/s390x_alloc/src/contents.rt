@@ -1,10 +1,10 @@
 //! How an instruction changes what places hold.
 ghost use Rattle.std.specs.Prelude.{List, IfOk};
-ghost use Rattle.s390x_alloc.specs.Held.{stepped, with_operand, without_item, without_items};
+ghost use Rattle.s390x_alloc.specs.Contents.{stepped, with_operand, without_item, without_items};
 ghost use Rattle.s390x_alloc.specs.Locations.{IsMapOf};
 ghost use Rattle.s390x_alloc.specs.declared.plan.EntryPair.{EntryPair as Pair};
 
-use crate::given::GivenOperand;
+use crate::assigned::GivenOperand;
 use crate::location_map::LocationMap;
 use crate::plan::Place;
 use s390x_base::Reg;

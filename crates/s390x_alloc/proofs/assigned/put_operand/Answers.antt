@@ -3,9 +3,9 @@ use Rattle.std.proofs.lemmas.List.{append-nil}
 use Rattle.s390x_base.specs.declared.regs.Reg.{Reg}
 use Rattle.s390x_operands.specs.declared.constraint.Reported.{Reported}
 use Rattle.s390x_operands.specs.declared.constraint.Reported.TheVariants.{Operand, Fixed, Clobbers}
-use Rattle.s390x_alloc.specs.declared.given.GivenOperand.{GivenOperand}
-use Rattle.s390x_alloc.specs.Given.{given_operand}
-use Rattle.s390x_alloc.proofs.given.put_operand.Goals as goal
+use Rattle.s390x_alloc.specs.declared.assigned.GivenOperand.{GivenOperand}
+use Rattle.s390x_alloc.specs.Assigned.{given_operand}
+use Rattle.s390x_alloc.proofs.assigned.put_operand.Goals as goal
 
 -- without a register nothing is given
 nothing_given : (x : Reported) (o : Option Reg) → o ≡ None → given_operand x o ≡ []

@@ -1,6 +1,6 @@
 use Rattle.std.proofs.Common.{arith}
 use Rattle.s390x_alloc.proofs.Turning.{given_turn}
-use Rattle.s390x_alloc.proofs.given.given_operands.Goals as goal
+use Rattle.s390x_alloc.proofs.assigned.given_operands.Goals as goal
 
 pub loop-item-preserved : goal.loop-item-preserved
 loop-item-preserved c =

@@ -1,6 +1,6 @@
 //! The operands of an instruction with the registers that a plan gives them.
 ghost use Rattle.std.specs.Prelude.{◌≡◌, ◌++◌, IfOk, count_by, length, slice_get};
-ghost use Rattle.s390x_alloc.specs.Given.{given_operand, given_operands, is_operand};
+ghost use Rattle.s390x_alloc.specs.Assigned.{given_operand, given_operands, is_operand};
 
 use s390x_base::Reg;
 use s390x_operands::{OperandConstraint, OperandKind, Reported};

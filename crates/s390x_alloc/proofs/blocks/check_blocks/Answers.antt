@@ -3,7 +3,7 @@ use Rattle.std.specs.Prelude.{not}
 use Rattle.std.specs.Result.{is_ok}
 use Rattle.s390x_alloc.specs.declared.location_map.LocationMap.{LocationMap}
 use Rattle.s390x_alloc.proofs.Following.{EndsAt, ends_turn, pushed}
-use Rattle.s390x_alloc.proofs.checking.check_blocks.Goals as goal
+use Rattle.s390x_alloc.proofs.blocks.check_blocks.Goals as goal
 
 pub loop-number-preserved : goal.loop-number-preserved
 loop-number-preserved c =

@@ -1,5 +1,5 @@
 use Rattle.s390x_alloc.proofs.Following.{EndsAt}
-use Rattle.s390x_alloc.proofs.checking.check_blocks.Given as goal
+use Rattle.s390x_alloc.proofs.blocks.check_blocks.Given as goal
 
 abbrev pub invariant-loop-number : goal.invariant-loop-number
 invariant-loop-number l = EndsAt l.layout l.blocks l.plans l.number l.ends.items

@@ -3,7 +3,7 @@ use Rattle.std.specs.Prelude.{ℕ, ◌+◌, Bool, true, false, List, [], ◌∷�
 use Rattle.s390x_base.specs.declared.regs.Reg.{Reg}
 use Rattle.s390x_operands.specs.declared.constraint.Reported.{Reported}
 use Rattle.s390x_operands.specs.declared.constraint.Reported.TheVariants.{Operand, Fixed, Clobbers}
-use Rattle.s390x_alloc.specs.declared.given.GivenOperand.{GivenOperand}
+use Rattle.s390x_alloc.specs.declared.assigned.GivenOperand.{GivenOperand}
 
 abbrev pub is_operand : Reported → Bool
 is_operand (Operand reg constraint kind pos) = true

@@ -4,7 +4,7 @@ use Rattle.s390x_inst.specs.declared.function.Block.{Block}
 use Rattle.s390x_alloc.specs.declared.plan.BlockPlan.{BlockPlan}
 use Rattle.s390x_alloc.specs.Checked.{checked}
 use Rattle.s390x_alloc.proofs.Walking.{faultless_walks, same_count}
-use Rattle.s390x_alloc.proofs.planning.check_plan.Goals as goal
+use Rattle.s390x_alloc.proofs.plan_check.check_plan.Goals as goal
 
 pub answer_blocks-requires : goal.answer_blocks-requires
 answer_blocks-requires c = let counted = same_count c.args.layout.now c.deref.result.now c.deref-2.result.now c.in_ok-check_faults.ensures in cc

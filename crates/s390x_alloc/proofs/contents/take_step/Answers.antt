@@ -1,7 +1,7 @@
 use Rattle.std.proofs.Common.{refl, arith}
-use Rattle.s390x_alloc.specs.Held.{without_items}
+use Rattle.s390x_alloc.specs.Contents.{without_items}
 use Rattle.s390x_alloc.proofs.Following.{operands_done, operands_turn}
-use Rattle.s390x_alloc.proofs.held.take_step.Goals as goal
+use Rattle.s390x_alloc.proofs.contents.take_step.Goals as goal
 
 pub loop-operand-init : goal.loop-operand-init
 loop-operand-init c = λ list is. record { now = without_items c.args.items.now list; map = c.drop_items.ensures list is; goes = refl }

@@ -9,7 +9,7 @@ use Rattle.s390x_operands.specs.declared.constraint.OperandKind.{OperandKind}
 use Rattle.s390x_operands.specs.declared.constraint.OperandKind.TheVariants.{Def, Use}
 use Rattle.s390x_operands.specs.declared.constraint.Reported.{Reported}
 use Rattle.s390x_operands.specs.declared.constraint.Reported.TheVariants.{Operand, Fixed, Clobbers}
-use Rattle.s390x_alloc.specs.declared.given.GivenOperand.{GivenOperand}
+use Rattle.s390x_alloc.specs.declared.assigned.GivenOperand.{GivenOperand}
 use Rattle.s390x_alloc.specs.declared.plan.EntryPair.{EntryPair}
 use Rattle.s390x_alloc.specs.declared.plan.Place.{Place}
 use Rattle.s390x_alloc.specs.declared.plan.Place.TheVariants.{Reg as InReg, Slot}
