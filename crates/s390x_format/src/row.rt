@@ -1,5 +1,5 @@
 //! Machine rows.
-ghost use Rattle.std.specs.Prelude.{◌≡◌};
+ghost use Rattle.std.specs.Prelude.{◌≡◌, ℕ, List, slice_index};
 ghost use Rattle.s390x_format.specs.Rows.{is_allowed};
 
 use crate::facility::FacilityRule;
@@ -49,14 +49,25 @@ pub struct Row {
     pub opcode: u16,
 }
 
-/// Whether the row allows the masks and immediates in the slots.
+/// Whether the row allows the masks and immediates in the slots. Most rows allow any, and that is asked first.
 pub fn allows(allowed: Allowed, slots: &[u32; 10]) -> bool
     ensures { result ≡ is_allowed allowed slots.now }
 {
-    // The slots of masks and immediates of 8 bits; slot 8 has the wider immediate.
-    let first = slots[5];
-    let second = slots[6];
-    let third = slots[7];
+    match allowed {
+        Allowed::Any => true,
+        // The slots of masks and immediates of 8 bits; slot 8 has the wider immediate.
+        limited => is_within(limited, slots[5], slots[6], slots[7], slots[8]),
+    }
+}
+
+/// Whether a row allows these masks and immediates. It is no part of its callers' code, in which a jump by a table would cost a row that allows
+/// any more than a comparison.
+#[inline(never)]
+fn is_within(allowed: Allowed, first: u32, second: u32, third: u32, wide: u32) -> bool
+    ensures { (slots : List ℕ) → slice_index slots 5 ≡ first → slice_index slots 6 ≡ second
+        → slice_index slots 7 ≡ third → slice_index slots 8 ≡ wide
+        → result ≡ is_allowed allowed slots }
+{
     match allowed {
         Allowed::Any => true,
         Allowed::FirstMask { low, high } => {
@@ -72,6 +83,6 @@ pub fn allows(allowed: Allowed, slots: &[u32; 10]) -> bool
             (first < 64 || (128 <= first && first < 192)) && second < 64 && third < 64
         }
         Allowed::BitRange => third < 4 && first < (8 << third) && second < (8 << third),
-        Allowed::ReplicatedLane => first < 4 && slots[8] < (1 << (4 - first)),
+        Allowed::ReplicatedLane => first < 4 && wide < (1 << (4 - first)),
     }
 }
