@@ -1,6 +1,6 @@
 -- What a number has in the slots of the most frequent formats.
 use Rattle.std.proofs.Common.{◌≡◌, ℕ, zero, suc, ◌+◌, ◌*◌, ◌/◌, ◌%◌, ◌<◌, [], ◌∷◌, slice_index, Bool, true, false, ◌&&◌, ◌==◌, refl, arith}
-use Rattle.s390x_format.specs.declared.kind.FormatKind.TheVariants.{RiA, RiB, RiC, RilA, RilB, RilC, Rr, Rre, RrfAb, RrfCde, Rx, Rxy}
+use Rattle.s390x_format.specs.declared.kind.FormatKind.TheVariants.{RiA, RiB, RiC, RilA, RilB, RilC, Rr, Rre, RrfAb, RrfCde, Rx, Rxy, VrrC, Vrx}
 use Rattle.s390x_format.specs.Layout.{bits, field, zero_bits}
 use Rattle.s390x_format.specs.Formats.{layout_of}
 
@@ -172,15 +172,57 @@ rxy n (suc (suc (suc (suc (suc (suc (suc (suc zero)))))))) lt = omega arith
 rxy n (suc (suc (suc (suc (suc (suc (suc (suc (suc zero))))))))) lt = omega arith
 rxy n (suc (suc (suc (suc (suc (suc (suc (suc (suc (suc k)))))))))) lt = absurd (omega arith)
 
+pub vrr_c : (n k : ℕ) → k < 10 → slice_index ((n / 1099511627776 % 256 * 256 + n % 256) ∷ (n / 68719476736 % 16 + n / 2048 % 2 * 16) ∷ (n / 4294967296 % 16 + n / 1024 % 2 * 16) ∷ (n / 268435456 % 16 + n / 512 % 2 * 16) ∷ 0 ∷ (n / 4096 % 16) ∷ (n / 65536 % 16) ∷ (n / 1048576 % 16) ∷ 0 ∷ 0 ∷ []) k ≡ field (layout_of VrrC) n k
+unfolding field bits layout_of
+vrr_c n zero lt = omega arith
+vrr_c n (suc zero) lt = omega arith
+vrr_c n (suc (suc zero)) lt = omega arith
+vrr_c n (suc (suc (suc zero))) lt = omega arith
+vrr_c n (suc (suc (suc (suc zero)))) lt = omega arith
+vrr_c n (suc (suc (suc (suc (suc zero))))) lt = omega arith
+vrr_c n (suc (suc (suc (suc (suc (suc zero)))))) lt = omega arith
+vrr_c n (suc (suc (suc (suc (suc (suc (suc zero))))))) lt = omega arith
+vrr_c n (suc (suc (suc (suc (suc (suc (suc (suc zero)))))))) lt = omega arith
+vrr_c n (suc (suc (suc (suc (suc (suc (suc (suc (suc zero))))))))) lt = omega arith
+vrr_c n (suc (suc (suc (suc (suc (suc (suc (suc (suc (suc k)))))))))) lt = absurd (omega arith)
+
+pub vrx : (n k : ℕ) → k < 10 → slice_index ((n / 1099511627776 % 256 * 256 + n % 256) ∷ (n / 68719476736 % 16 + n / 2048 % 2 * 16) ∷ (n / 268435456 % 16) ∷ (n / 4294967296 % 16) ∷ 0 ∷ (n / 4096 % 16) ∷ 0 ∷ 0 ∷ 0 ∷ (n / 65536 % 4096) ∷ []) k ≡ field (layout_of Vrx) n k
+unfolding field bits layout_of
+vrx n zero lt = omega arith
+vrx n (suc zero) lt = omega arith
+vrx n (suc (suc zero)) lt = omega arith
+vrx n (suc (suc (suc zero))) lt = omega arith
+vrx n (suc (suc (suc (suc zero)))) lt = omega arith
+vrx n (suc (suc (suc (suc (suc zero))))) lt = omega arith
+vrx n (suc (suc (suc (suc (suc (suc zero)))))) lt = omega arith
+vrx n (suc (suc (suc (suc (suc (suc (suc zero))))))) lt = omega arith
+vrx n (suc (suc (suc (suc (suc (suc (suc (suc zero)))))))) lt = omega arith
+vrx n (suc (suc (suc (suc (suc (suc (suc (suc (suc zero))))))))) lt = omega arith
+vrx n (suc (suc (suc (suc (suc (suc (suc (suc (suc (suc k)))))))))) lt = absurd (omega arith)
+
 -- ---- the bits of no field
 
 last_true : (b : Bool) → b ≡ (b && true)
 last_true true = refl
 last_true false = refl
 
+two_zeros : (x y : ℕ) → (x + y == 0) ≡ ((x == 0) && ((y == 0) && true))
+two_zeros x y = grind arith
+
+three_zeros : (x a b c : ℕ) → x ≡ 4 * a + 2 * b + c → (x == 0) ≡ ((a == 0) && ((b == 0) && ((c == 0) && true)))
+three_zeros x a b c e = grind (arith, e)
+
 pub rre_zeros : (n : ℕ) → (n / 256 % 256 == 0) ≡ zero_bits (layout_of Rre) n
 unfolding zero_bits bits layout_of
 rre_zeros n = last_true (n / 256 % 256 == 0)
+
+pub vrr_c_zeros : (n : ℕ) → (n / 16777216 % 16 + n / 256 % 2 == 0) ≡ zero_bits (layout_of VrrC) n
+unfolding zero_bits bits layout_of
+vrr_c_zeros n = two_zeros (n / 16777216 % 16) (n / 256 % 2)
+
+pub vrx_zeros : (n : ℕ) → (n / 256 % 8 == 0) ≡ zero_bits (layout_of Vrx) n
+unfolding zero_bits bits layout_of
+vrx_zeros n = three_zeros (n / 256 % 8) (n / 1024 % 2) (n / 512 % 2) (n / 256 % 2) (omega arith)
 
 pub no_zeros_ri_a : (n : ℕ) → true ≡ zero_bits (layout_of RiA) n
 unfolding zero_bits layout_of

@@ -27,6 +27,8 @@ pub fn unpack_as(kind: FormatKind, n: u64) -> Unpacked
         FormatKind::RrfCde => Unpacked { has_zeros: true, slots: [((n >> 16) % 65536) as u32, ((n >> 4) % 16) as u32, (n % 16) as u32, 0, 0, ((n >> 12) % 16) as u32, ((n >> 8) % 16) as u32, 0, 0, 0] },
         FormatKind::Rx => Unpacked { has_zeros: true, slots: [((n >> 24) % 256) as u32, ((n >> 20) % 16) as u32, ((n >> 12) % 16) as u32, ((n >> 16) % 16) as u32, 0, 0, 0, 0, 0, (n % 4096) as u32] },
         FormatKind::Rxy => Unpacked { has_zeros: true, slots: [(((n >> 40) % 256) * 256 + n % 256) as u32, ((n >> 36) % 16) as u32, ((n >> 28) % 16) as u32, ((n >> 32) % 16) as u32, 0, 0, 0, 0, 0, ((n >> 16) % 4096 + ((n >> 8) % 256) * 4096) as u32] },
+        FormatKind::VrrC => Unpacked { has_zeros: (n >> 24) % 16 + (n >> 8) % 2 == 0, slots: [(((n >> 40) % 256) * 256 + n % 256) as u32, ((n >> 36) % 16 + ((n >> 11) % 2) * 16) as u32, ((n >> 32) % 16 + ((n >> 10) % 2) * 16) as u32, ((n >> 28) % 16 + ((n >> 9) % 2) * 16) as u32, 0, ((n >> 12) % 16) as u32, ((n >> 16) % 16) as u32, ((n >> 20) % 16) as u32, 0, 0] },
+        FormatKind::Vrx => Unpacked { has_zeros: (n >> 8) % 8 == 0, slots: [(((n >> 40) % 256) * 256 + n % 256) as u32, ((n >> 36) % 16 + ((n >> 11) % 2) * 16) as u32, ((n >> 28) % 16) as u32, ((n >> 32) % 16) as u32, 0, ((n >> 12) % 16) as u32, 0, 0, 0, ((n >> 16) % 4096) as u32] },
         _ => unpack_parts(kind, n),
     }
 }

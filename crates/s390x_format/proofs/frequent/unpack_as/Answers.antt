@@ -1,4 +1,4 @@
-use Rattle.s390x_format.proofs.Direct.{ri_a, ri_b, ri_c, ril_a, ril_b, ril_c, rr, rre, rrf_ab, rrf_cde, rx, rxy, rre_zeros, no_zeros_ri_a, no_zeros_ri_b, no_zeros_ri_c, no_zeros_ril_a, no_zeros_ril_b, no_zeros_ril_c, no_zeros_rr, no_zeros_rrf_ab, no_zeros_rrf_cde, no_zeros_rx, no_zeros_rxy}
+use Rattle.s390x_format.proofs.Direct.{ri_a, ri_b, ri_c, ril_a, ril_b, ril_c, rr, rre, rrf_ab, rrf_cde, rx, rxy, vrr_c, vrx, rre_zeros, vrr_c_zeros, vrx_zeros, no_zeros_ri_a, no_zeros_ri_b, no_zeros_ri_c, no_zeros_ril_a, no_zeros_ril_b, no_zeros_ril_c, no_zeros_rr, no_zeros_rrf_ab, no_zeros_rrf_cde, no_zeros_rx, no_zeros_rxy}
 use Rattle.s390x_format.proofs.frequent.unpack_as.Goals as goal
 
 pub returns-in-RiA-clause-values : goal.returns-in-RiA-clause-values
@@ -72,3 +72,15 @@ returns-in-Rx-clause-zeros c = rw c.in-Rx.is (no_zeros_rx c.args.n)
 
 pub returns-in-Rxy-clause-zeros : goal.returns-in-Rxy-clause-zeros
 returns-in-Rxy-clause-zeros c = rw c.in-Rxy.is (no_zeros_rxy c.args.n)
+
+pub returns-in-VrrC-clause-values : goal.returns-in-VrrC-clause-values
+returns-in-VrrC-clause-values c k lt = rw c.in-VrrC.is (vrr_c c.args.n k lt)
+
+pub returns-in-Vrx-clause-values : goal.returns-in-Vrx-clause-values
+returns-in-Vrx-clause-values c k lt = rw c.in-Vrx.is (vrx c.args.n k lt)
+
+pub returns-in-VrrC-clause-zeros : goal.returns-in-VrrC-clause-zeros
+returns-in-VrrC-clause-zeros c = rw c.in-VrrC.is (vrr_c_zeros c.args.n)
+
+pub returns-in-Vrx-clause-zeros : goal.returns-in-Vrx-clause-zeros
+returns-in-Vrx-clause-zeros c = rw c.in-Vrx.is (vrx_zeros c.args.n)
