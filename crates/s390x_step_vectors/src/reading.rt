@@ -1,12 +1,15 @@
-//! Reading a line: `BYTES HOW c=CODE rN=HEX vN=HEX mADDRESS=HEX .. > c=CODE ..`. It has an instruction's bytes, from where its step is known, what
+//! Reading a line of a step: `BYTES HOW c=CODE rN=HEX vN=HEX mADDRESS=HEX .. > c=CODE ..`. It has an instruction's bytes, from where its step is known, what
 //! registers and memory hold before it, and what of that is another after it, `p=HEX` where the next address isn't the one behind the instruction.
 //! Registers that aren't named are zero before it. Behind `>` stands the name of a stop, or `norow`, where the step doesn't go.
+//! A line of a row, `BYTES row FACILITY STEM`, has an instruction's bytes, the facility that it needs, and what its row's mnemonics begin with.
 ghost use Rattle.std.specs.Prelude.{◌<◌, ◌≤◌, length, IfOk};
 
 use crate::contents::{Contents, FreeBits};
+use crate::known_row::KnownRow;
 use crate::known_step::KnownStep;
 use crate::region::Region;
 use s390x_case_runner::LineError;
+use s390x_format::Facility;
 use s390x_job_fields::bytes::{bytes, hex_number};
 use s390x_job_fields::number::{first, natural, tail};
 use s390x_job_fields::separators::{after_word, from_separator, until_separator, word};
@@ -17,8 +20,45 @@ use std::alloc::Global;
 /// The address of the instruction.
 const PLACE: u64 = 0x1000;
 
-/// Reads a line.
-pub fn read_line(alloc: Global, line: &[u8]) -> Result<KnownStep, LineError> {
+/// Whether a line tells of a row.
+pub fn tells_row(line: &[u8]) -> bool {
+    word(from_separator(line)) == b"row".as_slice()
+}
+
+/// Reads a line of a row.
+pub fn read_row<'a>(alloc: Global, line: &'a [u8]) -> Result<KnownRow<'a>, LineError> {
+    let told = after_word(from_separator(line));
+    let Some(facility) = facility_named(word(told)) else {
+        return Err(LineError::Unreadable);
+    };
+    let code = hex_bytes(alloc, until_separator(line))?;
+    let stem = word(after_word(told));
+    Ok(KnownRow {
+        code,
+        facility,
+        stem,
+    })
+}
+
+// The facility of this name.
+fn facility_named(name: &[u8]) -> Option<Facility> {
+    if name == b"base".as_slice() {
+        Some(Facility::Base)
+    } else if name == b"mie3".as_slice() {
+        Some(Facility::Mie3)
+    } else if name == b"mie4".as_slice() {
+        Some(Facility::Mie4)
+    } else if name == b"vxrs_ext2".as_slice() {
+        Some(Facility::VxrsExt2)
+    } else if name == b"vxrs_ext3".as_slice() {
+        Some(Facility::VxrsExt3)
+    } else {
+        None
+    }
+}
+
+/// Reads a line of a step.
+pub fn read_step(alloc: Global, line: &[u8]) -> Result<KnownStep, LineError> {
     let source = from_separator(line);
     if !is_source(word(source)) {
         return Err(LineError::Unreadable);
