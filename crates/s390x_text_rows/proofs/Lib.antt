@@ -1,2 +1,3 @@
 pub mod Joined
+mod Digits
 mod Near

@@ -9,6 +9,7 @@ mod memory;
 mod mnemonics;
 mod moves;
 mod operand;
+mod register_names;
 mod regs;
 mod row;
 mod simple;

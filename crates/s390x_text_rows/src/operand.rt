@@ -4,11 +4,11 @@ ghost use Rattle.std.specs.Fmt.{decimal, signed_decimal};
 ghost use Rattle.s390x_job_fields.specs.Atoms.{reg_text, real_text};
 ghost use Rattle.s390x_text_rows.specs.Operands.{reused_text, rotated_text, halves_text, pair_text, reused_pair_text, reused_low_text, is_zero, bracketed, amount_text, access_register_text, float_text, cond_text, label_text, name_text, indexed_text};
 
+use crate::register_names::{put_real, put_reg};
 use s390x_base::{
     Cond, ExternalName, MachLabel, PReg, Reg, RegPair, SImm20, UImm16Shifted, UImm32Shifted,
     Writable, zero_reg,
 };
-use s390x_job_fields::atoms::{put_real, put_reg};
 use s390x_job_fields::number::{put, put_integer, put_natural};
 use std::alloc::AllocError;
 

@@ -16,6 +16,7 @@ use s390x_job_fields::number::put;
 use std::alloc::AllocError;
 
 /// A writer's answer as that of a text.
+#[inline(always)]
 pub fn text_result(written: Result<(), AllocError>) -> Result<(), TextError>
     ensures { result ≡ answer_of written }
 {
@@ -26,6 +27,7 @@ pub fn text_result(written: Result<(), AllocError>) -> Result<(), TextError>
 }
 
 /// Appends a row with one operand.
+#[inline(always)]
 pub fn spelled1<A: Operand>(out: &mut String, mnemonic: &str, a: &A) -> Result<(), AllocError>
     ensures { OnOk result
         (string_bytes out.new ≡ string_bytes out.old ++ spelled mnemonic.now (A.shown a.now ∷ [])) }
@@ -36,6 +38,7 @@ pub fn spelled1<A: Operand>(out: &mut String, mnemonic: &str, a: &A) -> Result<(
 }
 
 /// Appends a row with 2 operands.
+#[inline(always)]
 pub fn spelled2<A: Operand, B: Operand>(
     out: &mut String,
     mnemonic: &str,
@@ -90,6 +93,7 @@ pub fn spelled4<A: Operand, B: Operand, C: Operand, D: Operand>(
 }
 
 /// Appends a row whose mnemonic has two parts, with 2 operands.
+#[inline(always)]
 pub fn lettered2<A: Operand, B: Operand>(
     out: &mut String,
     mnemonic: Mnemonic,

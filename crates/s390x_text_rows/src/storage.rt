@@ -10,13 +10,14 @@ ghost use Rattle.s390x_text_rows.specs.Storage.{sum_text, memory_text, is_virtua
 
 use crate::error::TextError;
 use crate::operand::{Operand, is_zero};
+use crate::register_names::put_reg;
 use crate::row::{lettered2, spelled2, spelled3};
 use crate::vector_mnemonics::Mnemonic;
 use s390x_address::{mem_finalize, needs_address};
 use s390x_base::{MachMemFlags, Reg, SImm20, UImm12, zero_reg};
 use s390x_format::stem;
 use s390x_inst::{EmitState, Inst, MemArg};
-use s390x_job_fields::atoms::{put_name, put_reg};
+use s390x_job_fields::atoms::put_name;
 use s390x_job_fields::number::{put, put_integer, put_natural};
 use s390x_rows::opcodes;
 use s390x_typed_steps::{MemInstType, RegisterRows};

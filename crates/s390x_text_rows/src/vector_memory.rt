@@ -172,8 +172,8 @@ pub fn put_vec_part(
     }
 }
 
-/// Appends the text of an instruction on vector or float registers.
-pub fn put_vector(
+// Appends the text of an instruction on vector or float registers, by one group after the other.
+fn put_any(
     alloc: Global,
     out: &mut String,
     state: &EmitState,
@@ -197,5 +197,26 @@ pub fn put_vector(
     match put_vec_part(alloc, out, state, inst) {
         Some(answer) => answer,
         None => Err(TextError::NoRow),
+    }
+}
+
+/// Appends the text of an instruction on vector or float registers.
+pub fn put_vector(
+    alloc: Global,
+    out: &mut String,
+    state: &EmitState,
+    inst: &VecInst,
+) -> Result<(), TextError>
+    ensures { Prints result (string_bytes out.old) (string_bytes out.new)
+        (vector_text state.now inst.now) }
+{
+    match inst {
+        VecInst::VecLoad { .. } | VecInst::VecStore { .. } => match put_vec_whole(
+            alloc, out, state, inst,
+        ) {
+            Some(answer) => answer,
+            None => Err(TextError::NoRow),
+        },
+        _ => put_any(alloc, out, state, inst),
     }
 }
