@@ -1,5 +1,5 @@
 -- What a line of a text tells.
-use Rattle.std.proofs.Common.{◌≡◌, ℕ, List, Option, Some, None, length, refl, sym, ap, ◌∙◌, subst}
+use Rattle.std.proofs.Common.{◌≡◌, ℕ, List, ◌∷◌, ◌++◌, Option, Some, None, length, refl, sym, ap, ◌∙◌, subst}
 use Rattle.std.specs.Prelude.{Result, Ok, Err, IfOk}
 use Rattle.s390x_inst.specs.declared.inst.Inst.{Inst}
 use Rattle.s390x_job_lines.specs.Line.{Line, line_text, line_of, IsLine}
@@ -10,7 +10,9 @@ use Rattle.s390x_job_lines.proofs.RoundTrip.{line-round_trip}
 use Rattle.s390x_job_exact.specs.Exact.{IsSingle, IsInstructionText}
 use Rattle.s390x_job_fields.specs.Fields.{Field}
 use Rattle.s390x_job.specs.Grammar.{Place, Within, Instruction, class, line_class, next}
-use Rattle.s390x_job.specs.Builds.{Follows, IsNext, Reads, body_lines, lines_at, place_at}
+use Rattle.s390x_job.specs.Builds.{Follows, IsNext, Reads, beginning_lines, body_lines, open_lines}
+use Rattle.s390x_job.specs.Items.{block_line}
+use Rattle.s390x_job.specs.Jobs.{insts_lines, blocks_lines}
 use Rattle.s390x_job.specs.declared.build.Body.{Body}
 use Rattle.s390x_job.specs.declared.build.Progress.{Progress}
 use Rattle.s390x_job.specs.declared.build.Progress.TheVariants.{Inside}
@@ -29,9 +31,18 @@ pub reads_all : {E : Type 0} (b : Body) (ls : List Line) (p : Place) (l : Line) 
 reads_all b ls p l w ok e (Ok o) h = reads b ls p l w ok e o h
 reads_all b ls p l w ok e (Err x) h = tt
 
-pub reads_instruction : (b old : Body) (progress : Progress) (x : Inst) (w : List ℕ) → progress ≡ Inside → IsInstructionText (inst_line x) w → IsNext (body_lines old) (Within (length old.loops.items)) (inst_line x) Inside b → Reads b (lines_at progress old) (place_at progress old) w (Some Inside)
-reads_instruction b old progress x w e t h =
-    rw e (reads b (body_lines old) (Within (length old.loops.items)) (inst_line x) w t.line t.text (Some Inside) h)
+-- the lines so far, with these instructions at the end of the block
+abbrev pub lines_with : Body → List Inst → List Line
+lines_with b is = beginning_lines b.beginning ++ (blocks_lines b.blocks.items ++ (block_line ∷ (open_lines b.loops.items ++ insts_lines is)))
+
+pub next_of_same : (b : Body) (is : List Inst) (x : Inst) (new : Body) → is ≡ b.here.items → IsNext (lines_with b is) (Within (length b.loops.items)) (inst_line x) Inside new → IsNext (body_lines b) (Within (length b.loops.items)) (inst_line x) Inside new
+next_of_same b is x new e h = subst (λ t. IsNext (lines_with b t) (Within (length b.loops.items)) (inst_line x) Inside new) e h
+
+pub reads_of_same : {E : Type 0} (b : Body) (is : List Inst) (w : List ℕ) (new : Body) (r : Result (Option Progress) E) → is ≡ b.here.items → IfOk r (Reads new (lines_with b is) (Within (length b.loops.items)) w) → IfOk r (Reads new (body_lines b) (Within (length b.loops.items)) w)
+reads_of_same b is w new r e h = subst (λ t. IfOk r (Reads new (lines_with b t) (Within (length b.loops.items)) w)) e h
+
+pub reads_instruction : (b : Body) (ls : List Line) (p : Place) (x : Inst) (w : List ℕ) → IsInstructionText (inst_line x) w → IsNext ls p (inst_line x) Inside b → Reads b ls p w (Some Inside)
+reads_instruction b ls p x w t h = reads b ls p (inst_line x) w t.line t.text (Some Inside) h
 
 single_name : (n : LineName) (fs : List Field) → IsSingle n → line_class n fs ≡ Instruction
 single_name (N.Integer n) fs h = refl

@@ -1,5 +1,5 @@
 //! A job, as far as its lines have told it.
-ghost use Rattle.std.specs.Prelude.{◌≡◌, [], IfOk, OnOk, length, ◌<◌};
+ghost use Rattle.std.specs.Prelude.{◌≡◌, [], IfOk, OnOk, length, ◌<◌, vec_len, vec_capacity};
 ghost use Rattle.s390x_base.specs.Registers.{general, vector};
 ghost use Rattle.s390x_job.specs.Items.{item_line, IsItem, flags_line, frame_line, constant_line, symbol_line, register_line, memory_line, block_line, loop_line, close_line, end_line};
 ghost use Rattle.s390x_job.specs.Grammar.{class, Header, Within, Instruction, may_follow};
@@ -357,17 +357,41 @@ fn close(b: &mut Body) -> Result<(), AllocError>
     }
 }
 
-/// Adds an instruction to the block.
+/// Makes room for one more instruction. A full block grows fourfold, since each growth copies it.
 #[inline(always)]
-pub fn add(b: &mut Body, x: Inst) -> Result<(), AllocError>
+pub fn make_room(insts: &mut Vec<Inst>) -> Result<(), AllocError>
+    ensures items { insts.new.items ≡ insts.old.items }
+    ensures room { OnOk result (vec_len insts.new < vec_capacity insts.new) }
+{
+    let len = insts.len();
+    if len < insts.capacity() {
+        return Ok(());
+    }
+    insts.reserve(len.saturating_mul(3).saturating_add(1))
+}
+
+/// Adds an instruction to the block, which has room for it.
+#[inline(always)]
+pub fn add(b: &mut Body, x: Inst)
+    requires room { vec_len b.old.here < vec_capacity b.old.here }
+    requires one { class (inst_line x) ≡ Instruction }
+    requires full { IsFullBody b.old }
+    ensures { IsNext (body_lines b.old) (Within (length b.old.loops.items)) (inst_line x)
+        Progress.Inside b.new }
+{
+    b.here.push_reserved(x);
+}
+
+/// Adds an instruction to the block, and makes room for it before.
+fn add_with_room(b: &mut Body, x: Inst) -> Result<(), AllocError>
     requires one { class (inst_line x) ≡ Instruction }
     requires full { IsFullBody b.old }
     ensures { OnOk result
         (IsNext (body_lines b.old) (Within (length b.old.loops.items)) (inst_line x) Progress.Inside
         b.new) }
 {
-    b.here.reserve(1)?;
-    b.here.push_reserved(x);
+    make_room(&mut b.here)?;
+    add(b, x);
     Ok(())
 }
 
@@ -411,7 +435,7 @@ fn inside(alloc: Global, b: &mut Body, i: Item) -> Result<Option<Progress>, Allo
             }
         }
         Item::One(x) => {
-            add(b, x)?;
+            add_with_room(b, x)?;
             Ok(Some(Progress::Inside))
         }
         Item::Flags(_) => Ok(None),

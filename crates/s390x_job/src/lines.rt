@@ -2,20 +2,22 @@
 
 ghost use Rattle.std.specs.Prelude.{◌≡◌, ◌+◌, ◌-◌, ◌<◌, IfOk, IfErr, map, length, codes, false, MatchResult};
 ghost use Rattle.std.specs.Str.{bytes_eq};
-ghost use Rattle.s390x_job.specs.Builds.{IsAt, Reads, lines_at, place_at};
+ghost use Rattle.s390x_job.specs.Builds.{IsAt, IsFullBody, Reads, body_lines, lines_at, place_at};
+ghost use Rattle.s390x_job.specs.Grammar.{Within};
 ghost use Rattle.s390x_job.specs.Errors.{IsReadJob, IsError};
 ghost use Rattle.s390x_job.specs.Jobs.{text_of_job, IsJob};
 ghost use Rattle.s390x_job.specs.Same.{SameJob};
 ghost use Rattle.s390x_job.specs.declared.job.Job.{Job};
 ghost use Rattle.s390x_job.specs.Completions.{ends_job, completion, IsText};
 
-use crate::build::{Body, Progress, Stage, add, job_of, push, start};
+use crate::build::{Body, Progress, Stage, add, job_of, make_room, push, start};
 use crate::completing::{
     Completes, count_closes, count_opens, first_wrong, put_closing, put_joined,
 };
 use crate::job::{Job, LineError};
-use crate::reader::{instruction, read_item};
+use crate::reader::read_item;
 use crate::split::before;
+use s390x_job_exact::exact_line;
 use s390x_job_fields::number::tail;
 use std::alloc::{AllocError, Global};
 
@@ -88,9 +90,51 @@ fn read_part(
     }
 }
 
-/// Reads one more line. Answers where the lines have come to, or none where no line of this text may stand there.
+/// Reads one more line within a block, which is often an instruction's. Answers as `read_line` does.
 ///
-/// The instructions of blocks, of which a job has most, are added where they are read.
+/// Room is made before the line is read, so that the instruction is moved once.
+#[tactic(auto, using(crate::proofs::Told::single))]
+#[inline(always)]
+fn read_instruction(
+    alloc: Global,
+    b: &mut Body,
+    text: &mut String,
+    w: &[u8],
+) -> Result<Option<Progress>, AllocError>
+    requires { IsFullBody b.old }
+    ensures { IfOk result
+        (Reads b.new (body_lines b.old) (Within (length b.old.loops.items)) w.now) }
+{
+    make_room(&mut b.here)?;
+    match exact_line(alloc, w) {
+        Some(x) => {
+            add(b, x);
+            Ok(Some(Progress::Inside))
+        }
+        None => read_part(alloc, b, text, Progress::Inside, w),
+    }
+}
+
+/// Reads one more line within a block. Answers as `read_line` does.
+/// No instruction has a name that begins with `b`, as the line `block` does.
+#[inline(always)]
+fn read_inside(
+    alloc: Global,
+    b: &mut Body,
+    text: &mut String,
+    w: &[u8],
+) -> Result<Option<Progress>, AllocError>
+    requires { IsFullBody b.old }
+    ensures { IfOk result
+        (Reads b.new (body_lines b.old) (Within (length b.old.loops.items)) w.now) }
+{
+    match w {
+        [b'b', ..] => read_part(alloc, b, text, Progress::Inside, w),
+        _ => read_instruction(alloc, b, text, w),
+    }
+}
+
+/// Reads one more line. Answers where the lines have come to, or none where no line of this text may stand there.
 #[inline(always)]
 fn read_line(
     alloc: Global,
@@ -102,12 +146,9 @@ fn read_line(
     requires { IsAt progress b.old }
     ensures { IfOk result (Reads b.new (lines_at progress b.old) (place_at progress b.old) w.now) }
 {
-    match instruction(alloc, progress, w) {
-        Some(x) => {
-            add(b, x)?;
-            Ok(Some(Progress::Inside))
-        }
-        None => read_part(alloc, b, text, progress, w),
+    match progress {
+        Progress::Inside => read_inside(alloc, b, text, w),
+        _ => read_part(alloc, b, text, progress, w),
     }
 }
 

@@ -1,18 +1,12 @@
 //! The exact reader of lines.
-ghost use Rattle.std.specs.Prelude.{◌≡◌, ◌≢◌, IfOk, IfSome, MatchOption};
+ghost use Rattle.std.specs.Prelude.{◌≡◌, ◌≢◌, IfOk, MatchOption};
 ghost use Rattle.s390x_job_fields.specs.Marks.{before_mark, from_mark};
-ghost use Rattle.s390x_job_exact.specs.Exact.{IsInstructionText};
-ghost use Rattle.s390x_job_lines.specs.Instructions.{inst_line};
 ghost use Rattle.s390x_job_lines.specs.Line.{Line, IsLine, line_text, line_of};
-ghost use Rattle.s390x_job.specs.Grammar.{class, Instruction};
 ghost use Rattle.s390x_job.specs.Items.{item_line, IsItem};
 
-use crate::build::Progress;
 use crate::item::Item;
 use crate::print_line::put_item;
 use crate::read_line::item;
-use s390x_inst::Inst;
-use s390x_job_exact::exact_line;
 use s390x_job_fields::Cursor;
 use s390x_job_fields::number::tail;
 use s390x_job_fields::separators::until_separator;
@@ -34,24 +28,6 @@ fn parse(alloc: Global, w: &[u8]) -> Result<Item, AllocError>
     let name = until_separator(w);
     let mut fields = fields_of(w, name);
     item(alloc, find_name(name), &mut fields)
-}
-
-/// The instruction whose line this is, where it stands in a block and is a frequent one; none says nothing.
-/// No instruction has a name that begins with `b`, as the line `block` does.
-#[tactic(auto, using(crate::proofs::Told::single))]
-#[inline(always)]
-pub fn instruction(alloc: Global, progress: Progress, w: &[u8]) -> Option<Inst>
-    ensures text { IfSome result (λ x. IsInstructionText (inst_line x) w.now) }
-    ensures one { IfSome result (λ x. class (inst_line x) ≡ Instruction) }
-    ensures place { IfSome result (λ _. progress ≡ Progress.Inside) }
-{
-    match progress {
-        Progress::Inside => match w {
-            [b'b', ..] => None,
-            _ => exact_line(alloc, w),
-        },
-        _ => None,
-    }
 }
 
 /// As `read_item`: the line is read, printed and compared.

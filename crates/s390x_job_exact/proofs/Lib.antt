@@ -1,5 +1,6 @@
 mod Elements
 mod EmptySet
 mod Lines
+mod Literals
 mod Named
 mod Numbers

@@ -161,9 +161,10 @@ fn call_back(cursor: &mut ExactCursor) -> Option<CallEnd>
     })
 }
 
+/// Takes the fields of a call.
 #[tactic(auto, using(crate::proofs::Lines::eleven))]
 #[inline(never)]
-fn call(alloc: Global, cursor: &mut ExactCursor) -> Option<Inst>
+pub fn call(alloc: Global, cursor: &mut ExactCursor) -> Option<Inst>
     ensures { IfSome result
         (λ x. AreFields (LineName.Control ControlName.Call) (inst_line x) cursor.old) }
 {

@@ -3,6 +3,7 @@ ghost use Rattle.std.specs.Prelude.{◌≡◌, ◌++◌, ◌∷◌, [], ◌<◌,
 ghost use Rattle.std.specs.Fmt.{decimal, signed_decimal};
 ghost use Rattle.s390x_job_fields.specs.Numbers.{IsBelow};
 
+use crate::literal::behind_text;
 use crate::number::natural;
 use std::marker::Model;
 
@@ -96,9 +97,18 @@ impl<'a> ExactCursor<'a> {
         if self.next()? == byte { Some(()) } else { None }
     }
 
-    /// Takes these bytes.
+    /// Takes these bytes, which are a literal.
     #[inline(always)]
     pub fn text(&mut self, text: &[u8]) -> Option<()>
+        ensures { IfSome result (λ _. self.old ≡ text.now ++ self.new) }
+    {
+        self.left = behind_text(self.left, text)?;
+        Some(())
+    }
+
+    /// Takes these bytes, many of them compared at a time.
+    #[inline(always)]
+    pub fn prefix(&mut self, text: &[u8]) -> Option<()>
         ensures { IfSome result (λ _. self.old ≡ text.now ++ self.new) }
     {
         self.left = self.left.strip_prefix(text)?;

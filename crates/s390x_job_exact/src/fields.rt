@@ -210,7 +210,7 @@ impl<'a> ExactCursor<'a> {
         ensures { IfSome result (λ o. self.old ≡ T.spelling o ++ self.new) }
     {
         let value = find(names, until_separator(self.rest()), other);
-        self.text(value.text().as_bytes())?;
+        self.prefix(value.text().as_bytes())?;
         Some(value)
     }
 
@@ -233,11 +233,17 @@ impl<'a> ExactCursor<'a> {
         Some(value)
     }
 
-    /// Takes an operation on integers.
+    /// Takes an operation on integers. A few letters tell the sums, which compiled code has most.
     pub fn alu(&mut self) -> Option<ALUOp>
         ensures { IfSome result (λ o. Takes (FAlu o) self.old self.new) }
     {
-        self.operator(ALU_NAMES, ALUOp::Add32)
+        match self.rest() {
+            [_, b'A', b'd', _, b'6', _, b' ', ..] => self.spelled(ALUOp::Add64),
+            [_, b'A', b'd', _, b'3', _, b' ', ..] => self.spelled(ALUOp::Add32),
+            [_, b'S', b'u', _, b'6', _, b' ', ..] => self.spelled(ALUOp::Sub64),
+            [_, b'S', b'u', _, b'3', _, b' ', ..] => self.spelled(ALUOp::Sub32),
+            _ => self.operator(ALU_NAMES, ALUOp::Add32),
+        }
     }
 
     /// Takes a comparison.
@@ -261,11 +267,15 @@ impl<'a> ExactCursor<'a> {
         self.operator(UNARY_NAMES, UnaryOp::Abs32)
     }
 
-    /// Takes an operation on two vectors.
+    /// Takes an operation on two vectors. A few letters tell the sums of words and doublewords.
     pub fn vec_binary(&mut self) -> Option<VecBinaryOp>
         ensures { IfSome result (λ o. Takes (FVecBinary o) self.old self.new) }
     {
-        self.operator(VEC_BINARY_NAMES, VecBinaryOp::Add8x16)
+        match self.rest() {
+            [_, b'A', _, _, b'6', ..] => self.spelled(VecBinaryOp::Add64x2),
+            [_, b'A', _, _, b'3', ..] => self.spelled(VecBinaryOp::Add32x4),
+            _ => self.operator(VEC_BINARY_NAMES, VecBinaryOp::Add8x16),
+        }
     }
 
     /// Takes an operation on one vector.

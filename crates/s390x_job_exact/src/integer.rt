@@ -8,19 +8,24 @@ use crate::rows::{take_fields, take_rows};
 use s390x_inst::Inst;
 use s390x_job_lines::{IntegerName, LineName};
 
-/// Takes the fields of an operation with an output of its own.
+/// Takes the fields of an operation on two registers with an output of its own.
 #[tactic(auto, using(crate::proofs::Lines::four))]
 #[inline(never)]
-fn alu_three(name: IntegerName, cursor: &mut ExactCursor) -> Option<Inst>
-    ensures { IfSome result (λ x. AreFields (LineName.Integer name) (inst_line x) cursor.old) }
+pub fn alu_three(cursor: &mut ExactCursor) -> Option<Inst>
+    ensures { IfSome result
+        (λ x. AreFields (LineName.Integer IntegerName.AluRRR) (inst_line x) cursor.old) }
 {
-    let alu_op = cursor.alu()?;
-    let rd = cursor.written()?;
-    let rn = cursor.reg()?;
-    take_rows!((IntegerName, name, cursor, { alu_op, rd, rn })
-        AluRRR { rm: reg }
-        AluRRSImm16 { imm: i16 }
-    )
+    take_fields!(AluRRR, cursor, {}, alu_op: alu, rd: written, rn: reg, rm: reg)
+}
+
+/// Takes the fields of an operation on a register and a number with an output of its own.
+#[tactic(auto, using(crate::proofs::Lines::four))]
+#[inline(never)]
+fn alu_number(cursor: &mut ExactCursor) -> Option<Inst>
+    ensures { IfSome result
+        (λ x. AreFields (LineName.Integer IntegerName.AluRRSImm16) (inst_line x) cursor.old) }
+{
+    take_fields!(AluRRSImm16, cursor, {}, alu_op: alu, rd: written, rn: reg, imm: i16)
 }
 
 /// Takes the fields of an operation whose output is its first input, with a register or memory.
@@ -158,7 +163,8 @@ pub fn integer(name: IntegerName, cursor: &mut ExactCursor) -> Option<Inst>
     ensures { IfSome result (λ x. AreFields (LineName.Integer name) (inst_line x) cursor.old) }
 {
     match name {
-        IntegerName::AluRRR | IntegerName::AluRRSImm16 => alu_three(name, cursor),
+        IntegerName::AluRRR => alu_three(cursor),
+        IntegerName::AluRRSImm16 => alu_number(cursor),
         IntegerName::AluRR | IntegerName::AluRX => alu_two(name, cursor),
         IntegerName::AluRSImm16 => alu_immediate(name, cursor),
         IntegerName::AluRSImm32 | IntegerName::AluRUImm32 => alu_immediate(name, cursor),

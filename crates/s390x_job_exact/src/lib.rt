@@ -8,6 +8,7 @@ mod fields;
 mod integer;
 mod line;
 mod list;
+mod literal;
 mod memory;
 mod number;
 mod operand;

@@ -4,9 +4,9 @@ ghost use Rattle.s390x_job_lines.specs.Instructions.{inst_line};
 ghost use Rattle.s390x_job_lines.specs.Names.{name_text};
 ghost use Rattle.s390x_job_exact.specs.Exact.{AreFields, IsInstructionText, IsSingle};
 
-use crate::control::control;
+use crate::control::{call, control};
 use crate::cursor::ExactCursor;
-use crate::integer::integer;
+use crate::integer::{alu_three, integer};
 use crate::memory::{load, memory, store, whole};
 use crate::vector::vector;
 use s390x_inst::{Direction, Inst, LoadOp, StoreOp, WholeLayout};
@@ -31,7 +31,7 @@ fn found_name(cursor: &mut ExactCursor) -> Option<LineName>
     ensures { IfSome result (λ n. cursor.old ≡ name_text n ++ cursor.new) }
 {
     let name = candidate(before(cursor.rest(), b' '));
-    cursor.text(name.text().as_bytes())?;
+    cursor.prefix(name.text().as_bytes())?;
     Some(name)
 }
 
@@ -61,6 +61,11 @@ fn line_name(cursor: &mut ExactCursor) -> Option<LineName>
         [b'L', _, _, _, b'6', _, b' ', ..] => {
             named(cursor, b"Load64", LineName::Load(LoadOp::Load64))
         }
+        [b'L', _, _, _, b'S', ..] => named(
+            cursor,
+            b"LoadSymbolReloc",
+            LineName::Control(ControlName::LoadSymbolReloc),
+        ),
         [b'S', _, _, _, _, b'6', _, b' ', ..] => {
             named(cursor, b"Store64", LineName::Store(StoreOp::Store64))
         }
@@ -77,6 +82,8 @@ fn fields(alloc: Global, name: LineName, cursor: &mut ExactCursor) -> Option<Ins
     match name {
         LineName::Load(op) => load(op, cursor),
         LineName::Store(op) => store(op, cursor),
+        LineName::Integer(IntegerName::AluRRR) => alu_three(cursor),
+        LineName::Control(ControlName::Call) => call(alloc, cursor),
         LineName::Memory(name) => memory(name, cursor),
         LineName::Integer(name) => integer(name, cursor),
         LineName::Control(name) => control(alloc, name, cursor),

@@ -15,7 +15,7 @@ returns c =
     let fs = open_lines b.loops.items in
     record {
       state = c.requires.full;
-      lines = ap (λ t. ss ++ (bs ++ (block_line ∷ (fs ++ insts_lines t)))) (c.push_reserved.ensures.items ∙ ap (λ t. t ++ c.args.x ∷ []) c.in_ok-reserve.ensures.items)
+      lines = ap (λ t. ss ++ (bs ++ (block_line ∷ (fs ++ insts_lines t)))) c.push_reserved.ensures.items
           ∙ ap (λ t. ss ++ (bs ++ (block_line ∷ (fs ++ t)))) (one_more b.here.items c.args.x c.requires.one)
           ∙ at_end ss bs fs (insts_lines b.here.items) (inst_line c.args.x ∷ []);
       place = ap (next (Within (length b.loops.items))) c.requires.one;

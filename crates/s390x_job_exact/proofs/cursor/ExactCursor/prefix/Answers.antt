@@ -1,7 +1,7 @@
 use Rattle.std.proofs.Common.{◌≡◌, ◌++◌, length, take, drop, sym, ap, ◌∙◌}
 use Rattle.std.proofs.lemmas.List.{take-append-drop}
 use Rattle.std.specs.Cmp.Lexicographic.{same_text}
-use Rattle.s390x_job_exact.proofs.cursor.ExactCursor.text.Goals as goal
+use Rattle.s390x_job_exact.proofs.cursor.ExactCursor.prefix.Goals as goal
 
 pub returns : goal.returns
 returns c =
