@@ -10,14 +10,14 @@ use Rattle.s390x_inst.specs.declared.args.MemArg.TheVariants.{BXD12, BXD20, RegO
 use Rattle.s390x_inst.specs.declared.inst.Inst.TheVariants.{Mov64SImm32}
 use Rattle.s390x_typed_steps.specs.Causes.{Declared, first_emit_cause, unless, is_helped, memory_cause}
 use Rattle.s390x_typed_steps.specs.General.{is_general, low_displacement, low_12}
-use Rattle.s390x_typed_steps.specs.MachineInstruction.{MachineInstruction, bytes_of, rx, rxy}
-use Rattle.s390x_typed_steps.specs.Memory.{StorageForm, RxForm, type_of, storage_row, of_opcode}
+use Rattle.s390x_typed_steps.specs.MachineInstruction.{MachineInstruction, bytes_of, rx, rxy, vrx}
+use Rattle.s390x_typed_steps.specs.Memory.{StorageForm, RxForm, VrxForm, type_of, storage_row, of_opcode}
 use Rattle.s390x_typed_steps.specs.Operands.{Finalized, scratch, no_register, is_numbered, is_relative, is_far, fits_12, fits_20, fits_32, addressed, with_widened, finalized, has_form}
 use Rattle.s390x_typed_steps.specs.Parts.{helpers_parts, relative_parts, access_parts, operand_parts, finalized_parts, parts_size}
 use Rattle.s390x_address.specs.Lowerings.{IsPlain}
 use Rattle.s390x_address.specs.Rows.{storage_form_of}
 use Rattle.s390x_address.specs.declared.rows.StorageRows.{StorageRows}
-use Rattle.s390x_address.specs.declared.rows.StorageRows.TheVariants.{OneRegister}
+use Rattle.s390x_address.specs.declared.rows.StorageRows.TheVariants.{OneRegister, Vector}
 use Rattle.s390x_address.proofs.OnlyMemory.{length-bytes}
 use Rattle.s390x_address.proofs.Refusing.{wider_12, wider_20}
 
@@ -55,6 +55,26 @@ pub short_plain : (register opcode : ℕ) (rxy_opcode ril_opcode : Option ℕ) (
     IsPlain (record { form = RxForm register (Some opcode) rxy_opcode ril_opcode; operand = RegOffset base off flags; accesses = accesses; operands_valid = operands_valid; reads_scratch = reads_scratch }) code
 short_plain register opcode rxy_opcode ril_opcode base off flags accesses operands_valid reads_scratch code fits same =
     let form = RxForm register (Some opcode) rxy_opcode ril_opcode in
+    let mi = type_of form accesses in
+    let short : Finalized = record { helpers = []; operand = BXD12 base no_register (unsigned_abs off) flags } in
+    let long : Finalized = record { helpers = []; operand = BXD20 base no_register off flags } in
+    let far : Finalized = record { helpers = Mov64SImm32 scratch off ∷ []; operand = BXD12 base scratch 0 flags } in
+    let stays : Finalized = record { helpers = []; operand = RegOffset base off flags } in
+    let lowered : finalized mi (RegOffset base off flags) ≡ short = ap (λ t. with_widened mi (addressed mi (cond t short (cond (fits_20 off) long (cond (fits_32 off) far stays))))) fits in
+    let near : is_far off ≡ false = ap (λ t. fits_32 off && not t && not (fits_20 off)) fits ∙ ap (λ t. t && not (fits_20 off)) (and_false (fits_32 off)) in
+    let alone = ap (λ (f : Finalized). f.helpers) lowered in (
+      alone,
+      ap (λ (f : Finalized). is_relative f.operand) lowered,
+      ap (λ (f : Finalized). option_map bytes_of (storage_row form f.operand)) lowered ∙ ap Some (sym same),
+      λ D. only_registers D form base off flags accesses operands_valid reads_scratch refl near (wider_12 off fits) alone,
+    )
+
+-- the same by the row of a vector register
+pub vector_plain : (register opcode mask : ℕ) (base : Reg) (off : ℤ) (flags : AccessFlags) (accesses operands_valid reads_scratch : Bool) (code : List ℕ) →
+    fits_12 off ≡ true → code ≡ bytes_of (vrx opcode register (number_of base) (number_of no_register) mask (low_12 (unsigned_abs off))) →
+    IsPlain (record { form = VrxForm register opcode mask; operand = RegOffset base off flags; accesses = accesses; operands_valid = operands_valid; reads_scratch = reads_scratch }) code
+vector_plain register opcode mask base off flags accesses operands_valid reads_scratch code fits same =
+    let form = VrxForm register opcode mask in
     let mi = type_of form accesses in
     let short : Finalized = record { helpers = []; operand = BXD12 base no_register (unsigned_abs off) flags } in
     let long : Finalized = record { helpers = []; operand = BXD20 base no_register off flags } in
@@ -129,6 +149,16 @@ short_rows (Some code) rows register rx_opcode rxy_opcode ril_opcode opcode disp
     subst (λ form. IsPlain (record { form = form; operand = RegOffset base off flags; accesses = accesses; operands_valid = operands_valid; reads_scratch = reads_scratch }) code) (sym (ap storage_form_of is ∙ ap (λ o. RxForm (number_of register) o rxy_opcode ril_opcode) some))
     (short_plain (number_of register) opcode rxy_opcode ril_opcode base off flags accesses operands_valid reads_scratch code p.0 (same ∙ ap (λ d. bytes_of (rx opcode (number_of register) (number_of base) (number_of no_register) (low_12 d))) p.1))
 
+pub vector_rows : (found : Option (List ℕ)) (rows : StorageRows) (register : Reg) (opcode mask disp : ℕ) (base : Reg) (off : ℤ) (flags : AccessFlags) (accesses operands_valid reads_scratch : Bool) →
+    rows ≡ Vector register opcode mask → Some disp ≡ cond (fits_12 off) (Some (unsigned_abs off)) None →
+    IfSome found (λ code. code ≡ bytes_of (vrx opcode (number_of register) (number_of base) (number_of no_register) mask (low_12 disp))) →
+    IfSome found (λ code. IsPlain (record { form = storage_form_of rows; operand = RegOffset base off flags; accesses = accesses; operands_valid = operands_valid; reads_scratch = reads_scratch }) code)
+vector_rows None rows register opcode mask disp base off flags accesses operands_valid reads_scratch is fits same = tt
+vector_rows (Some code) rows register opcode mask disp base off flags accesses operands_valid reads_scratch is fits same =
+    let p = held (fits_12 off) disp (unsigned_abs off) fits in
+    subst (λ form. IsPlain (record { form = form; operand = RegOffset base off flags; accesses = accesses; operands_valid = operands_valid; reads_scratch = reads_scratch }) code) (sym (ap storage_form_of is))
+    (vector_plain (number_of register) opcode mask base off flags accesses operands_valid reads_scratch code p.0 (same ∙ ap (λ d. bytes_of (vrx opcode (number_of register) (number_of base) (number_of no_register) mask (low_12 d))) p.1))
+
 pub long_found : (found : Option (List ℕ)) (rxy_opcode : Option ℕ) (opcode : ℕ) (register base : Reg) (disp off : ℤ) → rxy_opcode ≡ Some opcode → Some disp ≡ cond (fits_20 off) (Some off) None →
     IfSome found (λ code. code ≡ bytes_of (rxy opcode (number_of register) (number_of base) (number_of no_register) (low_displacement disp))) →
     IsLong found register rxy_opcode base off
@@ -152,6 +182,11 @@ long_rows (Some code) rows register rx_opcode rxy_opcode ril_opcode base off fla
 pub unfit : (t : Bool) (d : ℕ) (o : Option ℕ) → None ≡ cond t (Some d) None → t ≡ true → o ≡ None
 unfit true d o h e = absurd (cc)
 unfit false d o h e = absurd (cc)
+
+-- what holds anyway
+pub some_always : {A : Type 0} {P : Type 0} (o : Option A) → P → IfSome o (λ _. P)
+some_always None p = tt
+some_always (Some a) p = p
 
 -- ---- what it puts
 

@@ -117,8 +117,8 @@ pub enum StorageRows {
     },
 }
 
-// The code of a row with a mask. No row has one of more than four bits.
-fn masked_code(
+/// The code of a row with a mask. No row has one of more than four bits. Refused where a register or the mask can't be encoded.
+pub fn masked_code(
     opcode: u16,
     v1: Reg,
     b2: Reg,

@@ -416,6 +416,7 @@ fn part_memory(inst: &VecInst) -> Option<MemoryInst>
 }
 
 /// The machine rows and the operand of a load or a store of a vector register; None for another instruction, and where there is no such element.
+#[inline(always)]
 pub fn vector_memory_rows(inst: &VecInst) -> Option<MemoryInst>
     ensures row { option_map memory_instruction_of result ≡ vector_memory inst.now }
     ensures encodes { IfSome result (λ x. may_encode x ≡ true) }

@@ -87,7 +87,21 @@ fn bit_mask_of(size: u32, v1: Reg, start: u8, end: u8) -> Option<Result<Code, Em
 
 /// The code of a vector instruction that is one machine instruction; None for any other. `BadRegister` exactly where a register
 /// isn't a real one of the row's class, or an input that has to be the output isn't it.
+#[inline(always)]
 pub fn encode_vector(inst: &VecInst) -> Option<Result<Code, EmitError>>
+    ensures { result
+        ≡ single_code (single_with (vector_operands_valid inst.now) (vector_row inst.now)) }
+{
+    match inst {
+        VecInst::VecRRR { op, rd, rn, rm } => {
+            Some(three_vectors(binary_row(*op), rd.to_reg(), *rn, *rm))
+        }
+        _ => encode_any(inst),
+    }
+}
+
+// The same without asking for the frequent operators first.
+fn encode_any(inst: &VecInst) -> Option<Result<Code, EmitError>>
     ensures { result
         ≡ single_code (single_with (vector_operands_valid inst.now) (vector_row inst.now)) }
 {

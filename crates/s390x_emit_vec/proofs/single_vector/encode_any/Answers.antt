@@ -8,7 +8,7 @@ use Rattle.s390x_typed_steps.specs.SingleCode.{code_where}
 use Rattle.s390x_typed_steps.specs.VectorInstruction.{is_vector}
 use Rattle.s390x_typed_steps.specs.VectorOpcodes.{shift_row}
 use Rattle.s390x_typed_steps.specs.declared.vector_opcode.VectorOpcode.{VectorOpcode}
-use Rattle.s390x_emit_vec.proofs.single_vector.encode_vector.Goals as goal
+use Rattle.s390x_emit_vec.proofs.single_vector.encode_any.Goals as goal
 
 pub returns-in-VecShiftRR : goal.returns-in-VecShiftRR
 returns-in-VecShiftRR c =

@@ -1,0 +1,35 @@
+use Rattle.std.proofs.Common.{◌≡◌, None, Some, ◌&&◌, cond, length, sym, ap, ◌∙◌}
+use Rattle.s390x_base.specs.declared.error.EmitError.TheVariants.{BadRegister}
+use Rattle.s390x_buffer.specs.State.{put_cause}
+use Rattle.s390x_typed_steps.specs.Causes.{declared_in, unless}
+use Rattle.s390x_typed_steps.specs.Memory.{type_of, storage_row, fault_code}
+use Rattle.s390x_typed_steps.specs.Operands.{finalized}
+use Rattle.s390x_typed_steps.specs.Parts.{access_parts, parts_size}
+use Rattle.s390x_address.specs.Appended.{appended}
+use Rattle.s390x_address.specs.Rows.{in_state}
+use Rattle.s390x_address.proofs.Displacing.{row_found, plain_parts, plain_size}
+use Rattle.s390x_address.proofs.Planning.{resolved_flags, resolved_general, on_ok}
+use Rattle.s390x_address.proofs.memory.DirectAccess.emit.Goals as goal
+
+pub returns-clause-answer : goal.returns-clause-answer
+returns-clause-answer c = λ e x direct.
+    let s = c.args.sink.now in
+    let y = in_state e x in
+    let f = finalized (type_of y.form y.accesses) y.operand in
+    let plain = direct.0 in
+    let code : c.args.self.now.trap_code ≡ fault_code y = direct.1 ∙ ap (λ g. cond x.accesses g.trap None) (sym (resolved_flags e x.operand)) in
+    let valid = ap (λ t. unless (x.operands_valid && t) BadRegister) (resolved_general e x.operand) ∙ ap (λ t. unless t BadRegister) direct.2 in
+    row_found (storage_row y.form f.operand) c.args.self.now.code plain.2 (λ m row same.
+    on_ok c.put_row.result (c.put_row.ensures.answer m same) (λ h. (
+      plain.3 (declared_in s) ∙ valid,
+      h ∙ ap (λ k. appended s (access_parts (Some m) k)) code ∙ ap (appended s) (sym (plain_parts y.form (fault_code y) f m plain.0 plain.1 row)),
+    )))
+
+pub returns-clause-only_memory : goal.returns-clause-only_memory
+returns-clause-only_memory c = λ e x direct put.
+    let s = c.args.sink.now in
+    let y = in_state e x in
+    let f = finalized (type_of y.form y.accesses) y.operand in
+    let plain = direct.0 in
+    row_found (storage_row y.form f.operand) c.args.self.now.code plain.2 (λ m row same.
+    c.put_row.ensures.only_memory (ap (λ n. put_cause s n) (ap length same ∙ sym (plain_size (fault_code y) m) ∙ ap parts_size (sym (plain_parts y.form (fault_code y) f m plain.0 plain.1 row))) ∙ put))
