@@ -3,9 +3,9 @@
 
     checks/mnemonics.py
 
-A mnemonic of a table has to be expected of a job of one instruction, which has the operator of its row and the form of operands of its
-column; any other mnemonic in the sources of s390x_text_rows has to be expected somewhere. Those of operators, and of loads and stores of
-one register, are what the table of machine rows tells of the opcodes in their tables. It ends with 0 where all are, and else with 1.
+A mnemonic of a table of opcodes, which the table of machine rows tells, has to be expected of a job of one instruction, which has the
+operator of its row and the form of operands of its column; any other mnemonic in the sources of s390x_text_rows, a string or that of an
+opcode, has to be expected somewhere. It ends with 0 where all are, and else with 1.
 """
 import glob
 import os
@@ -17,11 +17,7 @@ from opcodes import machine_rows
 CRATES = os.path.join(os.path.dirname(os.path.dirname(os.path.abspath(__file__))), "crates")
 SOURCES = os.path.join(CRATES, "s390x_text_rows", "src")
 ROWS = os.path.join(CRATES, "s390x_typed_steps", "src")
-# The instructions whose texts read a table, one for each of its columns; none where they are named as the rows.
-READERS = {
-    "WHOLE_MNEMONICS": ["VecLoad", "VecStore"],
-}
-# The same of tables of opcodes, by the columns that are read.
+# The instructions whose texts read a table of opcodes, by the columns that are read; none where they are named as the rows.
 OPCODE_READERS = {
     "ALU_ROWS": {"three": "AluRRR", "two": "AluRR", "halfword": "AluRSImm16", "three_halfword": "AluRRSImm16", "signed_word": "AluRSImm32",
                  "unsigned_word": "AluRUImm32", "rx": "AluRX", "rxy": "AluRX", "atomic": "AtomicRmw", "parts": "AluRUImm16Shifted",
@@ -48,8 +44,8 @@ LAYOUTS = {"Straight": "", "Reversed": "Rev", "Bytes16": "Byte16Rev", "Bytes32":
 # What stands behind a mnemonic with a condition, and the mnemonics that have one.
 CONDITIONS = "o h nle l nhe lh ne e nlh he nl le nh no".split()
 CONDITIONAL = "crt cgrt clrt clgrt cit cgit clfit clgit locr locgr lochi locghi".split()
-# Strings in the sources that are no mnemonics: conditions, the letter of one that is set, and the words of operands and labels.
-OTHERS = CONDITIONS + ["j", "label", "s", "tag", "u"]
+# Strings in the sources that are no mnemonics: conditions, the letters of sizes and of one that is set, and the words of operands and labels.
+OTHERS = CONDITIONS + ["b", "f", "g", "h", "q", "j", "label", "s", "tag", "u"]
 
 
 class Expected:
@@ -74,23 +70,8 @@ class Expected:
             self.told |= {(name, "", mnemonic) for mnemonic in mnemonics}
 
 
-def table_entries():
-    """The mnemonics of the tables: where each stands, its instruction, its operator and the mnemonic."""
-    for path in sorted(glob.glob(os.path.join(SOURCES, "*mnemonics.rt"))):
-        with open(path) as file:
-            tables = re.findall(r"^pub const (\w+): [^=]* = &?\[\n(.*?)^\];", file.read(), re.S | re.M)
-        for table, rows in tables:
-            for row in rows.splitlines():
-                operator = re.match(r" *\(\w+::(\w+),", row).group(1)
-                for name, mnemonic in zip(READERS[table], re.findall(r'"(\w*)"', row), strict=True):
-                    if mnemonic and table == "WHOLE_MNEMONICS":
-                        yield table, (name + LAYOUTS[operator], "", mnemonic)
-                    elif mnemonic:
-                        yield table, (name, operator, mnemonic) if name else (operator, "", mnemonic)
-
-
 def opcode_entries():
-    """The same of the tables of opcodes."""
+    """The mnemonics of the tables of opcodes: where each stands, its instruction, its operator and the mnemonic."""
     stems = {row.name: row.stem for row in machine_rows()}
     for path in sorted(glob.glob(os.path.join(ROWS, "*_rows.rt"))):
         with open(path) as file:
@@ -124,6 +105,28 @@ def vector_entries():
                 yield table, (name, operator, machine[opcode].stem + letters(machine[opcode], int(code), operator) + end)
 
 
+def whole_entries():
+    """The same of loads and stores of a whole register, by their layouts."""
+    machine = {row.name: row for row in machine_rows()}
+    with open(os.path.join(ROWS, "access_rows.rt")) as file:
+        rows = re.findall(r"load_opcode: opcodes::(\w+), store_opcode: opcodes::(\w+), mask: (\d) \}, // (\w+)$", file.read(), re.M)
+    for load, store, mask, layout in rows:
+        for name, opcode in (("VecLoad", load), ("VecStore", store)):
+            yield "WHOLE_ROWS", (name + LAYOUTS[layout], "", machine[opcode].stem + letters(machine[opcode], int(mask), ""))
+
+
+def lane_mnemonics():
+    """The mnemonics of the opcodes that the sources name, with each letter that their sizes can have."""
+    machine = {row.name: row for row in machine_rows()}
+    for path in sorted(glob.glob(os.path.join(SOURCES, "*.rt"))):
+        with open(path) as file:
+            for opcode in re.findall(r"opcodes::([A-Z]\w*)", file.read()):
+                row = machine[opcode]
+                # bytes alone aren't reversed
+                sizes = range(1 if "BR" in opcode else 0, 4)
+                yield from [row.stem] if row.suffix == "Plain" else {row.stem + letters(row, code, "") for code in sizes}
+
+
 def moved():
     """The mnemonics of moves, extensions and indexed addresses."""
     stems = {row.name: row.stem for row in machine_rows()}
@@ -133,7 +136,7 @@ def moved():
 
 def other_mnemonics():
     """The mnemonics that stand in no table of operators."""
-    found = moved()
+    found = moved() | set(lane_mnemonics())
     for path in glob.glob(os.path.join(SOURCES, "*.rt")):
         if not path.endswith("mnemonics.rt"):
             with open(path) as file:
@@ -143,7 +146,7 @@ def other_mnemonics():
 
 def main():
     expected = Expected()
-    entries, others = [*table_entries(), *opcode_entries(), *vector_entries()], other_mnemonics()
+    entries, others = [*opcode_entries(), *whole_entries(), *vector_entries()], other_mnemonics()
     missing = [f"{table}: {mnemonic} of {name} {operator}".rstrip() for table, (name, operator, mnemonic) in entries
                if (name, operator, mnemonic) not in expected.told]
     missing += [f"in no table: {mnemonic}" for mnemonic in others if mnemonic not in expected.mnemonics]

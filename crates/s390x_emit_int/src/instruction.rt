@@ -249,6 +249,7 @@ fn emit_break(sink: &mut MachBuffer, cond: Cond, after: MachLabel) -> Result<(),
 }
 
 // The code of a machine instruction; where its stop has a code, a trap is recorded at its last byte.
+#[inline(always)]
 fn emit_code(
     sink: &mut MachBuffer,
     code: &Code,
@@ -378,6 +379,7 @@ pub fn emit_access(
 }
 
 // An instruction that names a place, goes elsewhere or ends the run, where no cause refuses it; the branches that are met most often first.
+#[inline(always)]
 fn emit_control(
     sink: &mut MachBuffer,
     depth: u32,
@@ -549,6 +551,7 @@ fn encode_register(inst: &Inst) -> Option<Result<Code, EmitError>>
 }
 
 // One machine instruction on registers that needs no facility, where no cause of its own refuses it.
+#[inline(always)]
 #[tactic(auto, using(s390x_buffer::proofs::Extending::extends_on, s390x_buffer::proofs::Extending::extends_same, crate::proofs::Single::no_single))]
 fn emit_register(
     sink: &mut MachBuffer,

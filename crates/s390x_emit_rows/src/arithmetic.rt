@@ -7,7 +7,7 @@ ghost use Rattle.s390x_typed_steps.specs.General.{is_general, low_halfword};
 ghost use Rattle.s390x_typed_steps.specs.MachineInstruction.{rrf_cde};
 ghost use Rattle.s390x_typed_steps.specs.Opcodes.{alu_three, alu_two, cmp_two, unary_two, alu_halfword, alu_three_halfword, alu_signed_word, alu_unsigned_word, cmp_halfword, cmp_signed_word, cmp_unsigned_word};
 ghost use Rattle.s390x_typed_steps.specs.SingleCode.{code_where, single_code};
-ghost use Rattle.s390x_typed_steps.specs.SingleInstruction.{single_with, unary_row, three_row, three_halfword_row, allocate_row};
+ghost use Rattle.s390x_typed_steps.specs.SingleInstruction.{single_with, two_operands, unary_row, three_row, three_halfword_row, allocate_row};
 ghost use Rattle.s390x_emit_rows.specs.SingleInstruction.{opcode_of, takes_general};
 
 use crate::codes::{
@@ -151,15 +151,33 @@ pub fn encode_rrr(
         (number_of rm.now))) }
 {
     let three = three_opcode(op)?;
-    let output = rd.to_reg();
     match two_opcode(op) {
-        Some(two) => Some(shorter_code(three, two, &output, rn, rm)),
-        None => Some(three_operands(three, &output, rn, rm)),
+        Some(two) => Some(shorter_code(three, two, rd, rn, rm)),
+        None => Some(three_operands(three, &rd.to_reg(), rn, rm)),
     }
 }
 
+// The row of two operands, out of the way of that of three.
+#[inline(never)]
+fn two_code(two: u16, rd: &Writable<Reg>, rn: &Reg, rm: &Reg) -> Result<Code, EmitError>
+    requires { takes_general (Some two) ≡ true }
+    ensures { result
+        ≡ code_where (is_general rd.now && is_general rn.now && is_general rm.now)
+        (two_operands two (number_of rd.now) (number_of rm.now)) }
+{
+    let output = rd.to_reg();
+    two_operands(three_general(&output, rn, rm), two, output, *rm)
+}
+
+#[inline(always)]
 #[tactic(auto, using(crate::proofs::Encoding::outer_general))]
-fn shorter_code(three: u16, two: u16, rd: &Reg, rn: &Reg, rm: &Reg) -> Result<Code, EmitError>
+fn shorter_code(
+    three: u16,
+    two: u16,
+    rd: &Writable<Reg>,
+    rn: &Reg,
+    rm: &Reg,
+) -> Result<Code, EmitError>
     requires { takes_general (Some two) ≡ true }
     ensures { Some result
         ≡ single_code
@@ -167,10 +185,11 @@ fn shorter_code(three: u16, two: u16, rd: &Reg, rn: &Reg, rm: &Reg) -> Result<Co
         (three_row (Some three) (Some two) (number_of rd.now) (number_of rn.now)
         (number_of rm.now))) }
 {
-    if same_number(rd, rn) {
-        two_operands(three_general(rd, rn, rm), two, *rd, *rm)
+    let output = rd.to_reg();
+    if same_number(&output, rn) {
+        two_code(two, rd, rn, rm)
     } else {
-        three_operands(three, rd, rn, rm)
+        three_operands(three, &output, rn, rm)
     }
 }
 

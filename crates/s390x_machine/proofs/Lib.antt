@@ -75,5 +75,6 @@ pub mod VectorLanes
 pub mod VectorRows
 pub mod VectorSteps
 pub mod VectorStorage
+pub mod VectorValues
 pub mod Vectors
 pub mod WideComparing

@@ -1,9 +1,9 @@
 -- The bytes that were read are those of the instruction.
-use Rattle.std.proofs.Common.{◌≡◌, ℕ, ◌+◌, ◌^◌, ◌<◌, ◌≤◌, List, length, take, Bool, true, false, if◌then◌else◌, slice_index, IsTrue, sym, ap, ◌∙◌, subst, arith, length-take}
-use Rattle.std.specs.Prelude.{nat_lt}
+use Rattle.std.proofs.Common.{◌≡◌, ℕ, ◌+◌, ◌^◌, ◌<◌, ◌≤◌, List, length, take, Bool, true, false, if◌then◌else◌, slice_index, IsTrue, Option, None, Some, sym, ap, ◌∙◌, subst, arith, length-take, true≢false}
+use Rattle.std.specs.Prelude.{MatchOption, nat_lt}
 use Rattle.std.proofs.lemmas.List.{get_or-take}
 use Rattle.s390x_format.specs.Rows.{fetch_length_of}
-use Rattle.s390x_operations.specs.State.{wrapping_add64, bytes_at}
+use Rattle.s390x_operations.specs.State.{wrapping_add64, bytes_at, reaches}
 use Rattle.s390x_machine.specs.Fetch.{IsReached, instruction_bytes}
 use Rattle.s390x_machine.specs.State.{AreBytes, memory_of}
 use Rattle.s390x_machine.proofs.Fetching.{bytes_are}
@@ -57,3 +57,9 @@ bytes_read has get a bs n small read e =
     let count : n ≡ fetch_length_of (get a) = e ∙ ap fetch_length_of (first_byte has get a bs small read) in
     let few : n ≤ length bs = omega (arith, read.six, count, length_few (get a)) in
     taken_bytes get a n bs few (λ i lt. read.bytes_are i (subst (λ (k : ℕ). i < k) count lt)) ∙ ap (λ (k : ℕ). bytes_at get a k) count
+
+-- the bytes are asked for by the number that the first one tells
+pub reached_or_not : (has : ℕ → Bool) (get : ℕ → ℕ) (a n : ℕ) (r : Option (List ℕ)) → n ≡ fetch_length_of (get a) → MatchOption r (reaches has a n ≡ false) (λ bytes. AreBytes has get a n bytes) →
+    MatchOption r (IsReached (memory_of has get) a → ⊥) (λ bytes. AreBytes has get a (fetch_length_of (get a)) bytes)
+reached_or_not has get a n None count none = λ h. true≢false (sym (subst (λ (k : ℕ). IsTrue (reaches has a k)) (sym count) h.1) ∙ none)
+reached_or_not has get a n (Some bytes) count read = subst (λ (k : ℕ). AreBytes has get a k bytes) count read

@@ -167,6 +167,15 @@ each_held (r ∷ rs) a n i lt all none j less =
     let place : wrapping_add64 a j ≡ a + j = mod-eq_of_lt (below_top (get_or (r ∷ rs) i r) (a + j) (all r j less)) in
     subst (λ (b : ℕ). IsHolder (r ∷ rs) b i) (sym place) (lt, (λ z. all z j less), (λ k z before. none k before z j less))
 
+-- of sixteen addresses the first and the last eight
+pub holds_low : (rs : List Region) (a i : ℕ) → HoldsAll (Some i) rs a 16 → HoldsAll (Some i) rs a 8
+holds_low rs a i h k lt = h k (omega arith)
+
+pub holds_high : (rs : List Region) (a i : ℕ) → HoldsAll (Some i) rs a 16 → HoldsAll (Some i) rs (wrapping_add64 a 8) 8
+holds_high rs a i h k lt =
+    let there : wrapping_add64 a (8 + k) ≡ wrapping_add64 (wrapping_add64 a 8) k = omega arith in
+    subst (λ (b : ℕ). IsHolder rs b i) there (h (8 + k) (omega arith))
+
 pub all_held : (m : FlatMemory) (a n i : ℕ) → HoldsAll (Some i) m.regions.items a n → reaches (is_held m) a n ≡ true
 all_held m a n i h =
     reaches_all (is_held m) a n (λ j lt. ap (λ (b : Bool). b || is_some (get nat_cmp m.older (wrapping_add64 a j))) (some_held m.regions.items (wrapping_add64 a j) i (h j lt)))

@@ -3,7 +3,7 @@ use Rattle.std.proofs.Common.{◌≡◌, Bool, true, false, Option, None, Some, 
 use Rattle.s390x_format.specs.Formats.{length_of}
 use Rattle.s390x_format.specs.declared.decoder.Decoded.{Decoded}
 use Rattle.s390x_operations.specs.State.{State}
-use Rattle.s390x_operations.specs.declared.stop.StopKind.TheVariants.{Specification}
+use Rattle.s390x_operations.specs.declared.stop.StopKind.TheVariants.{Access, Operation, Specification}
 use Rattle.s390x_machine.specs.Fetch.{Fetched, Misplaced, Missing, Unknown, Found, Fetches, IsFound}
 use Rattle.s390x_machine.specs.Machine.{Event, OddPairStep, RowStep, MachineStep, Executed, Interrupted}
 use Rattle.s390x_machine.specs.Semantics.{action, is_odd_pair, semantics_of}
@@ -19,8 +19,18 @@ use Rattle.s390x_machine.proofs.Fetching.{one_thing}
 pub not_found : (s : State) (f : Fetched) → Fetches s.core.memory s.address f → ((d : Decoded) → f ≡ Found d → ⊥) → IsOpen s → ⊥
 not_found s f h none o = none o.found (one_thing s.core.memory s.address f (Found o.found) h o.at)
 
-pub no_unknown : (d : Decoded) → Unknown ≡ Found d → ⊥
+no_missing : (d : Decoded) → Missing ≡ Found d → ⊥
+no_missing d e = cc
+
+no_unknown : (d : Decoded) → Unknown ≡ Found d → ⊥
 no_unknown d e = cc
+
+-- the machine stops where no instruction is found
+pub missing_stops : (s : State) → Fetches s.core.memory s.address Missing → Steps s (Stopped Access s.address) s
+missing_stops s h = (not_found s Missing h no_missing, record { fetched = Missing; fetches = h; acts = (refl, refl) }, refl)
+
+pub unknown_stops : (s : State) → Fetches s.core.memory s.address Unknown → Steps s (Stopped Operation s.address) s
+unknown_stops s h = (not_found s Unknown h no_unknown, record { fetched = Unknown; fetches = h; acts = (refl, refl) }, refl)
 
 -- what was found; else a given one
 abbrev found_or : Decoded → Fetched → Decoded

@@ -1,9 +1,14 @@
 -- What a step of the machine as a program answers.
-use Rattle.std.specs.Prelude.{◌≡◌, ℕ, IsTrue, Option, Some, None}
+use Rattle.std.specs.Prelude.{◌≡◌, ℕ, false, IsTrue, Option, Some, None}
 use Rattle.s390x_format.specs.declared.decoder.Decoded.{Decoded}
+use Rattle.s390x_format.specs.declared.fields.Fields.{Fields}
+use Rattle.s390x_lanes.specs.Relation.{divides_by_zero, division_overflows}
+use Rattle.s390x_lanes.specs.Rows.{is_operation, is_computed, operation_of}
+use Rattle.s390x_lanes.specs.declared.operators.VectorOperation.{VectorOperation}
+use Rattle.s390x_lanes.specs.declared.row.VectorRow.{VectorRow}
 use Rattle.s390x_operations.specs.Access.{fault, store_event}
 use Rattle.s390x_operations.specs.Bits.{bytes}
-use Rattle.s390x_operations.specs.State.{State, Memory, Core, StoreEvent}
+use Rattle.s390x_operations.specs.State.{Registers, State, Memory, Core, StoreEvent}
 use Rattle.s390x_operations.specs.Effects.{access, source_access, MayExecute, MayInterrupt, MayRefuse}
 use Rattle.s390x_operations.specs.Values.{raw}
 use Rattle.s390x_operations.specs.declared.operand.Source.{Source}
@@ -16,7 +21,7 @@ use Rattle.s390x_operations.specs.declared.effect.CodeRule.TheVariants.{Kept, Se
 use Rattle.s390x_operations.specs.declared.stop.ConditionCode.{ConditionCode}
 use Rattle.s390x_machine.specs.Fetch.{IsFound}
 use Rattle.s390x_machine.specs.Machine.{Executed, Interrupted, ActionStep, MachineStep}
-use Rattle.s390x_machine.specs.Semantics.{action, semantics_of}
+use Rattle.s390x_machine.specs.Semantics.{action, semantics_of, vector_field}
 use Rattle.s390x_machine.specs.Sound.{is_free}
 use Rattle.s390x_format.specs.declared.semantics.RowSemantics.{RowSemantics}
 use Rattle.s390x_machine.specs.declared.action_type.Action.{Action}
@@ -43,6 +48,14 @@ abbrev pub code_under : CodeRule → ConditionCode → ConditionCode → Conditi
 code_under Set code old = code
 code_under Kept code old = old
 code_under Unspecified code old = old
+
+-- the row's operation is this one, its result is computed, and it doesn't stop
+pub record IsPlain (row : VectorRow) (f : Fields) (r : Registers) (operation : VectorOperation) : Type 0 where
+  pub means : operation_of row f.masks f.imm ≡ Some operation
+  pub is_operation : IsTrue (is_operation operation)
+  pub is_computed : IsTrue (is_computed operation)
+  pub divides : divides_by_zero operation (vector_field f r 2) ≡ false
+  pub fits : division_overflows operation (vector_field f r 1) (vector_field f r 2) ≡ false
 
 -- what an action stores
 abbrev pub stored_by : Action → Memory → Option StoreEvent

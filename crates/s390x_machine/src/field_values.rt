@@ -98,6 +98,7 @@ fn shifted_immediate(fields: &Fields, n: u8) -> u64
 }
 
 /// The second operand's value, or its address where it is in memory.
+#[inline(always)]
 pub fn source(machine: &Machine, operand_source: OperandSource, fields: &Fields) -> Source
     requires general { AreGeneral fields.now }
     requires room { ShiftFits operand_source fields.now }

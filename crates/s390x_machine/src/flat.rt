@@ -5,7 +5,7 @@ ghost use Rattle.std.specs.BTreeMap.{get};
 ghost use Rattle.std.specs.Ordering.{nat_cmp};
 ghost use Rattle.s390x_machine.specs.Regions.{contains, held_in, covers, has_address, is_held, byte_of, ContainsAll, ContainsNone, Holds, HoldsAll, IsFolded, IsHolder, IsInFirst};
 ghost use Rattle.s390x_machine.specs.State.{AreBytes};
-ghost use Rattle.s390x_operations.specs.State.{reaches, update};
+ghost use Rattle.s390x_operations.specs.State.{bytes_to, number_at, reaches, update, write_get};
 
 use crate::memory::Memory;
 use s390x_base::NoMemory;
@@ -329,6 +329,8 @@ impl FlatMemory {
     }
 
     /// So many bytes from an address on, at most six, each looked for by itself.
+    #[cold]
+    #[inline(never)]
     #[tactic(auto, using(crate::proofs::Reaching::reaches_none, crate::proofs::Reaching::reaches_next))]
     fn bytes_one_by_one(&self, address: u64, n: u64) -> Option<[u8; 6]>
         requires { n ≤ 6 }
@@ -343,6 +345,119 @@ impl FlatMemory {
             }
         }
         Some(bytes)
+    }
+
+    /// The number in eight bytes from an address on, all of one region.
+    #[tactic(auto, using(crate::proofs::Numbers::number_none, crate::proofs::Numbers::number_more))]
+    fn doubleword(&self, i: usize, address: u64) -> u64
+        requires { HoldsAll (Some i) self.now.regions.items address 8 }
+        ensures { result ≡ number_at (byte_of self.now) address 8 }
+    {
+        let mut total: u64 = 0;
+        for k in 0..8 {
+            total = total * 256 + self.region_byte(i, address.wrapping_add(k)) as u64;
+        }
+        total
+    }
+
+    /// The number in sixteen bytes from an address on, all of one region.
+    fn quadword(&self, i: usize, address: u64) -> u128
+        requires { HoldsAll (Some i) self.now.regions.items address 16 }
+        ensures { result ≡ number_at (byte_of self.now) address 16 }
+    {
+        let high = self.doubleword(i, address);
+        let low = self.doubleword(i, address.wrapping_add(8));
+        high as u128 * 18446744073709551616 + low as u128
+    }
+
+    /// The number in so many bytes from an address on, each of its region where the number is given.
+    #[tactic(auto, using(crate::proofs::Numbers::number_none, crate::proofs::Numbers::number_more))]
+    fn number_from(&self, region: Option<usize>, address: u64, n: u64) -> u128
+        requires few { n ≤ 16 }
+        requires holds { HoldsAll region self.now.regions.items address n }
+        ensures value { result ≡ number_at (byte_of self.now) address n }
+        ensures below { result < 256 ^ n }
+    {
+        let mut total: u128 = 0;
+        for i in 0..n {
+            total = total * 256 + u128::from(self.byte_from(region, address.wrapping_add(i)));
+        }
+        total
+    }
+
+    /// The number in so many bytes from an address on, all of one region. Those of whole registers are read at once.
+    fn region_number(&self, i: usize, address: u64, n: u64) -> u128
+        requires few { n ≤ 16 }
+        requires holds { HoldsAll (Some i) self.now.regions.items address n }
+        ensures value { result ≡ number_at (byte_of self.now) address n }
+        ensures below { result < 256 ^ n }
+    {
+        if n == 8 {
+            return self.doubleword(i, address) as u128;
+        }
+        if n == 16 {
+            return self.quadword(i, address);
+        }
+        self.number_from(Some(i), address, n)
+    }
+
+    /// Eight bytes from an address on, all of one region, become the low bytes of a number.
+    fn put_doubleword(&mut self, i: usize, address: u64, value: u128)
+        requires { HoldsAll (Some i) self.old.regions.items address 8 }
+        ensures same { is_held self.new ≡ is_held self.old }
+        ensures written { byte_of self.new
+            ≡ write_get (bytes_to address 8 value) (byte_of self.old) }
+        ensures stays { (a : ℕ) → (k : ℕ) → IsHolder self.old.regions.items a k
+            → IsHolder self.new.regions.items a k }
+    {
+        let mut rest = value;
+        for k in (0..8).rev() {
+            self.put_in(i, address.wrapping_add(k), (rest % 256) as u8);
+            rest = rest / 256;
+        }
+    }
+
+    /// Sixteen bytes from an address on, all of one region, become those of a number.
+    fn put_quadword(&mut self, i: usize, address: u64, value: u128)
+        requires { HoldsAll (Some i) self.old.regions.items address 16 }
+        ensures same { is_held self.new ≡ is_held self.old }
+        ensures written { byte_of self.new
+            ≡ write_get (bytes_to address 16 value) (byte_of self.old) }
+    {
+        self.put_doubleword(i, address.wrapping_add(8), value);
+        self.put_doubleword(i, address, value / 18446744073709551616);
+    }
+
+    /// So many accessible bytes from an address on become the low bytes of a number, each in its region where the number is given.
+    fn put_number_from(&mut self, region: Option<usize>, address: u64, n: u64, value: u128)
+        requires there { IsTrue (reaches (is_held self.old) address n) }
+        requires holds { HoldsAll region self.old.regions.items address n }
+        ensures same { is_held self.new ≡ is_held self.old }
+        ensures written { byte_of self.new
+            ≡ write_get (bytes_to address n value) (byte_of self.old) }
+    {
+        let mut rest = value;
+        for i in (0..n).rev() {
+            self.put_from(region, address.wrapping_add(i), (rest % 256) as u8);
+            rest = rest / 256;
+        }
+    }
+
+    /// So many bytes from an address on, all of one region, become the low bytes of a number. Those of whole registers are written at once.
+    fn put_region_number(&mut self, i: usize, address: u64, n: u64, value: u128)
+        requires there { IsTrue (reaches (is_held self.old) address n) }
+        requires holds { HoldsAll (Some i) self.old.regions.items address n }
+        ensures same { is_held self.new ≡ is_held self.old }
+        ensures written { byte_of self.new
+            ≡ write_get (bytes_to address n value) (byte_of self.old) }
+    {
+        if n == 8 {
+            return self.put_doubleword(i, address, value);
+        }
+        if n == 16 {
+            return self.put_quadword(i, address, value);
+        }
+        self.put_number_from(Some(i), address, n, value);
     }
 }
 
@@ -378,14 +493,12 @@ impl Memory for FlatMemory {
         }
     }
 
-    #[tactic(auto, using(crate::proofs::Numbers::number_none, crate::proofs::Numbers::number_more))]
     fn number(&self, address: u64, n: u64) -> u128 {
         let region = self.holder_of_all(address, n);
-        let mut total: u128 = 0;
-        for i in 0..n {
-            total = total * 256 + u128::from(self.byte_from(region, address.wrapping_add(i)));
+        match region {
+            Some(i) => self.region_number(i, address, n),
+            None => self.number_from(region, address, n),
         }
-        total
     }
 
     fn set(&mut self, address: u64, value: u8) {
@@ -394,10 +507,9 @@ impl Memory for FlatMemory {
 
     fn put_number(&mut self, address: u64, n: u64, value: u128) {
         let region = self.holder_of_all(address, n);
-        let mut rest = value;
-        for i in (0..n).rev() {
-            self.put_from(region, address.wrapping_add(i), (rest % 256) as u8);
-            rest = rest / 256;
+        match region {
+            Some(i) => self.put_region_number(i, address, n, value),
+            None => self.put_number_from(region, address, n, value),
         }
     }
 }

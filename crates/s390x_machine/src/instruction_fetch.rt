@@ -1,7 +1,7 @@
 //! Fetching an instruction.
-ghost use Rattle.std.specs.Prelude.{◌≡◌, ℕ, Bool, ◌%◌, ◌^◌, ◌<◌};
+ghost use Rattle.std.specs.Prelude.{◌≡◌, ℕ, Bool, ◌%◌, ◌^◌, ◌<◌, MatchOption};
 ghost use Rattle.s390x_format.specs.Rows.{fetch_length_of};
-ghost use Rattle.s390x_machine.specs.Fetch.{Fetches, StandsInTable, fetched_in};
+ghost use Rattle.s390x_machine.specs.Fetch.{Fetches, IsReached, StandsInTable, fetched_in};
 ghost use Rattle.s390x_machine.specs.State.{AreBytes, memory_of};
 
 use crate::memory::Memory;
@@ -68,24 +68,35 @@ fn row_in(bytes: &[u8; 6]) -> FetchedRow
     }
 }
 
-/// What stands at an even place, so many bytes read as its first one tells.
-fn row_by_length<M: Memory>(memory: &M, place: u64) -> FetchedRow
-    requires { place % 2 ≡ 0 }
-    ensures fetches { Fetches (memory_of (M.held memory.now) (M.byte memory.now)) place
-        (fetched_in result) }
-    ensures row { StandsInTable result }
+/// The bytes at a place, as many as the first one tells; `None` exactly where one of these isn't accessible.
+#[cold]
+#[inline(never)]
+fn shorter_bytes<M: Memory>(memory: &M, place: u64) -> Option<[u8; 6]>
+    ensures { MatchOption result
+        (IsReached (memory_of (M.held memory.now) (M.byte memory.now)) place → ⊥)
+        (λ bytes. AreBytes (M.held memory.now) (M.byte memory.now) place
+        (fetch_length_of (M.byte memory.now place)) bytes) }
 {
-    let Some(first) = memory.byte_at(place) else {
-        return FetchedRow::Missing;
-    };
-    let n = fetch_length(first);
-    let Some(bytes) = memory.leading_bytes(place, n as u64) else {
-        return FetchedRow::Missing;
-    };
-    row_in(&bytes)
+    match memory.byte_at(place) {
+        Some(first) => memory.leading_bytes(place, fetch_length(first) as u64),
+        None => None,
+    }
 }
 
-/// What `fetch` answers, with the place of the row in the table of machine rows. No instruction has more than six bytes.
+/// The bytes at a place, at least as many as the first one tells; `None` exactly where one of these isn't accessible. No instruction has more than six.
+pub fn reached_bytes<M: Memory>(memory: &M, place: u64) -> Option<[u8; 6]>
+    ensures { MatchOption result
+        (IsReached (memory_of (M.held memory.now) (M.byte memory.now)) place → ⊥)
+        (λ bytes. AreBytes (M.held memory.now) (M.byte memory.now) place
+        (fetch_length_of (M.byte memory.now place)) bytes) }
+{
+    match memory.leading_bytes(place, 6) {
+        Some(bytes) => Some(bytes),
+        None => shorter_bytes(memory, place),
+    }
+}
+
+/// What `fetch` answers, with the place of the row in the table of machine rows.
 pub fn fetch_row<M: Memory>(memory: &M, place: u64) -> FetchedRow
     ensures fetches { Fetches (memory_of (M.held memory.now) (M.byte memory.now)) place
         (fetched_in result) }
@@ -94,8 +105,8 @@ pub fn fetch_row<M: Memory>(memory: &M, place: u64) -> FetchedRow
     if place % 2 == 1 {
         return FetchedRow::Misplaced;
     }
-    match memory.leading_bytes(place, 6) {
+    match reached_bytes(memory, place) {
         Some(bytes) => row_in(&bytes),
-        None => row_by_length(memory, place),
+        None => FetchedRow::Missing,
     }
 }

@@ -4,6 +4,7 @@
 mod access;
 mod action_type;
 mod codes;
+mod elements_step;
 mod field_values;
 mod flat;
 mod instruction_fetch;

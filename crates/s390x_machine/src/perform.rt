@@ -273,7 +273,7 @@ fn code_numbered(number: u8) -> ConditionCode
 }
 
 /// The code that stands, where an operation sets none.
-fn vector_code(code: ConditionCode, number: Option<u8>) -> ConditionCode
+pub fn vector_code(code: ConditionCode, number: Option<u8>) -> ConditionCode
     ensures { result ≡ vector_code code number }
 {
     match number {

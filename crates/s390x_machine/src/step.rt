@@ -1,19 +1,21 @@
 //! One step of the machine.
 
-ghost use Rattle.std.specs.Prelude.{◌≡◌, ◌<◌, ℕ, Bool, ◌==◌, List, Option, Some, get_or, length, true, false, IsTrue, IsFalse};
+ghost use Rattle.std.specs.Prelude.{◌≡◌, ◌<◌, ◌%◌, ℕ, Bool, ◌==◌, List, Option, Some, get_or, length, true, false, IsTrue, IsFalse};
 ghost use Rattle.s390x_format.specs.Fetch.{machine_rows};
 ghost use Rattle.s390x_format.specs.Formats.{length_of};
 ghost use Rattle.s390x_format.specs.Reading.{HasOpcode, no_row};
+ghost use Rattle.s390x_format.specs.Rows.{fetch_length_of};
 ghost use Rattle.s390x_machine.specs.Fetch.{IsFound};
 ghost use Rattle.s390x_machine.specs.Semantics.{action, names_pair, is_odd_pair, semantics_of};
-ghost use Rattle.s390x_machine.specs.State.{memory_of, registers_of, state_of};
+ghost use Rattle.s390x_machine.specs.State.{AreBytes, memory_of, registers_of, state_of};
 ghost use Rattle.s390x_machine.specs.Sound.{HasRegisters, IsSoundAction, is_free, is_uncomputed};
 ghost use Rattle.s390x_machine.specs.Step.{Executes, Steps};
 
 use crate::access::operand_fault;
 use crate::action_type::Action;
+use crate::elements_step::{elements_step, plain_operation};
 use crate::field_values::{relative_address, source};
-use crate::instruction_fetch::{FetchedRow, fetch_row};
+use crate::instruction_fetch::reached_bytes;
 use crate::machine::Machine;
 use crate::memory::Memory;
 use crate::perform::{is_selected, perform};
@@ -22,7 +24,9 @@ use crate::store_step::store_step;
 use crate::value_step::{Computation, compare_step, operand_bits, value_step};
 use crate::vector_action::shift_amount;
 use crate::vector_step::{vector_load_step, vector_store_step};
-use s390x_format::{Decoded, Fields, Located, MACHINE_ROWS, MachineRow, RowSemantics, length};
+use s390x_format::{
+    Decoded, Fields, Located, MACHINE_ROWS, MachineRow, RowSemantics, fetch_length, length, locate,
+};
 use s390x_lanes::{VectorOperation, computes, operation};
 use s390x_operations::{StopKind, bytes};
 
@@ -242,6 +246,28 @@ fn storing_step<M: Memory>(
     }
 }
 
+/// The step at a row on vector registers that was fetched. Where its result is computed, it builds no operation.
+fn vectors_step<M: Memory>(
+    machine: &mut Machine,
+    memory: &mut M,
+    decoded: &Decoded,
+    semantics: &RowSemantics,
+) -> StepEnd
+    requires found { IsFound (memory_of (M.held memory.old) (M.byte memory.old)) machine.old.place
+        decoded.now }
+    requires is { semantics_of decoded.now.row.opcode ≡ Some semantics.now }
+    ensures { Steps (state_of machine.old (M.held memory.old) (M.byte memory.old)) result
+        (state_of machine.new (M.held memory.new) (M.byte memory.new)) }
+{
+    match semantics {
+        RowSemantics::Elements(row) => match plain_operation(machine, *row, &decoded.fields) {
+            Some(operation) => elements_step(machine, decoded, *row, operation),
+            None => semantics_step(machine, memory, decoded, semantics),
+        },
+        _ => semantics_step(machine, memory, decoded, semantics),
+    }
+}
+
 /// The step at a branch to a distance that was fetched. It is the most frequent step, and has none of the others' values.
 fn relative_step(machine: &mut Machine, decoded: &Decoded) -> StepEnd
     requires { semantics_of decoded.now.row.opcode ≡ Some RowSemantics.BranchRelative }
@@ -268,6 +294,7 @@ fn row_step<M: Memory>(machine: &mut Machine, memory: &mut M, located: &Located)
         RowSemantics::Compute(..) => operator_step(machine, memory, &located.decoded, semantics),
         RowSemantics::Compare(..) => comparison_step(machine, memory, &located.decoded, semantics),
         RowSemantics::Store(_) => storing_step(machine, memory, &located.decoded, semantics),
+        RowSemantics::Elements(_) => vectors_step(machine, memory, &located.decoded, semantics),
         RowSemantics::LoadVector(storage) => {
             vector_load_step(machine, memory, &located.decoded, *storage)
         }
@@ -275,6 +302,27 @@ fn row_step<M: Memory>(machine: &mut Machine, memory: &mut M, located: &Located)
             vector_store_step(machine, memory, &located.decoded, *storage)
         }
         _ => semantics_step(machine, memory, &located.decoded, semantics),
+    }
+}
+
+/// The step at an even place from which these bytes stand. The first one tells how many the instruction has.
+fn bytes_step<M: Memory>(
+    machine: &mut Machine,
+    memory: &mut M,
+    place: u64,
+    bytes: &[u8; 6],
+) -> StepEnd
+    requires at { machine.old.place ≡ place }
+    requires even { place % 2 ≡ 0 }
+    requires there { AreBytes (M.held memory.old) (M.byte memory.old) place
+        (fetch_length_of (M.byte memory.old place)) bytes.now }
+    ensures { Steps (state_of machine.old (M.held memory.old) (M.byte memory.old)) result
+        (state_of machine.new (M.held memory.new) (M.byte memory.new)) }
+{
+    let n = fetch_length(bytes[0]);
+    match locate(&bytes[..n]) {
+        Some(located) => row_step(machine, memory, &located),
+        None => StepEnd::Stopped(StopKind::Operation, place),
     }
 }
 
@@ -292,11 +340,13 @@ impl Machine {
         ensures { Steps (state_of self.old (M.held memory.old) (M.byte memory.old)) result
             (state_of self.new (M.held memory.new) (M.byte memory.new)) }
     {
-        match fetch_row(memory, self.place) {
-            FetchedRow::Misplaced => StepEnd::Stopped(StopKind::Specification, self.place),
-            FetchedRow::Missing => StepEnd::Stopped(StopKind::Access, self.place),
-            FetchedRow::Unknown => StepEnd::Stopped(StopKind::Operation, self.place),
-            FetchedRow::Found(located) => row_step(self, memory, &located),
+        let place = self.place;
+        if place % 2 == 1 {
+            return StepEnd::Stopped(StopKind::Specification, place);
+        }
+        match reached_bytes(memory, place) {
+            Some(bytes) => bytes_step(self, memory, place, &bytes),
+            None => StepEnd::Stopped(StopKind::Access, place),
         }
     }
 }

@@ -22,6 +22,7 @@ use s390x_lanes::Signedness;
 use s390x_operations::{CodeRule, Operator, Size, bytes, compared, extended, operate, ordered};
 
 /// The bits of a row's second operand; `None` where its access has a fault.
+#[inline(always)]
 pub fn operand_bits<M: Memory>(
     machine: &Machine,
     memory: &M,

@@ -37,7 +37,7 @@ use Rattle.s390x_base.specs.declared.regs.Reg.TheVariants.{Real, Virtual}
 use Rattle.std.specs.Option.{option_map}
 use Rattle.s390x_text_rows.specs.Operands.{is_reg, pair_cause}
 use Rattle.s390x_text_rows.specs.Mnemonics.{alu_three_name, alu_two_name, alu_halfword_name, alu_three_halfword_name, alu_signed_word_name, alu_unsigned_word_name, alu_short_name, alu_long_name, atomic_name, cmp_short_name, cmp_long_name, cmp_relative_name, cmp_two_name, cmp_halfword_name}
-use Rattle.s390x_text_rows.specs.Mnemonics.{cmp_signed_word_name, cmp_unsigned_word_name, cmp_trap_name, cmp_trap_signed_name, cmp_trap_unsigned_name, load_mnemonic, store_mnemonic, rotate_name, rotate_test_name}
+use Rattle.s390x_text_rows.specs.Mnemonics.{cmp_signed_word_name, cmp_unsigned_word_name, cmp_trap_name, cmp_trap_signed_name, cmp_trap_unsigned_name, rotate_name, rotate_test_name}
 use Rattle.s390x_text_rows.specs.Integer.{three_text, conditional_row, alu_part_name, alu_half_name, load_part_name, load_half_name, insert_part_name, insert_half_name, extend_name, indexed_name, logical_indexed_name, arithmetic_text, pair_instruction_text, compare_text, move_text}
 use Rattle.s390x_text_rows.specs.Storage.{rx, rs, has_row, access_where, address_cause, load_mnemonics, load_text, store_mnemonics, store_text, storage_operator_text}
 use Rattle.s390x_text.specs.Agreement.{has_row_text, Agrees, RowsAgree}
@@ -317,7 +317,6 @@ moves i = tt
 
 -- each load has a row: the last clause is a copy for each
 load_has_row : (op : LoadOp) → has_row (load_mnemonics op) ≡ true
-unfolding load_mnemonic
 load_has_row LoadOps.Load64 = refl
 load_has_row op = refl
 
@@ -329,7 +328,6 @@ loads : (has : Bool) (e : Emission) (i : Inst) → Agrees (load_text has e i) (i
 loads has e i = load_agrees has e (as_load i) (other_memory i)
 
 store_has_row : (op : StoreOp) → has_row (store_mnemonics op) ≡ true
-unfolding store_mnemonic
 store_has_row StoreOps.Store64 = refl
 store_has_row op = refl
 

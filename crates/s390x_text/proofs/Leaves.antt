@@ -35,7 +35,7 @@ use Rattle.s390x_text.specs.Calls.{call_text}
 use Rattle.s390x_text.specs.Instructions.{leaf_text}
 use Rattle.s390x_text_rows.specs.Integer.{alu_half_name, alu_part_name, extend_name, indexed_name, insert_half_name, insert_part_name, load_half_name, load_part_name, logical_indexed_name, selected_name}
 use Rattle.s390x_text_rows.specs.Mnemonics.{alu_halfword_name, alu_signed_word_name, alu_three_halfword_name, alu_three_name, alu_two_name, alu_unsigned_word_name, atomic_name, cmp_halfword_name, cmp_signed_word_name, cmp_trap_name, cmp_trap_signed_name, cmp_trap_unsigned_name, cmp_two_name, cmp_unsigned_word_name}
-use Rattle.s390x_text_rows.specs.Mnemonics.{load_mnemonic, store_mnemonic, rotate_name, rotate_test_name}
+use Rattle.s390x_text_rows.specs.Mnemonics.{rotate_name, rotate_test_name}
 use Rattle.s390x_text_rows.specs.Simple.{simple_text}
 use Rattle.s390x_text_rows.specs.Texts.{Text, text_or}
 use Rattle.s390x_text.proofs.Machines.{has_others, loaded_there, whole_there}
@@ -52,12 +52,10 @@ alone_text has e i = text_or (call_text e i) (simple_text has e i)
 
 -- a load, and a store: the last clause is a copy for each
 load_fine : (has : Bool) (e : Emission) (op : LoadOp) (rd : Reg) (mem : MemArg) → refusal_there has (memory (resolved_instruction e (load_instruction op rd mem))) ≡ None → (alone_text has e (load_instruction op rd mem)).cause ≡ None
-unfolding load_mnemonic
 load_fine has e LoadOps.Load64 rd mem t = address_fine _ t
 load_fine has e op rd mem t = address_fine _ t
 
 store_fine : (has : Bool) (e : Emission) (op : StoreOp) (rd : Reg) (mem : MemArg) → refusal_there has (memory (resolved_instruction e (store_instruction op rd mem))) ≡ None → (alone_text has e (store_instruction op rd mem)).cause ≡ None
-unfolding store_mnemonic
 store_fine has e StoreOps.Store64 rd mem t = address_fine _ t
 store_fine has e op rd mem t = address_fine _ t
 

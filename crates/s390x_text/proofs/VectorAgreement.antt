@@ -29,7 +29,6 @@ use Rattle.s390x_typed_steps.specs.VectorInstruction.{bit_mask_row, element_code
 use Rattle.s390x_text_rows.specs.Operands.{is_float, is_zero}
 use Rattle.s390x_text_rows.specs.Storage.{address_cause}
 use Rattle.s390x_text_rows.specs.Texts.{Text, fixed, row}
-use Rattle.s390x_text_rows.specs.VectorMnemonics.{whole_name}
 use Rattle.s390x_text_rows.specs.Vector.{is_float_lane, lane_name, mask_name, reversed_name, vector_text}
 use Rattle.s390x_text_rows.specs.declared.error.TextError.TheVariants.{NoRow}
 use Rattle.s390x_text.specs.Agreement.{has_row_text}
@@ -289,7 +288,6 @@ left_agrees b h f g rd valid other form opcode size lane m x y z p q r =
 
 -- a load or a store of a whole register: the clauses without `Straight` are a copy for each other layout
 whole_row : (e : Emission) (blocks depth : ℕ) (direction : Direction) (layout : WholeLayout) (rd : Reg) (mem : MemArg) → has_row_text (vector_text e (whole_instruction direction layout rd mem)).cause ≡ has_rows blocks depth (Vector (whole_instruction direction layout rd mem))
-unfolding whole_name
 whole_row e bs k Load Straight rd mem = address_row _
 whole_row e bs k Load layout rd mem = address_row _
 whole_row e bs k Store Straight rd mem = address_row _

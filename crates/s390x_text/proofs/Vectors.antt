@@ -27,7 +27,6 @@ use Rattle.s390x_typed_steps.specs.SingleInstruction.{single_with}
 use Rattle.s390x_typed_steps.specs.VectorComposite.{composite_cause, rows_cause}
 use Rattle.s390x_typed_steps.specs.VectorInstruction.{bit_mask_row, element_code, is_float_doubleword, is_lane, is_vector, lane_row, replicate_row, reuses_vector, vector_operands_valid, vector_row}
 use Rattle.s390x_text_rows.specs.Texts.{fixed, row}
-use Rattle.s390x_text_rows.specs.VectorMnemonics.{whole_name}
 use Rattle.s390x_text_rows.specs.Vector.{is_float_lane, lane_name, mask_name, vector_text}
 use Rattle.s390x_text.proofs.Elements.{named_at, one_size}
 use Rattle.s390x_text.proofs.Rows.{access_refusal, address_fine}
@@ -129,7 +128,6 @@ found D valid None None c h = absurd (cc)
 
 -- a load or a store of a whole register: the clauses without `Straight` are a copy for each other layout
 whole_fine : (e : Emission) (direction : Direction) (layout : WholeLayout) (rd : Reg) (mem : MemArg) → access_refusal (vector_memory (resolved_vector e (whole_instruction direction layout rd mem))) ≡ None → (vector_text e (whole_instruction direction layout rd mem)).cause ≡ None
-unfolding whole_name
 whole_fine e Load Straight rd mem m = address_fine _ m
 whole_fine e Load layout rd mem m = address_fine _ m
 whole_fine e Store Straight rd mem m = address_fine _ m
@@ -151,9 +149,9 @@ vector_fine e D (VecLoadLaneRev size rd ri mem lane) h m = reversed_lane_fine D 
 vector_fine e D (VecLoadLaneRevUndef size rd mem lane) h m = reversed_lane_fine D _ _ _ (is_vector rd) load_reversed_opcode (number_of rd) size lane (resolved e mem) BadOperator h m
 vector_fine e D (VecStoreLaneRev size rd mem lane) h m = reversed_lane_fine D _ _ _ (is_vector rd) store_reversed_opcode (number_of rd) size lane (resolved e mem) BadOperator h m
 vector_fine e D (VecLoadLaneUndef size rd mem lane) h m =
-    left_lane_fine D (codes "vleb") (codes "vleh") (codes "vlef") (codes "vleg") rd opcodes.LE opcodes.LEY opcodes.LD opcodes.LDY load_lane_opcode size lane (resolved e mem) BadOperator _ _ _ h m (λ fine. (address_fine _ fine, address_fine _ fine)) refl
+    left_lane_fine D _ _ _ _ rd opcodes.LE opcodes.LEY opcodes.LD opcodes.LDY load_lane_opcode size lane (resolved e mem) BadOperator _ _ _ h m (λ fine. (address_fine _ fine, address_fine _ fine)) refl
 vector_fine e D (VecStoreLane size rd mem lane) h m =
-    left_lane_fine D (codes "vsteb") (codes "vsteh") (codes "vstef") (codes "vsteg") rd opcodes.STE opcodes.STEY opcodes.STD opcodes.STDY store_lane_opcode size lane (resolved e mem) BadOperator _ _ _ h m (λ fine. (address_fine _ fine, address_fine _ fine)) refl
+    left_lane_fine D _ _ _ _ rd opcodes.STE opcodes.STEY opcodes.STD opcodes.STDY store_lane_opcode size lane (resolved e mem) BadOperator _ _ _ h m (λ fine. (address_fine _ fine, address_fine _ fine)) refl
 -- moves under a condition and comparisons have a text at any values, elements in reverse order at the counts that have machine instructions
 vector_fine e D (FpuCMov32 rd mask ri rm) h m = refl
 vector_fine e D (FpuCMov64 rd mask ri rm) h m = refl

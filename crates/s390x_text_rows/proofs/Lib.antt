@@ -1,3 +1,3 @@
 pub mod Joined
+mod Digits
 mod Near
-mod Tables

@@ -1,4 +1,4 @@
--- An offset that a displacement of the rows holds needs no helper.
+-- An offset that a displacement of the rows holds needs no helper, nor does an operand that they take relative to the instruction.
 use Rattle.std.proofs.Common.{◌≡◌, ℕ, ℤ, pos, negsuc, unsigned_abs, List, [], ◌∷◌, ◌++◌, Bool, true, false, cond, not, ◌&&◌, ◌||◌, is_some, None, Some, Ok, refl, sym, ap, subst, ◌∙◌, append-nil}
 use Rattle.std.proofs.lemmas.Bool.{and_parts}
 use Rattle.s390x_base.specs.declared.error.EmitError.TheVariants.{BadOperator, ScratchConflict, OffsetOutOfRange}
@@ -7,10 +7,10 @@ use Rattle.s390x_base.specs.declared.regs.Reg.{Reg}
 use Rattle.s390x_inst.specs.Emission.{Emission}
 use Rattle.s390x_inst.specs.Memory.{flags_of}
 use Rattle.s390x_inst.specs.declared.args.MemArg.{MemArg}
-use Rattle.s390x_inst.specs.declared.args.MemArg.TheVariants.{BXD12, BXD20, RegOffset}
+use Rattle.s390x_inst.specs.declared.args.MemArg.TheVariants.{BXD12, BXD20, Label, Constant, Symbol, RegOffset}
 use Rattle.s390x_inst.specs.declared.inst.Inst.TheVariants.{Mov64SImm32, LoadAddr}
 use Rattle.s390x_typed_steps.specs.Causes.{first_emit_cause, unless, operand_cause}
-use Rattle.s390x_typed_steps.specs.Operands.{Finalized, scratch, no_register, is_numbered, is_far, fits_12, fits_20, fits_32, addressed, with_widened, finalized, resolved}
+use Rattle.s390x_typed_steps.specs.Operands.{Finalized, scratch, no_register, needs_address, is_numbered, is_far, fits_12, fits_20, fits_32, addressed, with_widened, finalized, resolved}
 use Rattle.s390x_typed_steps.specs.declared.mem_inst_type.MemInstType.{MemInstType}
 use Rattle.s390x_address.proofs.Refusing.{wider_12, wider_20}
 use Rattle.s390x_text_rows.specs.Storage.{Rows, type_of_rows, helpers_text, address_cause, near_operand, Opens}
@@ -28,9 +28,9 @@ left_false : (a b : Bool) → (a && b) ≡ false → b ≡ true → a ≡ false
 left_false true b h e = sym e ∙ h
 left_false false b h e = refl
 
--- rows with these forms have a displacement and take an operand behind no helper, and this one stands in the access
+-- there are rows with these forms, they take an operand behind no helper, and this one stands in the access
 abbrev IsNear : MemInstType → MemArg → MemArg → Type 0
-IsNear mi m operand = ((mi.have_d12 || mi.have_d20) ≡ true) × (operand_cause mi m ≡ None) × (finalized mi m ≡ record { helpers = []; operand = operand })
+IsNear mi m operand = ((mi.have_d12 || mi.have_d20 || mi.have_pcrel) ≡ true) × (operand_cause mi m ≡ None) × (finalized mi m ≡ record { helpers = []; operand = operand })
 
 -- an offset that no helper loads and an immediate holds has no cause, where there is a displacement
 allowed : (mi : MemInstType) (base : Reg) (off : ℤ) (flags : AccessFlags) → (mi.have_d12 || mi.have_d20) ≡ true → is_far off ≡ false → fits_32 off ≡ true → operand_cause mi (RegOffset base off flags) ≡ None
@@ -86,7 +86,7 @@ near_short mi base off flags h =
     let p = and_parts mi.have_d12 (fits_12 off) h in
     let has : (mi.have_d12 || mi.have_d20) ≡ true = ap (λ t. t || mi.have_d20) p.0 in
     let near : is_far off ≡ false = ap (λ t. fits_32 off && not t && not (fits_20 off)) p.1 ∙ ap (λ t. t && not (fits_20 off)) (and_false (fits_32 off)) in (
-      has,
+      ap (λ t. t || mi.have_pcrel) has,
       allowed mi base off flags has near (wider_12 off p.1),
       ap (λ t. with_widened mi (addressed mi (cond t (short base (unsigned_abs off) flags) (cond (fits_20 off) (long base off flags) (other_offset base off flags))))) p.1
           ∙ short_stays mi base (unsigned_abs off) flags p.0,
@@ -102,11 +102,38 @@ near_long mi base off flags unlike h =
     let p = and_parts mi.have_d20 (fits_20 off) h in
     let has : (mi.have_d12 || mi.have_d20) ≡ true = ap (λ t. mi.have_d12 || t) p.0 ∙ or_true mi.have_d12 in
     let near : is_far off ≡ false = ap (λ t. fits_32 off && not (fits_12 off) && not t) p.1 ∙ and_false (fits_32 off && not (fits_12 off)) in (
-      has,
+      ap (λ t. t || mi.have_pcrel) has,
       allowed mi base off flags has near (wider_20 off p.1),
       ap (λ t. with_widened mi (addressed mi (cond (fits_12 off) (short base (unsigned_abs off) flags) (cond t (long base off flags) (other_offset base off flags))))) p.1
           ∙ long_chosen mi base off flags (other_offset base off flags) (fits_12 off) p.0 (left_false mi.have_d12 (fits_12 off) unlike) (not_negative off),
     )
+
+-- ---- what stands relative to the instruction
+
+abbrev alone : MemArg → Finalized
+alone m = record { helpers = []; operand = m }
+
+kept_near : (mi : MemInstType) (m : MemArg) (needs : Bool) → needs ≡ false → mi.have_pcrel ≡ true
+    → operand_cause mi m ≡ first_emit_cause (unless (mi.have_d12 || mi.have_d20 || not needs) BadOperator) None
+    → finalized mi m ≡ with_widened mi (cond needs (behind (alone m)) (alone m)) → with_widened mi (alone m) ≡ alone m → IsNear mi m m
+kept_near mi m needs none has cause shape same = (
+  ap (λ t. mi.have_d12 || mi.have_d20 || t) has ∙ or_true (mi.have_d12 || mi.have_d20),
+  cause ∙ ap (λ t. first_emit_cause (unless (mi.have_d12 || mi.have_d20 || not t) BadOperator) None) none
+      ∙ ap (λ t. first_emit_cause (unless t BadOperator) None) (or_true (mi.have_d12 || mi.have_d20)),
+  shape ∙ ap (λ t. with_widened mi (cond t (behind (alone m)) (alone m))) none ∙ same,
+)
+
+not_false : (b : Bool) → not b ≡ false → b ≡ true
+not_false true h = refl
+not_false false h = absurd (cc)
+
+neither : (a b : Bool) → (a || b) ≡ false → a ≡ false
+neither true b h = absurd (cc)
+neither false b h = refl
+
+unless_needed : (P : MemArg → Type 0) (needs : Bool) (m operand : MemArg) → Some operand ≡ cond needs None (Some m) → (needs ≡ false → P m) → P operand
+unless_needed P true m operand h f = absurd (cc)
+unless_needed P false m operand h f = let e : m ≡ operand = (cc) in subst P e (f refl)
 
 -- ---- any operand, in any state
 
@@ -118,13 +145,25 @@ chosen P false false x y z h f g = absurd (cc)
 near_in : (mi : MemInstType) (e : Emission) (m operand : MemArg) → Some operand ≡ near_operand mi m → IsNear mi (resolved e m) operand
 near_in mi e (RegOffset reg off flags) operand h =
     chosen (λ o. IsNear mi (RegOffset reg off flags) o) (mi.have_d12 && fits_12 off) (mi.have_d20 && fits_20 off) (BXD12 reg no_register (unsigned_abs off) flags) (BXD20 reg no_register off flags) operand h (near_short mi reg off flags) (near_long mi reg off flags)
+near_in mi e (Label target) operand h =
+    unless_needed (λ o. IsNear mi (Label target) o) _ (Label target) operand h (λ none. kept_near mi (Label target) (not mi.have_pcrel) none (not_false _ none) refl refl refl)
+near_in mi e (Constant c) operand h =
+    unless_needed (λ o. IsNear mi (Constant c) o) _ (Constant c) operand h (λ none. kept_near mi (Constant c) (not mi.have_pcrel) none (not_false _ none) refl refl refl)
+near_in mi e (Symbol name offset flags) operand h =
+    unless_needed (λ o. IsNear mi (Symbol name offset flags) o) (needs_address mi (Symbol name offset flags)) (Symbol name offset flags) operand h
+    (λ none. kept_near mi (Symbol name offset flags) (needs_address mi (Symbol name offset flags)) none (not_false _ (neither _ _ none)) refl refl refl)
 near_in mi e m operand h = absurd (cc)
+
+there : (a b c : Bool) → (a || (b && c)) ≡ true → (a || b) ≡ true
+there true b c h = refl
+there false true c h = refl
+there false false c h = absurd (cc)
 
 -- nothing is appended, and the access is that of the operand
 pub near_opens : (has : Bool) (r : Rows) (e : Emission) (m operand : MemArg) (mi : MemInstType) (old : List ℕ) → mi ≡ type_of_rows has r → Some operand ≡ near_operand mi m → Opens (Ok operand) old old has r (resolved e m)
 near_opens has r e m operand mi old forms found =
     let p : IsNear (type_of_rows has r) (resolved e m) operand = subst (λ t. IsNear t (resolved e m) operand) forms (near_in mi e m operand found) in (
-      ap (λ t. cond t (address_cause (operand_cause (type_of_rows has r) (resolved e m))) (Some NoRow)) (ap (λ t. t || is_some r.relative) p.0) ∙ ap address_cause p.1,
+      ap (λ t. cond t (address_cause (operand_cause (type_of_rows has r) (resolved e m))) (Some NoRow)) (there ((type_of_rows has r).have_d12 || (type_of_rows has r).have_d20) (is_some r.relative) (has || not r.accesses) p.0) ∙ ap address_cause p.1,
       sym (ap (λ (f : Finalized). f.operand) p.2),
       sym (ap (λ (f : Finalized). old ++ helpers_text f.helpers) p.2 ∙ append-nil old),
     )

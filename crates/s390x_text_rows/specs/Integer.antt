@@ -16,7 +16,7 @@ use Rattle.s390x_inst.specs.declared.ops.UnaryOp.TheVariants.{PopcntReg}
 use Rattle.s390x_typed_steps.specs.General.{rotation}
 use Rattle.s390x_job_fields.specs.Atoms.{reg_text, real_text}
 use Rattle.s390x_text_rows.specs.Texts.{Text, row, fixed, spelled}
-use Rattle.s390x_text_rows.specs.Operands.{is_reg, reused_text, pair_text, pair_cause, reused_pair_text, reused_low_text, amount_text, access_register_text, cond_text, indexed_text}
+use Rattle.s390x_text_rows.specs.Operands.{is_reg, reused_text, rotated_text, pair_text, pair_cause, reused_pair_text, reused_low_text, amount_text, access_register_text, cond_text, indexed_text}
 use Rattle.s390x_text_rows.specs.Mnemonics.{alu_three_name, alu_two_name, alu_halfword_name, alu_three_halfword_name, alu_signed_word_name, alu_unsigned_word_name, cmp_two_name, cmp_halfword_name, cmp_signed_word_name, cmp_unsigned_word_name, cmp_trap_name, cmp_trap_signed_name, cmp_trap_unsigned_name, shift_name, rotate_name, rotate_test_name, unary_name}
 
 -- ---- mnemonics that a number chooses
@@ -102,9 +102,9 @@ arithmetic_text (AluRUImm32Shifted op rd ri imm) = Some (row (alu_half_name op i
 arithmetic_text (UnaryRR op rd rn) = Some (fixed (spelled (unary_name op) (unary_operands op rd rn)))
 arithmetic_text (ShiftRR op rd rn amount register) = Some (fixed (spelled (shift_name op) (reg_text rd ∷ reg_text rn ∷ amount_text amount register ∷ [])))
 arithmetic_text (RxSBG op rd ri rn start end amount) =
-    Some (row (selected_name (Some (rotate_name op)) start end) (reused_text rd ri ∷ reg_text rn ∷ decimal start ∷ decimal end ∷ decimal (rotation amount) ∷ []))
+    Some (row (selected_name (Some (rotate_name op)) start end) (reused_text rd ri ∷ reg_text rn ∷ rotated_text start end (rotation amount) ∷ []))
 arithmetic_text (RxSBGTest op rd rn start end amount) =
-    Some (row (selected_name (rotate_test_name op) start end) (reg_text rd ∷ reg_text rn ∷ decimal (start + 128) ∷ decimal end ∷ decimal (rotation amount) ∷ []))
+    Some (row (selected_name (rotate_test_name op) start end) (reg_text rd ∷ reg_text rn ∷ rotated_text (start + 128) end (rotation amount) ∷ []))
 arithmetic_text _ = None
 
 -- products, divisions and counts of leading zeros, whose output is a pair

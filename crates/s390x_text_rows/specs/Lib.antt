@@ -7,4 +7,3 @@ pub mod Storage
 pub mod Control
 pub mod Vector
 pub mod Simple
-pub mod Tables

@@ -1,18 +1,12 @@
--- The mnemonics of integer operators, of loads and of stores, by the form of their operands: those of the rows that emission chooses.
+-- The mnemonics of integer operators, by the form of their operands: those of the rows that emission chooses.
 use Rattle.std.specs.Prelude.{ℕ, List, Option, Some, None}
 use Rattle.std.specs.Option.{option_map}
 use Rattle.s390x_format.specs.Stems.{stem_of}
 use Rattle.s390x_rows.specs.declared.opcodes.TheConstants as opcodes
-use Rattle.s390x_typed_steps.specs.Memory.{load_rows, store_rows}
 use Rattle.s390x_typed_steps.specs.Opcodes.{alu_three, alu_two, alu_halfword, alu_three_halfword, alu_signed_word, alu_unsigned_word, cmp_two, cmp_halfword, cmp_signed_word, cmp_unsigned_word, cmp_trap, cmp_trap_signed, cmp_trap_unsigned, shift_opcode, rotate_then, rotate_then_test, unary_two}
 use Rattle.s390x_typed_steps.specs.Storage.{alu_rx, alu_rxy, atomic_rsy, cmp_rx, cmp_rxy, cmp_ril}
-use Rattle.s390x_typed_steps.specs.declared.access_rows.RegisterRows.{RegisterRows}
-use Rattle.s390x_text_rows.specs.declared.mnemonics.AccessForm.{AccessForm}
-use Rattle.s390x_text_rows.specs.declared.mnemonics.AccessForm.TheVariants.{Short, Long, Relative}
 use Rattle.s390x_inst.specs.declared.ops.ALUOp.{ALUOp}
 use Rattle.s390x_inst.specs.declared.ops.CmpOp.{CmpOp}
-use Rattle.s390x_inst.specs.declared.load.LoadOp.{LoadOp}
-use Rattle.s390x_inst.specs.declared.store.StoreOp.{StoreOp}
 use Rattle.s390x_inst.specs.declared.ops.ShiftOp.{ShiftOp}
 use Rattle.s390x_inst.specs.declared.ops.RxSBGOp.{RxSBGOp}
 use Rattle.s390x_inst.specs.declared.ops.UnaryOp.{UnaryOp}
@@ -92,20 +86,6 @@ cmp_trap_signed_name op = option_map stem_of (cmp_trap_signed op)
 -- and without a sign
 unfoldable pub cmp_trap_unsigned_name : CmpOp → Option (List ℕ)
 cmp_trap_unsigned_name op = option_map stem_of (cmp_trap_unsigned op)
-
--- the opcode of a load's or a store's row in a form
-abbrev pub opcode_in : AccessForm → RegisterRows → Option ℕ
-opcode_in Short rows = rows.rx
-opcode_in Long rows = rows.rxy
-opcode_in Relative rows = rows.ril
-
--- a load in a form
-unfoldable pub load_mnemonic : LoadOp → AccessForm → Option (List ℕ)
-load_mnemonic op form = option_map stem_of (opcode_in form (load_rows op))
-
--- a store in a form
-unfoldable pub store_mnemonic : StoreOp → AccessForm → Option (List ℕ)
-store_mnemonic op form = option_map stem_of (opcode_in form (store_rows op))
 
 -- a shift by an amount
 unfoldable pub shift_name : ShiftOp → List ℕ

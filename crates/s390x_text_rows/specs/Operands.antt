@@ -28,6 +28,10 @@ is_reg (Virtual n c) (Virtual m d) = nat_eq n m && is_class c d
 abbrev pub reused_text : (rd ri : Reg) → List ℕ
 reused_text rd ri = cond (is_reg rd ri) (reg_text rd) (reg_text rd ++ (codes "<-" ++ reg_text ri))
 
+-- the bits of a rotation: the first one, the last one, and by how many it rotates
+abbrev pub rotated_text : (start end amount : ℕ) → List ℕ
+rotated_text start end amount = decimal start ++ (codes ", " ++ (decimal end ++ (codes ", " ++ decimal amount)))
+
 -- both registers of a pair
 abbrev pub halves_text : (hi lo : Reg) → List ℕ
 halves_text hi lo = reg_text hi ++ (codes "/" ++ reg_text lo)

@@ -14,14 +14,17 @@ use Rattle.s390x_inst.specs.Stores.{as_store, by_store}
 use Rattle.s390x_inst.specs.declared.inst.Inst.{Inst}
 use Rattle.s390x_inst.specs.declared.inst.Inst.TheVariants.{Mov64SImm32, AluRX, CmpRX}
 use Rattle.s390x_inst.specs.declared.inst.Inst.TheVariants.{StoreImm8, StoreImm16, StoreImm32SExt16, StoreImm64SExt16, LoadMultiple64, StoreMultiple64, LoadAddr, AtomicRmw, AtomicCas32, AtomicCas64}
-use Rattle.s390x_typed_steps.specs.Operands.{Finalized, no_register, fits_12, fits_20, finalized, resolved}
+use Rattle.s390x_typed_steps.specs.Operands.{Finalized, no_register, needs_address, fits_12, fits_20, finalized, resolved}
 use Rattle.s390x_typed_steps.specs.Causes.{operand_cause}
+use Rattle.s390x_typed_steps.specs.Memory.{load_rows, store_rows}
+use Rattle.s390x_typed_steps.specs.declared.access_rows.RegisterRows.{RegisterRows}
 use Rattle.s390x_typed_steps.specs.declared.mem_inst_type.MemInstType.{MemInstType}
+use Rattle.s390x_format.specs.Stems.{stem_of}
+use Rattle.s390x_rows.specs.declared.opcodes.TheConstants as opcodes
 use Rattle.s390x_job_fields.specs.Atoms.{reg_text}
 use Rattle.s390x_text_rows.specs.Texts.{Text, spelled, RefusedBy}
 use Rattle.s390x_text_rows.specs.Operands.{is_zero, label_text, name_text, reused_text}
-use Rattle.s390x_text_rows.specs.declared.mnemonics.AccessForm.TheVariants.{Short, Long, Relative}
-use Rattle.s390x_text_rows.specs.Mnemonics.{alu_short_name, alu_long_name, atomic_name, cmp_short_name, cmp_long_name, cmp_relative_name, load_mnemonic, store_mnemonic}
+use Rattle.s390x_text_rows.specs.Mnemonics.{alu_short_name, alu_long_name, atomic_name, cmp_short_name, cmp_long_name, cmp_relative_name}
 use Rattle.s390x_text_rows.specs.declared.error.TextError.{TextError}
 use Rattle.s390x_text_rows.specs.declared.error.TextError.TheVariants.{NoRow, Virtual, Address}
 use Rattle.s390x_text_rows.specs.declared.storage.Rows.{Rows as DeclaredRows}
@@ -76,13 +79,17 @@ rx short long relative = record { short = short; long = long; relative = relativ
 abbrev pub rs : (short long : Option (List ℕ)) → Rows
 rs short long = record { short = short; long = long; relative = None; index = false; accesses = true }
 
+-- the mnemonics of the rows of a register
+abbrev pub rx_of : RegisterRows → Rows
+rx_of r = rx (option_map stem_of r.rx) (option_map stem_of r.rxy) (option_map stem_of r.ril)
+
 -- the rows of LOAD ADDRESS
 abbrev pub address_rows : Rows
-address_rows = record { short = Some (codes "la"); long = Some (codes "lay"); relative = Some (codes "larl"); index = true; accesses = false }
+address_rows = record { short = Some (stem_of opcodes.LA); long = Some (stem_of opcodes.LAY); relative = Some (stem_of opcodes.LARL); index = true; accesses = false }
 
--- a table's rows as contracts see them
+-- the mnemonics of rows that are told by their opcodes
 abbrev pub rows_of : DeclaredRows → Rows
-rows_of r = record { short = option_map (λ s. s.now) r.short; long = option_map (λ s. s.now) r.long; relative = option_map (λ s. s.now) r.relative; index = r.index; accesses = r.accesses }
+rows_of r = record { short = option_map stem_of r.short; long = option_map stem_of r.long; relative = option_map stem_of r.relative; index = r.index; accesses = r.accesses }
 
 -- there is a row for some operand
 abbrev pub has_row : Rows → Bool
@@ -110,7 +117,7 @@ name_at r m = []
 
 -- the instructions that come before an access: an offset that is loaded, and an address
 abbrev pub helper_text : Inst → List ℕ
-helper_text (Mov64SImm32 rd imm) = spelled (codes "lgfi") (reg_text rd ∷ signed_decimal imm ∷ [])
+helper_text (Mov64SImm32 rd imm) = spelled (stem_of opcodes.LGFI) (reg_text rd ∷ signed_decimal imm ∷ [])
 helper_text (LoadAddr rd mem) = spelled (name_at address_rows mem) (reg_text rd ∷ memory_text mem ∷ [])
 helper_text i = []
 
@@ -128,11 +135,19 @@ address_cause (Some e) = Some (Address e)
 abbrev pub access_cause : (has_relative : Bool) → Rows → MemArg → Option TextError
 access_cause has r m = cond (has_row r) (address_cause (operand_cause (type_of_rows has r) m)) (Some NoRow)
 
--- the operand in place of an offset that a displacement of the rows holds; none in place of any other operand
+-- the operand itself, where the rows have a form for it
+abbrev pub kept : MemInstType → MemArg → Option MemArg
+kept mi m = cond (needs_address mi m) None (Some m)
+
+-- the operand in place of an offset that a displacement of the rows holds, or of one that they take relative to the instruction; none in place of any
+-- other operand
 abbrev pub near_operand : MemInstType → MemArg → Option MemArg
 near_operand mi (RegOffset reg off flags) =
     cond (mi.have_d12 && fits_12 off) (Some (BXD12 reg no_register (unsigned_abs off) flags))
     (cond (mi.have_d20 && fits_20 off) (Some (BXD20 reg no_register off flags)) None)
+near_operand mi (Label target) = kept mi (Label target)
+near_operand mi (Constant c) = kept mi (Constant c)
+near_operand mi (Symbol name offset flags) = kept mi (Symbol name offset flags)
 near_operand mi m = None
 
 -- what a call answers that appends the helpers of an operand, and gives the operand of the access
@@ -158,7 +173,7 @@ access r e before m after = access_where true r e before m after
 
 -- the mnemonics of a load
 abbrev pub load_mnemonics : LoadOp → Rows
-load_mnemonics op = rx (load_mnemonic op Short) (load_mnemonic op Long) (load_mnemonic op Relative)
+load_mnemonics op = rx_of (load_rows op)
 
 -- loads, on a machine that has rows relative to the instruction or lacks them
 abbrev pub load_text : (has_relative : Bool) → Emission → Inst → Option Text
@@ -166,15 +181,15 @@ load_text has e i = by_load (λ l. Some (access_where has (load_mnemonics l.op) 
 
 -- stores of an immediate, which show the operand first
 abbrev pub immediate_store_text : (has_relative : Bool) → Emission → Inst → Option Text
-immediate_store_text has e (StoreImm8 imm mem) = Some (access_where has (rs (Some (codes "mvi")) (Some (codes "mviy"))) e [] mem (decimal imm ∷ []))
-immediate_store_text has e (StoreImm16 imm mem) = Some (access_where has (rs (Some (codes "mvhhi")) None) e [] mem (signed_decimal imm ∷ []))
-immediate_store_text has e (StoreImm32SExt16 imm mem) = Some (access_where has (rs (Some (codes "mvhi")) None) e [] mem (signed_decimal imm ∷ []))
-immediate_store_text has e (StoreImm64SExt16 imm mem) = Some (access_where has (rs (Some (codes "mvghi")) None) e [] mem (signed_decimal imm ∷ []))
+immediate_store_text has e (StoreImm8 imm mem) = Some (access_where has (rs (Some (stem_of opcodes.MVI)) (Some (stem_of opcodes.MVIY))) e [] mem (decimal imm ∷ []))
+immediate_store_text has e (StoreImm16 imm mem) = Some (access_where has (rs (Some (stem_of opcodes.MVHHI)) None) e [] mem (signed_decimal imm ∷ []))
+immediate_store_text has e (StoreImm32SExt16 imm mem) = Some (access_where has (rs (Some (stem_of opcodes.MVHI)) None) e [] mem (signed_decimal imm ∷ []))
+immediate_store_text has e (StoreImm64SExt16 imm mem) = Some (access_where has (rs (Some (stem_of opcodes.MVGHI)) None) e [] mem (signed_decimal imm ∷ []))
 immediate_store_text has e _ = None
 
 -- the mnemonics of a store
 abbrev pub store_mnemonics : StoreOp → Rows
-store_mnemonics op = rx (store_mnemonic op Short) (store_mnemonic op Long) (store_mnemonic op Relative)
+store_mnemonics op = rx_of (store_rows op)
 
 -- stores
 abbrev pub store_text : (has_relative : Bool) → Emission → Inst → Option Text
@@ -184,10 +199,10 @@ store_text has e i = by_store (λ s. Some (access_where has (store_mnemonics s.o
 abbrev pub storage_operator_text : (has_relative : Bool) → Emission → Inst → Option Text
 storage_operator_text has e (AluRX op rd ri mem) = Some (access_where has (rx (alu_short_name op) (alu_long_name op) None) e (reused_text rd ri ∷ []) mem [])
 storage_operator_text has e (CmpRX op rn mem) = Some (access_where has (rx (cmp_short_name op) (cmp_long_name op) (Some (cmp_relative_name op))) e (reg_text rn ∷ []) mem [])
-storage_operator_text has e (LoadMultiple64 rt rt2 mem) = Some (access_where has (rs None (Some (codes "lmg"))) e (reg_text rt ∷ reg_text rt2 ∷ []) mem [])
-storage_operator_text has e (StoreMultiple64 rt rt2 mem) = Some (access_where has (rs None (Some (codes "stmg"))) e (reg_text rt ∷ reg_text rt2 ∷ []) mem [])
+storage_operator_text has e (LoadMultiple64 rt rt2 mem) = Some (access_where has (rs None (Some (stem_of opcodes.LMG))) e (reg_text rt ∷ reg_text rt2 ∷ []) mem [])
+storage_operator_text has e (StoreMultiple64 rt rt2 mem) = Some (access_where has (rs None (Some (stem_of opcodes.STMG))) e (reg_text rt ∷ reg_text rt2 ∷ []) mem [])
 storage_operator_text has e (LoadAddr rd mem) = Some (access_where has address_rows e (reg_text rd ∷ []) mem [])
 storage_operator_text has e (AtomicRmw op rd rn mem) = Some (access_where has (rs None (atomic_name op)) e (reg_text rd ∷ reg_text rn ∷ []) mem [])
-storage_operator_text has e (AtomicCas32 rd ri rn mem) = Some (access_where has (rs (Some (codes "cs")) (Some (codes "csy"))) e (reused_text rd ri ∷ reg_text rn ∷ []) mem [])
-storage_operator_text has e (AtomicCas64 rd ri rn mem) = Some (access_where has (rs None (Some (codes "csg"))) e (reused_text rd ri ∷ reg_text rn ∷ []) mem [])
+storage_operator_text has e (AtomicCas32 rd ri rn mem) = Some (access_where has (rs (Some (stem_of opcodes.CS)) (Some (stem_of opcodes.CSY))) e (reused_text rd ri ∷ reg_text rn ∷ []) mem [])
+storage_operator_text has e (AtomicCas64 rd ri rn mem) = Some (access_where has (rs None (Some (stem_of opcodes.CSG))) e (reused_text rd ri ∷ reg_text rn ∷ []) mem [])
 storage_operator_text has e _ = None

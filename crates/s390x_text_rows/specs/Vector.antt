@@ -12,6 +12,8 @@ use Rattle.s390x_inst.specs.declared.vec_inst.VecInst.TheVariants.{VecLoadReplic
 use Rattle.s390x_inst.specs.declared.vec_inst.VecInst.TheVariants.{VecImmReplicate, VecInsertLane, VecInsertLaneUndef, VecExtractLane, VecInsertLaneImm, VecInsertLaneImmUndef, VecReplicateLane, VecEltRev}
 use Rattle.s390x_inst.specs.declared.vec_ops.VecBinaryOp.{VecBinaryOp}
 use Rattle.s390x_inst.specs.declared.vec_ops.VecBinaryOp.TheVariants.{UDiv32x4, UDiv64x2, UDiv128, SDiv32x4, SDiv64x2, SDiv128, URem32x4, URem64x2, URem128, SRem32x4, SRem64x2, SRem128}
+use Rattle.s390x_format.specs.Stems.{stem_of}
+use Rattle.s390x_rows.specs.declared.opcodes.TheConstants as opcodes
 use Rattle.s390x_job_fields.specs.Atoms.{reg_text}
 use Rattle.s390x_text_rows.specs.Texts.{Text, row, fixed, spelled, text_or}
 use Rattle.s390x_text_rows.specs.Operands.{reused_text, amount_text, cond_text, is_float, float_text, is_zero}
@@ -29,6 +31,14 @@ lane_name b h f g size lane =
 -- by the width of a lane in bits from 16 on, where bytes are reversed
 abbrev pub reversed_name : (h f g : List ℕ) → (size lane : ℕ) → Option (List ℕ)
 reversed_name h f g size lane = cond (nat_eq size 16 && nat_lt lane 8) (Some h) (cond (nat_eq size 32 && nat_lt lane 4) (Some f) (cond (nat_eq size 64 && nat_lt lane 2) (Some g) None))
+
+-- a stem with the letter of a lane's width
+abbrev pub replicated_name : List ℕ → (size : ℕ) → Option (List ℕ)
+replicated_name s size = lane_name (s ++ codes "b") (s ++ codes "h") (s ++ codes "f") (s ++ codes "g") size 0
+
+-- from 16 bits on, where bytes are reversed
+abbrev pub reversed_replicated_name : List ℕ → (size : ℕ) → Option (List ℕ)
+reversed_replicated_name s size = reversed_name (s ++ codes "h") (s ++ codes "f") (s ++ codes "g") size 0
 
 -- both bit numbers lie below the width
 abbrev pub mask_name : (size start end : ℕ) → Option (List ℕ)
@@ -103,16 +113,16 @@ reverse_text rd rn count =
 -- a load of lane 0 into a float register, or of a lane
 abbrev pub load_lane_text : Emission → (size : ℕ) → Reg → MemArg → (lane : ℕ) → Text
 load_lane_text e size rd mem lane =
-    cond (is_float rd && nat_eq lane 0 && nat_eq size 32) (access (rx (Some (codes "le")) (Some (codes "ley")) None) e (float_text rd ∷ []) mem [])
-    (cond (is_float rd && nat_eq lane 0 && nat_eq size 64) (access (rx (Some (codes "ld")) (Some (codes "ldy")) None) e (float_text rd ∷ []) mem [])
-    (access (rx (lane_name (codes "vleb") (codes "vleh") (codes "vlef") (codes "vleg") size lane) None None) e (reg_text rd ∷ []) mem (decimal lane ∷ [])))
+    cond (is_float rd && nat_eq lane 0 && nat_eq size 32) (access (rx (Some (stem_of opcodes.LE)) (Some (stem_of opcodes.LEY)) None) e (float_text rd ∷ []) mem [])
+    (cond (is_float rd && nat_eq lane 0 && nat_eq size 64) (access (rx (Some (stem_of opcodes.LD)) (Some (stem_of opcodes.LDY)) None) e (float_text rd ∷ []) mem [])
+    (access (rx (lane_name (stem_of opcodes.VLEB) (stem_of opcodes.VLEH) (stem_of opcodes.VLEF) (stem_of opcodes.VLEG) size lane) None None) e (reg_text rd ∷ []) mem (decimal lane ∷ [])))
 
 -- a store of lane 0 of a float register, or of a lane
 abbrev pub store_lane_text : Emission → (size : ℕ) → Reg → MemArg → (lane : ℕ) → Text
 store_lane_text e size rd mem lane =
-    cond (is_float rd && nat_eq lane 0 && nat_eq size 32) (access (rx (Some (codes "ste")) (Some (codes "stey")) None) e (float_text rd ∷ []) mem [])
-    (cond (is_float rd && nat_eq lane 0 && nat_eq size 64) (access (rx (Some (codes "std")) (Some (codes "stdy")) None) e (float_text rd ∷ []) mem [])
-    (access (rx (lane_name (codes "vsteb") (codes "vsteh") (codes "vstef") (codes "vsteg") size lane) None None) e (reg_text rd ∷ []) mem (decimal lane ∷ [])))
+    cond (is_float rd && nat_eq lane 0 && nat_eq size 32) (access (rx (Some (stem_of opcodes.STE)) (Some (stem_of opcodes.STEY)) None) e (float_text rd ∷ []) mem [])
+    (cond (is_float rd && nat_eq lane 0 && nat_eq size 64) (access (rx (Some (stem_of opcodes.STD)) (Some (stem_of opcodes.STDY)) None) e (float_text rd ∷ []) mem [])
+    (access (rx (lane_name (stem_of opcodes.VSTEB) (stem_of opcodes.VSTEH) (stem_of opcodes.VSTEF) (stem_of opcodes.VSTEG) size lane) None None) e (reg_text rd ∷ []) mem (decimal lane ∷ [])))
 
 -- ---- instructions
 
@@ -176,23 +186,23 @@ vec_lane_text _ = None
 
 -- loads and stores of whole registers
 abbrev pub vec_whole_text : Emission → VecInst → Option Text
-vec_whole_text e v = by_whole (λ w. Some (access (rx (whole_name w.direction w.layout) None None) e (reg_text w.rd ∷ []) w.mem [])) None (as_whole v)
+vec_whole_text e v = by_whole (λ w. Some (access (rx (Some (whole_name w.direction w.layout)) None None) e (reg_text w.rd ∷ []) w.mem [])) None (as_whole v)
 
 -- loads and stores of lanes
 abbrev pub vec_part_text : Emission → VecInst → Option Text
 vec_part_text e (VecLoadReplicate size rd mem) =
-    Some (access (rx (lane_name (codes "vlrepb") (codes "vlreph") (codes "vlrepf") (codes "vlrepg") size 0) None None) e (reg_text rd ∷ []) mem [])
-vec_part_text e (VecLoadReplicateRev size rd mem) = Some (access (rx (reversed_name (codes "vlbrreph") (codes "vlbrrepf") (codes "vlbrrepg") size 0) None None) e (reg_text rd ∷ []) mem [])
+    Some (access (rx (replicated_name (stem_of opcodes.VLREP) size) None None) e (reg_text rd ∷ []) mem [])
+vec_part_text e (VecLoadReplicateRev size rd mem) = Some (access (rx (reversed_replicated_name (stem_of opcodes.VLBRREP) size) None None) e (reg_text rd ∷ []) mem [])
 vec_part_text e (VecLoadLane size rd ri mem lane) =
-    Some (access (rx (lane_name (codes "vleb") (codes "vleh") (codes "vlef") (codes "vleg") size lane) None None) e (reg_text rd ∷ []) mem (decimal lane ∷ []))
+    Some (access (rx (lane_name (stem_of opcodes.VLEB) (stem_of opcodes.VLEH) (stem_of opcodes.VLEF) (stem_of opcodes.VLEG) size lane) None None) e (reg_text rd ∷ []) mem (decimal lane ∷ []))
 vec_part_text e (VecLoadLaneRev size rd ri mem lane) =
-    Some (access (rx (reversed_name (codes "vlebrh") (codes "vlebrf") (codes "vlebrg") size lane) None None) e (reg_text rd ∷ []) mem (decimal lane ∷ []))
+    Some (access (rx (reversed_name (stem_of opcodes.VLEBRH) (stem_of opcodes.VLEBRF) (stem_of opcodes.VLEBRG) size lane) None None) e (reg_text rd ∷ []) mem (decimal lane ∷ []))
 vec_part_text e (VecLoadLaneUndef size rd mem lane) = Some (load_lane_text e size rd mem lane)
 vec_part_text e (VecLoadLaneRevUndef size rd mem lane) =
-    Some (access (rx (reversed_name (codes "vlebrh") (codes "vlebrf") (codes "vlebrg") size lane) None None) e (reg_text rd ∷ []) mem (decimal lane ∷ []))
+    Some (access (rx (reversed_name (stem_of opcodes.VLEBRH) (stem_of opcodes.VLEBRF) (stem_of opcodes.VLEBRG) size lane) None None) e (reg_text rd ∷ []) mem (decimal lane ∷ []))
 vec_part_text e (VecStoreLane size rd mem lane) = Some (store_lane_text e size rd mem lane)
 vec_part_text e (VecStoreLaneRev size rd mem lane) =
-    Some (access (rx (reversed_name (codes "vstebrh") (codes "vstebrf") (codes "vstebrg") size lane) None None) e (reg_text rd ∷ []) mem (decimal lane ∷ []))
+    Some (access (rx (reversed_name (stem_of opcodes.VSTEBRH) (stem_of opcodes.VSTEBRF) (stem_of opcodes.VSTEBRG) size lane) None None) e (reg_text rd ∷ []) mem (decimal lane ∷ []))
 vec_part_text e _ = None
 
 -- the text of an instruction on vector or float registers

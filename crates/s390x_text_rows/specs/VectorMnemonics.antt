@@ -1,16 +1,13 @@
 -- The mnemonics of vector operators: the stem of the operator's row, and behind it a letter for the size of its elements, b, h, f, g or q for 8 to 128
 -- bits (the manual, chapters 21 and 22).
-use Rattle.std.specs.Prelude.{ℕ, List, [], ◌++◌, codes, cond, nat_eq, Option}
-use denote.Enum.Declared.{tag_of}
+use Rattle.std.specs.Prelude.{ℕ, List, [], ◌++◌, codes, cond, nat_eq}
 use Rattle.s390x_format.specs.Stems.{stem_of}
 use Rattle.s390x_typed_steps.specs.VectorOpcodes.{binary_row, unary_row, shift_row, comparison_row, element_comparison_row}
 use Rattle.s390x_typed_steps.specs.declared.vector_opcode.VectorOpcode.{VectorOpcode}
 use Rattle.s390x_text_rows.specs.declared.vector_mnemonics.Mnemonic.{Mnemonic}
-use Rattle.s390x_text_rows.specs.declared.vector_mnemonics.TheConstants.{WHOLE_MNEMONICS}
-use Rattle.s390x_text_rows.specs.Tables.{rows, in_column}
-use Rattle.s390x_inst.specs.Wholes.{layout_place}
+use Rattle.s390x_typed_steps.specs.Memory.{layout_rows}
+use Rattle.s390x_inst.specs.Wholes.{by_direction}
 use Rattle.s390x_inst.specs.declared.whole.Direction.{Direction}
-use Rattle.s390x_inst.specs.contracts.whole.Direction as the_direction
 use Rattle.s390x_inst.specs.declared.whole.WholeLayout.{WholeLayout}
 use Rattle.s390x_inst.specs.declared.vec_ops.VecBinaryOp.{VecBinaryOp}
 use Rattle.s390x_inst.specs.declared.vec_ops.VecBinaryOp.TheVariants.{Add128Cout, Sub128Cout, Mul16x8, And128, Orr128, Xor128, NotAnd128, NotOrr128, NotXor128, AndNot128, OrrNot128, BitPermute128, LShLByByte128, LShRByByte128, AShRByByte128, LShLByBit128, LShRByBit128, AShRByBit128}
@@ -21,7 +18,7 @@ use Rattle.s390x_inst.specs.declared.vec_ops.VecIntEltCmpOp.{VecIntEltCmpOp}
 
 -- a mnemonic in two parts
 abbrev pub joined : Mnemonic → List ℕ
-joined m = m.stem.now ++ m.letters.now
+joined m = stem_of m.opcode ++ m.letters.now
 
 -- the letter of the elements' size, by its code
 abbrev pub size_letter : ℕ → List ℕ
@@ -77,6 +74,10 @@ vec_compare_set_name op = vec_compare_name op ++ codes "s"
 unfoldable pub vec_element_compare_name : VecIntEltCmpOp → List ℕ
 vec_element_compare_name op = sized (element_comparison_row op)
 
+-- what stands behind the stem of a load or a store of a whole register, by the mask of its row: nothing where the row has one size alone
+abbrev pub whole_letters : ℕ → List ℕ
+whole_letters mask = cond (nat_eq mask 0) [] (size_letter mask)
+
 -- a load or a store of a whole register
-unfoldable pub whole_name : Direction → WholeLayout → Option (List ℕ)
-whole_name direction layout = in_column (rows WHOLE_MNEMONICS.now) (layout_place layout) (tag_of the_direction.the_type direction)
+unfoldable pub whole_name : Direction → WholeLayout → List ℕ
+whole_name direction layout = stem_of (by_direction direction (layout_rows layout).load_opcode (layout_rows layout).store_opcode) ++ whole_letters (layout_rows layout).mask

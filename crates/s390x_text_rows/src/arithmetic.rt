@@ -11,9 +11,9 @@ use crate::mnemonics::{
     alu_halfword_name, alu_signed_word_name, alu_two_name, alu_unsigned_word_name, rotate_name,
     rotate_test_name, shift_name, stem_where, unary_name,
 };
-use crate::operand::{Amount, Operand, Reused, ReusedLow, ReusedPair};
+use crate::operand::{Amount, Operand, Reused, ReusedLow, ReusedPair, RotatedBits};
 use crate::regs::pair_refusal;
-use crate::row::{fixed2, fixed3, row2, row5, spelled2, spelled3, three};
+use crate::row::{fixed2, fixed3, row2, row3, spelled2, spelled3, three};
 use s390x_base::{Reg, RegPair, Writable, WritableRegPair};
 use s390x_inst::{ALUOp, Inst, UnaryOp};
 use s390x_typed_steps::{row_of_part, rows_of_alu};
@@ -142,14 +142,16 @@ pub fn put_arithmetic(out: &mut String, inst: &Inst) -> Option<Result<(), TextEr
             start_bit,
             end_bit,
             rotate_amt,
-        } => Some(row5(
+        } => Some(row3(
             out,
             selected_name(Some(rotate_name(*op)), *start_bit, *end_bit),
             &reused(rd, ri),
             rn,
-            start_bit,
-            end_bit,
-            &rotation(*rotate_amt),
+            &RotatedBits {
+                start: u16::from(*start_bit),
+                end: *end_bit,
+                amount: rotation(*rotate_amt),
+            },
         )),
         Inst::RxSBGTest {
             op,
@@ -158,14 +160,16 @@ pub fn put_arithmetic(out: &mut String, inst: &Inst) -> Option<Result<(), TextEr
             start_bit,
             end_bit,
             rotate_amt,
-        } => Some(row5(
+        } => Some(row3(
             out,
             selected_name(rotate_test_name(*op), *start_bit, *end_bit),
             rd,
             rn,
-            &(u16::from(*start_bit) + 128),
-            end_bit,
-            &rotation(*rotate_amt),
+            &RotatedBits {
+                start: u16::from(*start_bit) + 128,
+                end: *end_bit,
+                amount: rotation(*rotate_amt),
+            },
         )),
         _ => None,
     }

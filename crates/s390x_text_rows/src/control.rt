@@ -7,10 +7,11 @@ ghost use Rattle.s390x_text_rows.specs.Control.{branch_text, labels_text, conven
 
 use crate::error::TextError;
 use crate::operand::{Operand, cond_name};
+use crate::register_names::put_reg;
 use crate::row::{fixed1, fixed2, spelled1, text_result};
 use s390x_base::{Cond, MachLabel, Reg, TrapCode, Writable};
 use s390x_inst::{ArgPair, Inst, RetPair, SymbolReloc};
-use s390x_job_fields::atoms::{put_name, put_reg, put_trap};
+use s390x_job_fields::atoms::{put_name, put_trap};
 use s390x_job_fields::number::{put, put_integer, put_natural};
 use std::alloc::AllocError;
 

@@ -1,17 +1,41 @@
 //! The texts of integer instructions with an operand in memory.
-ghost use Rattle.std.specs.Prelude.{string_bytes};
-ghost use Rattle.s390x_text_rows.specs.Texts.{PrintsWhere};
-ghost use Rattle.s390x_text_rows.specs.Storage.{load_text, store_text, immediate_store_text, storage_operator_text};
+ghost use Rattle.std.specs.Prelude.{◌≡◌, ◌<◌, ◌∷◌, [], None, Some, get_or, length, string_bytes};
+ghost use Rattle.s390x_typed_steps.specs.Memory.{load_rows, store_rows};
+ghost use Rattle.s390x_job_fields.specs.Atoms.{reg_text};
+ghost use Rattle.s390x_text_rows.specs.Texts.{Prints, PrintsWhere};
+ghost use Rattle.s390x_text_rows.specs.Operands.{reused_text};
+ghost use Rattle.s390x_text_rows.specs.Mnemonics.{alu_short_name, alu_long_name, cmp_short_name, cmp_long_name, cmp_relative_name};
+ghost use Rattle.s390x_text_rows.specs.Storage.{rx, access_where, load_text, store_text, immediate_store_text, storage_operator_text};
 
 use crate::arithmetic::reused;
 use crate::error::TextError;
-use crate::mnemonics::{
-    AccessForm, alu_long_name, alu_short_name, atomic_name, cmp_long_name, cmp_relative_name,
-    cmp_short_name, load_mnemonic, store_mnemonic,
-};
-use crate::storage::{access2, address_rows, rs_access_then, rs_access3, rx_access};
-use s390x_inst::{EmitState, Inst};
+use crate::operand::Reused;
+use crate::storage::{Place, access2, address_rows, rs_access_then, rs_access3, rx_access};
+use s390x_base::Reg;
+use s390x_inst::{ALUOp, CmpOp, EmitState, Inst, LoadOp, StoreOp};
+use s390x_rows::opcodes;
+use s390x_typed_steps::{LOAD_ROWS, RegisterRows, STORE_ROWS, rows_of_alu, rows_of_cmp};
 use std::alloc::Global;
+
+// The rows at a place of their table, which isn't copied.
+fn rows_at(rows: &[RegisterRows], place: usize) -> RegisterRows
+    requires { place < length rows.now }
+    ensures { result ≡ get_or rows.now place (record { rx = None; rxy = None; ril = None }) }
+{
+    rows[place]
+}
+
+fn load_rows(op: LoadOp) -> RegisterRows
+    ensures { result ≡ load_rows op }
+{
+    rows_at(&LOAD_ROWS, op.place())
+}
+
+fn store_rows(op: StoreOp) -> RegisterRows
+    ensures { result ≡ store_rows op }
+{
+    rows_at(&STORE_ROWS, op.place())
+}
 
 /// Appends the text of a load, on a machine that has rows relative to the instruction or lacks them; None for another instruction.
 pub fn put_load(
@@ -26,15 +50,15 @@ pub fn put_load(
 {
     match inst.as_load() {
         Some(load) => Some(rx_access(
-            alloc,
             out,
-            has,
-            state,
-            load_mnemonic(load.op, AccessForm::Short),
-            load_mnemonic(load.op, AccessForm::Long),
-            load_mnemonic(load.op, AccessForm::Relative),
+            Place {
+                alloc,
+                has,
+                state,
+                mem: &load.mem,
+            },
+            load_rows(load.op),
             &load.rd,
-            &load.mem,
         )),
         None => None,
     }
@@ -53,10 +77,10 @@ fn put_immediate_store(
         (immediate_store_text has state.now inst.now) }
 {
     match inst {
-        Inst::StoreImm8 { imm, mem } => Some(rs_access_then(alloc, out, state, Some("mvi"), Some("mviy"), mem, imm)),
-        Inst::StoreImm16 { imm, mem } => Some(rs_access_then(alloc, out, state, Some("mvhhi"), None, mem, imm)),
-        Inst::StoreImm32SExt16 { imm, mem } => Some(rs_access_then(alloc, out, state, Some("mvhi"), None, mem, imm)),
-        Inst::StoreImm64SExt16 { imm, mem } => Some(rs_access_then(alloc, out, state, Some("mvghi"), None, mem, imm)),
+        Inst::StoreImm8 { imm, mem } => Some(rs_access_then(out, Place { alloc, has, state, mem }, Some(opcodes::MVI), Some(opcodes::MVIY), imm)),
+        Inst::StoreImm16 { imm, mem } => Some(rs_access_then(out, Place { alloc, has, state, mem }, Some(opcodes::MVHHI), None, imm)),
+        Inst::StoreImm32SExt16 { imm, mem } => Some(rs_access_then(out, Place { alloc, has, state, mem }, Some(opcodes::MVHI), None, imm)),
+        Inst::StoreImm64SExt16 { imm, mem } => Some(rs_access_then(out, Place { alloc, has, state, mem }, Some(opcodes::MVGHI), None, imm)),
         _ => None,
     }
 }
@@ -74,23 +98,57 @@ pub fn put_store(
 {
     match inst.as_store() {
         Some(store) => Some(rx_access(
-            alloc,
             out,
-            has,
-            state,
-            store_mnemonic(store.op, AccessForm::Short),
-            store_mnemonic(store.op, AccessForm::Long),
-            store_mnemonic(store.op, AccessForm::Relative),
+            Place {
+                alloc,
+                has,
+                state,
+                mem: &store.mem,
+            },
+            store_rows(store.op),
             &store.rd,
-            &store.mem,
         )),
         None => put_immediate_store(alloc, out, has, state, inst),
     }
 }
 
+// Appends the text of an operator with an operand in memory.
+#[tactic(auto, unfolding(crate::specs::Mnemonics::alu_short_name, crate::specs::Mnemonics::alu_long_name))]
+fn put_operator(out: &mut String, place: Place, op: ALUOp, a: &Reused) -> Result<(), TextError>
+    ensures { Prints result (string_bytes out.old) (string_bytes out.new)
+        (access_where place.entry.has (rx (alu_short_name op) (alu_long_name op) None)
+        place.entry.state.now (reused_text a.now.rd a.now.ri ∷ []) place.entry.mem.now []) }
+{
+    let rows = rows_of_alu(op);
+    let by_form = RegisterRows {
+        rx: rows.rx,
+        rxy: rows.rxy,
+        ril: None,
+    };
+    rx_access(out, place, by_form, a)
+}
+
+// Appends the text of a comparison with an operand in memory.
+#[tactic(auto, unfolding(crate::specs::Mnemonics::cmp_short_name, crate::specs::Mnemonics::cmp_long_name, crate::specs::Mnemonics::cmp_relative_name))]
+fn put_comparison(out: &mut String, place: Place, op: CmpOp, rn: &Reg) -> Result<(), TextError>
+    ensures { Prints result (string_bytes out.old) (string_bytes out.new)
+        (access_where place.entry.has
+        (rx (cmp_short_name op) (cmp_long_name op) (Some (cmp_relative_name op)))
+        place.entry.state.now (reg_text rn.now ∷ []) place.entry.mem.now []) }
+{
+    let rows = rows_of_cmp(op);
+    let by_form = RegisterRows {
+        rx: rows.rx,
+        rxy: rows.rxy,
+        ril: Some(rows.ril),
+    };
+    rx_access(out, place, by_form, rn)
+}
+
 /// Appends the text of an operator with an operand in memory, of a multiple, of an address or of a locked access; None for another
 /// instruction.
 #[rattlefmt::skip]
+#[tactic(auto, unfolding(crate::specs::Mnemonics::atomic_name))]
 pub fn put_storage_operator(
     alloc: Global,
     out: &mut String,
@@ -102,14 +160,14 @@ pub fn put_storage_operator(
         (storage_operator_text has state.now inst.now) }
 {
     match inst {
-        Inst::AluRX { alu_op, rd, ri, mem } => Some(rx_access(alloc, out, has, state, alu_short_name(*alu_op), alu_long_name(*alu_op), None, &reused(rd, ri), mem)),
-        Inst::CmpRX { op, rn, mem } => Some(rx_access(alloc, out, has, state, cmp_short_name(*op), cmp_long_name(*op), Some(cmp_relative_name(*op)), rn, mem)),
-        Inst::LoadMultiple64 { rt, rt2, mem } => Some(rs_access3(alloc, out, state, None, Some("lmg"), rt, rt2, mem)),
-        Inst::StoreMultiple64 { rt, rt2, mem } => Some(rs_access3(alloc, out, state, None, Some("stmg"), rt, rt2, mem)),
-        Inst::LoadAddr { rd, mem } => Some(access2(alloc, out, has, &address_rows(), state, rd, mem)),
-        Inst::AtomicRmw { alu_op, rd, rn, mem } => Some(rs_access3(alloc, out, state, None, atomic_name(*alu_op), rd, rn, mem)),
-        Inst::AtomicCas32 { rd, ri, rn, mem } => Some(rs_access3(alloc, out, state, Some("cs"), Some("csy"), &reused(rd, ri), rn, mem)),
-        Inst::AtomicCas64 { rd, ri, rn, mem } => Some(rs_access3(alloc, out, state, None, Some("csg"), &reused(rd, ri), rn, mem)),
+        Inst::AluRX { alu_op, rd, ri, mem } => Some(put_operator(out, Place { alloc, has, state, mem }, *alu_op, &reused(rd, ri))),
+        Inst::CmpRX { op, rn, mem } => Some(put_comparison(out, Place { alloc, has, state, mem }, *op, rn)),
+        Inst::LoadMultiple64 { rt, rt2, mem } => Some(rs_access3(out, Place { alloc, has, state, mem }, None, Some(opcodes::LMG), rt, rt2)),
+        Inst::StoreMultiple64 { rt, rt2, mem } => Some(rs_access3(out, Place { alloc, has, state, mem }, None, Some(opcodes::STMG), rt, rt2)),
+        Inst::LoadAddr { rd, mem } => Some(access2(out, Place { alloc, has, state, mem }, &address_rows(), rd)),
+        Inst::AtomicRmw { alu_op, rd, rn, mem } => Some(rs_access3(out, Place { alloc, has, state, mem }, None, rows_of_alu(*alu_op).atomic, rd, rn)),
+        Inst::AtomicCas32 { rd, ri, rn, mem } => Some(rs_access3(out, Place { alloc, has, state, mem }, Some(opcodes::CS), Some(opcodes::CSY), &reused(rd, ri), rn)),
+        Inst::AtomicCas64 { rd, ri, rn, mem } => Some(rs_access3(out, Place { alloc, has, state, mem }, None, Some(opcodes::CSG), &reused(rd, ri), rn)),
         _ => None,
     }
 }

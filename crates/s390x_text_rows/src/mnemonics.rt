@@ -1,17 +1,14 @@
-//! The mnemonics of integer operators, loads and stores, by the form of their operands: those of the rows that emission chooses.
+//! The mnemonics of integer operators, by the form of their operands: those of the rows that emission chooses.
 ghost use Rattle.std.specs.Prelude.{◌≡◌};
 ghost use Rattle.std.specs.Option.{option_map};
 ghost use Rattle.s390x_format.specs.Stems.{stem_of};
-ghost use Rattle.s390x_text_rows.specs.Mnemonics.{load_mnemonic, store_mnemonic, opcode_in, alu_two_name, alu_halfword_name, alu_signed_word_name, alu_unsigned_word_name, alu_short_name, alu_long_name, atomic_name, cmp_two_name, cmp_halfword_name, cmp_signed_word_name, cmp_unsigned_word_name};
-ghost use Rattle.s390x_text_rows.specs.Mnemonics.{cmp_short_name, cmp_long_name, cmp_relative_name, cmp_trap_name, cmp_trap_signed_name, cmp_trap_unsigned_name, shift_name, rotate_name, rotate_test_name, unary_name};
+ghost use Rattle.s390x_text_rows.specs.Mnemonics.{alu_two_name, alu_halfword_name, alu_signed_word_name, alu_unsigned_word_name, cmp_two_name, cmp_halfword_name, cmp_signed_word_name, cmp_unsigned_word_name};
+ghost use Rattle.s390x_text_rows.specs.Mnemonics.{cmp_trap_name, cmp_trap_signed_name, cmp_trap_unsigned_name, shift_name, rotate_name, rotate_test_name, unary_name};
 
 use s390x_format::stem;
-use s390x_inst::{ALUOp, CmpOp, LoadOp, RxSBGOp, ShiftOp, StoreOp, UnaryOp};
+use s390x_inst::{ALUOp, CmpOp, RxSBGOp, ShiftOp, UnaryOp};
 use s390x_rows::opcodes;
-use s390x_typed_steps::{
-    RegisterRows, row_of_shift, row_of_unary, rows_of_alu, rows_of_cmp, rows_of_load,
-    rows_of_rotate, rows_of_store,
-};
+use s390x_typed_steps::{row_of_shift, row_of_unary, rows_of_alu, rows_of_cmp, rows_of_rotate};
 
 /// The stem of a row that there may be; None where there is none.
 pub fn stem_where(opcode: Option<u16>) -> Option<&'static str>
@@ -19,16 +16,6 @@ pub fn stem_where(opcode: Option<u16>) -> Option<&'static str>
 {
     match opcode {
         Some(opcode) => Some(stem(opcode)),
-        None => None,
-    }
-}
-
-// The stem of a row whose opcode has two digits; None where there is none.
-fn short_stem(opcode: Option<u8>) -> Option<&'static str>
-    ensures { option_map (λ s. s.now) result ≡ option_map stem_of opcode }
-{
-    match opcode {
-        Some(opcode) => Some(stem(u16::from(opcode))),
         None => None,
     }
 }
@@ -65,30 +52,6 @@ pub fn alu_unsigned_word_name(op: ALUOp) -> Option<&'static str>
     stem_where(rows_of_alu(op).unsigned_word)
 }
 
-/// An operand in memory with a displacement of 12 bits; None where there is no row.
-#[tactic(auto, unfolding(crate::specs::Mnemonics::alu_short_name))]
-pub fn alu_short_name(op: ALUOp) -> Option<&'static str>
-    ensures { option_map (λ s. s.now) result ≡ alu_short_name op }
-{
-    short_stem(rows_of_alu(op).rx)
-}
-
-/// The mnemonic of an operator on an operand in memory with a displacement of 20 bits. None where there is no row.
-#[tactic(auto, unfolding(crate::specs::Mnemonics::alu_long_name))]
-pub fn alu_long_name(op: ALUOp) -> Option<&'static str>
-    ensures { option_map (λ s. s.now) result ≡ alu_long_name op }
-{
-    stem_where(rows_of_alu(op).rxy)
-}
-
-/// An operand in memory that is changed in one access; None where there is no row.
-#[tactic(auto, unfolding(crate::specs::Mnemonics::atomic_name))]
-pub fn atomic_name(op: ALUOp) -> Option<&'static str>
-    ensures { option_map (λ s. s.now) result ≡ atomic_name op }
-{
-    stem_where(rows_of_alu(op).atomic)
-}
-
 /// A comparison of two registers; None where there is no row.
 #[tactic(auto, unfolding(crate::specs::Mnemonics::cmp_two_name))]
 pub fn cmp_two_name(op: CmpOp) -> Option<&'static str>
@@ -121,22 +84,6 @@ pub fn cmp_unsigned_word_name(op: CmpOp) -> Option<&'static str>
     stem_where(rows_of_cmp(op).unsigned_word)
 }
 
-/// With an operand in memory with a displacement of 12 bits; None where there is no row.
-#[tactic(auto, unfolding(crate::specs::Mnemonics::cmp_short_name))]
-pub fn cmp_short_name(op: CmpOp) -> Option<&'static str>
-    ensures { option_map (λ s. s.now) result ≡ cmp_short_name op }
-{
-    short_stem(rows_of_cmp(op).rx)
-}
-
-/// The mnemonic of a comparison with an operand in memory with a displacement of 20 bits. None where there is no row.
-#[tactic(auto, unfolding(crate::specs::Mnemonics::cmp_long_name))]
-pub fn cmp_long_name(op: CmpOp) -> Option<&'static str>
-    ensures { option_map (λ s. s.now) result ≡ cmp_long_name op }
-{
-    stem_where(rows_of_cmp(op).rxy)
-}
-
 /// A comparison of two registers that traps; None where there is no row.
 #[tactic(auto, unfolding(crate::specs::Mnemonics::cmp_trap_name))]
 pub fn cmp_trap_name(op: CmpOp) -> Option<&'static str>
@@ -159,52 +106,6 @@ pub fn cmp_trap_unsigned_name(op: CmpOp) -> Option<&'static str>
     ensures { option_map (λ s. s.now) result ≡ cmp_trap_unsigned_name op }
 {
     stem_where(rows_of_cmp(op).trap_unsigned)
-}
-
-/// With an operand in memory relative to the instruction.
-#[tactic(auto, unfolding(crate::specs::Mnemonics::cmp_relative_name))]
-pub fn cmp_relative_name(op: CmpOp) -> &'static str
-    ensures { result.now ≡ cmp_relative_name op }
-{
-    stem(rows_of_cmp(op).ril)
-}
-
-/// The forms of the operand of a load or a store of one register.
-#[derive(Clone, Copy)]
-pub enum AccessForm {
-    /// A displacement of 12 bits.
-    Short,
-    /// A displacement of 20 bits.
-    Long,
-    /// An address relative to the instruction.
-    Relative,
-}
-
-// The stem of the row in a form, where there is one.
-fn stem_in_form(form: AccessForm, rows: RegisterRows) -> Option<&'static str>
-    ensures { option_map (λ s. s.now) result ≡ option_map stem_of (opcode_in form rows) }
-{
-    match form {
-        AccessForm::Short => short_stem(rows.rx),
-        AccessForm::Long => stem_where(rows.rxy),
-        AccessForm::Relative => stem_where(rows.ril),
-    }
-}
-
-/// The mnemonic of a load in a form; None where there is no row.
-#[tactic(auto, unfolding(crate::specs::Mnemonics::load_mnemonic))]
-pub fn load_mnemonic(op: LoadOp, form: AccessForm) -> Option<&'static str>
-    ensures { option_map (λ s. s.now) result ≡ load_mnemonic op form }
-{
-    stem_in_form(form, rows_of_load(op))
-}
-
-/// The mnemonic of a store in a form; None where there is no row.
-#[tactic(auto, unfolding(crate::specs::Mnemonics::store_mnemonic))]
-pub fn store_mnemonic(op: StoreOp, form: AccessForm) -> Option<&'static str>
-    ensures { option_map (λ s. s.now) result ≡ store_mnemonic op form }
-{
-    stem_in_form(form, rows_of_store(op))
 }
 
 /// A shift by an amount.

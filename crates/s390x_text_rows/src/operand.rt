@@ -2,13 +2,13 @@
 ghost use Rattle.std.specs.Prelude.{◌≡◌, ℕ, List, ◌++◌, OnOk, string_bytes};
 ghost use Rattle.std.specs.Fmt.{decimal, signed_decimal};
 ghost use Rattle.s390x_job_fields.specs.Atoms.{reg_text, real_text};
-ghost use Rattle.s390x_text_rows.specs.Operands.{reused_text, halves_text, pair_text, reused_pair_text, reused_low_text, is_zero, bracketed, amount_text, access_register_text, float_text, cond_text, label_text, name_text, indexed_text};
+ghost use Rattle.s390x_text_rows.specs.Operands.{reused_text, rotated_text, halves_text, pair_text, reused_pair_text, reused_low_text, is_zero, bracketed, amount_text, access_register_text, float_text, cond_text, label_text, name_text, indexed_text};
 
+use crate::register_names::{put_real, put_reg};
 use s390x_base::{
     Cond, ExternalName, MachLabel, PReg, Reg, RegPair, SImm20, UImm16Shifted, UImm32Shifted,
     Writable, zero_reg,
 };
-use s390x_job_fields::atoms::{put_real, put_reg};
 use s390x_job_fields::number::{put, put_integer, put_natural};
 use std::alloc::AllocError;
 
@@ -136,6 +136,29 @@ impl Operand for Reused {
         }
         put(out, "<-")?;
         put_reg(out, self.ri)
+    }
+}
+
+/// The bits of a rotation.
+#[derive(Clone, Copy)]
+pub struct RotatedBits {
+    /// The first bit, with 128 added where the bits are tested alone.
+    pub start: u16,
+    /// The last bit.
+    pub end: u8,
+    /// By how many bits it rotates.
+    pub amount: u8,
+}
+
+impl Operand for RotatedBits {
+    ghost shown = { λ b. rotated_text b.start b.end b.amount };
+
+    fn put(&self, out: &mut String) -> Result<(), AllocError> {
+        put_natural(out, u64::from(self.start))?;
+        put(out, ", ")?;
+        put_natural(out, u64::from(self.end))?;
+        put(out, ", ")?;
+        put_natural(out, u64::from(self.amount))
     }
 }
 

@@ -16,6 +16,7 @@ use s390x_job_fields::number::put;
 use std::alloc::AllocError;
 
 /// A writer's answer as that of a text.
+#[inline(always)]
 pub fn text_result(written: Result<(), AllocError>) -> Result<(), TextError>
     ensures { result ≡ answer_of written }
 {
@@ -26,6 +27,7 @@ pub fn text_result(written: Result<(), AllocError>) -> Result<(), TextError>
 }
 
 /// Appends a row with one operand.
+#[inline(always)]
 pub fn spelled1<A: Operand>(out: &mut String, mnemonic: &str, a: &A) -> Result<(), AllocError>
     ensures { OnOk result
         (string_bytes out.new ≡ string_bytes out.old ++ spelled mnemonic.now (A.shown a.now ∷ [])) }
@@ -36,6 +38,7 @@ pub fn spelled1<A: Operand>(out: &mut String, mnemonic: &str, a: &A) -> Result<(
 }
 
 /// Appends a row with 2 operands.
+#[inline(always)]
 pub fn spelled2<A: Operand, B: Operand>(
     out: &mut String,
     mnemonic: &str,
@@ -89,29 +92,8 @@ pub fn spelled4<A: Operand, B: Operand, C: Operand, D: Operand>(
     d.put(out)
 }
 
-/// Appends a row with 5 operands.
-pub fn spelled5<A: Operand, B: Operand, C: Operand, D: Operand, E: Operand>(
-    out: &mut String,
-    mnemonic: &str,
-    a: &A,
-    b: &B,
-    c: &C,
-    d: &D,
-    e: &E,
-) -> Result<(), AllocError>
-    ensures { OnOk result
-        (string_bytes out.new
-        ≡ string_bytes out.old
-        ++ spelled mnemonic.now
-        (A.shown a.now ∷ B.shown b.now ∷ C.shown c.now ∷ D.shown d.now ∷ E.shown e.now
-        ∷ [])) }
-{
-    spelled4(out, mnemonic, a, b, c, d)?;
-    put(out, ", ")?;
-    e.put(out)
-}
-
 /// Appends a row whose mnemonic has two parts, with 2 operands.
+#[inline(always)]
 pub fn lettered2<A: Operand, B: Operand>(
     out: &mut String,
     mnemonic: Mnemonic,
@@ -123,7 +105,7 @@ pub fn lettered2<A: Operand, B: Operand>(
         ≡ string_bytes out.old
         ++ spelled (joined mnemonic) (A.shown a.now ∷ B.shown b.now ∷ [])) }
 {
-    put(out, mnemonic.stem)?;
+    put(out, stem(mnemonic.opcode))?;
     spelled2(out, mnemonic.letters, a, b)
 }
 
@@ -230,26 +212,6 @@ pub fn row3<A: Operand, B: Operand, C: Operand>(
 {
     match mnemonic {
         Some(name) => fixed3(out, name, a, b, c),
-        None => Err(TextError::NoRow),
-    }
-}
-
-/// Appends a row with 5 operands; `NoRow` where it has no mnemonic.
-pub fn row5<A: Operand, B: Operand, C: Operand, D: Operand, E: Operand>(
-    out: &mut String,
-    mnemonic: Option<&'static str>,
-    a: &A,
-    b: &B,
-    c: &C,
-    d: &D,
-    e: &E,
-) -> Result<(), TextError>
-    ensures { Prints result (string_bytes out.old) (string_bytes out.new)
-        (row (option_map (λ s. s.now) mnemonic.entry)
-        (A.shown a.now ∷ B.shown b.now ∷ C.shown c.now ∷ D.shown d.now ∷ E.shown e.now ∷ [])) }
-{
-    match mnemonic {
-        Some(name) => Ok(spelled5(out, name, a, b, c, d, e)?),
         None => Err(TextError::NoRow),
     }
 }

@@ -94,6 +94,43 @@ pub fn put_simple(
 {
     match inst {
         Inst::Vector(vector) => put_vector(alloc, out, state, vector),
+        Inst::AluRRR { .. }
+        | Inst::AluRRSImm16 { .. }
+        | Inst::AluRR { .. }
+        | Inst::AluRSImm16 { .. }
+        | Inst::AluRSImm32 { .. }
+        | Inst::AluRUImm32 { .. }
+        | Inst::AluRUImm16Shifted { .. }
+        | Inst::AluRUImm32Shifted { .. }
+        | Inst::UnaryRR { .. }
+        | Inst::ShiftRR { .. }
+        | Inst::RxSBG { .. }
+        | Inst::RxSBGTest { .. } => match put_arithmetic(out, inst) {
+            Some(answer) => answer,
+            None => Err(TextError::NoRow),
+        },
+        Inst::Fence
+        | Inst::Nop0
+        | Inst::Nop2
+        | Inst::Debugtrap
+        | Inst::Trap { .. }
+        | Inst::TrapIf { .. }
+        | Inst::Jump { .. }
+        | Inst::CondBr { .. }
+        | Inst::IndirectBr { .. }
+        | Inst::Ret { .. }
+        | Inst::JTSequence { .. }
+        | Inst::CondBreak { .. }
+        | Inst::AllocateArgs { .. }
+        | Inst::LoadSymbolReloc { .. }
+        | Inst::LabelAddress { .. }
+        | Inst::Args { .. }
+        | Inst::Rets { .. }
+        | Inst::DummyUse { .. }
+        | Inst::SequencePoint => match put_control(out, inst) {
+            Some(answer) => answer,
+            None => Err(TextError::NoRow),
+        },
         _ => put_general(alloc, out, has, state, inst),
     }
 }

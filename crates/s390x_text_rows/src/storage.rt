@@ -3,33 +3,50 @@ ghost use Rattle.std.specs.Prelude.{◌≡◌, ◌++◌, ◌∷◌, [], ◌&&◌
 ghost use Rattle.std.specs.Option.{option_map};
 ghost use Rattle.s390x_inst.specs.declared.args.MemArg.TheVariants.{RegOffset};
 ghost use Rattle.s390x_typed_steps.specs.Operands.{fits_12, fits_20, resolved};
-ghost use Rattle.s390x_text_rows.specs.Texts.{Prints};
-ghost use Rattle.s390x_text_rows.specs.Storage.{sum_text, memory_text, is_virtual, rx, rs, address_rows, rows_of, has_row, type_of_rows, name_at, helper_text, helpers_text, near_operand, Opens, access, access_where};
+ghost use Rattle.s390x_format.specs.Stems.{stem_of};
+ghost use Rattle.s390x_text_rows.specs.Texts.{Prints, spelled};
+ghost use Rattle.s390x_text_rows.specs.VectorMnemonics.{joined};
+ghost use Rattle.s390x_text_rows.specs.Storage.{sum_text, memory_text, is_virtual, rx, rs, rx_of, address_rows, rows_of, has_row, type_of_rows, name_at, helper_text, helpers_text, kept, near_operand, Opens, access_where};
 
 use crate::error::TextError;
 use crate::operand::{Operand, is_zero};
-use crate::row::{spelled2, spelled3};
-use s390x_address::mem_finalize;
+use crate::register_names::put_reg;
+use crate::row::{lettered2, spelled2, spelled3};
+use crate::vector_mnemonics::Mnemonic;
+use s390x_address::{mem_finalize, needs_address};
 use s390x_base::{MachMemFlags, Reg, SImm20, UImm12, zero_reg};
+use s390x_format::stem;
 use s390x_inst::{EmitState, Inst, MemArg};
-use s390x_job_fields::atoms::{put_name, put_reg};
+use s390x_job_fields::atoms::put_name;
 use s390x_job_fields::number::{put, put_integer, put_natural};
-use s390x_typed_steps::MemInstType;
+use s390x_rows::opcodes;
+use s390x_typed_steps::{MemInstType, RegisterRows};
 use std::alloc::{AllocError, Global};
 
-/// The mnemonics that an instruction has by the form of its operand in memory.
+/// The opcodes of the rows that an instruction has by the form of its operand in memory.
 #[derive(Clone, Copy)]
 pub struct Rows {
     /// At a displacement of 12 bits.
-    pub short: Option<&'static str>,
+    pub short: Option<u16>,
     /// At a displacement of 20 bits.
-    pub long: Option<&'static str>,
+    pub long: Option<u16>,
     /// At an address relative to the instruction.
-    pub relative: Option<&'static str>,
+    pub relative: Option<u16>,
     /// Whether the rows have an index.
     pub index: bool,
     /// Whether they access memory.
     pub accesses: bool,
+}
+
+/// An operand in memory, and where its instruction stands.
+#[derive(Clone, Copy)]
+pub struct Place<'a> {
+    pub alloc: Global,
+    /// Whether the machine has accesses relative to the instruction.
+    pub has: bool,
+    /// The state of emission before the instruction.
+    pub state: &'a EmitState,
+    pub mem: &'a MemArg,
 }
 
 /// The rows of LOAD ADDRESS.
@@ -37,9 +54,9 @@ pub fn address_rows() -> Rows
     ensures { rows_of result ≡ address_rows }
 {
     Rows {
-        short: Some("la"),
-        long: Some("lay"),
-        relative: Some("larl"),
+        short: Some(opcodes::LA),
+        long: Some(opcodes::LAY),
+        relative: Some(opcodes::LARL),
         index: true,
         accesses: false,
     }
@@ -152,14 +169,14 @@ impl Rows {
     fn name_at(&self, mem: &MemArg) -> &'static str
         ensures { result.now ≡ name_at (rows_of self.now) mem.now }
     {
-        let name = match mem {
+        let row = match mem {
             MemArg::BXD12 { .. } => self.short,
             MemArg::BXD20 { .. } => self.long,
             MemArg::Label { .. } | MemArg::Constant { .. } | MemArg::Symbol { .. } => self.relative,
             _ => None,
         };
-        match name {
-            Some(mnemonic) => mnemonic,
+        match row {
+            Some(opcode) => stem(opcode),
             None => "",
         }
     }
@@ -170,7 +187,7 @@ fn put_helper(out: &mut String, helper: &Inst) -> Result<(), AllocError>
     ensures { OnOk result (string_bytes out.new ≡ string_bytes out.old ++ helper_text helper.now) }
 {
     match helper {
-        Inst::Mov64SImm32 { rd, imm } => spelled2(out, "lgfi", rd, imm),
+        Inst::Mov64SImm32 { rd, imm } => spelled2(out, stem(opcodes::LGFI), rd, imm),
         Inst::LoadAddr { rd, mem } => spelled2(out, address_rows().name_at(mem), rd, mem),
         _ => Ok(()),
     }
@@ -241,32 +258,42 @@ fn near_offset(mi: MemInstType, reg: Reg, off: i64, flags: MachMemFlags) -> Opti
     }
 }
 
-// The operand of an access at an offset that a displacement holds; None where it isn't such an offset.
+// The operand itself, where the rows have a form for it.
+fn kept(mi: MemInstType, mem: &MemArg) -> Option<MemArg>
+    ensures { result ≡ kept mi mem.now }
+{
+    if needs_address(mi, mem) {
+        None
+    } else {
+        Some(*mem)
+    }
+}
+
+// The operand of an access that needs no helper, where it is an offset or relative to the instruction.
 fn near_operand(mi: MemInstType, mem: &MemArg) -> Option<MemArg>
     ensures { result ≡ near_operand mi mem.now }
 {
     match mem {
         MemArg::RegOffset { reg, off, flags } => near_offset(mi, *reg, *off, *flags),
+        MemArg::Label { .. } | MemArg::Constant { .. } | MemArg::Symbol { .. } => kept(mi, mem),
         _ => None,
     }
 }
 
 // Appends the helpers of an operand, and gives the operand of the access, by a list of the helpers.
-fn open_helped(
-    alloc: Global,
-    out: &mut String,
-    has: bool,
-    rows: &Rows,
-    state: &EmitState,
-    mem: &MemArg,
-) -> Result<MemArg, TextError>
-    ensures { Opens result (string_bytes out.old) (string_bytes out.new) has (rows_of rows.now)
-        (resolved state.now mem.now) }
+fn open_helped(out: &mut String, place: Place, rows: &Rows) -> Result<MemArg, TextError>
+    ensures { Opens result (string_bytes out.old) (string_bytes out.new) place.entry.has
+        (rows_of rows.now) (resolved place.entry.state.now place.entry.mem.now) }
 {
     if !rows.has_row() {
         return Err(TextError::NoRow);
     }
-    match mem_finalize(alloc, mem, state, rows.inst_type(has)) {
+    match mem_finalize(
+        place.alloc,
+        place.mem,
+        place.state,
+        rows.inst_type(place.has),
+    ) {
         Ok((helpers, operand)) => {
             put_helpers(out, helpers.as_slice())?;
             Ok(operand)
@@ -276,157 +303,156 @@ fn open_helped(
 }
 
 // Appends the helpers of an operand, and gives the operand of the access; the list, which is large, isn't made where it is seen at once that there are no helpers.
-fn open_access(
-    alloc: Global,
-    out: &mut String,
-    has: bool,
-    rows: &Rows,
-    state: &EmitState,
-    mem: &MemArg,
-) -> Result<MemArg, TextError>
-    ensures { Opens result (string_bytes out.old) (string_bytes out.new) has (rows_of rows.now)
-        (resolved state.now mem.now) }
+fn open_access(out: &mut String, place: Place, rows: &Rows) -> Result<MemArg, TextError>
+    ensures { Opens result (string_bytes out.old) (string_bytes out.new) place.entry.has
+        (rows_of rows.now) (resolved place.entry.state.now place.entry.mem.now) }
 {
-    match near_operand(rows.inst_type(has), mem) {
+    match near_operand(rows.inst_type(place.has), place.mem) {
         Some(operand) => Ok(operand),
-        None => open_helped(alloc, out, has, rows, state, mem),
+        None => open_helped(out, place, rows),
     }
 }
 
-/// Appends the text of an access with one operand before that in memory, on a machine that has accesses relative to the
-/// instruction or lacks them.
+/// Appends the text of an access with one operand before that in memory.
 pub fn access2<A: Operand>(
-    alloc: Global,
     out: &mut String,
-    has: bool,
+    place: Place,
     rows: &Rows,
-    state: &EmitState,
     a: &A,
-    mem: &MemArg,
 ) -> Result<(), TextError>
     ensures { Prints result (string_bytes out.old) (string_bytes out.new)
-        (access_where has (rows_of rows.now) state.now (A.shown a.now ∷ []) mem.now []) }
+        (access_where place.entry.has (rows_of rows.now) place.entry.state.now
+        (A.shown a.now ∷ []) place.entry.mem.now []) }
 {
-    let operand = open_access(alloc, out, has, rows, state, mem)?;
+    let operand = open_access(out, place, rows)?;
     Ok(spelled2(out, rows.name_at(&operand), a, &operand)?)
 }
 
-/// Appends the text of an access with two operands before that in memory.
-pub fn access3<A: Operand, B: Operand>(
-    alloc: Global,
-    out: &mut String,
-    rows: &Rows,
-    state: &EmitState,
-    a: &A,
-    b: &B,
-    mem: &MemArg,
-) -> Result<(), TextError>
-    ensures { Prints result (string_bytes out.old) (string_bytes out.new)
-        (access (rows_of rows.now) state.now (A.shown a.now ∷ B.shown b.now ∷ []) mem.now []) }
+// An opcode of two digits as one of any length.
+fn widened(opcode: Option<u8>) -> Option<u16>
+    ensures { result ≡ opcode }
 {
-    let operand = open_access(alloc, out, true, rows, state, mem)?;
-    Ok(spelled3(out, rows.name_at(&operand), a, b, &operand)?)
-}
-
-/// Appends the text of an access with an operand behind that in memory.
-pub fn access_then<A: Operand>(
-    alloc: Global,
-    out: &mut String,
-    rows: &Rows,
-    state: &EmitState,
-    mem: &MemArg,
-    a: &A,
-) -> Result<(), TextError>
-    ensures { Prints result (string_bytes out.old) (string_bytes out.new)
-        (access (rows_of rows.now) state.now [] mem.now (A.shown a.now ∷ [])) }
-{
-    let operand = open_access(alloc, out, true, rows, state, mem)?;
-    Ok(spelled2(out, rows.name_at(&operand), &operand, a)?)
-}
-
-/// Appends the text of an access with an operand on either side of that in memory.
-pub fn access_between<A: Operand, B: Operand>(
-    alloc: Global,
-    out: &mut String,
-    rows: &Rows,
-    state: &EmitState,
-    a: &A,
-    mem: &MemArg,
-    b: &B,
-) -> Result<(), TextError>
-    ensures { Prints result (string_bytes out.old) (string_bytes out.new)
-        (access (rows_of rows.now) state.now (A.shown a.now ∷ []) mem.now (B.shown b.now ∷ [])) }
-{
-    let operand = open_access(alloc, out, true, rows, state, mem)?;
-    Ok(spelled3(out, rows.name_at(&operand), a, &operand, b)?)
+    match opcode {
+        Some(opcode) => Some(u16::from(opcode)),
+        None => None,
+    }
 }
 
 /// Appends the text of an access by rows of formats RX, RXY and RIL-B, with one operand before that in memory.
 pub fn rx_access<A: Operand>(
-    alloc: Global,
     out: &mut String,
-    has: bool,
-    state: &EmitState,
-    short: Option<&'static str>,
-    long: Option<&'static str>,
-    relative: Option<&'static str>,
+    place: Place,
+    by_form: RegisterRows,
     a: &A,
-    mem: &MemArg,
 ) -> Result<(), TextError>
     ensures { Prints result (string_bytes out.old) (string_bytes out.new)
-        (access_where has
-        (rx (option_map (λ s. s.now) short.entry) (option_map (λ s. s.now) long.entry)
-        (option_map (λ s. s.now) relative.entry)) state.now (A.shown a.now ∷ []) mem.now
-        []) }
+        (access_where place.entry.has (rx_of by_form) place.entry.state.now
+        (A.shown a.now ∷ []) place.entry.mem.now []) }
 {
     let rows = Rows {
-        short,
-        long,
-        relative,
+        short: widened(by_form.rx),
+        long: by_form.rxy,
+        relative: by_form.ril,
         index: true,
         accesses: true,
     };
-    access2(alloc, out, has, &rows, state, a, mem)
+    access2(out, place, &rows, a)
 }
 
 /// Appends the text of an access by a row of format VRX, with an operand on either side of that in memory.
-pub fn rx_access_between<A: Operand, B: Operand>(
-    alloc: Global,
+pub fn vrx_access<A: Operand, B: Operand>(
     out: &mut String,
-    state: &EmitState,
-    name: Option<&'static str>,
+    place: Place,
+    opcode: Option<u16>,
     a: &A,
-    mem: &MemArg,
     b: &B,
 ) -> Result<(), TextError>
     ensures { Prints result (string_bytes out.old) (string_bytes out.new)
-        (access (rx (option_map (λ s. s.now) name.entry) None None) state.now (A.shown a.now ∷ [])
-        mem.now (B.shown b.now ∷ [])) }
+        (access_where place.entry.has (rx (option_map stem_of opcode) None None)
+        place.entry.state.now (A.shown a.now ∷ []) place.entry.mem.now (B.shown b.now ∷ [])) }
 {
     let rows = Rows {
-        short: name,
+        short: opcode,
         long: None,
         relative: None,
         index: true,
         accesses: true,
     };
-    access_between(alloc, out, &rows, state, a, mem, b)
+    let operand = open_access(out, place, &rows)?;
+    Ok(spelled3(out, rows.name_at(&operand), a, &operand, b)?)
+}
+
+// Appends an access by a row of format VRX; without a mnemonic, where the row doesn't have the operand's form.
+fn put_lettered<A: Operand>(
+    out: &mut String,
+    mnemonic: Mnemonic,
+    a: &A,
+    mem: &MemArg,
+) -> Result<(), AllocError>
+    ensures { OnOk result
+        (string_bytes out.new
+        ≡ string_bytes out.old
+        ++ spelled (name_at (rx (Some (joined mnemonic)) None None) mem.now)
+        (A.shown a.now ∷ memory_text mem.now ∷ [])) }
+{
+    match mem {
+        MemArg::BXD12 { .. } => lettered2(out, mnemonic, a, mem),
+        _ => spelled2(out, "", a, mem),
+    }
+}
+
+// Appends the text of an access by a row of format VRX whose mnemonic has two parts.
+fn access_lettered<A: Operand>(
+    out: &mut String,
+    place: Place,
+    mnemonic: Mnemonic,
+    a: &A,
+) -> Result<(), TextError>
+    ensures { Prints result (string_bytes out.old) (string_bytes out.new)
+        (access_where place.entry.has (rx (Some (joined mnemonic)) None None)
+        place.entry.state.now (A.shown a.now ∷ []) place.entry.mem.now []) }
+{
+    let rows = Rows {
+        short: Some(mnemonic.opcode),
+        long: None,
+        relative: None,
+        index: true,
+        accesses: true,
+    };
+    let operand = open_access(out, place, &rows)?;
+    Ok(put_lettered(out, mnemonic, a, &operand)?)
+}
+
+/// Appends the text of an access by a row of format VRX whose mnemonic has two parts, with one operand before that in memory;
+/// `NoRow` where it has no mnemonic.
+pub fn lettered_access<A: Operand>(
+    out: &mut String,
+    place: Place,
+    mnemonic: Option<Mnemonic>,
+    a: &A,
+) -> Result<(), TextError>
+    ensures { Prints result (string_bytes out.old) (string_bytes out.new)
+        (access_where place.entry.has (rx (option_map joined mnemonic) None None)
+        place.entry.state.now (A.shown a.now ∷ []) place.entry.mem.now []) }
+{
+    match mnemonic {
+        Some(name) => access_lettered(out, place, name, a),
+        None => Err(TextError::NoRow),
+    }
 }
 
 /// Appends the text of an access by rows without an index, with two operands before that in memory.
 pub fn rs_access3<A: Operand, B: Operand>(
-    alloc: Global,
     out: &mut String,
-    state: &EmitState,
-    short: Option<&'static str>,
-    long: Option<&'static str>,
+    place: Place,
+    short: Option<u16>,
+    long: Option<u16>,
     a: &A,
     b: &B,
-    mem: &MemArg,
 ) -> Result<(), TextError>
     ensures { Prints result (string_bytes out.old) (string_bytes out.new)
-        (access (rs (option_map (λ s. s.now) short.entry) (option_map (λ s. s.now) long.entry))
-        state.now (A.shown a.now ∷ B.shown b.now ∷ []) mem.now []) }
+        (access_where place.entry.has (rs (option_map stem_of short) (option_map stem_of long))
+        place.entry.state.now (A.shown a.now ∷ B.shown b.now ∷ []) place.entry.mem.now []) }
 {
     let rows = Rows {
         short,
@@ -435,22 +461,21 @@ pub fn rs_access3<A: Operand, B: Operand>(
         index: false,
         accesses: true,
     };
-    access3(alloc, out, &rows, state, a, b, mem)
+    let operand = open_access(out, place, &rows)?;
+    Ok(spelled3(out, rows.name_at(&operand), a, b, &operand)?)
 }
 
 /// Appends the text of an access by rows without an index, with an operand behind that in memory.
 pub fn rs_access_then<A: Operand>(
-    alloc: Global,
     out: &mut String,
-    state: &EmitState,
-    short: Option<&'static str>,
-    long: Option<&'static str>,
-    mem: &MemArg,
+    place: Place,
+    short: Option<u16>,
+    long: Option<u16>,
     a: &A,
 ) -> Result<(), TextError>
     ensures { Prints result (string_bytes out.old) (string_bytes out.new)
-        (access (rs (option_map (λ s. s.now) short.entry) (option_map (λ s. s.now) long.entry))
-        state.now [] mem.now (A.shown a.now ∷ [])) }
+        (access_where place.entry.has (rs (option_map stem_of short) (option_map stem_of long))
+        place.entry.state.now [] place.entry.mem.now (A.shown a.now ∷ [])) }
 {
     let rows = Rows {
         short,
@@ -459,5 +484,6 @@ pub fn rs_access_then<A: Operand>(
         index: false,
         accesses: true,
     };
-    access_then(alloc, out, &rows, state, mem, a)
+    let operand = open_access(out, place, &rows)?;
+    Ok(spelled2(out, rows.name_at(&operand), &operand, a)?)
 }

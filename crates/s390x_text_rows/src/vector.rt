@@ -1,6 +1,8 @@
 //! The texts of operators, moves and lanes of vector and float registers.
 ghost use Rattle.std.specs.Prelude.{◌≡◌, ◌++◌, ◌∷◌, [], codes, cond, OnOk, string_bytes};
+ghost use Rattle.std.specs.Fmt.{decimal};
 ghost use Rattle.std.specs.Option.{option_map};
+ghost use Rattle.s390x_format.specs.Stems.{stem_of};
 ghost use Rattle.s390x_job_fields.specs.Atoms.{reg_text};
 ghost use Rattle.s390x_text_rows.specs.Texts.{Prints, PrintsWhere, spelled};
 ghost use Rattle.s390x_text_rows.specs.Operands.{reused_text};
@@ -9,16 +11,17 @@ ghost use Rattle.s390x_text_rows.specs.Vector.{lane_name, reversed_name, mask_na
 
 use crate::arithmetic::reused;
 use crate::error::TextError;
-use crate::operand::{Amount, Float, Reused, cond_name, is_zero};
+use crate::operand::{Amount, Float, Operand, Reused, cond_name, is_zero};
 use crate::regs::is_float;
 use crate::row::{
     fixed2, fixed3, lettered2, lettered3, lettered4, row2, row3, spelled2, spelled3, spelled4,
-    spelled5, text_result,
+    text_result,
 };
 use crate::vector_mnemonics::{
     vec_binary_name, vec_compare_name, vec_element_compare_name, vec_shift_name, vec_unary_name,
 };
 use s390x_base::{Cond, Reg};
+use s390x_format::stem;
 use s390x_inst::{VecBinaryOp, VecInst, VecIntCmpOp};
 use s390x_job_fields::number::put;
 use std::alloc::AllocError;
@@ -50,15 +53,31 @@ pub fn lane_name(
     }
 }
 
-/// The mnemonic with the letter of an element's size, from 16 bits on, where bytes are reversed.
-pub fn reversed_name(
-    h: &'static str,
-    f: &'static str,
-    g: &'static str,
-    size: u32,
-    lane: u8,
-) -> Option<&'static str>
-    ensures { option_map (λ s. s.now) result ≡ reversed_name h.now f.now g.now size lane }
+/// The row of a lane by its width in bits: 8, 16, 32 or 64; None for another width, or where the lane's number isn't below the count of lanes.
+pub fn lane_row(b: u16, h: u16, f: u16, g: u16, size: u32, lane: u8) -> Option<u16>
+    ensures { option_map stem_of result
+        ≡ lane_name (stem_of b) (stem_of h) (stem_of f) (stem_of g) size lane }
+{
+    if size == 8 && lane < 16 {
+        return Some(b);
+    }
+    if size == 16 && lane < 8 {
+        return Some(h);
+    }
+    if size == 32 && lane < 4 {
+        return Some(f);
+    }
+    if size == 64 && lane < 2 {
+        Some(g)
+    } else {
+        None
+    }
+}
+
+/// The row of a lane by its width in bits from 16 on, where bytes are reversed.
+pub fn reversed_row(h: u16, f: u16, g: u16, size: u32, lane: u8) -> Option<u16>
+    ensures { option_map stem_of result
+        ≡ reversed_name (stem_of h) (stem_of f) (stem_of g) size lane }
 {
     if size == 16 && lane < 8 {
         return Some(h);
@@ -132,6 +151,26 @@ fn put_doublewords(
     }
 }
 
+// Any operator on the bits of three vectors.
+fn put_evaluate(
+    out: &mut String,
+    rd: Reg,
+    rn: Reg,
+    rm: Reg,
+    ra: Reg,
+    imm: u8,
+) -> Result<(), AllocError>
+    ensures { OnOk result
+        (string_bytes out.new
+        ≡ string_bytes out.old
+        ++ spelled (codes "veval")
+        (reg_text rd ∷ reg_text rn ∷ reg_text rm ∷ reg_text ra ∷ decimal imm ∷ [])) }
+{
+    spelled4(out, "veval", &rd, &rn, &rm, &ra)?;
+    put(out, ", ")?;
+    imm.put(out)
+}
+
 // A comparison of lanes that sets the condition code.
 fn put_compare_set(
     out: &mut String,
@@ -147,7 +186,7 @@ fn put_compare_set(
         (reg_text rd ∷ reg_text rn ∷ reg_text rm ∷ [])) }
 {
     let name = vec_compare_name(op);
-    put(out, name.stem)?;
+    put(out, stem(name.opcode))?;
     put(out, name.letters)?;
     spelled3(out, "s", &rd, &rn, &rm)
 }
@@ -211,7 +250,7 @@ pub fn put_vec_operator(out: &mut String, inst: &VecInst) -> Option<Result<(), T
             rn,
             rm,
             ra,
-        } => Some(text_result(spelled5(out, "veval", rd, rn, rm, ra, imm))),
+        } => Some(text_result(put_evaluate(out, rd.to_reg(), *rn, *rm, *ra, *imm))),
         VecInst::VecPermuteDWImm {
             rd,
             rn,

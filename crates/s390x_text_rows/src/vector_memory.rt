@@ -1,104 +1,126 @@
 //! The texts of loads and stores of vector and float registers.
-ghost use Rattle.std.specs.Prelude.{string_bytes};
+ghost use Rattle.std.specs.Prelude.{◌≡◌, string_bytes};
+ghost use Rattle.std.specs.Option.{option_map};
+ghost use Rattle.s390x_format.specs.Stems.{stem_of};
+ghost use Rattle.s390x_text_rows.specs.VectorMnemonics.{joined};
 ghost use Rattle.s390x_text_rows.specs.Texts.{Prints, PrintsWhere};
-ghost use Rattle.s390x_text_rows.specs.Vector.{load_lane_text, store_lane_text, vec_whole_text, vec_part_text, vector_text};
+ghost use Rattle.s390x_text_rows.specs.Vector.{replicated_name, reversed_replicated_name, load_lane_text, store_lane_text, vec_whole_text, vec_part_text, vector_text};
 
 use crate::error::TextError;
 use crate::operand::Float;
 use crate::regs::is_float;
-use crate::storage::{rx_access, rx_access_between};
-use crate::vector::{lane_name, put_vec_lane, put_vec_move, put_vec_operator, reversed_name};
-use crate::vector_mnemonics::whole_name;
+use crate::storage::{Place, lettered_access, rx_access, vrx_access};
+use crate::vector::{lane_row, put_vec_lane, put_vec_move, put_vec_operator, reversed_row};
+use crate::vector_mnemonics::{Mnemonic, whole_name};
 use s390x_base::Reg;
-use s390x_inst::{EmitState, MemArg, VecInst};
+use s390x_inst::{EmitState, VecInst};
+use s390x_rows::opcodes;
+use s390x_typed_steps::RegisterRows;
 use std::alloc::Global;
+
+// The stem with the letter of a lane's width in bits: 8, 16, 32 or 64; None for another width.
+fn replicated_name(opcode: u16, size: u32) -> Option<Mnemonic>
+    ensures { option_map joined result ≡ replicated_name (stem_of opcode) size }
+{
+    let letters = match size {
+        8 => "b",
+        16 => "h",
+        32 => "f",
+        64 => "g",
+        _ => return None,
+    };
+    Some(Mnemonic { opcode, letters })
+}
+
+// The stem with the letter of a lane's width in bits from 16 on, where bytes are reversed.
+fn reversed_replicated_name(opcode: u16, size: u32) -> Option<Mnemonic>
+    ensures { option_map joined result ≡ reversed_replicated_name (stem_of opcode) size }
+{
+    let letters = match size {
+        16 => "h",
+        32 => "f",
+        64 => "g",
+        _ => return None,
+    };
+    Some(Mnemonic { opcode, letters })
+}
 
 // A load of lane 0 into a float register, or of a lane.
 fn put_load_lane(
-    alloc: Global,
     out: &mut String,
-    state: &EmitState,
+    place: Place,
     size: u32,
     rd: Reg,
-    mem: &MemArg,
     lane: u8,
 ) -> Result<(), TextError>
     ensures { Prints result (string_bytes out.old) (string_bytes out.new)
-        (load_lane_text state.now size rd mem.now lane) }
+        (load_lane_text place.entry.state.now size rd place.entry.mem.now lane) }
 {
     let floats = is_float(&rd);
     if floats && lane == 0 && size == 32 {
-        return rx_access(
-            alloc,
-            out,
-            true,
-            state,
-            Some("le"),
-            Some("ley"),
-            None,
-            &Float(rd),
-            mem,
-        );
+        let rows = RegisterRows {
+            rx: Some(opcodes::LE as u8),
+            rxy: Some(opcodes::LEY),
+            ril: None,
+        };
+        return rx_access(out, place, rows, &Float(rd));
     }
     if floats && lane == 0 && size == 64 {
-        return rx_access(
-            alloc,
-            out,
-            true,
-            state,
-            Some("ld"),
-            Some("ldy"),
-            None,
-            &Float(rd),
-            mem,
-        );
+        let rows = RegisterRows {
+            rx: Some(opcodes::LD as u8),
+            rxy: Some(opcodes::LDY),
+            ril: None,
+        };
+        return rx_access(out, place, rows, &Float(rd));
     }
-    let name = lane_name("vleb", "vleh", "vlef", "vleg", size, lane);
-    rx_access_between(alloc, out, state, name, &rd, mem, &lane)
+    let row = lane_row(
+        opcodes::VLEB,
+        opcodes::VLEH,
+        opcodes::VLEF,
+        opcodes::VLEG,
+        size,
+        lane,
+    );
+    vrx_access(out, place, row, &rd, &lane)
 }
 
 // A store of lane 0 of a float register, or of a lane.
 fn put_store_lane(
-    alloc: Global,
     out: &mut String,
-    state: &EmitState,
+    place: Place,
     size: u32,
     rd: Reg,
-    mem: &MemArg,
     lane: u8,
 ) -> Result<(), TextError>
     ensures { Prints result (string_bytes out.old) (string_bytes out.new)
-        (store_lane_text state.now size rd mem.now lane) }
+        (store_lane_text place.entry.state.now size rd place.entry.mem.now lane) }
 {
     let floats = is_float(&rd);
     if floats && lane == 0 && size == 32 {
-        return rx_access(
-            alloc,
-            out,
-            true,
-            state,
-            Some("ste"),
-            Some("stey"),
-            None,
-            &Float(rd),
-            mem,
-        );
+        let rows = RegisterRows {
+            rx: Some(opcodes::STE as u8),
+            rxy: Some(opcodes::STEY),
+            ril: None,
+        };
+        return rx_access(out, place, rows, &Float(rd));
     }
     if floats && lane == 0 && size == 64 {
-        return rx_access(
-            alloc,
-            out,
-            true,
-            state,
-            Some("std"),
-            Some("stdy"),
-            None,
-            &Float(rd),
-            mem,
-        );
+        let rows = RegisterRows {
+            rx: Some(opcodes::STD as u8),
+            rxy: Some(opcodes::STDY),
+            ril: None,
+        };
+        return rx_access(out, place, rows, &Float(rd));
     }
-    let name = lane_name("vsteb", "vsteh", "vstef", "vsteg", size, lane);
-    rx_access_between(alloc, out, state, name, &rd, mem, &lane)
+    let row = lane_row(
+        opcodes::VSTEB,
+        opcodes::VSTEH,
+        opcodes::VSTEF,
+        opcodes::VSTEG,
+        size,
+        lane,
+    );
+    vrx_access(out, place, row, &rd, &lane)
 }
 
 /// Appends the text of a load or a store of a whole register; None for another instruction.
@@ -112,17 +134,16 @@ pub fn put_vec_whole(
         (vec_whole_text state.now inst.now) }
 {
     match inst.as_whole() {
-        Some(whole) => Some(rx_access(
-            alloc,
-            out,
-            true,
-            state,
-            whole_name(whole.direction, whole.layout),
-            None,
-            None,
-            &whole.rd,
-            &whole.mem,
-        )),
+        Some(whole) => {
+            let place = Place {
+                alloc,
+                has: true,
+                state,
+                mem: &whole.mem,
+            };
+            let name = whole_name(whole.direction, whole.layout);
+            Some(lettered_access(out, place, Some(name), &whole.rd))
+        }
         None => None,
     }
 }
@@ -139,20 +160,20 @@ pub fn put_vec_part(
         (vec_part_text state.now inst.now) }
 {
     match inst {
-        VecInst::VecLoadReplicate { size, rd, mem } => Some(rx_access(alloc, out, true, state, lane_name("vlrepb", "vlreph", "vlrepf", "vlrepg", *size, 0), None, None, rd, mem)),
-        VecInst::VecLoadReplicateRev { size, rd, mem } => Some(rx_access(alloc, out, true, state, reversed_name("vlbrreph", "vlbrrepf", "vlbrrepg", *size, 0), None, None, rd, mem)),
-        VecInst::VecLoadLane { size, rd, mem, lane_imm, .. } => Some(rx_access_between(alloc, out, state, lane_name("vleb", "vleh", "vlef", "vleg", *size, *lane_imm), rd, mem, lane_imm)),
-        VecInst::VecLoadLaneRev { size, rd, mem, lane_imm, .. } => Some(rx_access_between(alloc, out, state, reversed_name("vlebrh", "vlebrf", "vlebrg", *size, *lane_imm), rd, mem, lane_imm)),
-        VecInst::VecLoadLaneUndef { size, rd, mem, lane_imm } => Some(put_load_lane(alloc, out, state, *size, rd.to_reg(), mem, *lane_imm)),
-        VecInst::VecLoadLaneRevUndef { size, rd, mem, lane_imm } => Some(rx_access_between(alloc, out, state, reversed_name("vlebrh", "vlebrf", "vlebrg", *size, *lane_imm), rd, mem, lane_imm)),
-        VecInst::VecStoreLane { size, rd, mem, lane_imm } => Some(put_store_lane(alloc, out, state, *size, *rd, mem, *lane_imm)),
-        VecInst::VecStoreLaneRev { size, rd, mem, lane_imm } => Some(rx_access_between(alloc, out, state, reversed_name("vstebrh", "vstebrf", "vstebrg", *size, *lane_imm), rd, mem, lane_imm)),
+        VecInst::VecLoadReplicate { size, rd, mem } => Some(lettered_access(out, Place { alloc, has: true, state, mem }, replicated_name(opcodes::VLREP, *size), rd)),
+        VecInst::VecLoadReplicateRev { size, rd, mem } => Some(lettered_access(out, Place { alloc, has: true, state, mem }, reversed_replicated_name(opcodes::VLBRREP, *size), rd)),
+        VecInst::VecLoadLane { size, rd, mem, lane_imm, .. } => Some(vrx_access(out, Place { alloc, has: true, state, mem }, lane_row(opcodes::VLEB, opcodes::VLEH, opcodes::VLEF, opcodes::VLEG, *size, *lane_imm), rd, lane_imm)),
+        VecInst::VecLoadLaneRev { size, rd, mem, lane_imm, .. } => Some(vrx_access(out, Place { alloc, has: true, state, mem }, reversed_row(opcodes::VLEBRH, opcodes::VLEBRF, opcodes::VLEBRG, *size, *lane_imm), rd, lane_imm)),
+        VecInst::VecLoadLaneUndef { size, rd, mem, lane_imm } => Some(put_load_lane(out, Place { alloc, has: true, state, mem }, *size, rd.to_reg(), *lane_imm)),
+        VecInst::VecLoadLaneRevUndef { size, rd, mem, lane_imm } => Some(vrx_access(out, Place { alloc, has: true, state, mem }, reversed_row(opcodes::VLEBRH, opcodes::VLEBRF, opcodes::VLEBRG, *size, *lane_imm), rd, lane_imm)),
+        VecInst::VecStoreLane { size, rd, mem, lane_imm } => Some(put_store_lane(out, Place { alloc, has: true, state, mem }, *size, *rd, *lane_imm)),
+        VecInst::VecStoreLaneRev { size, rd, mem, lane_imm } => Some(vrx_access(out, Place { alloc, has: true, state, mem }, reversed_row(opcodes::VSTEBRH, opcodes::VSTEBRF, opcodes::VSTEBRG, *size, *lane_imm), rd, lane_imm)),
         _ => None,
     }
 }
 
-/// Appends the text of an instruction on vector or float registers.
-pub fn put_vector(
+// Appends the text of an instruction on vector or float registers, by one group after the other.
+fn put_any(
     alloc: Global,
     out: &mut String,
     state: &EmitState,
@@ -176,5 +197,26 @@ pub fn put_vector(
     match put_vec_part(alloc, out, state, inst) {
         Some(answer) => answer,
         None => Err(TextError::NoRow),
+    }
+}
+
+/// Appends the text of an instruction on vector or float registers.
+pub fn put_vector(
+    alloc: Global,
+    out: &mut String,
+    state: &EmitState,
+    inst: &VecInst,
+) -> Result<(), TextError>
+    ensures { Prints result (string_bytes out.old) (string_bytes out.new)
+        (vector_text state.now inst.now) }
+{
+    match inst {
+        VecInst::VecLoad { .. } | VecInst::VecStore { .. } => match put_vec_whole(
+            alloc, out, state, inst,
+        ) {
+            Some(answer) => answer,
+            None => Err(TextError::NoRow),
+        },
+        _ => put_any(alloc, out, state, inst),
     }
 }

@@ -1,23 +1,20 @@
-//! The mnemonics of vector operators, by their rows, and of loads and stores of whole registers.
+//! The mnemonics of vector operators, and of loads and stores of whole registers, by their rows.
 ghost use Rattle.std.specs.Prelude.{◌≡◌};
-ghost use Rattle.std.specs.Option.{option_map};
-ghost use Rattle.s390x_text_rows.specs.VectorMnemonics.{joined, size_letter, sized, binary_letters, vec_binary_name, vec_unary_name, vec_shift_name, vec_compare_name, vec_element_compare_name, whole_name};
+ghost use Rattle.s390x_text_rows.specs.VectorMnemonics.{joined, size_letter, sized, binary_letters, whole_letters, vec_binary_name, vec_unary_name, vec_shift_name, vec_compare_name, vec_element_compare_name, whole_name};
 
-use crate::table::{Table, in_column};
-use s390x_format::stem;
 use s390x_inst::{
     Direction, VecBinaryOp, VecIntCmpOp, VecIntEltCmpOp, VecShiftOp, VecUnaryOp, WholeLayout,
 };
 use s390x_typed_steps::{
     VectorOpcode, row_of_vec_binary, row_of_vec_comparison, row_of_vec_element_comparison,
-    row_of_vec_shift, row_of_vec_unary,
+    row_of_vec_shift, row_of_vec_unary, rows_of_layout,
 };
 
 /// A mnemonic in two parts.
 #[derive(Clone, Copy)]
 pub struct Mnemonic {
-    /// The stem of a machine row.
-    pub stem: &'static str,
+    /// The opcode of a machine row, whose stem it begins with.
+    pub opcode: u16,
     /// What stands behind it.
     pub letters: &'static str,
 }
@@ -40,7 +37,7 @@ fn sized(row: VectorOpcode) -> Mnemonic
     ensures { joined result ≡ sized row }
 {
     Mnemonic {
-        stem: stem(row.opcode),
+        opcode: row.opcode,
         letters: size_letter(row.code),
     }
 }
@@ -79,7 +76,7 @@ pub fn vec_binary_name(op: VecBinaryOp) -> Mnemonic
 {
     let row = row_of_vec_binary(op);
     Mnemonic {
-        stem: stem(row.opcode),
+        opcode: row.opcode,
         letters: binary_letters(op, row.code),
     }
 }
@@ -116,23 +113,25 @@ pub fn vec_element_compare_name(op: VecIntEltCmpOp) -> Mnemonic
     sized(row_of_vec_element_comparison(op))
 }
 
-/// The mnemonics of a load and of a store of a whole register in each layout, in the order of the declaration.
-#[rattlefmt::skip]
-pub const WHOLE_MNEMONICS: Table<WholeLayout> = &[
-    (WholeLayout::Straight, &["vl", "vst"]),
-    (WholeLayout::Reversed, &["vlbrq", "vstbrq"]),
-    (WholeLayout::Bytes16, &["vlbrh", "vstbrh"]),
-    (WholeLayout::Bytes32, &["vlbrf", "vstbrf"]),
-    (WholeLayout::Bytes64, &["vlbrg", "vstbrg"]),
-    (WholeLayout::Elements16, &["vlerh", "vsterh"]),
-    (WholeLayout::Elements32, &["vlerf", "vsterf"]),
-    (WholeLayout::Elements64, &["vlerg", "vsterg"]),
-];
+// What stands behind the stem of a load or a store of a whole register: nothing where its row has one size alone.
+fn whole_letters(mask: u8) -> &'static str
+    ensures { result.now ≡ whole_letters mask }
+{
+    if mask == 0 { "" } else { size_letter(mask) }
+}
 
 /// A load or a store of a whole register.
 #[tactic(auto, unfolding(crate::specs::VectorMnemonics::whole_name))]
-pub fn whole_name(direction: Direction, layout: WholeLayout) -> Option<&'static str>
-    ensures { option_map (λ s. s.now) result ≡ whole_name direction layout }
+pub fn whole_name(direction: Direction, layout: WholeLayout) -> Mnemonic
+    ensures { joined result ≡ whole_name direction layout }
 {
-    in_column(WHOLE_MNEMONICS, layout.place(), direction as usize)
+    let rows = rows_of_layout(layout);
+    let opcode = match direction {
+        Direction::Load => rows.load_opcode,
+        Direction::Store => rows.store_opcode,
+    };
+    Mnemonic {
+        opcode,
+        letters: whole_letters(rows.mask),
+    }
 }

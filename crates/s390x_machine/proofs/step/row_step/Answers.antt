@@ -33,3 +33,6 @@ vector_store_step-requires-clause-fit g c =
 
 pub semantics_step-requires-clause-is : goal.semantics_step-requires-clause-is
 semantics_step-requires-clause-is g c = ap semantics_of (sym c.requires.row.same) ∙ c.semantics_at-semantics.ensures
+
+pub vectors_step-requires-clause-is : goal.vectors_step-requires-clause-is
+vectors_step-requires-clause-is g c = ap semantics_of (sym c.requires.row.same) ∙ c.semantics_at-semantics.ensures

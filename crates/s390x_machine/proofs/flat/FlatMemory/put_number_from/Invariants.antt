@@ -1,7 +1,7 @@
 use Rattle.std.proofs.Common.{◌≡◌}
 use Rattle.s390x_operations.specs.State.{bytes_to, write_get}
 use Rattle.s390x_machine.specs.Regions.{HoldsAll, byte_of, is_held}
-use Rattle.s390x_machine.proofs.flat.FlatMemoryMemory.put_number.Given as goal
+use Rattle.s390x_machine.proofs.flat.FlatMemory.put_number_from.Given as goal
 
 abbrev pub invariant-loop-i : goal.invariant-loop-i
 invariant-loop-i l = record {

@@ -2,10 +2,10 @@ use Rattle.std.proofs.Common.{arith}
 use Rattle.s390x_operations.proofs.Numbers.{wide_room}
 use Rattle.s390x_machine.specs.Regions.{byte_of}
 use Rattle.s390x_machine.proofs.Numbers.{number_more}
-use Rattle.s390x_machine.proofs.flat.FlatMemoryMemory.number.Goals as goal
+use Rattle.s390x_machine.proofs.flat.FlatMemory.number_from.Goals as goal
 
 pub byte_from-requires : goal.byte_from-requires
-byte_from-requires c = c.holder_of_all-region.ensures c.loop-i.i c.loop-i-test.true
+byte_from-requires c = c.requires.holds c.loop-i.i c.loop-i-test.true
 
 pub overflow_mul-total : goal.overflow_mul-total
 overflow_mul-total c = omega (arith, wide_room c.loop-i.i c.loop-i.total (omega arith) c.loop-i.invariant.small)
