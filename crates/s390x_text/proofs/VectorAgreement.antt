@@ -323,9 +323,9 @@ vector_rows e bs k (VecLoadLaneRev size rd ri mem lane) = access_agrees _ _ _ (r
 vector_rows e bs k (VecLoadLaneRevUndef size rd mem lane) = access_agrees _ _ _ (reversed_agrees _ _ _ size lane ∙ sym (lane_some (is_vector rd) load_reversed_opcode (number_of rd) (reversed_code size) size lane mem))
 vector_rows e bs k (VecStoreLaneRev size rd mem lane) = access_agrees _ _ _ (reversed_agrees _ _ _ size lane ∙ sym (lane_some (is_vector rd) store_reversed_opcode (number_of rd) (reversed_code size) size lane mem))
 vector_rows e bs k (VecLoadLaneUndef size rd mem lane) =
-    left_agrees (codes "vleb") (codes "vleh") (codes "vlef") (codes "vleg") rd (is_vector rd) (is_vector rd) (load_left size (number_of rd)) load_lane_opcode size lane mem _ _ _ (address_row _) (address_row _) (named_access _ _)
+    left_agrees _ _ _ _ rd (is_vector rd) (is_vector rd) (load_left size (number_of rd)) load_lane_opcode size lane mem _ _ _ (address_row _) (address_row _) (named_access _ _)
 vector_rows e bs k (VecStoreLane size rd mem lane) =
-    left_agrees (codes "vsteb") (codes "vsteh") (codes "vstef") (codes "vsteg") rd (is_vector rd) (is_vector rd) (store_left size (number_of rd)) store_lane_opcode size lane mem _ _ _ (address_row _) (address_row _) (named_access _ _)
+    left_agrees _ _ _ _ rd (is_vector rd) (is_vector rd) (store_left size (number_of rd)) store_lane_opcode size lane mem _ _ _ (address_row _) (address_row _) (named_access _ _)
 -- the others are loads and stores of a whole register, and one machine instruction at any values; the clause is a copy for each
 vector_rows e bs k v = whole_or_row e bs k v (as_whole v) refl
 
