@@ -38,6 +38,7 @@ use s390x_buffer::{LabelUse, MachBuffer};
 use s390x_emit_rows::{
     encode_rrr, encode_single, memory_of_load, memory_of_store, memory_rows, stop_code,
 };
+use s390x_emit_vec::encode_vector;
 use s390x_enc::{enc_e, enc_ril_b, enc_ril_c, enc_rr};
 use s390x_inst::{EmitState, Inst, IsaFlags, MemArg};
 use s390x_rows::opcodes;
@@ -546,6 +547,7 @@ fn encode_register(inst: &Inst) -> Option<Result<Code, EmitError>>
 {
     match inst {
         Inst::AluRRR { alu_op, rd, rn, rm } => encode_rrr(*alu_op, rd, rn, rm),
+        Inst::Vector(inst) => encode_vector(inst),
         _ => encode_single(inst),
     }
 }
