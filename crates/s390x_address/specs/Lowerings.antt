@@ -2,18 +2,14 @@
 use Rattle.std.specs.Prelude.{◌≡◌, ℕ, ℤ, List, [], ◌∷◌, ◌++◌, length, Bool, true, false, not, ◌&&◌, nat_lt, Option, Some, None, option_map}
 use Rattle.s390x_base.specs.declared.error.EmitError.{EmitError}
 use Rattle.s390x_base.specs.declared.error.EmitError.TheVariants.{BadRegister, ScratchConflict, OffsetOutOfRange}
-use Rattle.s390x_base.specs.declared.trap.TrapKind.{TrapKind}
-use Rattle.s390x_inst.specs.Emission.{Emission}
 use Rattle.s390x_inst.specs.declared.args.MemArg.{MemArg}
 use Rattle.s390x_inst.specs.declared.args.MemArg.TheVariants.{Label, Constant}
 use Rattle.s390x_inst.specs.declared.inst.Inst.{Inst}
 use Rattle.s390x_inst.specs.declared.inst.Inst.TheVariants.{Mov64SImm32, LoadAddr}
 use Rattle.s390x_typed_steps.specs.MachineInstruction.{bytes_of}
-use Rattle.s390x_typed_steps.specs.Operands.{Finalized, finalized, is_relative, scratch, loses_base, offset_fits, operand_general, resolved}
-use Rattle.s390x_typed_steps.specs.Ranges.{OperandInRange}
+use Rattle.s390x_typed_steps.specs.Operands.{Finalized, finalized, is_relative, scratch, loses_base, offset_fits, operand_general}
 use Rattle.s390x_typed_steps.specs.Causes.{Declared, first_emit_cause, unless, is_helped, addend_fits, target_cause, memory_cause}
-use Rattle.s390x_typed_steps.specs.Memory.{MemoryInstruction, type_of, storage_row, fault_code}
-use Rattle.s390x_address.specs.Rows.{in_state}
+use Rattle.s390x_typed_steps.specs.Memory.{MemoryInstruction, type_of, storage_row}
 use Rattle.s390x_address.specs.declared.lowering.Lowering.{Lowering}
 
 -- the helper that loads an offset, where there is one
@@ -64,8 +60,3 @@ IsPlain x code =
     let f = finalized (type_of x.form x.accesses) x.operand in
     (f.helpers ≡ []) × (is_relative f.operand ≡ false) × (option_map bytes_of (storage_row x.form f.operand) ≡ Some code)
     × ((D : Declared) → memory_cause D x ≡ unless (x.operands_valid && operand_general x.operand) BadRegister)
-
--- in a state of emission it is so, with this trap of its faults; its registers may stand there, and its operand is in range
-abbrev pub IsDirect : Emission → MemoryInstruction → List ℕ → Option TrapKind → Type 0
-IsDirect e x code trap =
-    IsPlain (in_state e x) code × (trap ≡ fault_code x) × ((x.operands_valid && operand_general x.operand) ≡ true) × OperandInRange (resolved e x.operand)

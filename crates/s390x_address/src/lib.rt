@@ -16,6 +16,6 @@ pub use emitters::{
     mem_vrx_emit, number,
 };
 pub use finalize::mem_finalize;
-pub use memory::{DirectAccess, MemoryInst, general, vector};
+pub use memory::{MemoryInst, general, vector};
 pub use rows::StorageRows;
 pub use s390x_typed_steps::MemInstType;

@@ -12,14 +12,13 @@ ghost use Rattle.s390x_inst.specs.Memory.{flags_of};
 ghost use Rattle.s390x_inst.specs.declared.args.MemArg.TheVariants.{RegOffset};
 ghost use Rattle.s390x_typed_steps.specs.General.{is_general};
 ghost use Rattle.s390x_typed_steps.specs.MachineInstruction.{MachineInstruction, bytes_of, size_of};
-ghost use Rattle.s390x_inst.specs.Emission.{Emission};
-ghost use Rattle.s390x_typed_steps.specs.Memory.{MemoryInstruction, type_of, storage_row, fault_code, address_form, accesses_relative, without_relative};
+ghost use Rattle.s390x_typed_steps.specs.Memory.{type_of, storage_row, fault_code, address_form, accesses_relative, without_relative};
 ghost use Rattle.s390x_typed_steps.specs.Operands.{has_form, operand_general, resolved, scratch};
 ghost use Rattle.s390x_typed_steps.specs.Ranges.{OperandInRange};
 ghost use Rattle.s390x_typed_steps.specs.VectorInstruction.{is_vector};
 ghost use Rattle.s390x_typed_steps.specs.Parts.{access_parts, operand_parts, helpers_parts, finalized_parts, memory_parts, parts_size};
 ghost use Rattle.s390x_address.specs.Appended.{appended};
-ghost use Rattle.s390x_address.specs.Lowerings.{IsPlain, IsDirect, far_helper, address_helper, finalized_of, may_stand, address_stands, lowering_stands, lowered_cause};
+ghost use Rattle.s390x_address.specs.Lowerings.{IsPlain, far_helper, address_helper, finalized_of, may_stand, address_stands, lowering_stands, lowered_cause};
 ghost use Rattle.s390x_address.specs.Rows.{row_of, row_encodes, storage_form_of, relative_encodes, rows_encode, may_encode, memory_instruction_of, in_state};
 
 use crate::addressing_modes::{has_form, is_relative, needs_address};
@@ -47,32 +46,6 @@ pub struct MemoryInst {
     pub reads_scratch: bool,
 }
 
-/// An access behind no helper: its code, and the code of the trap of its faults.
-#[derive(Drop)]
-pub struct DirectAccess {
-    pub code: Code,
-    pub trap_code: Option<TrapCode>,
-}
-
-impl DirectAccess {
-    /// Appends the access with the trap of its faults. It answers want of memory, or the buffer's refusal.
-    #[inline(always)]
-    pub fn emit(&self, sink: &mut MachBuffer) -> Result<(), EmitError>
-        ensures answer { (e : Emission) (x : MemoryInstruction)
-            → IsDirect e x self.now.code self.now.trap_code
-            → OnOk result
-            ((memory_cause (declared_in sink.old) (in_state e x) ≡ None)
-            × (sink.new ≡ appended sink.old (memory_parts (in_state e x)))) }
-        ensures only_memory { (e : Emission) (x : MemoryInstruction)
-            → IsDirect e x self.now.code self.now.trap_code
-            → put_cause sink.old (parts_size (memory_parts (in_state e x))) ≡ None
-            → IfErr result (λ e. e ≡ NoMemory) }
-        ensures kept { Extends sink.old sink.new }
-    {
-        put_row(sink, &self.code, self.trap_code)
-    }
-}
-
 /// Whether the register is a real Int one.
 pub fn general(r: &Reg) -> bool
     ensures { result ≡ is_general r.now }
@@ -94,7 +67,6 @@ pub fn vector(r: &Reg) -> bool
 }
 
 // Whether the operand's registers are real Int ones.
-#[inline(always)]
 fn is_general_operand(mem: &MemArg) -> bool
     ensures { result ≡ operand_general mem.now }
 {
@@ -125,7 +97,6 @@ fn put_trapping(sink: &mut MachBuffer, code: &Code, trap_code: TrapCode) -> Resu
 }
 
 // The code of a row, with the trap of its faults.
-#[inline(always)]
 fn put_row(sink: &mut MachBuffer, code: &Code, trap_code: Option<TrapCode>) -> Result<(), EmitError>
     ensures answer { (m : MachineInstruction) → code.now ≡ bytes_of m
         → OnOk result (sink.new ≡ appended sink.old (access_parts (Some m) trap_code)) }
@@ -388,7 +359,6 @@ impl MemoryInst {
     }
 
     // The code of its access's faults, where they have one.
-    #[inline(always)]
     fn fault_code(&self) -> Option<TrapCode>
         ensures { result ≡ fault_code (memory_instruction_of self.now) }
     {
@@ -542,7 +512,6 @@ impl MemoryInst {
     }
 
     // Whether its registers may stand there, and those of its operand.
-    #[inline(always)]
     fn has_valid_registers(&self) -> bool
         ensures { result ≡ self.now.operands_valid && operand_general self.now.operand }
     {
@@ -573,7 +542,6 @@ impl MemoryInst {
     }
 
     // The register and the offset of its operand, where it is no more than that in this state.
-    #[inline(always)]
     fn base_and_offset(&self, state: &EmitState) -> Option<(Reg, i128)>
         ensures { IfSome result
             (λ p. resolved state.now self.now.operand
@@ -592,7 +560,6 @@ impl MemoryInst {
     }
 
     // Its code, where it is behind no helper and a displacement holds its offset.
-    #[inline(always)]
     fn plain_code(&self, state: &EmitState) -> Option<Code>
         ensures plain { IfSome result
             (λ code. IsPlain (in_state state.now (memory_instruction_of self.now)) code) }
@@ -601,24 +568,6 @@ impl MemoryInst {
     {
         match self.base_and_offset(state) {
             Some((base, off)) => offset_code(&self.rows, base, off),
-            None => None,
-        }
-    }
-
-    /// Its access, where its registers may stand there, it is behind no helper, and a displacement holds its offset.
-    #[inline(always)]
-    pub fn direct(&self, state: &EmitState) -> Option<DirectAccess>
-        ensures { IfSome result
-            (λ d. IsDirect state.now (memory_instruction_of self.now) d.code d.trap_code) }
-    {
-        if !self.has_valid_registers() {
-            return None;
-        }
-        match self.plain_code(state) {
-            Some(code) => Some(DirectAccess {
-                code,
-                trap_code: self.fault_code(),
-            }),
             None => None,
         }
     }

@@ -1,19 +1,14 @@
 -- Where the registers of an instruction with a memory operand are general ones, its rows can be encoded.
-use Rattle.std.proofs.Common.{◌≡◌, ℕ, true, not, ◌&&◌, ◌||◌, Option, Some, None, nat_eq, nat_le, refl, sym, ap}
+use Rattle.std.proofs.Common.{◌≡◌, ℕ, true, not, ◌&&◌, ◌||◌, Option, nat_eq, nat_le, refl}
 use Rattle.std.proofs.lemmas.Bool.{and_parts, and_from}
 use Rattle.s390x_base.specs.Regs.{number_of}
 use Rattle.s390x_base.specs.declared.regs.Reg.{Reg}
 use Rattle.s390x_enc.specs.Operands.{is_general_class as encodes_general}
-use Rattle.s390x_inst.proofs.Stores.{each_store}
-use Rattle.s390x_inst.specs.Stores.{as_store, store_instruction, by_store}
-use Rattle.s390x_inst.specs.declared.args.MemArg.{MemArg}
-use Rattle.s390x_inst.specs.declared.inst.Inst.{Inst}
-use Rattle.s390x_inst.specs.declared.store.Store.{Store}
 use Rattle.s390x_inst.specs.declared.load.LoadOp.{LoadOp}
 use Rattle.s390x_inst.specs.declared.load.LoadOp.TheVariants.{Load64}
 use Rattle.s390x_inst.specs.declared.store.StoreOp.{StoreOp}
 use Rattle.s390x_inst.specs.declared.store.StoreOp.TheVariants.{Store64}
-use Rattle.s390x_typed_steps.specs.Memory.{load_rows, store_rows, memory, store_memory}
+use Rattle.s390x_typed_steps.specs.Memory.{load_rows, store_rows}
 use Rattle.s390x_typed_steps.specs.General.{is_general, reuses}
 use Rattle.s390x_typed_steps.specs.Memory.{is_range}
 use Rattle.s390x_address.specs.Rows.{rows_take_general, has_12_bits}
@@ -64,11 +59,3 @@ range_encodes a b = implied (is_range a b) _ (λ g.
 -- one that is an input too, and another one
 pub swap_encodes : (a b c : Reg) → (not (reuses a b && is_general c) || (encodes_general a && encodes_general c)) ≡ true
 swap_encodes a b c = implied (reuses a b && is_general c) _ (λ g. let p = and_parts (reuses a b) (is_general c) g in pair_general a c (reused_general a b p.0) p.1)
-
--- a store's rows are its instruction's: the last clause is a copy for each other store
-store_found : (op : StoreOp) (rd : Reg) (mem : MemArg) (s : Store) → as_store (store_instruction op rd mem) ≡ Some s → store_memory s ≡ memory (store_instruction op rd mem)
-store_found Store64 rd mem s e = ap (by_store store_memory None) (sym e)
-store_found op rd mem s e = ap (by_store store_memory None) (sym e)
-
-pub memory_of_stored : (i : Inst) (s : Store) → as_store i ≡ Some s → store_memory s ≡ memory i
-memory_of_stored = each_store (λ i. (s : Store) → as_store i ≡ Some s → store_memory s ≡ memory i) store_found (λ i none s e. absurd (cc))

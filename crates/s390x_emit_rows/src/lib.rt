@@ -13,6 +13,6 @@ mod single_instruction;
 mod trapping;
 
 pub use arithmetic::encode_rrr;
-pub use memory::{direct_load, direct_store, memory_of_load, memory_of_store, memory_rows};
+pub use memory::{memory_of_load, memory_of_store, memory_rows};
 pub use single_instruction::encode_single;
 pub use trapping::stop_code;

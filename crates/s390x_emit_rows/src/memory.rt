@@ -1,7 +1,6 @@
 //! Instructions with a memory operand: their machine rows.
-ghost use Rattle.std.specs.Prelude.{◌≡◌, ◌<◌, ◌&&◌, if◌then◌else◌, true, None, Some, IfSome, MatchOption, get_or, length};
+ghost use Rattle.std.specs.Prelude.{◌≡◌, ◌<◌, ◌&&◌, if◌then◌else◌, true, None, Some, IfSome, get_or, length};
 ghost use Rattle.std.specs.Option.{option_map};
-ghost use Rattle.s390x_address.specs.Lowerings.{IsDirect};
 ghost use Rattle.s390x_address.specs.Rows.{memory_instruction_of, storage_form_of, relative_encodes, rows_encode, may_encode, rows_take_general, has_12_bits};
 ghost use Rattle.s390x_inst.specs.Loads.{as_load, by_load};
 ghost use Rattle.s390x_inst.specs.Stores.{as_store, by_store};
@@ -11,12 +10,10 @@ ghost use Rattle.s390x_typed_steps.specs.Memory.{load, load_memory, load_rows, s
 ghost use Rattle.s390x_typed_steps.specs.Storage.{alu_rx, alu_rxy, cmp_rx, cmp_rxy, cmp_ril, atomic_rsy};
 
 use crate::registers::{is_reused, two_general};
-use s390x_address::{
-    DirectAccess, MemoryInst, StorageRows, general, holds_scratch, is_numbered, number,
-};
+use s390x_address::{MemoryInst, StorageRows, general, holds_scratch, is_numbered, number};
 use s390x_base::{Reg, Writable};
 use s390x_emit_vec::vector_memory_rows;
-use s390x_inst::{ALUOp, CmpOp, EmitState, Inst, Load, LoadOp, MemArg, Store, StoreOp};
+use s390x_inst::{ALUOp, CmpOp, Inst, Load, LoadOp, MemArg, Store, StoreOp};
 use s390x_rows::opcodes;
 use s390x_typed_steps::{LOAD_ROWS, RegisterRows, STORE_ROWS, low_byte, rows_of_alu, rows_of_cmp};
 
@@ -100,30 +97,6 @@ pub fn memory_of_store(store: &Store) -> MemoryInst
 {
     let rows = store_rows(store.op);
     access(true, store.rd, rows.rx, rows.rxy, rows.ril, &store.mem)
-}
-
-/// The access of a load of a general register, where it is one behind no helper. None where it isn't, or is refused.
-pub fn direct_load(inst: &Inst, state: &EmitState) -> Option<DirectAccess>
-    ensures { IfSome result
-        (λ d. MatchOption (memory inst.now) ⊥
-        (λ x. IsDirect state.now x d.code d.trap_code)) }
-{
-    match inst.as_load() {
-        Some(load) => memory_of_load(&load).direct(state),
-        None => None,
-    }
-}
-
-/// The access of a store of a general register, likewise.
-pub fn direct_store(inst: &Inst, state: &EmitState) -> Option<DirectAccess>
-    ensures { IfSome result
-        (λ d. MatchOption (memory inst.now) ⊥
-        (λ x. IsDirect state.now x d.code d.trap_code)) }
-{
-    match inst.as_store() {
-        Some(store) => memory_of_store(&store).direct(state),
-        None => None,
-    }
 }
 
 // The address of the operand.
