@@ -12,7 +12,7 @@ use Rattle.s390x_typed_steps.specs.Causes.{Declared, first_emit_cause, unless, i
 use Rattle.s390x_typed_steps.specs.General.{is_general, low_displacement, low_12}
 use Rattle.s390x_typed_steps.specs.MachineInstruction.{MachineInstruction, bytes_of, rx, rxy, vrx}
 use Rattle.s390x_typed_steps.specs.Memory.{StorageForm, RxForm, VrxForm, type_of, storage_row, of_opcode}
-use Rattle.s390x_typed_steps.specs.Operands.{Finalized, scratch, no_register, is_numbered, is_relative, is_far, fits_12, fits_20, fits_32, addressed, with_widened, finalized, has_form}
+use Rattle.s390x_typed_steps.specs.Operands.{Finalized, scratch, no_register, is_numbered, is_relative, is_far, fits_12, fits_20, fits_32, with_address_loaded, with_widened, finalized_operand, has_form}
 use Rattle.s390x_typed_steps.specs.Parts.{helpers_parts, relative_parts, access_parts, operand_parts, finalized_parts, parts_size}
 use Rattle.s390x_address.specs.Lowerings.{IsPlain}
 use Rattle.s390x_address.specs.Rows.{storage_form_of}
@@ -35,13 +35,13 @@ first_alone (Some e) = refl
 
 -- an offset that a helper doesn't load and an immediate holds
 only_registers : (D : Declared) (form : StorageForm) (base : Reg) (off : ℤ) (flags : AccessFlags) (accesses operands_valid reads_scratch : Bool) →
-    has_form (type_of form accesses) (RegOffset base off flags) ≡ true → is_far off ≡ false → fits_32 off ≡ true → (finalized (type_of form accesses) (RegOffset base off flags)).helpers ≡ [] →
+    has_form (type_of form accesses) (RegOffset base off flags) ≡ true → is_far off ≡ false → fits_32 off ≡ true → (finalized_operand (type_of form accesses) (RegOffset base off flags)).helpers ≡ [] →
     memory_cause D (record { form = form; operand = RegOffset base off flags; accesses = accesses; operands_valid = operands_valid; reads_scratch = reads_scratch }) ≡ unless (operands_valid && is_general base) BadRegister
 only_registers D form base off flags accesses operands_valid reads_scratch has near fits alone =
     let registers = unless (operands_valid && is_general base) BadRegister in
     let late : Bool → Bool → Bool → Option EmitError = λ far helped holds. first_emit_cause (first_emit_cause (unless (not (far || helped)) ScratchConflict) (unless (holds && true) OffsetOutOfRange)) None in
     let numbered = is_numbered 1 base in
-    let helpers = (finalized (type_of form accesses) (RegOffset base off flags)).helpers in
+    let helpers = (finalized_operand (type_of form accesses) (RegOffset base off flags)).helpers in
     ap (λ t. first_emit_cause (unless t BadOperator) (first_emit_cause registers (late (numbered && is_far off) (reads_scratch && is_helped helpers) (fits_32 off)))) has
     ∙ ap (λ t. first_emit_cause registers (late t (reads_scratch && is_helped helpers) (fits_32 off))) (ap (λ t. numbered && t) near ∙ and_false numbered)
     ∙ ap (λ t. first_emit_cause registers (late false t (fits_32 off))) (ap (λ hs. reads_scratch && is_helped hs) alone ∙ and_false reads_scratch)
@@ -60,7 +60,7 @@ short_plain register opcode rxy_opcode ril_opcode base off flags accesses operan
     let long : Finalized = record { helpers = []; operand = BXD20 base no_register off flags } in
     let far : Finalized = record { helpers = Mov64SImm32 scratch off ∷ []; operand = BXD12 base scratch 0 flags } in
     let stays : Finalized = record { helpers = []; operand = RegOffset base off flags } in
-    let lowered : finalized mi (RegOffset base off flags) ≡ short = ap (λ t. with_widened mi (addressed mi (cond t short (cond (fits_20 off) long (cond (fits_32 off) far stays))))) fits in
+    let lowered : finalized_operand mi (RegOffset base off flags) ≡ short = ap (λ t. with_widened mi (with_address_loaded mi (cond t short (cond (fits_20 off) long (cond (fits_32 off) far stays))))) fits in
     let near : is_far off ≡ false = ap (λ t. fits_32 off && not t && not (fits_20 off)) fits ∙ ap (λ t. t && not (fits_20 off)) (and_false (fits_32 off)) in
     let alone = ap (λ (f : Finalized). f.helpers) lowered in (
       alone,
@@ -80,7 +80,7 @@ vector_plain register opcode mask base off flags accesses operands_valid reads_s
     let long : Finalized = record { helpers = []; operand = BXD20 base no_register off flags } in
     let far : Finalized = record { helpers = Mov64SImm32 scratch off ∷ []; operand = BXD12 base scratch 0 flags } in
     let stays : Finalized = record { helpers = []; operand = RegOffset base off flags } in
-    let lowered : finalized mi (RegOffset base off flags) ≡ short = ap (λ t. with_widened mi (addressed mi (cond t short (cond (fits_20 off) long (cond (fits_32 off) far stays))))) fits in
+    let lowered : finalized_operand mi (RegOffset base off flags) ≡ short = ap (λ t. with_widened mi (with_address_loaded mi (cond t short (cond (fits_20 off) long (cond (fits_32 off) far stays))))) fits in
     let near : is_far off ≡ false = ap (λ t. fits_32 off && not t && not (fits_20 off)) fits ∙ ap (λ t. t && not (fits_20 off)) (and_false (fits_32 off)) in
     let alone = ap (λ (f : Finalized). f.helpers) lowered in (
       alone,
@@ -97,10 +97,10 @@ not_negative (negsuc n) h = absurd (cc)
 
 long_chosen : (register opcode : ℕ) (rx_opcode ril_opcode : Option ℕ) (accesses : Bool) (base : Reg) (off : ℤ) (flags : AccessFlags) (others : Finalized) (t : Bool) →
     (t ≡ true → rx_opcode ≡ None) → (t ≡ true → pos (unsigned_abs off) ≡ off) →
-    with_widened (type_of (RxForm register rx_opcode (Some opcode) ril_opcode) accesses) (addressed (type_of (RxForm register rx_opcode (Some opcode) ril_opcode) accesses) (cond t (record { helpers = []; operand = BXD12 base no_register (unsigned_abs off) flags }) (cond true (record { helpers = []; operand = BXD20 base no_register off flags }) others))) ≡ record { helpers = []; operand = BXD20 base no_register off flags }
+    with_widened (type_of (RxForm register rx_opcode (Some opcode) ril_opcode) accesses) (with_address_loaded (type_of (RxForm register rx_opcode (Some opcode) ril_opcode) accesses) (cond t (record { helpers = []; operand = BXD12 base no_register (unsigned_abs off) flags }) (cond true (record { helpers = []; operand = BXD20 base no_register off flags }) others))) ≡ record { helpers = []; operand = BXD20 base no_register off flags }
 long_chosen register opcode rx_opcode ril_opcode accesses base off flags others true none same =
     let short : Finalized = record { helpers = []; operand = BXD12 base no_register (unsigned_abs off) flags } in
-    ap (λ o. with_widened (type_of (RxForm register o (Some opcode) ril_opcode) accesses) (addressed (type_of (RxForm register o (Some opcode) ril_opcode) accesses) short)) (none refl)
+    ap (λ o. with_widened (type_of (RxForm register o (Some opcode) ril_opcode) accesses) (with_address_loaded (type_of (RxForm register o (Some opcode) ril_opcode) accesses) short)) (none refl)
     ∙ ap (λ z. record { helpers = []; operand = BXD20 base no_register z flags }) (same refl)
 long_chosen register opcode rx_opcode ril_opcode accesses base off flags others false none same = refl
 
@@ -117,8 +117,8 @@ long_plain register rx_opcode (Some opcode) ril_opcode base off flags accesses o
     let far : Finalized = record { helpers = Mov64SImm32 scratch off ∷ []; operand = BXD12 base scratch 0 flags } in
     let stays : Finalized = record { helpers = []; operand = RegOffset base off flags } in
     let others = cond (fits_32 off) far stays in
-    let lowered : finalized mi (RegOffset base off flags) ≡ long =
-    ap (λ t. with_widened mi (addressed mi (cond (fits_12 off) short (cond t long others)))) fits
+    let lowered : finalized_operand mi (RegOffset base off flags) ≡ long =
+    ap (λ t. with_widened mi (with_address_loaded mi (cond (fits_12 off) short (cond t long others)))) fits
     ∙ long_chosen register opcode rx_opcode ril_opcode accesses base off flags others (fits_12 off) none (not_negative off) in
     let near : is_far off ≡ false = ap (λ t. fits_32 off && not (fits_12 off) && not t) fits ∙ and_false (fits_32 off && not (fits_12 off)) in
     let alone = ap (λ (f : Finalized). f.helpers) lowered in

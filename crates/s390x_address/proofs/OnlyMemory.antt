@@ -9,7 +9,7 @@ use Rattle.s390x_inst.specs.declared.inst.Inst.{Inst}
 use Rattle.s390x_typed_steps.specs.Causes.{declared_in}
 use Rattle.s390x_typed_steps.specs.MachineInstruction.{MachineInstruction, bytes_of, size_of}
 use Rattle.s390x_typed_steps.specs.Parts.{CodePart, helper_parts, helpers_parts, parts_size}
-use Rattle.s390x_address.specs.Appended.{with_part, appended}
+use Rattle.s390x_address.specs.Appended.{with_part, with_parts}
 
 pub fails_with_none : (c : Option EmitError) (e : EmitError) → c ≡ None → FailsWith c e → e ≡ NoMemory
 fails_with_none None e h b = b
@@ -60,7 +60,7 @@ put_others s t a b q h = let p = put_parts s (a + b) h in put_none t b (q.unpois
 pub length-bytes : (m : MachineInstruction) → length (bytes_of m) ≡ size_of m
 length-bytes m = encode-length m.format m.slots
 
-pub appended_append : (s : BufferState) (a b : List CodePart) → appended s (a ++ b) ≡ appended (appended s a) b
+pub appended_append : (s : BufferState) (a b : List CodePart) → with_parts s (a ++ b) ≡ with_parts (with_parts s a) b
 appended_append s [] b = refl
 appended_append s (p ∷ a) b = appended_append (with_part s p) a b
 

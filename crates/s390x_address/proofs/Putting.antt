@@ -9,9 +9,9 @@ use Rattle.s390x_inst.specs.declared.inst.Inst.{Inst}
 use Rattle.s390x_inst.specs.declared.inst.Inst.TheVariants.{Mov64SImm32, LoadAddr}
 use Rattle.s390x_typed_steps.specs.MachineInstruction.{MachineInstruction, bytes_of, size_of, ril_b}
 use Rattle.s390x_typed_steps.specs.Memory.{StorageForm, RxForm, MemoryInstruction, type_of, storage_row, address_form, fault_code}
-use Rattle.s390x_typed_steps.specs.Operands.{finalized, is_relative}
+use Rattle.s390x_typed_steps.specs.Operands.{finalized_operand, is_relative}
 use Rattle.s390x_typed_steps.specs.Parts.{CodePart, Row, Trapping, Relative, RelativeConstant, RelativeSymbol, TrapHere, ToBlock, access_parts, trap_here, relative_part, relative_parts, operand_parts, helper_parts, helpers_parts, memory_parts, parts_size}
-use Rattle.s390x_address.specs.Appended.{with_part, appended}
+use Rattle.s390x_address.specs.Appended.{with_part, with_parts}
 use Rattle.s390x_address.proofs.OnlyMemory.{Puts, length-bytes}
 
 -- machine instructions, perhaps with traps or relative to themselves, and traps
@@ -77,7 +77,7 @@ helpers_put (i ∷ is) = put_append (helper_parts i) (helpers_parts is) (helper_
 
 pub memory_put : (x : MemoryInstruction) → AllPut (memory_parts x)
 memory_put x =
-    let f = finalized (type_of x.form x.accesses) x.operand in
+    let f = finalized_operand (type_of x.form x.accesses) x.operand in
     put_append (helpers_parts f.helpers) (operand_parts x.form (fault_code x) f.operand) (helpers_put f.helpers) (operand_put x.form (fault_code x) f.operand)
 
 -- ---- how many bytes they put
@@ -95,7 +95,7 @@ puts_on s t u a b p q = record { unpoisoned = q.unpoisoned ∙ p.unpoisoned; byt
 relative_more : (bs : List ℕ) (opcode register : ℕ) → length (bs ++ bytes_of (ril_b opcode register 0)) ≡ length bs + 6
 relative_more bs opcode register = bytes_more bs (ril_b opcode register 0) ∙ ap (λ n. length bs + n) (relative_size opcode register)
 
-pub parts_put : (s : BufferState) (parts : List CodePart) → AllPut parts → Puts s (appended s parts) (parts_size parts)
+pub parts_put : (s : BufferState) (parts : List CodePart) → AllPut parts → Puts s (with_parts s parts) (parts_size parts)
 unfolding AllPut
 parts_put s [] h = record { unpoisoned = refl; bytes = omega arith; declared = refl }
 parts_put s (Row m ∷ parts) h = puts_on s (with_part s (Row m)) _ (size_of m) (parts_size parts) (record { unpoisoned = refl; bytes = bytes_more s.bytes m; declared = refl }) (parts_put (with_part s (Row m)) parts h)
@@ -106,5 +106,5 @@ parts_put s (RelativeSymbol opcode register name offset ∷ parts) h = puts_on s
 parts_put s (TrapHere code ∷ parts) h = puts_on s (with_part s (TrapHere code)) _ 0 (parts_size parts) (record { unpoisoned = refl; bytes = omega arith; declared = refl }) (parts_put (with_part s (TrapHere code)) parts h)
 parts_put s (part ∷ parts) h = absurd h
 
-pub helpers_puts : (s t : BufferState) (is : List Inst) → t ≡ appended s (helpers_parts is) → Puts s t (parts_size (helpers_parts is))
+pub helpers_puts : (s t : BufferState) (is : List Inst) → t ≡ with_parts s (helpers_parts is) → Puts s t (parts_size (helpers_parts is))
 helpers_puts s t is e = subst (λ x. Puts s x (parts_size (helpers_parts is))) (sym e) (parts_put s (helpers_parts is) (helpers_put is))

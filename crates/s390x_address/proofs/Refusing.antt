@@ -13,7 +13,7 @@ use Rattle.s390x_inst.specs.declared.inst.Inst.TheVariants.{Mov64SImm32, LoadAdd
 use Rattle.s390x_typed_steps.specs.Causes.{Declared, first_emit_cause, unless, is_helped, operand_cause, late_cause, addend_fits, bound_cause, target_cause, memory_cause}
 use Rattle.s390x_typed_steps.specs.General.{is_general}
 use Rattle.s390x_typed_steps.specs.Memory.{MemoryInstruction, type_of}
-use Rattle.s390x_typed_steps.specs.Operands.{Finalized, scratch, no_register, fits_12, fits_20, fits_32, with_offset, displaced, needs_address, addressed, widened, with_widened, finalized, has_form, loses_base, offset_fits, operand_general}
+use Rattle.s390x_typed_steps.specs.Operands.{Finalized, scratch, no_register, fits_12, fits_20, fits_32, with_offset, with_displacement, needs_address, with_address_loaded, with_long_displacement, with_widened, finalized_operand, has_form, loses_base, offset_fits, operand_general}
 use Rattle.s390x_typed_steps.specs.declared.mem_inst_type.MemInstType.{MemInstType}
 use Rattle.s390x_typed_steps.proofs.Causes.{first_left, first_right, unless_true}
 use Rattle.s390x_address.specs.Lowerings.{far_helper, address_helper, finalized_of, offset_cause, is_bound_operand, may_stand, address_stands, lowering_stands}
@@ -45,8 +45,8 @@ past_stays reg off flags h =
     ∙ ap (λ t. cond t long (cond (fits_32 off) far stays)) (unlike (fits_20 off) (fits_32 off) (wider_20 off) h)
     ∙ ap (λ t. cond t far stays) h
 
-pub unfit_unhelped : (mi : MemInstType) (m : MemArg) → offset_fits m ≡ false → is_helped (finalized mi m).helpers ≡ false
-unfit_unhelped mi (RegOffset reg off flags) h = ap (λ f. is_helped (with_widened mi (addressed mi f)).helpers) (past_stays reg off flags h)
+pub unfit_unhelped : (mi : MemInstType) (m : MemArg) → offset_fits m ≡ false → is_helped (finalized_operand mi m).helpers ≡ false
+unfit_unhelped mi (RegOffset reg off flags) h = ap (λ f. is_helped (with_widened mi (with_address_loaded mi f)).helpers) (past_stays reg off flags h)
 unfit_unhelped mi m h = absurd (cc)
 
 -- ---- the causes of the operand
@@ -57,7 +57,7 @@ late_of false t true more h = refl
 late_of false t false more h = absurd (cc)
 
 -- where the operand has no cause, it is left whether %r1 is read behind a helper, and whether an addend fits
-pub late_ok : (x : MemoryInstruction) → operand_cause (type_of x.form x.accesses) x.operand ≡ None → late_cause x ≡ first_emit_cause (unless (not (x.reads_scratch && is_helped (finalized (type_of x.form x.accesses) x.operand).helpers)) ScratchConflict) (unless (addend_fits x.operand) OffsetOutOfRange)
+pub late_ok : (x : MemoryInstruction) → operand_cause (type_of x.form x.accesses) x.operand ≡ None → late_cause x ≡ first_emit_cause (unless (not (x.reads_scratch && is_helped (finalized_operand (type_of x.form x.accesses) x.operand).helpers)) ScratchConflict) (unless (addend_fits x.operand) OffsetOutOfRange)
 late_ok x h = late_of (loses_base x.operand) _ (offset_fits x.operand) (addend_fits x.operand) (first_right (unless (has_form (type_of x.form x.accesses) x.operand) BadOperator) _ h)
 
 late_unlike : (b reads helped fits more : Bool) (e : EmitError) → (fits ≡ false → helped ≡ false) → first_emit_cause (unless (not b) ScratchConflict) (unless fits OffsetOutOfRange) ≡ Some e → first_emit_cause (unless (not (b || (reads && helped))) ScratchConflict) (unless (fits && more) OffsetOutOfRange) ≡ Some e
@@ -130,7 +130,7 @@ chosen_stands D reg off flags false true c h = (tt, based_stands reg h)
 chosen_stands D reg off flags false false true h = ((refl, tt), based_stands reg h)
 chosen_stands D reg off flags false false false h = (tt, and_from (is_general reg) true h refl)
 
-displaced_stands : (D : Declared) (m : MemArg) → may_stand D m ≡ true → Stands D (displaced m)
+displaced_stands : (D : Declared) (m : MemArg) → may_stand D m ≡ true → Stands D (with_displacement m)
 unfolding AllStand
 displaced_stands D (RegOffset reg off flags) h = chosen_stands D reg off flags (fits_12 off) (fits_20 off) (fits_32 off) (and_parts (is_general reg) true h).0
 displaced_stands D m h = (tt, h)
@@ -144,7 +144,7 @@ loaded_stands : (D : Declared) (f : Finalized) (g : Finalized) (t : Bool) → St
 loaded_stands D f g true h k = k
 loaded_stands D f g false h k = h
 
-addressed_stands : (D : Declared) (mi : MemInstType) (f : Finalized) → Stands D f → Stands D (addressed mi f)
+addressed_stands : (D : Declared) (mi : MemInstType) (f : Finalized) → Stands D f → Stands D (with_address_loaded mi f)
 unfolding AllStand helper_stands
 addressed_stands D mi f h = loaded_stands D f _ (needs_address mi f.operand) h (all_append D f.helpers (LoadAddr scratch f.operand ∷ []) h.0 (h.1, tt), refl)
 
@@ -152,14 +152,14 @@ wider_stands : (D : Declared) (a b : MemArg) (t : Bool) → may_stand D a ≡ tr
 wider_stands D a b true h k = h
 wider_stands D a b false h k = k
 
-widened_stands : (D : Declared) (mi : MemInstType) (m : MemArg) → may_stand D m ≡ true → may_stand D (widened mi m) ≡ true
+widened_stands : (D : Declared) (mi : MemInstType) (m : MemArg) → may_stand D m ≡ true → may_stand D (with_long_displacement mi m) ≡ true
 widened_stands D mi (BXD12 base index disp flags) h = wider_stands D (BXD20 base index (pos disp) flags) (BXD12 base index disp flags) (not mi.have_d12 && mi.have_d20) h h
 widened_stands D mi m h = h
 
-pub finalized_stands : (D : Declared) (mi : MemInstType) (m : MemArg) → may_stand D m ≡ true → Stands D (finalized mi m)
+pub finalized_stands : (D : Declared) (mi : MemInstType) (m : MemArg) → may_stand D m ≡ true → Stands D (finalized_operand mi m)
 finalized_stands D mi m h =
-    let f = addressed_stands D mi (displaced m) (displaced_stands D m h) in
-    (f.0, widened_stands D mi (addressed mi (displaced m)).operand f.1)
+    let f = addressed_stands D mi (with_displacement m) (displaced_stands D m h) in
+    (f.0, widened_stands D mi (with_address_loaded mi (with_displacement m)).operand f.1)
 
 address_of : (D : Declared) (far : Option ℤ) (address : Option MemArg) → AllStand D (far_helper far ++ address_helper address) → address_stands D address ≡ true
 unfolding AllStand helper_stands

@@ -21,6 +21,6 @@ with_part s (TrapHere code) = record s { traps = s.traps ++ record { offset = le
 with_part s _ = s
 
 -- a buffer behind parts, in order
-abbrev pub appended : BufferState → List CodePart → BufferState
-appended s [] = s
-appended s (part ∷ parts) = appended (with_part s part) parts
+abbrev pub with_parts : BufferState → List CodePart → BufferState
+with_parts s [] = s
+with_parts s (part ∷ parts) = with_parts (with_part s part) parts

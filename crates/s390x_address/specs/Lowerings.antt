@@ -7,7 +7,7 @@ use Rattle.s390x_inst.specs.declared.args.MemArg.TheVariants.{Label, Constant}
 use Rattle.s390x_inst.specs.declared.inst.Inst.{Inst}
 use Rattle.s390x_inst.specs.declared.inst.Inst.TheVariants.{Mov64SImm32, LoadAddr}
 use Rattle.s390x_typed_steps.specs.MachineInstruction.{bytes_of}
-use Rattle.s390x_typed_steps.specs.Operands.{Finalized, finalized, is_relative, scratch, loses_base, offset_fits, operand_general}
+use Rattle.s390x_typed_steps.specs.Operands.{Finalized, finalized_operand, is_relative, scratch, loses_base, offset_fits, operand_general}
 use Rattle.s390x_typed_steps.specs.Causes.{Declared, first_emit_cause, unless, is_helped, addend_fits, target_cause, memory_cause}
 use Rattle.s390x_typed_steps.specs.Memory.{MemoryInstruction, type_of, storage_row}
 use Rattle.s390x_address.specs.declared.lowering.Lowering.{Lowering}
@@ -57,6 +57,6 @@ lowered_cause D x f =
 -- an instruction whose access is behind no helper, by the row that has this code; only its registers may refuse it
 abbrev pub IsPlain : MemoryInstruction → List ℕ → Type 0
 IsPlain x code =
-    let f = finalized (type_of x.form x.accesses) x.operand in
+    let f = finalized_operand (type_of x.form x.accesses) x.operand in
     (f.helpers ≡ []) × (is_relative f.operand ≡ false) × (option_map bytes_of (storage_row x.form f.operand) ≡ Some code)
     × ((D : Declared) → memory_cause D x ≡ unless (x.operands_valid && operand_general x.operand) BadRegister)

@@ -5,7 +5,7 @@ use Rattle.s390x_inst.specs.Emission.{Emission}
 use Rattle.s390x_enc.specs.Operands.{is_general_class, is_vector, is_first_float, may_stand_first}
 use Rattle.s390x_typed_steps.specs.General.{low_displacement, low_12, low_halfword}
 use Rattle.s390x_typed_steps.specs.MachineInstruction.{MachineInstruction, rx, rxy, rs, rsy, si, siy, sil, vrx}
-use Rattle.s390x_typed_steps.specs.Operands.{resolved}
+use Rattle.s390x_typed_steps.specs.Operands.{resolved_operand}
 use Rattle.s390x_typed_steps.specs.Memory.{StorageForm, RxForm, RsForm, SiForm, SilForm, VrxForm, FloatForm, MemoryInstruction}
 use Rattle.s390x_address.specs.declared.rows.StorageRow.{StorageRow}
 use Rattle.s390x_address.specs.declared.rows.StorageRow.TheVariants.{Rx, Rxy, Rs, Rsy, Si, Siy, Sil, Vrx}
@@ -78,4 +78,4 @@ memory_instruction_of x = record { form = storage_form_of x.rows; operand = x.op
 
 -- an instruction with a memory operand, without a frame operand
 abbrev pub in_state : Emission → MemoryInstruction → MemoryInstruction
-in_state e x = record { form = x.form; operand = resolved e x.operand; accesses = x.accesses; operands_valid = x.operands_valid; reads_scratch = x.reads_scratch }
+in_state e x = record { form = x.form; operand = resolved_operand e x.operand; accesses = x.accesses; operands_valid = x.operands_valid; reads_scratch = x.reads_scratch }

@@ -1,6 +1,6 @@
 //! What the machine rows of an instruction take as an operand.
 ghost use Rattle.std.specs.Prelude.{◌≡◌, ◌&&◌, not};
-ghost use Rattle.s390x_typed_steps.specs.Operands.{is_numbered, needs_address, is_relative, has_form, widened};
+ghost use Rattle.s390x_typed_steps.specs.Operands.{is_numbered, needs_address, is_relative, has_form, with_long_displacement};
 
 use s390x_base::{Reg, RegClass, SImm20};
 use s390x_inst::MemArg;
@@ -57,7 +57,7 @@ pub fn has_form(mi: MemInstType, mem: &MemArg) -> bool
 
 /// The operand with a displacement of 20 bits in place of one of 12 bits, where the rows have that alone.
 pub fn widen(mi: MemInstType, mem: &MemArg) -> MemArg
-    ensures { result ≡ widened mi mem.now }
+    ensures { result ≡ with_long_displacement mi mem.now }
 {
     match mem {
         MemArg::BXD12 {

@@ -10,7 +10,7 @@ ghost use Rattle.s390x_typed_steps.specs.Operands.{is_numbered};
 ghost use Rattle.s390x_base.specs.Regs.{number_of};
 ghost use Rattle.s390x_typed_steps.specs.Memory.{holds_scratch};
 ghost use Rattle.s390x_typed_steps.specs.Parts.{memory_parts};
-ghost use Rattle.s390x_address.specs.Appended.{appended};
+ghost use Rattle.s390x_address.specs.Appended.{with_parts};
 ghost use Rattle.s390x_address.specs.Emitters.{access_cause, loads_register, reads_register, reads_registers, is_multiple, pair_valid, relative_opcode, one_register, two_registers, byte_immediate, halfword_immediate, vector_register, float_register};
 ghost use Rattle.s390x_address.specs.Rows.{memory_instruction_of, in_state, may_encode, rows_take_general, has_12_bits};
 
@@ -36,7 +36,7 @@ fn emit_checked(
     ensures answer { MatchResult result
         (λ _. (access_cause sink.old (in_state state.now (memory_instruction_of found.now)) ≡ None)
         × (sink.new
-        ≡ appended sink.old
+        ≡ with_parts sink.old
         (memory_parts (in_state state.now (memory_instruction_of found.now)))))
         (λ e. (e ≡ NoMemory)
         ⊎ (access_cause sink.old (in_state state.now (memory_instruction_of found.now))
@@ -65,7 +65,7 @@ fn emit_marking(
     ensures answer { MatchResult result
         (λ _. (access_cause sink.old (in_state state.now (memory_instruction_of found.now)) ≡ None)
         × (sink.new
-        ≡ appended sink.old
+        ≡ with_parts sink.old
         (memory_parts (in_state state.now (memory_instruction_of found.now)))))
         (λ e. (e ≡ NoMemory)
         ⊎ (access_cause sink.old (in_state state.now (memory_instruction_of found.now))
@@ -83,7 +83,7 @@ fn emit_marking(
 }
 
 // An opcode of two digits.
-fn short(opcode: Option<u16>) -> Option<u8>
+fn short_opcode(opcode: Option<u16>) -> Option<u8>
     requires { IfSome opcode (λ o. o < 256) }
     ensures { result ≡ opcode }
 {
@@ -228,7 +228,7 @@ pub fn mem_emit(
         add_trap mem.now) in
         MatchResult result
         (λ _. (access_cause sink.old access ≡ None)
-        × (sink.new ≡ appended sink.old (memory_parts access)))
+        × (sink.new ≡ with_parts sink.old (memory_parts access)))
         (λ e. (e ≡ NoMemory) ⊎ (access_cause sink.old access ≡ Some e)) }
     ensures poisoned { IfErr result (λ _. IsTrue sink.new.is_poisoned) }
     ensures kept { Extends sink.old sink.new }
@@ -237,7 +237,7 @@ pub fn mem_emit(
     let found = MemoryInst {
         rows: StorageRows::OneRegister {
             register: rd,
-            rx: short(opcode_rx),
+            rx: short_opcode(opcode_rx),
             rxy: opcode_rxy,
             ril: relative_opcode(emit_info, add_trap, opcode_ril),
         },
@@ -269,7 +269,7 @@ pub fn mem_rs_emit(
         (two_registers rd rn opcode_rs opcode_rsy add_trap mem.now) in
         MatchResult result
         (λ _. (access_cause sink.old access ≡ None)
-        × (sink.new ≡ appended sink.old (memory_parts access)))
+        × (sink.new ≡ with_parts sink.old (memory_parts access)))
         (λ e. (e ≡ NoMemory) ⊎ (access_cause sink.old access ≡ Some e)) }
     ensures poisoned { IfErr result (λ _. IsTrue sink.new.is_poisoned) }
     ensures kept { Extends sink.old sink.new }
@@ -279,7 +279,7 @@ pub fn mem_rs_emit(
         rows: StorageRows::TwoRegisters {
             first: rd,
             second: rn,
-            rs: short(opcode_rs),
+            rs: short_opcode(opcode_rs),
             rsy: opcode_rsy,
         },
         operand: *mem,
@@ -308,7 +308,7 @@ pub fn mem_imm8_emit(
         (byte_immediate imm opcode_si opcode_siy add_trap mem.now) in
         MatchResult result
         (λ _. (access_cause sink.old access ≡ None)
-        × (sink.new ≡ appended sink.old (memory_parts access)))
+        × (sink.new ≡ with_parts sink.old (memory_parts access)))
         (λ e. (e ≡ NoMemory) ⊎ (access_cause sink.old access ≡ Some e)) }
     ensures poisoned { IfErr result (λ _. IsTrue sink.new.is_poisoned) }
     ensures kept { Extends sink.old sink.new }
@@ -344,7 +344,7 @@ pub fn mem_imm16_emit(
         (halfword_immediate imm opcode_sil add_trap mem.now) in
         MatchResult result
         (λ _. (access_cause sink.old access ≡ None)
-        × (sink.new ≡ appended sink.old (memory_parts access)))
+        × (sink.new ≡ with_parts sink.old (memory_parts access)))
         (λ e. (e ≡ NoMemory) ⊎ (access_cause sink.old access ≡ Some e)) }
     ensures poisoned { IfErr result (λ _. IsTrue sink.new.is_poisoned) }
     ensures kept { Extends sink.old sink.new }
@@ -382,7 +382,7 @@ pub fn mem_vrx_emit(
         (vector_register rd opcode m3 add_trap mem.now) in
         MatchResult result
         (λ _. (access_cause sink.old access ≡ None)
-        × (sink.new ≡ appended sink.old (memory_parts access)))
+        × (sink.new ≡ with_parts sink.old (memory_parts access)))
         (λ e. (e ≡ NoMemory) ⊎ (access_cause sink.old access ≡ Some e)) }
     ensures poisoned { IfErr result (λ _. IsTrue sink.new.is_poisoned) }
     ensures kept { Extends sink.old sink.new }
@@ -428,7 +428,7 @@ pub fn mem_float_emit(
         (float_register rd opcode_rx opcode_rxy add_trap mem.now) in
         MatchResult result
         (λ _. (access_cause sink.old access ≡ None)
-        × (sink.new ≡ appended sink.old (memory_parts access)))
+        × (sink.new ≡ with_parts sink.old (memory_parts access)))
         (λ e. (e ≡ NoMemory) ⊎ (access_cause sink.old access ≡ Some e)) }
     ensures poisoned { IfErr result (λ _. IsTrue sink.new.is_poisoned) }
     ensures kept { Extends sink.old sink.new }

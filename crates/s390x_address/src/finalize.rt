@@ -1,7 +1,7 @@
 //! Finalizing an operand.
 ghost use Rattle.std.specs.Prelude.{◌≡◌, ◌++◌, None, Some, MatchResult};
 ghost use Rattle.smallvec.specs.SmallVec.{HasRoomFor};
-ghost use Rattle.s390x_typed_steps.specs.Operands.{resolved, finalized};
+ghost use Rattle.s390x_typed_steps.specs.Operands.{resolved_operand, finalized_operand};
 ghost use Rattle.s390x_typed_steps.specs.Causes.{operand_cause};
 ghost use Rattle.s390x_address.specs.Lowerings.{far_helper, address_helper};
 
@@ -56,10 +56,10 @@ pub fn mem_finalize(
     mi: MemInstType,
 ) -> Result<(SmallVec<Inst, 4, Global>, MemArg), EmitError>
     ensures { MatchResult result
-        (λ r. (operand_cause mi (resolved state.now mem.now) ≡ None)
-        × (r.0.items ≡ (finalized mi (resolved state.now mem.now)).helpers)
-        × (r.1 ≡ (finalized mi (resolved state.now mem.now)).operand))
-        (λ e. operand_cause mi (resolved state.now mem.now) ≡ Some e) }
+        (λ r. (operand_cause mi (resolved_operand state.now mem.now) ≡ None)
+        × (r.0.items ≡ (finalized_operand mi (resolved_operand state.now mem.now)).helpers)
+        × (r.1 ≡ (finalized_operand mi (resolved_operand state.now mem.now)).operand))
+        (λ e. operand_cause mi (resolved_operand state.now mem.now) ≡ Some e) }
 {
     let lowering = lower_operand(mem, state, mi)?;
     let mut helpers = SmallVec::new(alloc);

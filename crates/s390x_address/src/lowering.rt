@@ -4,7 +4,7 @@ ghost use Rattle.s390x_base.specs.declared.error.EmitError.TheVariants.{ScratchC
 ghost use Rattle.s390x_inst.specs.Memory.{trusted};
 ghost use Rattle.s390x_inst.specs.declared.args.MemArg.TheVariants.{RegOffset, BXD12};
 ghost use Rattle.s390x_inst.specs.declared.inst.Inst.TheVariants.{Mov64SImm32};
-ghost use Rattle.s390x_typed_steps.specs.Operands.{is_numbered, scratch, stack_pointer, frame_size, in_frame, resolved, fits_12, fits_20, fits_32, with_offset, displaced, addressed, with_widened, finalized};
+ghost use Rattle.s390x_typed_steps.specs.Operands.{is_numbered, scratch, stack_pointer, frame_size, in_frame, resolved_operand, fits_12, fits_20, fits_32, with_offset, with_displacement, with_address_loaded, with_widened, finalized_operand};
 ghost use Rattle.s390x_typed_steps.specs.Causes.{operand_cause, is_helped};
 ghost use Rattle.s390x_address.specs.Lowerings.{finalized_of, offset_cause};
 
@@ -175,8 +175,8 @@ fn added_offset(off: i64, added: i128) -> i128
 /// The exact offset from the stack pointer of a frame operand, where it is one.
 pub fn frame_offset(mem: &MemArg, state: &EmitState) -> Option<i128>
     ensures frame { IfSome result
-        (λ off. resolved state.now mem.now ≡ RegOffset stack_pointer off trusted) }
-    ensures other { result ≡ None → resolved state.now mem.now ≡ mem.now }
+        (λ off. resolved_operand state.now mem.now ≡ RegOffset stack_pointer off trusted) }
+    ensures other { result ≡ None → resolved_operand state.now mem.now ≡ mem.now }
 {
     match mem {
         MemArg::InitialSPOffset { off } => Some(added_offset(*off, i128::from(frame_size(state)))),
@@ -202,7 +202,7 @@ pub fn frame_offset(mem: &MemArg, state: &EmitState) -> Option<i128>
 // An operand that is no frame operand, with its displacement.
 fn displace_other(mem: &MemArg) -> Result<Lowering, EmitError>
     ensures { MatchResult result
-        (λ p. (offset_cause mem.now ≡ None) × (finalized_of p ≡ displaced mem.now)
+        (λ p. (offset_cause mem.now ≡ None) × (finalized_of p ≡ with_displacement mem.now)
         × (p.address_load ≡ None)) (λ e. offset_cause mem.now ≡ Some e) }
 {
     match mem {
@@ -214,9 +214,10 @@ fn displace_other(mem: &MemArg) -> Result<Lowering, EmitError>
 // An operand with its displacement.
 fn displace(mem: &MemArg, state: &EmitState) -> Result<Lowering, EmitError>
     ensures { MatchResult result
-        (λ p. (offset_cause (resolved state.now mem.now) ≡ None)
-        × (finalized_of p ≡ displaced (resolved state.now mem.now)) × (p.address_load ≡ None))
-        (λ e. offset_cause (resolved state.now mem.now) ≡ Some e) }
+        (λ p. (offset_cause (resolved_operand state.now mem.now) ≡ None)
+        × (finalized_of p ≡ with_displacement (resolved_operand state.now mem.now))
+        × (p.address_load ≡ None))
+        (λ e. offset_cause (resolved_operand state.now mem.now) ≡ Some e) }
 {
     match frame_offset(mem, state) {
         Some(off) => lower_offset(stack_reg(), off, MachMemFlags::trusted()),
@@ -227,7 +228,7 @@ fn displace(mem: &MemArg, state: &EmitState) -> Result<Lowering, EmitError>
 // Where the rows have no form for the operand, its address is loaded first.
 fn load_address(mi: MemInstType, p: Lowering) -> Lowering
     requires { p.address_load ≡ None }
-    ensures { finalized_of result ≡ addressed mi (finalized_of p) }
+    ensures { finalized_of result ≡ with_address_loaded mi (finalized_of p) }
 {
     if needs_address(mi, &p.operand) {
         Lowering {
@@ -250,9 +251,9 @@ pub fn lower_operand(
     mi: MemInstType,
 ) -> Result<Lowering, EmitError>
     ensures { MatchResult result
-        (λ p. (operand_cause mi (resolved state.now mem.now) ≡ None)
-        × (finalized_of p ≡ finalized mi (resolved state.now mem.now)))
-        (λ e. operand_cause mi (resolved state.now mem.now) ≡ Some e) }
+        (λ p. (operand_cause mi (resolved_operand state.now mem.now) ≡ None)
+        × (finalized_of p ≡ finalized_operand mi (resolved_operand state.now mem.now)))
+        (λ e. operand_cause mi (resolved_operand state.now mem.now) ≡ Some e) }
 {
     if !has_form(mi, mem) {
         return Err(EmitError::BadOperator);

@@ -13,11 +13,11 @@ ghost use Rattle.s390x_inst.specs.declared.args.MemArg.TheVariants.{RegOffset};
 ghost use Rattle.s390x_typed_steps.specs.General.{is_general};
 ghost use Rattle.s390x_typed_steps.specs.MachineInstruction.{MachineInstruction, bytes_of, size_of};
 ghost use Rattle.s390x_typed_steps.specs.Memory.{type_of, storage_row, fault_code, address_form, accesses_relative, without_relative};
-ghost use Rattle.s390x_typed_steps.specs.Operands.{has_form, operand_general, resolved, scratch};
+ghost use Rattle.s390x_typed_steps.specs.Operands.{has_form, operand_general, resolved_operand, scratch};
 ghost use Rattle.s390x_typed_steps.specs.Ranges.{OperandInRange};
 ghost use Rattle.s390x_typed_steps.specs.VectorInstruction.{is_vector};
 ghost use Rattle.s390x_typed_steps.specs.Parts.{access_parts, operand_parts, helpers_parts, finalized_parts, memory_parts, parts_size};
-ghost use Rattle.s390x_address.specs.Appended.{appended};
+ghost use Rattle.s390x_address.specs.Appended.{with_parts};
 ghost use Rattle.s390x_address.specs.Lowerings.{IsPlain, far_helper, address_helper, finalized_of, may_stand, address_stands, lowering_stands, lowered_cause};
 ghost use Rattle.s390x_address.specs.Rows.{row_of, row_encodes, storage_form_of, relative_encodes, rows_encode, may_encode, memory_instruction_of, in_state};
 
@@ -99,7 +99,7 @@ fn put_trapping(sink: &mut MachBuffer, code: &Code, trap_code: TrapCode) -> Resu
 // The code of a row, with the trap of its faults.
 fn put_row(sink: &mut MachBuffer, code: &Code, trap_code: Option<TrapCode>) -> Result<(), EmitError>
     ensures answer { (m : MachineInstruction) → code.now ≡ bytes_of m
-        → OnOk result (sink.new ≡ appended sink.old (access_parts (Some m) trap_code)) }
+        → OnOk result (sink.new ≡ with_parts sink.old (access_parts (Some m) trap_code)) }
     ensures only_memory { put_cause sink.old (length code.now) ≡ None
         → IfErr result (λ e. e ≡ NoMemory) }
     ensures kept { Extends sink.old sink.new }
@@ -112,7 +112,7 @@ fn put_row(sink: &mut MachBuffer, code: &Code, trap_code: Option<TrapCode>) -> R
 
 // The load of an offset into `%r1`, where there is one.
 fn put_far(sink: &mut MachBuffer, far: Option<i32>) -> Result<(), EmitError>
-    ensures answer { OnOk result (sink.new ≡ appended sink.old (helpers_parts (far_helper far))) }
+    ensures answer { OnOk result (sink.new ≡ with_parts sink.old (helpers_parts (far_helper far))) }
     ensures only_memory { put_cause sink.old (parts_size (helpers_parts (far_helper far))) ≡ None
         → IfErr result (λ e. e ≡ NoMemory) }
     ensures kept { Extends sink.old sink.new }
@@ -125,7 +125,7 @@ fn put_far(sink: &mut MachBuffer, far: Option<i32>) -> Result<(), EmitError>
 
 fn put_offset(sink: &mut MachBuffer, off: i32) -> Result<(), EmitError>
     ensures answer { OnOk result
-        (sink.new ≡ appended sink.old (helpers_parts (far_helper (Some off)))) }
+        (sink.new ≡ with_parts sink.old (helpers_parts (far_helper (Some off)))) }
     ensures only_memory { put_cause sink.old 6 ≡ None → IfErr result (λ e. e ≡ NoMemory) }
     ensures kept { Extends sink.old sink.new }
 {
@@ -142,7 +142,7 @@ fn put_access(
 ) -> Result<(), EmitError>
     ensures answer { OnOk result
         (sink.new
-        ≡ appended sink.old
+        ≡ with_parts sink.old
         (access_parts (storage_row (storage_form_of rows.now) operand.now) trap_code)) }
     ensures only_memory { put_cause sink.old
         (parts_size (access_parts (storage_row (storage_form_of rows.now) operand.now) trap_code))
@@ -162,7 +162,7 @@ fn put_storage_row(
     trap_code: Option<TrapCode>,
 ) -> Result<(), EmitError>
     ensures answer { OnOk result
-        (sink.new ≡ appended sink.old (access_parts (Some (row_of row.now)) trap_code)) }
+        (sink.new ≡ with_parts sink.old (access_parts (Some (row_of row.now)) trap_code)) }
     ensures only_memory { put_cause sink.old (size_of (row_of row.now)) ≡ None
         → row_encodes row.now ≡ true → IfErr result (λ e. e ≡ NoMemory) }
     ensures kept { Extends sink.old sink.new }
@@ -181,7 +181,7 @@ fn put_operand(
     requires { relative_encodes rows.now ≡ true }
     ensures answer { OnOk result
         (sink.new
-        ≡ appended sink.old (operand_parts (storage_form_of rows.now) trap_code operand.now)) }
+        ≡ with_parts sink.old (operand_parts (storage_form_of rows.now) trap_code operand.now)) }
     ensures only_memory { put_cause sink.old
         (parts_size (operand_parts (storage_form_of rows.now) trap_code operand.now)) ≡ None
         → rows_encode rows.now ≡ true → may_stand (declared_in sink.old) operand.now ≡ true
@@ -198,7 +198,7 @@ fn put_operand(
 // The load of an address into `%r1`, where there is one.
 fn put_address(sink: &mut MachBuffer, address: Option<MemArg>) -> Result<(), EmitError>
     ensures answer { OnOk result
-        (sink.new ≡ appended sink.old (helpers_parts (address_helper address))) }
+        (sink.new ≡ with_parts sink.old (helpers_parts (address_helper address))) }
     ensures only_memory { put_cause sink.old (parts_size (helpers_parts (address_helper address)))
         ≡ None → address_stands (declared_in sink.old) address ≡ true
         → IfErr result (λ e. e ≡ NoMemory) }
@@ -234,7 +234,7 @@ fn put_lowering(
     requires { relative_encodes rows.now ≡ true }
     ensures answer { OnOk result
         (sink.new
-        ≡ appended sink.old
+        ≡ with_parts sink.old
         (finalized_parts (storage_form_of rows.now) trap_code (finalized_of lowering.now))) }
     ensures only_memory { put_cause sink.old
         (parts_size
@@ -330,7 +330,7 @@ impl MemoryInst {
     /// The instruction by its other rows, before which the operand's address is loaded: where it accesses an operand
     /// that is relative to it, and has a row for that. None elsewhere.
     #[tactic(auto, using(crate::proofs::Loading::loaded_encodes))]
-    pub fn loaded(&self) -> Option<MemoryInst>
+    pub fn with_loaded_address(&self) -> Option<MemoryInst>
         requires { may_encode self.now ≡ true }
         ensures row { option_map memory_instruction_of result
             ≡ cond (accesses_relative (Some (memory_instruction_of self.now)))
@@ -470,7 +470,7 @@ impl MemoryInst {
         requires { may_encode self.now ≡ true }
         ensures answer { OnOk result
             (sink.new
-            ≡ appended sink.old
+            ≡ with_parts sink.old
             (memory_parts (in_state state.now (memory_instruction_of self.now)))) }
         ensures only_memory { put_cause sink.old
             (parts_size (memory_parts (in_state state.now (memory_instruction_of self.now)))) ≡ None
@@ -492,7 +492,7 @@ impl MemoryInst {
             ((lowered_cause (declared_in sink.old) (memory_instruction_of self.now)
             (finalized_of lowering.now) ≡ None)
             × (sink.new
-            ≡ appended sink.old
+            ≡ with_parts sink.old
             (finalized_parts (storage_form_of self.now.rows)
             (fault_code (memory_instruction_of self.now)) (finalized_of lowering.now)))) }
         ensures only_memory { put_cause sink.old
@@ -526,7 +526,7 @@ impl MemoryInst {
             ((memory_cause (declared_in sink.old)
             (in_state state.now (memory_instruction_of self.now)) ≡ None)
             × (sink.new
-            ≡ appended sink.old
+            ≡ with_parts sink.old
             (memory_parts (in_state state.now (memory_instruction_of self.now))))) }
         ensures only_memory { put_cause sink.old
             (parts_size (memory_parts (in_state state.now (memory_instruction_of self.now)))) ≡ None
@@ -544,7 +544,7 @@ impl MemoryInst {
     // The register and the offset of its operand, where it is no more than that in this state.
     fn base_and_offset(&self, state: &EmitState) -> Option<(Reg, i128)>
         ensures { IfSome result
-            (λ p. resolved state.now self.now.operand
+            (λ p. resolved_operand state.now self.now.operand
             ≡ RegOffset p.0 p.1 (flags_of self.now.operand)) }
     {
         match &self.operand {
@@ -564,7 +564,7 @@ impl MemoryInst {
         ensures plain { IfSome result
             (λ code. IsPlain (in_state state.now (memory_instruction_of self.now)) code) }
         ensures range { IfSome result
-            (λ _. OperandInRange (resolved state.now self.now.operand)) }
+            (λ _. OperandInRange (resolved_operand state.now self.now.operand)) }
     {
         match self.base_and_offset(state) {
             Some((base, off)) => offset_code(&self.rows, base, off),
@@ -580,7 +580,7 @@ impl MemoryInst {
             ((memory_cause (declared_in sink.old)
             (in_state state.now (memory_instruction_of self.now)) ≡ None)
             × (sink.new
-            ≡ appended sink.old
+            ≡ with_parts sink.old
             (memory_parts (in_state state.now (memory_instruction_of self.now))))) }
         ensures only_memory { put_cause sink.old
             (parts_size (memory_parts (in_state state.now (memory_instruction_of self.now)))) ≡ None
@@ -607,7 +607,7 @@ impl MemoryInst {
             ((memory_cause (declared_in sink.old)
             (in_state state.now (memory_instruction_of self.now)) ≡ None)
             × (sink.new
-            ≡ appended sink.old
+            ≡ with_parts sink.old
             (memory_parts (in_state state.now (memory_instruction_of self.now))))) }
         ensures only_memory { put_cause sink.old
             (parts_size (memory_parts (in_state state.now (memory_instruction_of self.now)))) ≡ None

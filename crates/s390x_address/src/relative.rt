@@ -14,7 +14,7 @@ ghost use Rattle.s390x_typed_steps.specs.Causes.{first_emit_cause, unless, decla
 ghost use Rattle.s390x_typed_steps.specs.Memory.{RxForm};
 ghost use Rattle.s390x_typed_steps.specs.Parts.{Relative, RelativeConstant, RelativeSymbol, ToBlock, trap_here, relative_part, relative_parts, parts_size};
 ghost use Rattle.s390x_typed_steps.specs.Storage.{relative_bytes};
-ghost use Rattle.s390x_address.specs.Appended.{with_part, appended};
+ghost use Rattle.s390x_address.specs.Appended.{with_part, with_parts};
 ghost use Rattle.s390x_address.specs.Lowerings.{is_bound_operand};
 ghost use Rattle.s390x_address.specs.Rows.{storage_form_of, relative_encodes, rows_encode};
 
@@ -111,7 +111,7 @@ pub fn addend_fits(operand: &MemArg) -> bool
 /// A trap at what follows, where its faults have a code. An error comes where the buffer has no room (`TooLong`) or
 /// for want of memory.
 pub fn put_trap(sink: &mut MachBuffer, trap_code: Option<TrapCode>) -> Result<(), EmitError>
-    ensures answer { OnOk result (sink.new ≡ appended sink.old (trap_here trap_code)) }
+    ensures answer { OnOk result (sink.new ≡ with_parts sink.old (trap_here trap_code)) }
     ensures only_memory { put_cause sink.old 0 ≡ None → IfErr result (λ e. e ≡ NoMemory) }
     ensures kept { Extends sink.old sink.new }
 {
@@ -216,7 +216,7 @@ fn put_row(
 ) -> Result<(), EmitError>
     requires { opcode < 4096 }
     ensures answer { OnOk result
-        (sink.new ≡ appended sink.old (relative_part opcode (number_of register) operand.now)) }
+        (sink.new ≡ with_parts sink.old (relative_part opcode (number_of register) operand.now)) }
     ensures only_memory { put_cause sink.old
         (parts_size (relative_part opcode (number_of register) operand.now)) ≡ None
         → is_general_class register ≡ true
@@ -246,7 +246,7 @@ fn put_trapping_row(
     requires { opcode < 4096 }
     ensures answer { OnOk result
         (sink.new
-        ≡ appended sink.old
+        ≡ with_parts sink.old
         (trap_here trap_code ++ relative_part opcode (number_of register) operand.now)) }
     ensures only_memory { put_cause sink.old
         (parts_size (trap_here trap_code ++ relative_part opcode (number_of register) operand.now))
@@ -272,7 +272,7 @@ pub fn put_relative(
     requires { relative_encodes rows.now ≡ true }
     ensures answer { OnOk result
         (sink.new
-        ≡ appended sink.old (relative_parts (storage_form_of rows.now) trap_code operand.now)) }
+        ≡ with_parts sink.old (relative_parts (storage_form_of rows.now) trap_code operand.now)) }
     ensures only_memory { put_cause sink.old
         (parts_size (relative_parts (storage_form_of rows.now) trap_code operand.now)) ≡ None
         → rows_encode rows.now ≡ true → is_bound_operand (declared_in sink.old) operand.now ≡ true

@@ -13,10 +13,10 @@ use Rattle.s390x_alloc.specs.declared.assigned.GivenOperand.{GivenOperand}
 use Rattle.s390x_alloc.specs.declared.plan.EntryPair.{EntryPair}
 use Rattle.s390x_alloc.specs.declared.plan.Place.{Place}
 use Rattle.s390x_alloc.specs.declared.plan.Place.TheVariants.{Reg as InReg}
-use Rattle.s390x_alloc.specs.Contents.{carried, holds, is_in_set, moved, stepped, with_operand, with_operands, with_output, without_item, without_items, without_place}
+use Rattle.s390x_alloc.specs.Contents.{carried_pairs, holds, is_in_set, contents_after_move, contents_after_step, with_operand, with_operands, with_output, without_item, without_items, without_place}
 use Rattle.s390x_alloc.specs.Same.{same_pair, same_place, same_register}
 use Rattle.s390x_alloc.specs.Steps.{first_unheld, is_held}
-use Rattle.s390x_alloc.specs.Walks.{AllReadAlike, Fresh, ReadsAlike, Values, after_inst, copied, is_lost, is_lost_by, with_output_value, with_outputs, without}
+use Rattle.s390x_alloc.specs.Walks.{AllReadAlike, Fresh, ReadsAlike, Values, after_inst, values_after_copy, is_lost, is_lost_by, with_output_value, with_outputs, without}
 use Rattle.s390x_alloc.proofs.Sameness.{pair-same, place-same, place-self, register-self}
 
 -- each pair that is held has the same value by its register and in its place
@@ -53,26 +53,26 @@ holds_filter keep (y ∷ xs) x h = elim (cases_Bool (keep y)) [
 abbrev pair_at : Place → Reg → EntryPair
 pair_at p r = record { place = p; vreg = r }
 
-holds_carried : (to from : Place) (xs : List EntryPair) (x : EntryPair) → holds (carried to from xs) x ≡ true → (to ≡ x.place) × (holds xs (pair_at from x.vreg) ≡ true)
+holds_carried : (to from : Place) (xs : List EntryPair) (x : EntryPair) → holds (carried_pairs to from xs) x ≡ true → (to ≡ x.place) × (holds xs (pair_at from x.vreg) ≡ true)
 holds_carried to from [] x h = absurd cc
 holds_carried to from (y ∷ xs) x h = elim (cases_Bool (same_place y.place from)) [
   | inl e ↦
-      let k : (same_pair (pair_at to y.vreg) x || holds (carried to from xs) x) ≡ true = ap (λ l. holds l x) (sym (cond-true (same_place y.place from) (pair_at to y.vreg ∷ carried to from xs) (carried to from xs) e)) ∙ h in
-      elim (or_cases (same_pair (pair_at to y.vreg) x) (holds (carried to from xs) x) k) [
+      let k : (same_pair (pair_at to y.vreg) x || holds (carried_pairs to from xs) x) ≡ true = ap (λ l. holds l x) (sym (cond-true (same_place y.place from) (pair_at to y.vreg ∷ carried_pairs to from xs) (carried_pairs to from xs) e)) ∙ h in
+      elim (or_cases (same_pair (pair_at to y.vreg) x) (holds (carried_pairs to from xs) x) k) [
         | inl s ↦
             let a = and_parts (same_place to x.place) (same_register y.vreg x.vreg) s in
             (place-same to x.place a.0, or_left (same_pair y (pair_at from x.vreg)) (holds xs (pair_at from x.vreg)) (and_from _ _ e a.1))
         | inr s ↦ let r = holds_carried to from xs x s in (r.0, or_right (same_pair y (pair_at from x.vreg)) (holds xs (pair_at from x.vreg)) r.1)
       ]
   | inr e ↦
-      let r = holds_carried to from xs x (ap (λ l. holds l x) (sym (cond-false (same_place y.place from) (pair_at to y.vreg ∷ carried to from xs) (carried to from xs) e)) ∙ h) in
+      let r = holds_carried to from xs x (ap (λ l. holds l x) (sym (cond-false (same_place y.place from) (pair_at to y.vreg ∷ carried_pairs to from xs) (carried_pairs to from xs) e)) ∙ h) in
       (r.0, or_right (same_pair y (pair_at from x.vreg)) (holds xs (pair_at from x.vreg)) r.1)
 ]
 
 -- ---- a move
 
-pub agrees_moved : (to from : Place) (held : List EntryPair) (v : Values) → Agrees held v → Agrees (moved to from held) (copied to from v)
-agrees_moved to from held v a x h = elim (holds_append (without_place to held) (carried to from held) x h) [
+pub agrees_moved : (to from : Place) (held : List EntryPair) (v : Values) → Agrees held v → Agrees (contents_after_move to from held) (values_after_copy to from v)
+agrees_moved to from held v a x h = elim (holds_append (without_place to held) (carried_pairs to from held) x h) [
   | inl k ↦
       let r = holds_filter (λ (y : EntryPair). not (same_place y.place to)) held x k in
       a x r.0 ∙ sym (cond-false (same_place x.place to) (v.of_place from) (v.of_place x.place) (flipped _ r.1))
@@ -125,7 +125,7 @@ agrees_operands : (output : ℕ → ℕ) (number : ℕ) (xs : List GivenOperand)
 agrees_operands output number [] held v a = a
 agrees_operands output number (x ∷ xs) held v a = agrees_operands output (number + 1) xs (with_operand x.kind x.reg x.given held) (with_output_value x.kind x.reg x.given (output number) v) (agrees_operand x.kind x.reg x.given (output number) held v a)
 
-pub agrees_stepped : (fresh : Fresh) (is : List Reported) (xs : List GivenOperand) (held : List EntryPair) (v : Values) → Agrees held v → Agrees (stepped is xs held) (after_inst fresh is xs v)
+pub agrees_stepped : (fresh : Fresh) (is : List Reported) (xs : List GivenOperand) (held : List EntryPair) (v : Values) → Agrees held v → Agrees (contents_after_step is xs held) (after_inst fresh is xs v)
 agrees_stepped fresh is xs held v a = agrees_operands fresh.output 0 xs (without_items is held) (without fresh.lost is v) (agrees_without fresh.lost is held v a)
 
 -- ---- what is read

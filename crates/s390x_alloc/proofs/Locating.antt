@@ -16,7 +16,7 @@ use Rattle.s390x_alloc.specs.declared.plan.Place.{Place}
 use Rattle.s390x_alloc.specs.declared.plan.Place.TheVariants.{Reg as InReg}
 use Rattle.s390x_alloc.specs.declared.register_homes.RegisterHomes.{RegisterHomes}
 use Rattle.s390x_alloc.specs.declared.register_set.RegisterSet.{RegisterSet}
-use Rattle.s390x_alloc.specs.Contents.{carried, holds, is_in_set, moved, with_output, without_place}
+use Rattle.s390x_alloc.specs.Contents.{carried_pairs, holds, is_in_set, contents_after_move, with_output, without_place}
 use Rattle.s390x_alloc.specs.Moves.{holds_other_class, is_of_other_class}
 use Rattle.s390x_alloc.specs.Locations.{IsAlone, IsApart, IsMapOf, at_value, in_set, is_located, is_value_of, pair_of, value_of}
 use Rattle.s390x_alloc.specs.Registers.{HasNoOther, HasOther, has_register, is_home, same_virtual}
@@ -107,7 +107,7 @@ holds_filter keep (y ∷ xs) x =
     kept false true false false e = refl
     kept false false h j e = refl
 
-holds_carried : (to from : Place) (xs : List EntryPair) (q : Place) (n : ℕ) (c : RegClass) → holds (carried to from xs) (pair_of q n c) ≡ (same_place to q && holds xs (pair_of from n c))
+holds_carried : (to from : Place) (xs : List EntryPair) (q : Place) (n : ℕ) (c : RegClass) → holds (carried_pairs to from xs) (pair_of q n c) ≡ (same_place to q && holds xs (pair_of from n c))
 holds_carried to from [] q n c = never (same_place to q)
   where
     never : (b : Bool) → false ≡ (b && false)
@@ -121,8 +121,8 @@ holds_carried to from (y ∷ xs) q n c =
     moved_pair : EntryPair
     moved_pair = record { place = to; vreg = y.vreg }
 
-    pushed : (b : Bool) → holds (cond b (record { place = to; vreg = y.vreg } ∷ carried to from xs) (carried to from xs)) (pair_of q n c)
-        ≡ cond b ((same_place to q && same_register y.vreg (Virtual n c)) || holds (carried to from xs) (pair_of q n c)) (holds (carried to from xs) (pair_of q n c))
+    pushed : (b : Bool) → holds (cond b (record { place = to; vreg = y.vreg } ∷ carried_pairs to from xs) (carried_pairs to from xs)) (pair_of q n c)
+        ≡ cond b ((same_place to q && same_register y.vreg (Virtual n c)) || holds (carried_pairs to from xs) (pair_of q n c)) (holds (carried_pairs to from xs) (pair_of q n c))
     pushed true = refl
     pushed false = refl
 
@@ -170,7 +170,7 @@ module _ (m : LocationMap) (held : List EntryPair) (is : IsMapOf m held) (values
   pub map_set_dropped : (s : PRegSet) → ((q : Place) → value_of values q ≡ cond (is_in_set s q) None (value_of m.values q)) → IsMapOf (with_values values m) (filter (λ (x : EntryPair). not (is_in_set s x.place)) held)
   map_set_dropped s now = map_cleared (is_in_set s) now
 
-  pub map_moved : (to from : Place) → ((q : Place) → value_of values q ≡ cond (same_place q to) (value_of m.values from) (value_of m.values q)) → IsMapOf (with_values values m) (moved to from held)
+  pub map_moved : (to from : Place) → ((q : Place) → value_of values q ≡ cond (same_place q to) (value_of m.values from) (value_of m.values q)) → IsMapOf (with_values values m) (contents_after_move to from held)
   map_moved to from now = record {
     same = λ q n c.
         ap (λ o. at_value m.sets.items o n c) (now q)
@@ -181,7 +181,7 @@ module _ (m : LocationMap) (held : List EntryPair) (is : IsMapOf m held) (values
         ∙ ap (λ b. (holds held (pair_of q n c) && not (same_place q to)) || (b && holds held (pair_of from n c))) (place_turned q to)
         ∙ ap (λ b. b || (same_place to q && holds held (pair_of from n c))) (sym (holds_filter (λ (x : EntryPair). not (same_place x.place to)) held (pair_of q n c)))
         ∙ ap (λ b. holds (without_place to held) (pair_of q n c) || b) (sym (holds_carried to from held q n c))
-        ∙ sym (holds_append (without_place to held) (carried to from held) (pair_of q n c));
+        ∙ sym (holds_append (without_place to held) (carried_pairs to from held) (pair_of q n c));
     homes = is.homes;
     below = λ q v h. elim (some_of_either (same_place q to) (value_of m.values from) (value_of m.values q) v (sym (now q) ∙ h)) [
       | inl e ↦ is.below from v e.1

@@ -17,7 +17,7 @@ use Rattle.s390x_alloc.specs.declared.fault.EditCause.{EditCause}
 use Rattle.s390x_alloc.specs.declared.plan.EntryPair.{EntryPair}
 use Rattle.s390x_alloc.specs.Assigned.{given_behind, given_operand, given_operands, is_operand}
 use Rattle.s390x_alloc.specs.Same.{is_reserved, same_class}
-use Rattle.s390x_alloc.specs.Steps.{cause_or, first_unheld, first_unsuited, is_given, miscounted, operands_fault, step_cause, suits_constraint, suits_operand, unheld, unreported, unsuited}
+use Rattle.s390x_alloc.specs.Steps.{cause_or, first_unheld, first_unsuited, is_given, count_cause, operands_fault, step_cause, suits_constraint, suits_operand, unheld, unreported_cause, constraint_cause}
 use Rattle.s390x_alloc.proofs.Sameness.{class-same, register-same}
 
 operand-suits : (r q : Reg) → suits_operand r q ≡ true → SuitsOperand r q
@@ -88,20 +88,20 @@ both_none : (a b : Option EditCause) → cause_or a b ≡ None → (a ≡ None) 
 both_none None b h = (refl, h)
 both_none (Some c) b h = absurd cc
 
-none_miscounted : (b : Bool) → miscounted b ≡ None → b ≡ true
+none_miscounted : (b : Bool) → count_cause b ≡ None → b ≡ true
 none_miscounted true h = refl
 none_miscounted false h = absurd cc
 
-none_unsuited : (o : Option ℕ) → unsuited o ≡ None → o ≡ None
+none_unsuited : (o : Option ℕ) → constraint_cause o ≡ None → o ≡ None
 none_unsuited None h = refl
 none_unsuited (Some n) h = absurd cc
 
 pub registers_suit : (i : Inst) (regs : List Reg) (held : List EntryPair) → step_cause i regs held ≡ None → SuitsEach regs (operands i) regs
 registers_suit i regs held h =
     let xs = given_operands (operands i) regs in
-    let a = both_none (unreported (operands_cause false i)) _ h in
-    let b = both_none (miscounted (nat_eq (count_by is_operand (operands i)) (length regs))) (operands_fault regs xs held) a.1 in
-    let c = both_none (unsuited (first_unsuited regs 0 xs)) (unheld (first_unheld held 0 xs)) b.1 in
+    let a = both_none (unreported_cause (operands_cause false i)) _ h in
+    let b = both_none (count_cause (nat_eq (count_by is_operand (operands i)) (length regs))) (operands_fault regs xs held) a.1 in
+    let c = both_none (constraint_cause (first_unsuited regs 0 xs)) (unheld (first_unheld held 0 xs)) b.1 in
     suits_each 0 [] regs (operands i) (none_unsuited _ c.0) (length-filter is_operand (operands i) ∙ eqb-true (count_by is_operand (operands i)) (length regs) (none_miscounted _ b.0))
 
 pub registers_meet : (i : Inst) (regs : List Reg) (held : List EntryPair) → step_cause i regs held ≡ None → Meets (operands i) regs

@@ -16,15 +16,15 @@ use Rattle.s390x_alloc.specs.declared.plan.Edit.{Edit}
 use Rattle.s390x_alloc.specs.declared.plan.Edit.TheVariants.{Move, Step}
 use Rattle.s390x_alloc.specs.declared.plan.EntryPair.{EntryPair}
 use Rattle.s390x_alloc.specs.Blocks.{after_block, after_blocks, after_edits, after_move, fault_or, or_block_fault, or_fault}
-use Rattle.s390x_alloc.specs.Checked.{checked, then_entries, unless_entry}
+use Rattle.s390x_alloc.specs.Checked.{plan_contents, then_entries, unless_entry}
 use Rattle.s390x_alloc.specs.Entries.{all_hold, entry_fault, entry_or, first_unfounded, is_founded, is_held_there, is_virtual, predecessors}
 use Rattle.s390x_alloc.specs.Assigned.{given_operands, is_operand}
-use Rattle.s390x_alloc.specs.Contents.{holds, moved, stepped}
+use Rattle.s390x_alloc.specs.Contents.{holds, contents_after_move, contents_after_step}
 use Rattle.s390x_alloc.specs.Moves.{is_no_move}
 use Rattle.s390x_alloc.specs.Same.{same_pair}
 use Rattle.s390x_alloc.specs.Shape.{block_ending, first_misshapen, first_unsupported, is_empty, is_end, precedes}
-use Rattle.s390x_alloc.specs.Steps.{cause_or, first_unheld, first_unsuited, miscounted, step_cause, unheld, unless_cause, unreported, unsuited}
-use Rattle.s390x_alloc.specs.Walks.{EditsReadAlike, EveryWalkReadsAlike, Fresh, GoesOn, Values, Visit, VisitsReadAlike, after_edits_of, after_inst, copied, edits_of, insts_of, is_successor}
+use Rattle.s390x_alloc.specs.Steps.{cause_or, first_unheld, first_unsuited, count_cause, step_cause, unheld, unless_cause, unreported_cause, constraint_cause}
+use Rattle.s390x_alloc.specs.Walks.{EditsReadAlike, EveryWalkReadsAlike, Fresh, GoesOn, Values, Visit, VisitsReadAlike, after_edits_of, after_inst, values_after_copy, edits_of, insts_of, is_successor}
 use Rattle.s390x_alloc.proofs.Agreeing.{Agrees, agrees_moved, agrees_stepped, reads_all}
 use Rattle.s390x_alloc.proofs.Sameness.{pair-same}
 
@@ -41,9 +41,9 @@ none_unheld (Some n) h = absurd cc
 -- no operand reads what isn't held
 all_held : (i : Inst) (regs : List Reg) (held : List EntryPair) → step_cause i regs held ≡ None → first_unheld held 0 (given_operands (operands i) regs) ≡ None
 all_held i regs held h =
-    let a = later_none (unreported (operands_cause false i)) _ h in
-    let b = later_none (miscounted (nat_eq (count_by is_operand (operands i)) (length regs))) _ a in
-    none_unheld _ (later_none (unsuited (first_unsuited regs 0 (given_operands (operands i) regs))) _ b)
+    let a = later_none (unreported_cause (operands_cause false i)) _ h in
+    let b = later_none (count_cause (nat_eq (count_by is_operand (operands i)) (length regs))) _ a in
+    none_unheld _ (later_none (constraint_cause (first_unsuited regs 0 (given_operands (operands i) regs))) _ b)
 
 -- ---- an edit without a fault
 
@@ -71,12 +71,12 @@ module _ (layout : FrameLayout) (ends : Bool) (block : ℕ) (fresh : ℕ → Fre
   edits_read edit number [] (i ∷ is) held final v h a = absurd cc
   edits_read edit number (Move to from ∷ es) is held final v h a =
       let k = λ (l : List EntryPair). after_edits layout ends block (edit + 1) es is l in
-      edits_read (edit + 1) (number + 1) es is (moved to from held) final (copied to from v) (move_goes block edit (ends && is_empty is) (is_no_move layout to from held) (moved to from held) final k h) (agrees_moved to from held v a)
+      edits_read (edit + 1) (number + 1) es is (contents_after_move to from held) final (values_after_copy to from v) (move_goes block edit (ends && is_empty is) (is_no_move layout to from held) (contents_after_move to from held) final k h) (agrees_moved to from held v a)
   edits_read edit number (Step regs ∷ es) [] held final v h a = absurd cc
   edits_read edit number (Step regs ∷ es) (i ∷ is) held final v h a =
       let k = λ (l : List EntryPair). after_edits layout ends block (edit + 1) es is l in
       let xs = given_operands (operands i) regs.items in
-      let next = stepped (operands i) xs held in
+      let next = contents_after_step (operands i) xs held in
       let goes = step_goes block edit (step_cause i regs.items held) next final k h in
       let r = edits_read (edit + 1) (number + 1) es is next final (after_inst (fresh number) (operands i) xs v) goes.1 (agrees_stepped (fresh number) (operands i) xs held v a) in
       ((reads_all 0 xs held v a (all_held i regs.items held goes.0), r.0), r.1)
@@ -84,7 +84,7 @@ module _ (layout : FrameLayout) (ends : Bool) (block : ℕ) (fresh : ℕ → Fre
 -- without instructions nothing is read
 nothing_read : (fresh : ℕ → Fresh) (number : ℕ) (es : List Edit) (v : Values) → EditsReadAlike fresh number es [] v
 nothing_read fresh number [] v = tt
-nothing_read fresh number (Move to from ∷ es) v = nothing_read fresh (number + 1) es (copied to from v)
+nothing_read fresh number (Move to from ∷ es) v = nothing_read fresh (number + 1) es (values_after_copy to from v)
 nothing_read fresh number (Step regs ∷ es) v = tt
 
 -- ---- blocks without a fault
@@ -265,7 +265,7 @@ counted : (b : Bool) (r : Result (List (List EntryPair)) PlanFault) (ends : List
 counted true r ends h = (refl, h)
 counted false r ends h = absurd cc
 
-walks_read_alike : (layout : FrameLayout) (blocks : List Block) (plans : List BlockPlan) (ends : List (List EntryPair)) → checked layout blocks plans ≡ Ok ends → EveryWalkReadsAlike blocks plans
+walks_read_alike : (layout : FrameLayout) (blocks : List Block) (plans : List BlockPlan) (ends : List (List EntryPair)) → plan_contents layout blocks plans ≡ Ok ends → EveryWalkReadsAlike blocks plans
 walks_read_alike layout blocks plans ends h =
     let c = counted (nat_eq (length blocks) (length plans)) _ ends h in
     let e = ended_plan blocks plans (after_blocks layout (length blocks) [] 0 blocks plans) ends c.1 in
@@ -273,7 +273,7 @@ walks_read_alike layout blocks plans ends h =
     every_walk layout blocks plans ends (subst (λ l. AllEnd layout (length blocks) 0 blocks plans l) (sym told.behind) told.all) e.1
 
 -- there are as many blocks as plans
-pub same_count : (layout : FrameLayout) (blocks : List Block) (plans : List BlockPlan) → IsOk (checked layout blocks plans) → length blocks ≡ length plans
+pub same_count : (layout : FrameLayout) (blocks : List Block) (plans : List BlockPlan) → IsOk (plan_contents layout blocks plans) → length blocks ≡ length plans
 same_count layout blocks plans h = eqb-true (length blocks) (length plans) (compared (nat_eq (length blocks) (length plans)) _ h)
   where
     compared : (b : Bool) (r : Result (List (List EntryPair)) PlanFault) → IsOk (cond b r (Err Blocks)) → b ≡ true
@@ -281,9 +281,9 @@ same_count layout blocks plans h = eqb-true (length blocks) (length plans) (comp
     compared false r k = absurd (false≢true k)
 
 -- the theorem
-pub faultless_walks : (layout : FrameLayout) (blocks : List Block) (plans : List BlockPlan) → IsOk (checked layout blocks plans) → EveryWalkReadsAlike blocks plans
-faultless_walks layout blocks plans h = found (checked layout blocks plans) refl h
+pub faultless_walks : (layout : FrameLayout) (blocks : List Block) (plans : List BlockPlan) → IsOk (plan_contents layout blocks plans) → EveryWalkReadsAlike blocks plans
+faultless_walks layout blocks plans h = found (plan_contents layout blocks plans) refl h
   where
-    found : (r : Result (List (List EntryPair)) PlanFault) → checked layout blocks plans ≡ r → IsOk r → EveryWalkReadsAlike blocks plans
+    found : (r : Result (List (List EntryPair)) PlanFault) → plan_contents layout blocks plans ≡ r → IsOk r → EveryWalkReadsAlike blocks plans
     found (Ok ends) is k = walks_read_alike layout blocks plans ends is
     found (Err f) is k = absurd (false≢true k)

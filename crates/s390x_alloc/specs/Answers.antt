@@ -4,7 +4,7 @@ use Rattle.s390x_base.specs.declared.regs.Reg.{Reg}
 use Rattle.s390x_inst.specs.Portions.{Portion, portions}
 use Rattle.s390x_inst.specs.declared.function.Block.{Block}
 use Rattle.s390x_inst.specs.declared.inst.Inst.{Inst}
-use Rattle.s390x_assign.specs.Assignments.{assigned}
+use Rattle.s390x_assign.specs.Assignments.{assigned_portions}
 use Rattle.s390x_alloc.specs.declared.plan.BlockPlan.{BlockPlan}
 use Rattle.s390x_alloc.specs.declared.plan.Edit.{Edit}
 use Rattle.s390x_alloc.specs.declared.plan.Edit.TheVariants.{Move, Step}
@@ -14,7 +14,7 @@ use Rattle.s390x_alloc.specs.Moves.{move_portions}
 -- an instruction with its registers
 abbrev pub step_portions : Option Inst → List Reg → List Portion
 step_portions None regs = []
-step_portions (Some i) regs = (assigned (portions i) regs).0
+step_portions (Some i) regs = (assigned_portions (portions i) regs).0
 
 -- what stands for it in the answered function
 abbrev pub edit_portions : Edit → List Inst → List Portion

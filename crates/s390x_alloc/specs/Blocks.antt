@@ -13,7 +13,7 @@ use Rattle.s390x_alloc.specs.declared.plan.Edit.{Edit}
 use Rattle.s390x_alloc.specs.declared.plan.Edit.TheVariants.{Move, Step}
 use Rattle.s390x_alloc.specs.declared.plan.EntryPair.{EntryPair}
 use Rattle.s390x_alloc.specs.Faults.{edit_fault}
-use Rattle.s390x_alloc.specs.Contents.{moved}
+use Rattle.s390x_alloc.specs.Contents.{contents_after_move}
 use Rattle.s390x_alloc.specs.Moves.{is_no_move}
 use Rattle.s390x_alloc.specs.Shape.{block_ending, first_misshapen, first_unsupported, is_empty, is_end}
 use Rattle.s390x_alloc.specs.Steps.{after_step}
@@ -42,7 +42,7 @@ after_step_of (Some i) regs held = after_step i regs held
 
 -- the cause by which it is refused, or what is held behind it
 abbrev pub after_edit : FrameLayout → (ends : Bool) → Edit → List Inst → List EntryPair → Result (List EntryPair) EditCause
-after_edit layout ends (Move to from) is held = after_move (ends && is_empty is) (is_no_move layout to from held) (moved to from held)
+after_edit layout ends (Move to from) is held = after_move (ends && is_empty is) (is_no_move layout to from held) (contents_after_move to from held)
 after_edit layout ends (Step regs) is held = after_step_of (slice_get is 0) regs.items held
 
 -- ---- the edits of a block

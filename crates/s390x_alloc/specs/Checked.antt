@@ -22,5 +22,5 @@ then_entries blocks plans (Ok ends) = unless_entry (entry_fault blocks (length b
 then_entries blocks plans (Err f) = Err f
 
 -- the first fault of a plan, or what is held at the end of each block: the counts of blocks first, then block by block, then the pairs with which blocks begin
-abbrev pub checked : FrameLayout → List Block → List BlockPlan → Result (List (List EntryPair)) PlanFault
-checked layout blocks plans = cond (nat_eq (length blocks) (length plans)) (then_entries blocks plans (after_blocks layout (length blocks) [] 0 blocks plans)) (Err Blocks)
+abbrev pub plan_contents : FrameLayout → List Block → List BlockPlan → Result (List (List EntryPair)) PlanFault
+plan_contents layout blocks plans = cond (nat_eq (length blocks) (length plans)) (then_entries blocks plans (after_blocks layout (length blocks) [] 0 blocks plans)) (Err Blocks)

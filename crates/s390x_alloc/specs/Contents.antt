@@ -32,13 +32,13 @@ abbrev pub without_place : Place → List EntryPair → List EntryPair
 without_place p held = filter (λ (x : EntryPair). not (same_place x.place p)) held
 
 -- what one place holds, as if another one held it
-abbrev pub carried : (to from : Place) → List EntryPair → List EntryPair
-carried to from [] = []
-carried to from (x ∷ xs) = cond (same_place x.place from) (record { place = to; vreg = x.vreg } ∷ carried to from xs) (carried to from xs)
+abbrev pub carried_pairs : (to from : Place) → List EntryPair → List EntryPair
+carried_pairs to from [] = []
+carried_pairs to from (x ∷ xs) = cond (same_place x.place from) (record { place = to; vreg = x.vreg } ∷ carried_pairs to from xs) (carried_pairs to from xs)
 
 -- behind a move: its target holds what its source held before, and nothing else
-abbrev pub moved : (to from : Place) → List EntryPair → List EntryPair
-moved to from held = without_place to held ++ carried to from held
+abbrev pub contents_after_move : (to from : Place) → List EntryPair → List EntryPair
+contents_after_move to from held = without_place to held ++ carried_pairs to from held
 
 -- ---- an instruction
 
@@ -69,5 +69,5 @@ with_operands [] held = held
 with_operands (x ∷ xs) held = with_operands xs (with_operand x.kind x.reg x.given held)
 
 -- behind an instruction: first what it overwrites holds nothing, then its outputs stand in their places
-abbrev pub stepped : List Reported → List GivenOperand → List EntryPair → List EntryPair
-stepped items operands held = with_operands operands (without_items items held)
+abbrev pub contents_after_step : List Reported → List GivenOperand → List EntryPair → List EntryPair
+contents_after_step items operands held = with_operands operands (without_items items held)

@@ -14,7 +14,7 @@ use Rattle.s390x_alloc.specs.declared.plan.Edit.TheVariants.{Move, Step}
 use Rattle.s390x_alloc.specs.declared.plan.EntryPair.{EntryPair}
 use Rattle.s390x_alloc.specs.declared.plan.Place.{Place}
 use Rattle.s390x_alloc.specs.declared.plan.Place.TheVariants.{Reg as InReg, Slot}
-use Rattle.s390x_alloc.specs.Checked.{checked}
+use Rattle.s390x_alloc.specs.Checked.{plan_contents}
 use Rattle.s390x_alloc.specs.Walks.{IsWalk, Visit}
 
 -- an edit, wherever its registers lie
@@ -22,9 +22,9 @@ pub data Planned : Type 0 where
   moves : (to from : Place) → Planned
   steps : List Reg → Planned
 
-abbrev pub planned : Edit → Planned
-planned (Move to from) = moves to from
-planned (Step regs) = steps regs.items
+abbrev pub planned_edit : Edit → Planned
+planned_edit (Move to from) = moves to from
+planned_edit (Step regs) = steps regs.items
 
 abbrev pub insts_in : Block → List Inst
 insts_in b = b.insts.items
@@ -33,7 +33,7 @@ abbrev pub entry_of : BlockPlan → List EntryPair
 entry_of p = p.entry.items
 
 abbrev pub edits_of : BlockPlan → List Planned
-edits_of p = map planned p.edits.items
+edits_of p = map planned_edit p.edits.items
 
 abbrev pub block_of : Visit → ℕ
 block_of x = x.block
@@ -66,6 +66,6 @@ pub record SpillIsAccepted : Type 0 where
   pub insts_are : map insts_in blocks ≡ insts
   pub edits_are : map edits_of plans ≡ edits
   pub entries_are : map entry_of plans ≡ entries
-  pub faultless : IsOk (checked two_slots blocks plans)
+  pub faultless : IsOk (plan_contents two_slots blocks plans)
   pub goes : IsWalk blocks walk
   pub visits : map block_of walk ≡ 0 ∷ 1 ∷ []

@@ -17,7 +17,7 @@ use Rattle.s390x_alloc.specs.declared.fault.EditCause.TheVariants.{Immovable, No
 use Rattle.s390x_alloc.specs.declared.plan.EntryPair.{EntryPair}
 use Rattle.s390x_alloc.specs.declared.plan.Place.{Place}
 use Rattle.s390x_alloc.specs.declared.plan.Place.TheVariants.{Reg as InReg, Slot}
-use Rattle.s390x_alloc.specs.Contents.{moved}
+use Rattle.s390x_alloc.specs.Contents.{contents_after_move}
 use Rattle.s390x_alloc.specs.Same.{is_reserved, same_class, same_place}
 
 -- ---- which instruction a move is
@@ -87,7 +87,7 @@ move_portions to from = option_portions (move_inst to from)
 
 -- the answer for a move: exactly where it is none, it is refused so
 abbrev pub IsMoved : FrameLayout → (to from : Place) → (before after : List EntryPair) → Result (Unit {0}) EditCause → Type 0
-IsMoved layout to from before after (Ok u) = (is_no_move layout to from before ≡ false) × (after ≡ moved to from before)
+IsMoved layout to from before after (Ok u) = (is_no_move layout to from before ≡ false) × (after ≡ contents_after_move to from before)
 IsMoved layout to from before after (Err Immovable) = is_no_move layout to from before ≡ true
 IsMoved layout to from before after (Err NoMemory) = Unit {0}
 IsMoved layout to from before after (Err c) = ⊥

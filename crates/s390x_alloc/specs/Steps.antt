@@ -15,7 +15,7 @@ use Rattle.s390x_alloc.specs.declared.assigned.GivenOperand.{GivenOperand}
 use Rattle.s390x_alloc.specs.declared.plan.EntryPair.{EntryPair}
 use Rattle.s390x_alloc.specs.declared.plan.Place.TheVariants.{Reg as InReg}
 use Rattle.s390x_alloc.specs.Assigned.{given_operands, is_operand}
-use Rattle.s390x_alloc.specs.Contents.{holds, stepped}
+use Rattle.s390x_alloc.specs.Contents.{holds, contents_after_step}
 use Rattle.s390x_alloc.specs.Same.{is_reserved, same_class, same_register}
 
 -- ---- constraints
@@ -64,18 +64,18 @@ abbrev pub cause_or : Option EditCause → Option EditCause → Option EditCause
 cause_or None later = later
 cause_or (Some c) later = Some c
 
-abbrev pub unreported : Option OperandError → Option EditCause
-unreported None = None
-unreported (Some e) = Some (Unreported e)
+abbrev pub unreported_cause : Option OperandError → Option EditCause
+unreported_cause None = None
+unreported_cause (Some e) = Some (Unreported e)
 
 -- there are as many registers as operands, or not
-abbrev pub miscounted : Bool → Option EditCause
-miscounted true = None
-miscounted false = Some Miscounted
+abbrev pub count_cause : Bool → Option EditCause
+count_cause true = None
+count_cause false = Some Miscounted
 
-abbrev pub unsuited : Option ℕ → Option EditCause
-unsuited None = None
-unsuited (Some number) = Some (Unsuited number)
+abbrev pub constraint_cause : Option ℕ → Option EditCause
+constraint_cause None = None
+constraint_cause (Some number) = Some (Unsuited number)
 
 abbrev pub unheld : Option ℕ → Option EditCause
 unheld None = None
@@ -83,12 +83,12 @@ unheld (Some number) = Some (Unheld number)
 
 -- why the operands and their registers don't do: one isn't suited, or else one isn't held
 abbrev pub operands_fault : (all : List Reg) → List GivenOperand → List EntryPair → Option EditCause
-operands_fault all xs held = cause_or (unsuited (first_unsuited all 0 xs)) (unheld (first_unheld held 0 xs))
+operands_fault all xs held = cause_or (constraint_cause (first_unsuited all 0 xs)) (unheld (first_unheld held 0 xs))
 
 -- why an instruction can't be given these registers: it doesn't report its operands, they are more or fewer, one isn't suited, or one reads what isn't held
 abbrev pub step_cause : Inst → List Reg → List EntryPair → Option EditCause
 step_cause i regs held =
-    cause_or (unreported (operands_cause false i)) (cause_or (miscounted (nat_eq (count_by is_operand (operands i)) (length regs))) (operands_fault regs (given_operands (operands i) regs) held))
+    cause_or (unreported_cause (operands_cause false i)) (cause_or (count_cause (nat_eq (count_by is_operand (operands i)) (length regs))) (operands_fault regs (given_operands (operands i) regs) held))
 
 -- what is held, unless there is a cause
 abbrev pub unless_cause : Option EditCause → List EntryPair → Result (List EntryPair) EditCause
@@ -97,7 +97,7 @@ unless_cause (Some c) held = Err c
 
 -- the cause by which an instruction is refused, or what is held behind it
 abbrev pub after_step : Inst → List Reg → List EntryPair → Result (List EntryPair) EditCause
-after_step i regs held = unless_cause (step_cause i regs held) (stepped (operands i) (given_operands (operands i) regs) held)
+after_step i regs held = unless_cause (step_cause i regs held) (contents_after_step (operands i) (given_operands (operands i) regs) held)
 
 -- the cause is the one that was found; want of memory is free
 abbrev pub IsCause : Result (List EntryPair) EditCause → EditCause → Type 0

@@ -42,8 +42,8 @@ abbrev pub with_register : Reg → ℕ → (Reg → ℕ) → Reg → ℕ
 with_register r n of_register x = cond (same_register x r) n (of_register x)
 
 -- a move copies the value of a place
-abbrev pub copied : (to from : Place) → Values → Values
-copied to from v = record { of_register = v.of_register; of_place = with_place to (v.of_place from) v.of_place }
+abbrev pub values_after_copy : (to from : Place) → Values → Values
+values_after_copy to from v = record { of_register = v.of_register; of_place = with_place to (v.of_place from) v.of_place }
 
 -- a fixed register and those that are overwritten are lost
 abbrev pub is_lost_by : Reported → Place → Bool
@@ -93,7 +93,7 @@ AllReadAlike (x ∷ xs) v = ReadsAlike x.kind x.reg x.given v × AllReadAlike xs
 -- each instruction reads alike; what comes up at an edit is told by its number
 abbrev pub EditsReadAlike : (fresh : ℕ → Fresh) → (edit : ℕ) → List Edit → List Inst → Values → Type 0
 EditsReadAlike fresh edit [] is v = ⊤
-EditsReadAlike fresh edit (Move to from ∷ es) is v = EditsReadAlike fresh (edit + 1) es is (copied to from v)
+EditsReadAlike fresh edit (Move to from ∷ es) is v = EditsReadAlike fresh (edit + 1) es is (values_after_copy to from v)
 EditsReadAlike fresh edit (Step regs ∷ es) [] v = ⊤
 EditsReadAlike fresh edit (Step regs ∷ es) (i ∷ is) v =
     let xs = given_operands (operands i) regs.items in AllReadAlike xs v × EditsReadAlike fresh (edit + 1) es is (after_inst (fresh edit) (operands i) xs v)
@@ -101,7 +101,7 @@ EditsReadAlike fresh edit (Step regs ∷ es) (i ∷ is) v =
 -- the values at the end
 abbrev pub after_edits_of : (fresh : ℕ → Fresh) → (edit : ℕ) → List Edit → List Inst → Values → Values
 after_edits_of fresh edit [] is v = v
-after_edits_of fresh edit (Move to from ∷ es) is v = after_edits_of fresh (edit + 1) es is (copied to from v)
+after_edits_of fresh edit (Move to from ∷ es) is v = after_edits_of fresh (edit + 1) es is (values_after_copy to from v)
 after_edits_of fresh edit (Step regs ∷ es) [] v = v
 after_edits_of fresh edit (Step regs ∷ es) (i ∷ is) v = after_edits_of fresh (edit + 1) es is (after_inst (fresh edit) (operands i) (given_operands (operands i) regs.items) v)
 

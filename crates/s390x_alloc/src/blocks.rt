@@ -1,7 +1,7 @@
 //! The faults of a plan.
 ghost use Rattle.std.specs.Prelude.{◌≡◌, [], IsOk, MatchResult, length};
 ghost use Rattle.s390x_alloc.specs.Blocks.{IsFault, after_block, after_blocks};
-ghost use Rattle.s390x_alloc.specs.Checked.{checked};
+ghost use Rattle.s390x_alloc.specs.Checked.{plan_contents};
 ghost use Rattle.s390x_alloc.specs.Locations.{AllLeadTo, LeadsTo};
 
 use crate::edits::check_edits;
@@ -62,7 +62,7 @@ pub fn check_faults(
     blocks: &[Block],
     plans: &[BlockPlan],
 ) -> Result<(), PlanFault>
-    ensures { let whole = checked layout.now blocks.now plans.now in
+    ensures { let whole = plan_contents layout.now blocks.now plans.now in
         MatchResult result (λ _. IsOk whole) (IsFault whole) }
 {
     if blocks.len() != plans.len() {

@@ -1,6 +1,6 @@
 //! How an instruction changes what places hold.
 ghost use Rattle.std.specs.Prelude.{List, IfOk};
-ghost use Rattle.s390x_alloc.specs.Contents.{stepped, with_operand, without_item, without_items};
+ghost use Rattle.s390x_alloc.specs.Contents.{contents_after_step, with_operand, without_item, without_items};
 ghost use Rattle.s390x_alloc.specs.Locations.{IsMapOf};
 ghost use Rattle.s390x_alloc.specs.declared.plan.EntryPair.{EntryPair as Pair};
 
@@ -58,7 +58,7 @@ pub fn take_step(
     operands: &[GivenOperand],
 ) -> Result<(), AllocError>
     ensures { (list : List Pair) → IsMapOf held.old list →
-        IfOk result (λ _. IsMapOf held.new (stepped items.now operands.now list)) }
+        IfOk result (λ _. IsMapOf held.new (contents_after_step items.now operands.now list)) }
 {
     drop_items(held, items);
     for operand in operands {

@@ -6,7 +6,7 @@ ghost use Rattle.s390x_inst.specs.declared.inst.Inst.{Inst};
 ghost use Rattle.s390x_inst.specs.declared.state.FrameLayout.{FrameLayout};
 ghost use Rattle.s390x_operands.specs.Meets.{Meets};
 ghost use Rattle.s390x_operands.specs.Operands.{operands};
-ghost use Rattle.s390x_alloc.specs.Checked.{checked};
+ghost use Rattle.s390x_alloc.specs.Checked.{plan_contents};
 ghost use Rattle.s390x_alloc.specs.Example.{SpillIsAccepted};
 ghost use Rattle.s390x_alloc.specs.Steps.{step_cause};
 ghost use Rattle.s390x_alloc.specs.Walks.{EveryWalkReadsAlike};
@@ -17,7 +17,7 @@ ghost use Rattle.s390x_alloc.specs.declared.plan.EntryPair.{EntryPair};
 /// registers.
 pub fn walks_read_alike()
     ensures { (layout : FrameLayout) (blocks : List Block) (plans : List BlockPlan)
-        → IsOk (checked layout blocks plans) → EveryWalkReadsAlike blocks plans }
+        → IsOk (plan_contents layout blocks plans) → EveryWalkReadsAlike blocks plans }
 {}
 
 /// Some plan of two blocks has no fault, with a move into a slot and one out of it, and a walk comes to both blocks.

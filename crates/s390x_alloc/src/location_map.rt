@@ -3,7 +3,7 @@ ghost use Rattle.std.specs.Prelude.{◌≡◌, ℕ, ◌&&◌, ◌||◌, ◌<◌,
 ghost use Rattle.std.specs.List.{list_any};
 ghost use Rattle.s390x_base.specs.declared.regs.RegClass.{RegClass as Class};
 ghost use Rattle.s390x_base.specs.declared.regs.Reg.{Reg as AnyRegister};
-ghost use Rattle.s390x_alloc.specs.Contents.{holds, is_in_set, moved, with_output, without_place};
+ghost use Rattle.s390x_alloc.specs.Contents.{holds, is_in_set, contents_after_move, with_output, without_place};
 ghost use Rattle.s390x_alloc.specs.Locations.{IsAlone, IsApart, IsMapOf, is_located, is_value_of};
 ghost use Rattle.s390x_alloc.specs.Same.{same_register};
 ghost use Rattle.s390x_alloc.specs.Moves.{holds_other_class};
@@ -128,7 +128,7 @@ impl LocationMap {
     /// `to` holds what `from` held before. After `AllocError` it may hold nothing.
     pub fn move_value(&mut self, to: Place, from: Place) -> Result<(), AllocError>
         ensures { (held : List Pair) → IsMapOf self.old held →
-            IfOk result (λ _. IsMapOf self.new (moved to from held)) }
+            IfOk result (λ _. IsMapOf self.new (contents_after_move to from held)) }
     {
         self.values.copy(to, from)
     }

@@ -1,6 +1,6 @@
 //! Which moves there are, and which instructions they are.
 ghost use Rattle.std.specs.Prelude.{◌≡◌, IfOk, List, Some};
-ghost use Rattle.s390x_alloc.specs.Contents.{moved};
+ghost use Rattle.s390x_alloc.specs.Contents.{contents_after_move};
 ghost use Rattle.s390x_alloc.specs.Locations.{IsMapOf};
 ghost use Rattle.s390x_alloc.specs.Moves.{IsMoved, copy_of, is_no_move, is_unlike, is_unlike_register, is_unmovable, load_of, move_inst, slot_operand, store_of};
 ghost use Rattle.s390x_alloc.specs.declared.plan.EntryPair.{EntryPair as Pair};
@@ -145,9 +145,10 @@ pub fn check_move(
     from: &Place,
 ) -> Result<(), EditCause>
     ensures cause { (list : List Pair) → IsMapOf held.old list
-        → IsMoved layout.now to.now from.now list (moved to.now from.now list) result }
+        → IsMoved layout.now to.now from.now list (contents_after_move to.now from.now list)
+        result }
     ensures held { (list : List Pair) → IsMapOf held.old list →
-        IfOk result (λ _. IsMapOf held.new (moved to.now from.now list)) }
+        IfOk result (λ _. IsMapOf held.new (contents_after_move to.now from.now list)) }
 {
     if is_no_move(layout, held, to, from) {
         return Err(EditCause::Immovable);

@@ -2,7 +2,7 @@
 ghost use Rattle.std.specs.Prelude.{IfOk, MatchResult};
 ghost use Rattle.s390x_alloc.specs.Answered.{IsAnswered};
 ghost use Rattle.s390x_alloc.specs.Blocks.{IsFault};
-ghost use Rattle.s390x_alloc.specs.Checked.{checked};
+ghost use Rattle.s390x_alloc.specs.Checked.{plan_contents};
 ghost use Rattle.s390x_alloc.specs.Walks.{EveryWalkReadsAlike};
 
 use crate::answer::{answer_blocks, copy_constants};
@@ -30,7 +30,7 @@ pub fn check_plan(
     plan: &Plan,
 ) -> Result<AllocatedFunction, PlanFault>
     ensures answer { MatchResult result (IsAnswered layout.now function.now plan.now)
-        (IsFault (checked layout.now function.now.blocks.items plan.now.blocks.items)) }
+        (IsFault (plan_contents layout.now function.now.blocks.items plan.now.blocks.items)) }
     ensures walks { IfOk result
         (λ _. EveryWalkReadsAlike function.now.blocks.items plan.now.blocks.items) }
 {

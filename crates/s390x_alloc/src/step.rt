@@ -2,7 +2,7 @@
 ghost use Rattle.std.specs.Prelude.{◌≡◌, ◌⊎◌, false, List, MatchResult, None, Some, slice_get};
 ghost use Rattle.s390x_alloc.specs.Locations.{IsMapOf, LeadsTo};
 ghost use Rattle.s390x_operands.specs.Operands.{operands, operands_cause};
-ghost use Rattle.s390x_alloc.specs.Steps.{IsCause, after_step, first_unheld, first_unsuited, is_given, is_held, operands_fault, suits_constraint, suits_operand, unreported};
+ghost use Rattle.s390x_alloc.specs.Steps.{IsCause, after_step, first_unheld, first_unsuited, is_given, is_held, operands_fault, suits_constraint, suits_operand, unreported_cause};
 ghost use Rattle.s390x_alloc.specs.declared.plan.EntryPair.{EntryPair as Pair};
 
 use crate::assigned::{GivenOperand, count_operands, given_operands};
@@ -106,10 +106,11 @@ fn operands_fault(regs: &[Reg], operands: &[GivenOperand], held: &LocationMap) -
 }
 
 // What the instruction reports, or the cause why it doesn't.
-fn reported(alloc: Global, inst: &Inst) -> Result<OperandList, EditCause>
+fn operands_or_cause(alloc: Global, inst: &Inst) -> Result<OperandList, EditCause>
     ensures { MatchResult result
         (λ list. (operands_cause false inst.now ≡ None) × (list.items.items ≡ operands inst.now))
-        (λ c. (c ≡ EditCause.NoMemory) ⊎ (unreported (operands_cause false inst.now) ≡ Some c)) }
+        (λ c. (c ≡ EditCause.NoMemory)
+        ⊎ (unreported_cause (operands_cause false inst.now) ≡ Some c)) }
 {
     let mut list = OperandList::new(alloc);
     match inst.get_operands(&mut list) {
@@ -131,7 +132,7 @@ pub fn check_step(
         (λ _. LeadsTo (after_step inst.now regs.now list) held.new)
         (IsCause (after_step inst.now regs.now list)) }
 {
-    let list = reported(alloc, inst)?;
+    let list = operands_or_cause(alloc, inst)?;
     if count_operands(list.items()) != regs.len() {
         return Err(EditCause::Miscounted);
     }

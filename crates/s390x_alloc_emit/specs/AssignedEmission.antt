@@ -11,7 +11,7 @@ use Rattle.s390x_typed_steps.specs.Causes.{declared_in}
 use Rattle.s390x_typed_steps.specs.Stack.{state_after}
 use Rattle.s390x_operands.specs.Meets.{Meets}
 use Rattle.s390x_operands.specs.Operands.{operands}
-use Rattle.s390x_assign.specs.Assignments.{IsAssignAnswer, replaced}
+use Rattle.s390x_assign.specs.Assignments.{IsAssignAnswer, replaced_operands}
 use Rattle.s390x_alloc_laws.specs.Allocatable.{IsAllocatable, IsAssigned, Place, Spares}
 use Rattle.s390x_alloc_laws.specs.Emitted.{ChangesOnlyOutputs}
 use Rattle.s390x_emit_int.specs.Emission.{own_fragments}
@@ -34,7 +34,7 @@ pub record MayBeGiven (flags : IsaFlags) (before : Emission) (sink : BufferState
 -- one instruction is another with these registers, as `assign` answers it
 pub record IsGiven (i : Inst) (registers : List Reg) (j : Inst) : Type 0 where
   pub assigned : IsAssigned i registers j
-  pub operands : operands j ≡ replaced (operands i) registers
+  pub operands : operands j ≡ replaced_operands (operands i) registers
   pub answer : IsAssignAnswer i registers (Ok j)
 
 -- why an instruction isn't emitted into a buffer

@@ -11,13 +11,13 @@ use Rattle.s390x_inst.specs.declared.args.MemArg.{MemArg}
 use Rattle.s390x_inst.specs.declared.args.MemArg.TheVariants.{BXD12, BXD20, RegOffset, Label, Constant}
 use Rattle.s390x_inst.specs.declared.inst.Inst.{Inst}
 use Rattle.s390x_operands.specs.declared.constraint.Reported.{Reported}
-use Rattle.s390x_operands.specs.Requests.{items_of, memory_requests, scratch_request, used, defined, reused, range_requests}
+use Rattle.s390x_operands.specs.Requests.{items_of, memory_requests, scratch_request, reported_use, reported_def, reported_reuse, range_requests}
 use Rattle.s390x_assign.specs.Assignments.{register_at, after, memory_at}
 use Rattle.s390x_rows.specs.declared.opcodes.TheConstants as opcodes
 use Rattle.s390x_typed_steps.proofs.Causes.{first_left, first_right, unless_true}
 use Rattle.s390x_typed_steps.specs.Causes.{first_emit_cause, unless, facility_cause, Declared, bound_cause, alignment_cause, boundary, late_cause, target_cause, loses_scratch, addend_fits, memory_cause, memory_cause_or, instruction_cause}
 use Rattle.s390x_typed_steps.specs.Resolved.{resolved_instruction}
-use Rattle.s390x_typed_steps.specs.Operands.{resolved, is_numbered, is_far, is_helped, finalized, has_form, loses_base, offset_fits, operand_general}
+use Rattle.s390x_typed_steps.specs.Operands.{resolved_operand, is_numbered, is_far, is_helped, finalized_operand, has_form, loses_base, offset_fits, operand_general}
 use Rattle.s390x_typed_steps.specs.Memory.{MemoryInstruction, type_of, operate, compare_and_swap, memory, with_rows, other_rows, without_relative, loaded_memory, StorageForm, multiple, holds_scratch, load_and_operate}
 use Rattle.s390x_typed_steps.specs.General.{is_general, reuses}
 use Rattle.s390x_alloc_laws.specs.Allocatable.{IsVirtual, MemoryMayStand, IsNotBlamed, Place, refusal, own_refusal, lacks_row, IsFreeRange}
@@ -51,7 +51,7 @@ alignment_clear D b m = clear
 
 pub keeps_scratch : (x : MemoryInstruction) → loses_base x.operand ≡ false → x.reads_scratch ≡ false → loses_scratch x ≡ false
 keeps_scratch x p q =
-    let helped : Bool = is_helped (finalized (type_of x.form x.accesses) x.operand).helpers in
+    let helped : Bool = is_helped (finalized_operand (type_of x.form x.accesses) x.operand).helpers in
     ap (λ b. b || (x.reads_scratch && helped)) p ∙ ap (λ b. b && helped) q
 
 late_clear : (x : MemoryInstruction) → loses_scratch x ≡ false → IsNotBlamed (late_cause x)
@@ -139,17 +139,17 @@ accessing P j j' o o' is is' h f = body_clear P j o o' (lacks_row P (placed_in P
 
 -- what the registers of an operand have
 pub record Addressed (e : Emission) (m : MemArg) (s s' : List Reg) : Type 0 where
-  pub general : Passes (operand_general (resolved e (memory_at m s').0)) (operand_general (resolved e (memory_at m s).0))
-  pub keeps : loses_base (resolved e (memory_at m s).0) ≡ false
+  pub general : Passes (operand_general (resolved_operand e (memory_at m s').0)) (operand_general (resolved_operand e (memory_at m s).0))
+  pub keeps : loses_base (resolved_operand e (memory_at m s).0) ≡ false
 
 -- other requests may come behind it
 addressed_before : (e : Emission) (m : MemArg) (xs : List (Option Reported)) (all all' s s' : List Reg) → MemoryMayStand m → Gives all all' s s' (items_of (memory_requests m ++ xs)) → Addressed e m s s'
 addressed_before e (BXD12 base index disp flags) xs all all' s s' may g =
-    let n : Next base all all' s s' (items_of (used index ∷ scratch_request ∷ xs)) = used_given base (used index ∷ scratch_request ∷ xs) all all' s s' g in
+    let n : Next base all all' s s' (items_of (reported_use index ∷ scratch_request ∷ xs)) = used_given base (reported_use index ∷ scratch_request ∷ xs) all all' s s' g in
     let k : Next index all all' (after base s) (after base s') (items_of (scratch_request ∷ xs)) = used_given index (scratch_request ∷ xs) all all' (after base s) (after base s') n.rest in
     record { general = and_passes (is_general (register_at base s)) (is_general (register_at base s')) (is_general (register_at index (after base s))) (is_general (register_at index (after base s'))) n.given.passes k.given.passes; keeps = refl }
 addressed_before e (BXD20 base index disp flags) xs all all' s s' may g =
-    let n : Next base all all' s s' (items_of (used index ∷ scratch_request ∷ xs)) = used_given base (used index ∷ scratch_request ∷ xs) all all' s s' g in
+    let n : Next base all all' s s' (items_of (reported_use index ∷ scratch_request ∷ xs)) = used_given base (reported_use index ∷ scratch_request ∷ xs) all all' s s' g in
     let k : Next index all all' (after base s) (after base s') (items_of (scratch_request ∷ xs)) = used_given index (scratch_request ∷ xs) all all' (after base s) (after base s') n.rest in
     record { general = and_passes (is_general (register_at base s)) (is_general (register_at base s')) (is_general (register_at index (after base s))) (is_general (register_at index (after base s'))) n.given.passes k.given.passes; keeps = refl }
 addressed_before e (RegOffset reg off flags) xs all all' s s' may g =
@@ -167,29 +167,29 @@ addressed_by e m all all' s s' may g = record { general = λ h. h; keeps = refl 
 abbrev IsFollowed : (Reg → MemArg → Option MemoryInstruction) → Type 0
 IsFollowed o = (q q' : Reg) (m m' : MemArg) → Passes (is_general q') (is_general q) → is_numbered 1 q ≡ false → Passes (operand_general m') (operand_general m) → loses_base m ≡ false → AllFollow (o q m) (o q' m')
 
-pub access1 : (P : Place) (f : Reg → Option Reported) → IsGiven f → (mk : Reg → MemArg → Inst) (o : Reg → MemArg → Option MemoryInstruction) → IsFollowed o → ((a : Reg) (m : MemArg) → IsAccess P (mk a m) (o a (resolved P.state m))) → (a : Reg) (m : MemArg) (s s' : List Reg) → IsVirtual a →
+pub access1 : (P : Place) (f : Reg → Option Reported) → IsGiven f → (mk : Reg → MemArg → Inst) (o : Reg → MemArg → Option MemoryInstruction) → IsFollowed o → ((a : Reg) (m : MemArg) → IsAccess P (mk a m) (o a (resolved_operand P.state m))) → (a : Reg) (m : MemArg) (s s' : List Reg) → IsVirtual a →
     MemoryMayStand m → Gives s s' s s' (items_of (f a ∷ memory_requests m)) → refusal P (mk (register_at a s') (memory_at m (after a s')).0) ≡ None → IsNotBlamed (refusal P (mk (register_at a s) (memory_at m (after a s)).0))
 access1 P f F mk o follow is a m s s' v may g h =
     let n : Next a s s' s s' (items_of (memory_requests m)) = F a (memory_requests m) s s' s s' g in
     let k : Addressed P.state m (after a s) (after a s') = addressed_by P.state m s s' (after a s) (after a s') may n.rest in
     let x : Reg = register_at a s in let x' : Reg = register_at a s' in
     let y : MemArg = (memory_at m (after a s)).0 in let y' : MemArg = (memory_at m (after a s')).0 in
-    accessing P (mk x y) (mk x' y') (o x (resolved P.state y)) (o x' (resolved P.state y')) (is x y) (is x' y') h (follow x x' (resolved P.state y) (resolved P.state y') n.given.passes (n.given.no_scratch (virtual_addresses a v)) k.general k.keeps)
+    accessing P (mk x y) (mk x' y') (o x (resolved_operand P.state y)) (o x' (resolved_operand P.state y')) (is x y) (is x' y') h (follow x x' (resolved_operand P.state y) (resolved_operand P.state y') n.given.passes (n.given.no_scratch (virtual_addresses a v)) k.general k.keeps)
 
-pub access0 : (P : Place) (mk : MemArg → Inst) (o : MemArg → Option MemoryInstruction) → ((m m' : MemArg) → Passes (operand_general m') (operand_general m) → loses_base m ≡ false → AllFollow (o m) (o m')) → ((m : MemArg) → IsAccess P (mk m) (o (resolved P.state m))) → (m : MemArg) (s s' : List Reg) →
+pub access0 : (P : Place) (mk : MemArg → Inst) (o : MemArg → Option MemoryInstruction) → ((m m' : MemArg) → Passes (operand_general m') (operand_general m) → loses_base m ≡ false → AllFollow (o m) (o m')) → ((m : MemArg) → IsAccess P (mk m) (o (resolved_operand P.state m))) → (m : MemArg) (s s' : List Reg) →
     MemoryMayStand m → Gives s s' s s' (items_of (memory_requests m)) → refusal P (mk (memory_at m s').0) ≡ None → IsNotBlamed (refusal P (mk (memory_at m s).0))
 access0 P mk o follow is m s s' may g h =
     let k : Addressed P.state m s s' = addressed_by P.state m s s' s s' may g in
     let y : MemArg = (memory_at m s).0 in let y' : MemArg = (memory_at m s').0 in
-    accessing P (mk y) (mk y') (o (resolved P.state y)) (o (resolved P.state y')) (is y) (is y') h (follow (resolved P.state y) (resolved P.state y') k.general k.keeps)
+    accessing P (mk y) (mk y') (o (resolved_operand P.state y)) (o (resolved_operand P.state y')) (is y) (is y') h (follow (resolved_operand P.state y) (resolved_operand P.state y') k.general k.keeps)
 
 -- requests that take no register come behind the operand
-pub access_before : (P : Place) (mk : MemArg → Inst) (o : MemArg → Option MemoryInstruction) → ((m m' : MemArg) → Passes (operand_general m') (operand_general m) → loses_base m ≡ false → AllFollow (o m) (o m')) → ((m : MemArg) → IsAccess P (mk m) (o (resolved P.state m))) → (m : MemArg) (xs : List (Option Reported)) (s s' : List Reg) →
+pub access_before : (P : Place) (mk : MemArg → Inst) (o : MemArg → Option MemoryInstruction) → ((m m' : MemArg) → Passes (operand_general m') (operand_general m) → loses_base m ≡ false → AllFollow (o m) (o m')) → ((m : MemArg) → IsAccess P (mk m) (o (resolved_operand P.state m))) → (m : MemArg) (xs : List (Option Reported)) (s s' : List Reg) →
     MemoryMayStand m → Gives s s' s s' (items_of (memory_requests m ++ xs)) → refusal P (mk (memory_at m s').0) ≡ None → IsNotBlamed (refusal P (mk (memory_at m s).0))
 access_before P mk o follow is m xs s s' may g h =
     let k : Addressed P.state m s s' = addressed_before P.state m xs s s' s s' may g in
     let y : MemArg = (memory_at m s).0 in let y' : MemArg = (memory_at m s').0 in
-    accessing P (mk y) (mk y') (o (resolved P.state y)) (o (resolved P.state y')) (is y) (is y') h (follow (resolved P.state y) (resolved P.state y') k.general k.keeps)
+    accessing P (mk y) (mk y') (o (resolved_operand P.state y)) (o (resolved_operand P.state y')) (is y) (is y') h (follow (resolved_operand P.state y) (resolved_operand P.state y') k.general k.keeps)
 
 range_spares : (first last : Reg) → IsFreeRange first last → holds_scratch first last ≡ false
 range_spares (Real p) (Real q) (inl h) = ap (λ b. b && nat_le 1 q.number) (lt-leb p.number 1 h)
@@ -212,21 +212,21 @@ operate_follows : (row : Bool) (rx rxy : Option ℕ) (d d' i i' : Reg) (m m' : M
 operate_follows true rx rxy d d' i i' m m' v n p k = record { valid = v; general = p; keeps_base = k; reads_none = n }
 operate_follows false rx rxy d d' i i' m m' v n p k = tt
 
-pub reuse_access : (P : Place) (mk : Reg → Reg → MemArg → Inst) (row : Bool) (rx rxy : Option ℕ) → ((d i : Reg) (m : MemArg) → IsAccess P (mk d i m) (operate row rx rxy d i (resolved P.state m))) → (d i : Reg) (m : MemArg) (s s' : List Reg) → IsVirtual d → IsVirtual i → MemoryMayStand m →
-    Gives s s' s s' (items_of (reused d ∷ used i ∷ memory_requests m)) → refusal P (mk (register_at d s') (register_at i (after d s')) (memory_at m (after i (after d s'))).0) ≡ None → IsNotBlamed (refusal P (mk (register_at d s) (register_at i (after d s)) (memory_at m (after i (after d s))).0))
+pub reuse_access : (P : Place) (mk : Reg → Reg → MemArg → Inst) (row : Bool) (rx rxy : Option ℕ) → ((d i : Reg) (m : MemArg) → IsAccess P (mk d i m) (operate row rx rxy d i (resolved_operand P.state m))) → (d i : Reg) (m : MemArg) (s s' : List Reg) → IsVirtual d → IsVirtual i → MemoryMayStand m →
+    Gives s s' s s' (items_of (reported_reuse d ∷ reported_use i ∷ memory_requests m)) → refusal P (mk (register_at d s') (register_at i (after d s')) (memory_at m (after i (after d s'))).0) ≡ None → IsNotBlamed (refusal P (mk (register_at d s) (register_at i (after d s)) (memory_at m (after i (after d s))).0))
 reuse_access P mk row rx rxy is d i m s s' v w may g h =
     let n : Reused d i s s' (items_of (memory_requests m)) = reused_given d i (memory_requests m) s s' v w g in
     let k : Addressed P.state m (after i (after d s)) (after i (after d s')) = addressed_by P.state m s s' (after i (after d s)) (after i (after d s')) may n.rest in
     let x : Reg = register_at d s in let x' : Reg = register_at d s' in
     let y : Reg = register_at i (after d s) in let y' : Reg = register_at i (after d s') in
     let z : MemArg = (memory_at m (after i (after d s))).0 in let z' : MemArg = (memory_at m (after i (after d s'))).0 in
-    accessing P (mk x y z) (mk x' y' z') (operate row rx rxy x y (resolved P.state z)) (operate row rx rxy x' y' (resolved P.state z')) (is x y z) (is x' y' z') h (operate_follows row rx rxy x x' y y' (resolved P.state z) (resolved P.state z') n.passes n.no_scratch k.general k.keeps)
+    accessing P (mk x y z) (mk x' y' z') (operate row rx rxy x y (resolved_operand P.state z)) (operate row rx rxy x' y' (resolved_operand P.state z')) (is x y z) (is x' y' z') h (operate_follows row rx rxy x x' y y' (resolved_operand P.state z) (resolved_operand P.state z') n.passes n.no_scratch k.general k.keeps)
 
-pub swap_access : (P : Place) (mk : Reg → Reg → Reg → MemArg → Inst) (rs : Option ℕ) (opcode : ℕ) → ((d i b : Reg) (m : MemArg) → IsAccess P (mk d i b m) (compare_and_swap rs opcode d i b (resolved P.state m))) → (d i b : Reg) (m : MemArg) (s s' : List Reg) → IsVirtual d → IsVirtual i → IsVirtual b →
-    MemoryMayStand m → Gives s s' s s' (items_of (reused d ∷ used i ∷ used b ∷ memory_requests m)) → refusal P (mk (register_at d s') (register_at i (after d s')) (register_at b (after i (after d s'))) (memory_at m (after b (after i (after d s')))).0) ≡ None →
+pub swap_access : (P : Place) (mk : Reg → Reg → Reg → MemArg → Inst) (rs : Option ℕ) (opcode : ℕ) → ((d i b : Reg) (m : MemArg) → IsAccess P (mk d i b m) (compare_and_swap rs opcode d i b (resolved_operand P.state m))) → (d i b : Reg) (m : MemArg) (s s' : List Reg) → IsVirtual d → IsVirtual i → IsVirtual b →
+    MemoryMayStand m → Gives s s' s s' (items_of (reported_reuse d ∷ reported_use i ∷ reported_use b ∷ memory_requests m)) → refusal P (mk (register_at d s') (register_at i (after d s')) (register_at b (after i (after d s'))) (memory_at m (after b (after i (after d s')))).0) ≡ None →
     IsNotBlamed (refusal P (mk (register_at d s) (register_at i (after d s)) (register_at b (after i (after d s))) (memory_at m (after b (after i (after d s)))).0))
 swap_access P mk rs opcode is d i b m s s' v w u may g h =
-    let n : Reused d i s s' (items_of (used b ∷ memory_requests m)) = reused_given d i (used b ∷ memory_requests m) s s' v w g in
+    let n : Reused d i s s' (items_of (reported_use b ∷ memory_requests m)) = reused_given d i (reported_use b ∷ memory_requests m) s s' v w g in
     let t : List Reg = after i (after d s) in let t' : List Reg = after i (after d s') in
     let l : Next b s s' t t' (items_of (memory_requests m)) = used_given b (memory_requests m) s s' t t' n.rest in
     let k : Addressed P.state m (after b t) (after b t') = addressed_by P.state m s s' (after b t) (after b t') may l.rest in
@@ -234,7 +234,7 @@ swap_access P mk rs opcode is d i b m s s' v w u may g h =
     let y : Reg = register_at i (after d s) in let y' : Reg = register_at i (after d s') in
     let c : Reg = register_at b t in let c' : Reg = register_at b t' in
     let z : MemArg = (memory_at m (after b t)).0 in let z' : MemArg = (memory_at m (after b t')).0 in
-    accessing P (mk x y c z) (mk x' y' c' z') (compare_and_swap rs opcode x y c (resolved P.state z)) (compare_and_swap rs opcode x' y' c' (resolved P.state z')) (is x y c z) (is x' y' c' z') h
+    accessing P (mk x y c z) (mk x' y' c' z') (compare_and_swap rs opcode x y c (resolved_operand P.state z)) (compare_and_swap rs opcode x' y' c' (resolved_operand P.state z')) (is x y c z) (is x' y' c' z') h
     (record { valid = and_passes (reuses x y) (reuses x' y') (is_general c) (is_general c') n.passes l.given.passes; general = k.general; keeps_base = k.keeps; reads_none = ap (λ e. e || is_numbered 1 c) n.no_scratch ∙ l.given.no_scratch (virtual_addresses b u) })
 
 changes_follow : (row : Option ℕ) (d d' n n' : Reg) (m m' : MemArg) → Passes (is_general d' && is_general n') (is_general d && is_general n) → is_numbered 1 n ≡ false → Passes (operand_general m') (operand_general m) → loses_base m ≡ false → AllFollow (load_and_operate row d n m) (load_and_operate row d' n' m')
@@ -242,14 +242,14 @@ changes_follow None d d' n n' m m' v k p b = tt
 changes_follow (Some opcode) d d' n n' m m' v k p b = record { valid = v; general = p; keeps_base = b; reads_none = k }
 
 -- an operand in memory that is changed by a register, and what it was in another one
-pub change_access : (P : Place) (mk : Reg → Reg → MemArg → Inst) (row : Option ℕ) → ((d n : Reg) (m : MemArg) → IsAccess P (mk d n m) (load_and_operate row d n (resolved P.state m))) → (d n : Reg) (m : MemArg) (s s' : List Reg) → IsVirtual n → MemoryMayStand m →
-    Gives s s' s s' (items_of (defined d ∷ used n ∷ memory_requests m)) → refusal P (mk (register_at d s') (register_at n (after d s')) (memory_at m (after n (after d s'))).0) ≡ None → IsNotBlamed (refusal P (mk (register_at d s) (register_at n (after d s)) (memory_at m (after n (after d s))).0))
+pub change_access : (P : Place) (mk : Reg → Reg → MemArg → Inst) (row : Option ℕ) → ((d n : Reg) (m : MemArg) → IsAccess P (mk d n m) (load_and_operate row d n (resolved_operand P.state m))) → (d n : Reg) (m : MemArg) (s s' : List Reg) → IsVirtual n → MemoryMayStand m →
+    Gives s s' s s' (items_of (reported_def d ∷ reported_use n ∷ memory_requests m)) → refusal P (mk (register_at d s') (register_at n (after d s')) (memory_at m (after n (after d s'))).0) ≡ None → IsNotBlamed (refusal P (mk (register_at d s) (register_at n (after d s)) (memory_at m (after n (after d s))).0))
 change_access P mk row is d n m s s' v may g h =
-    let a : Next d s s' s s' (items_of (used n ∷ memory_requests m)) = defined_given d (used n ∷ memory_requests m) s s' s s' g in
+    let a : Next d s s' s s' (items_of (reported_use n ∷ memory_requests m)) = defined_given d (reported_use n ∷ memory_requests m) s s' s s' g in
     let b : Next n s s' (after d s) (after d s') (items_of (memory_requests m)) = used_given n (memory_requests m) s s' (after d s) (after d s') a.rest in
     let k : Addressed P.state m (after n (after d s)) (after n (after d s')) = addressed_by P.state m s s' (after n (after d s)) (after n (after d s')) may b.rest in
     let x : Reg = register_at d s in let x' : Reg = register_at d s' in
     let y : Reg = register_at n (after d s) in let y' : Reg = register_at n (after d s') in
     let z : MemArg = (memory_at m (after n (after d s))).0 in let z' : MemArg = (memory_at m (after n (after d s'))).0 in
-    accessing P (mk x y z) (mk x' y' z') (load_and_operate row x y (resolved P.state z)) (load_and_operate row x' y' (resolved P.state z')) (is x y z) (is x' y' z') h
-    (changes_follow row x x' y y' (resolved P.state z) (resolved P.state z') (and_passes (is_general x) (is_general x') (is_general y) (is_general y') a.given.passes b.given.passes) (b.given.no_scratch (virtual_addresses n v)) k.general k.keeps)
+    accessing P (mk x y z) (mk x' y' z') (load_and_operate row x y (resolved_operand P.state z)) (load_and_operate row x' y' (resolved_operand P.state z')) (is x y z) (is x' y' z') h
+    (changes_follow row x x' y y' (resolved_operand P.state z) (resolved_operand P.state z') (and_passes (is_general x) (is_general x') (is_general y) (is_general y') a.given.passes b.given.passes) (b.given.no_scratch (virtual_addresses n v)) k.general k.keeps)

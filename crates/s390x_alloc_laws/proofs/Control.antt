@@ -12,7 +12,7 @@ use Rattle.s390x_base.specs.declared.regs.RegClass.{RegClass}
 use Rattle.s390x_base.specs.declared.regs.RegClass.TheVariants.{Int, Float}
 use Rattle.s390x_inst.specs.declared.inst.Inst.{Inst}
 use Rattle.s390x_operands.specs.declared.constraint.Reported.{Reported}
-use Rattle.s390x_operands.specs.Requests.{items_of, scratch_request, used, defined}
+use Rattle.s390x_operands.specs.Requests.{items_of, scratch_request, reported_use, reported_def}
 use Rattle.s390x_assign.specs.Assignments.{register_at}
 use Rattle.s390x_typed_steps.proofs.Causes.{first_left, unless_true}
 use Rattle.s390x_typed_steps.specs.Causes.{first_emit_cause, unless, labels_cause, target_label_cause, table_cause}
@@ -69,7 +69,7 @@ ordinary_unscratched (Real p) o g = other_number p.class p.number 1 (and_left (i
 ordinary_unscratched (Virtual n c) o g = absurd o
 
 -- a virtual input is given an ordinary register
-ordinary_given : (r : Reg) (xs : List (Option Reported)) (all all' s s' : List Reg) → IsVirtual r → Gives all all' s s' (items_of (used r ∷ xs)) → IsOrdinary (register_at r s)
+ordinary_given : (r : Reg) (xs : List (Option Reported)) (all all' s s' : List Reg) → IsVirtual r → Gives all all' s s' (items_of (reported_use r ∷ xs)) → IsOrdinary (register_at r s)
 ordinary_given (Real p) xs all all' s s' v g = absurd v
 ordinary_given (Virtual n c) xs all all' [] s' v g = absurd g.meet
 ordinary_given (Virtual n c) xs all all' (q ∷ s) s' v g = g.spare.0
@@ -80,7 +80,7 @@ addresses q q' o f h =
     let g : is_general q ≡ true = f (and_left (is_general q') (is_nonzero q') h) in
     and_both (is_general q) (is_nonzero q) g (ordinary_nonzero q o g)
 
-pub branch : (P : Place) (rn : Reg) (targets : List MachLabel) (s s' : List Reg) → IsVirtual rn → Gives s s' s s' (items_of (used rn ∷ [])) → portion_refusal P (indirect_branch (register_at rn s') targets) ≡ None → IsNotBlamed (portion_refusal P (indirect_branch (register_at rn s) targets))
+pub branch : (P : Place) (rn : Reg) (targets : List MachLabel) (s s' : List Reg) → IsVirtual rn → Gives s s' s s' (items_of (reported_use rn ∷ [])) → portion_refusal P (indirect_branch (register_at rn s') targets) ≡ None → IsNotBlamed (portion_refusal P (indirect_branch (register_at rn s) targets))
 branch P rn targets s s' v g h =
     let n : Next rn s s' s s' [] = used_given rn [] s s' s s' g in
     let x : Reg = register_at rn s in let x' : Reg = register_at rn s' in
@@ -95,7 +95,7 @@ later_clear blocks q other targets h =
     let rest : Option EmitError = first_emit_cause (target_label_cause blocks other) (labels_cause blocks targets) in
     subst (λ b. IsNotBlamed (first_emit_cause (unless (not b) ScratchConflict) rest)) (sym h) (first_clear (target_label_cause blocks other) (labels_cause blocks targets) (target_clear blocks other) (labels_clear blocks targets))
 
-pub table : (P : Place) (ridx : Reg) (other : MachLabel) (mask : ℕ) (targets : List MachLabel) (s s' : List Reg) → IsVirtual ridx → Gives s s' s s' (items_of (used ridx ∷ scratch_request ∷ [])) →
+pub table : (P : Place) (ridx : Reg) (other : MachLabel) (mask : ℕ) (targets : List MachLabel) (s s' : List Reg) → IsVirtual ridx → Gives s s' s s' (items_of (reported_use ridx ∷ scratch_request ∷ [])) →
     portion_refusal P (jump_table (register_at ridx s') other mask targets) ≡ None → IsNotBlamed (portion_refusal P (jump_table (register_at ridx s) other mask targets))
 table P ridx other mask targets s s' v g h =
     let n : Next ridx s s' s s' (items_of (scratch_request ∷ [])) = used_given ridx (scratch_request ∷ []) s s' s s' g in
@@ -107,7 +107,7 @@ table P ridx other mask targets s s' v g h =
     registers_first (is_general x && is_nonzero x) (is_general x' && is_nonzero x') (later_cause blocks x other targets) (later_cause blocks x' other targets) (later_clear blocks x other targets (ordinary_unscratched x o real)) h (addresses x x' o n.given.passes)
 
 -- a register and the label of a place
-pub label_address : (P : Place) (d : Reg) (label : MachLabel) (s s' : List Reg) → Gives s s' s s' (items_of (defined d ∷ [])) → refusal P (LabelAddress (register_at d s') label) ≡ None → IsNotBlamed (refusal P (LabelAddress (register_at d s) label))
+pub label_address : (P : Place) (d : Reg) (label : MachLabel) (s s' : List Reg) → Gives s s' s s' (items_of (reported_def d ∷ [])) → refusal P (LabelAddress (register_at d s') label) ≡ None → IsNotBlamed (refusal P (LabelAddress (register_at d s) label))
 label_address P d label s s' g h =
     let n : Next d s s' s s' [] = defined_given d [] s s' s s' g in
     registers_first (is_general (register_at d s)) (is_general (register_at d s')) (target_label_cause P.declared.blocks label) (target_label_cause P.declared.blocks label) (target_clear P.declared.blocks label) h n.given.passes

@@ -17,7 +17,7 @@ use Rattle.s390x_lanes.specs.Size.{element_bits, lane_count}
 use Rattle.s390x_lanes.specs.Results.{vector_result}
 use Rattle.s390x_lanes.specs.declared.size.ElementSize.{ElementSize}
 use Rattle.s390x_operands.specs.Meets.{MeetsEach}
-use Rattle.s390x_operands.specs.Requests.{items_of, scratch_request, defined}
+use Rattle.s390x_operands.specs.Requests.{items_of, scratch_request, reported_def}
 use Rattle.s390x_assign.specs.Assignments.{register_at, after}
 use Rattle.s390x_rows.specs.declared.opcodes.TheConstants as opcodes
 use Rattle.s390x_typed_steps.proofs.Causes.{first_left, unless_true}
@@ -28,7 +28,7 @@ use Rattle.s390x_typed_steps.specs.Operands.{operand_general}
 use Rattle.s390x_typed_steps.specs.SingleInstruction.{two_row}
 use Rattle.s390x_operations.specs.State.{Registers, Core, set_vector, with_code}
 use Rattle.s390x_operations.specs.Effects.{is_selected}
-use Rattle.s390x_operations.specs.Vectors.{loaded}
+use Rattle.s390x_operations.specs.Vectors.{register_after_load}
 use Rattle.s390x_operations.specs.declared.effect.VectorLayout.{VectorLayout}
 use Rattle.s390x_operations.specs.declared.effect.CodeRule.TheVariants.{Kept}
 use Rattle.s390x_operations.specs.declared.effect.Effect.TheVariants.{Compute, PutVector}
@@ -73,7 +73,7 @@ extracts_written size d n base displacement r changed f =
 
 puts_written : (size : ElementSize) (known d index x : ℕ) (r : Registers) (changed : List Reg) → Covers changed (Real (vector d) ∷ []) → Covers changed (written (puts_element size known d index x r).effect)
 puts_written size known d index x r changed f =
-    let held : ℕ = loaded (VectorLayout.Element size index false) (r.vector d) (x % 2 ^ element_bits size) in
+    let held : ℕ = register_after_load (VectorLayout.Element size index false) (r.vector d) (x % 2 ^ element_bits size) in
     one_written (nat_lt index (lane_count size)) (with_rule Kept (PutVector d known held)) (with_rule Kept (PutVector d 0 0)) changed f f
 
 pub inserts_written : (size : ElementSize) (d n base displacement : ℕ) (r : Registers) (changed : List Reg) → Covers changed (Real (vector d) ∷ []) → Covers changed (written (inserts_lane size d n base displacement r).effect)
@@ -120,18 +120,18 @@ vector_valid valid m (Some x) (inr y) v = and_left valid (operand_general m) (su
 
 -- ---- places
 
-pub relocation_kept : (P : Place) (L : Layout) (rd : Reg) (reloc : SymbolReloc) (s : List Reg) → IsVirtual rd → MeetsEach s (items_of (defined rd ∷ scratch_request ∷ [])) s → refusal P (LoadSymbolReloc (register_at rd s) reloc) ≡ None → InstKeeps L (outputs (items_of (defined rd ∷ scratch_request ∷ [])) s) (LoadSymbolReloc (register_at rd s) reloc)
+pub relocation_kept : (P : Place) (L : Layout) (rd : Reg) (reloc : SymbolReloc) (s : List Reg) → IsVirtual rd → MeetsEach s (items_of (reported_def rd ∷ scratch_request ∷ [])) s → refusal P (LoadSymbolReloc (register_at rd s) reloc) ≡ None → InstKeeps L (outputs (items_of (reported_def rd ∷ scratch_request ∷ [])) s) (LoadSymbolReloc (register_at rd s) reloc)
 relocation_kept P L rd reloc s m g h =
     let x : Reg = register_at rd s in
-    let changed : List Reg = outputs (items_of (defined rd ∷ scratch_request ∷ [])) s in
+    let changed : List Reg = outputs (items_of (reported_def rd ∷ scratch_request ∷ [])) s in
     let valid : is_general x ≡ true = single_valid P (LoadSymbolReloc x reloc) (is_general x) (two_row (Some opcodes.LGR) (number_of x) 0) refl h in
     let rest = defined_passed rd (scratch_request ∷ []) s s g in
-    (performs_keeps L changed true (computes_immediate Kept (on_doublewords Move) (number_of x) (number_of x) (linked_value L reloc)) no_code (λ r. first_listed defined defined_output is_general general_target general_written rd (scratch_request ∷ []) s m g valid) (λ q a. scratch_listed [] (after rd s) q (rest.0 q a)), nothing L changed)
+    (performs_keeps L changed true (computes_immediate Kept (on_doublewords Move) (number_of x) (number_of x) (linked_value L reloc)) no_code (λ r. first_listed reported_def defined_output is_general general_target general_written rd (scratch_request ∷ []) s m g valid) (λ q a. scratch_listed [] (after rd s) q (rest.0 q a)), nothing L changed)
 
-pub label_kept : (P : Place) (L : Layout) (dst : Reg) (label : MachLabel) (s : List Reg) → IsVirtual dst → MeetsEach s (items_of (defined dst ∷ [])) s → refusal P (LabelAddress (register_at dst s) label) ≡ None → InstKeeps L (outputs (items_of (defined dst ∷ [])) s) (LabelAddress (register_at dst s) label)
+pub label_kept : (P : Place) (L : Layout) (dst : Reg) (label : MachLabel) (s : List Reg) → IsVirtual dst → MeetsEach s (items_of (reported_def dst ∷ [])) s → refusal P (LabelAddress (register_at dst s) label) ≡ None → InstKeeps L (outputs (items_of (reported_def dst ∷ [])) s) (LabelAddress (register_at dst s) label)
 label_kept P L dst label s m g h =
     let x : Reg = register_at dst s in
     let real = unless (is_general x) BadRegister in
     let place = target_label_cause P.declared.blocks label in
     let valid : is_general x ≡ true = unless_true (is_general x) BadRegister (first_left real place h) in
-    does L (outputs (items_of (defined dst ∷ [])) s) (computes_immediate Kept (on_doublewords Move) (number_of x) (number_of x) (block_address L label.0)) no_code (λ r. first_listed defined defined_output is_general general_target general_written dst [] s m g valid)
+    does L (outputs (items_of (reported_def dst ∷ [])) s) (computes_immediate Kept (on_doublewords Move) (number_of x) (number_of x) (block_address L label.0)) no_code (λ r. first_listed reported_def defined_output is_general general_target general_written dst [] s m g valid)

@@ -5,11 +5,11 @@ use Rattle.s390x_base.specs.Registers.{general, vector}
 use Rattle.s390x_base.specs.declared.regs.Reg.{Reg}
 use Rattle.s390x_base.specs.declared.regs.Reg.TheVariants.{Real}
 use Rattle.s390x_operations.specs.State.{Registers, Core, update, set_general, set_vector, with_code, number_at, wrapping_add64}
-use Rattle.s390x_operations.specs.Values.{value, taken}
-use Rattle.s390x_operations.specs.Numbers.{whole, signed}
+use Rattle.s390x_operations.specs.Values.{value, operand_value}
+use Rattle.s390x_operations.specs.Numbers.{modulus, signed_number}
 use Rattle.s390x_operations.specs.Unsigned.{wide_product, signed_division, unsigned_division}
 use Rattle.s390x_operations.specs.Bits.{leftmost}
-use Rattle.s390x_operations.specs.Effects.{Results, results, merged, found, set_sized, set_pair, set_divided, set_multiple}
+use Rattle.s390x_operations.specs.Effects.{Results, results, with_low_part, number_in_memory, set_sized, set_pair, set_divided, set_multiple}
 use Rattle.s390x_operations.specs.declared.effect.Effect.{Effect}
 use Rattle.s390x_operations.specs.declared.effect.Effect.TheVariants.{Compute, MultiplyPair, DividePair, DivideLogicalPair, FindLeftmostOne, LoadAndOperate, CompareAndSwap, LoadMultiple, Havoc}
 use Rattle.s390x_operations.specs.declared.effect.Effect.TheVariants.{ComputeVector, PutVector, LoadVector}
@@ -102,7 +102,7 @@ written (LoadVector layout target old known address) = Real (vector target) ∷ 
 written _ = []
 
 sized_set : (size : Size) (r : Registers) (target x : ℕ) → KeepsOthers (Real (general target) ∷ []) r (set_sized size r target x)
-sized_set size r target x = general_set r target (merged size (r.general target) x)
+sized_set size r target x = general_set r target (with_low_part size (r.general target) x)
 
 pair_set : (size : Size) (r : Registers) (pair : ℕ) (p : Pair) → KeepsOthers (pair_targets pair) r (set_pair size r pair p)
 pair_set size r pair p =
@@ -127,13 +127,13 @@ multiple_set r f first address (suc n) =
 
 -- what it does, where nothing is free
 determined : (effect : Effect) (c : Core) → KeepsOthers (written effect) c.registers (results effect c)
-determined (Compute operator size target first second) c = sized_set size c.registers target (value operator size first (taken size second c.memory))
+determined (Compute operator size target first second) c = sized_set size c.registers target (value operator size first (operand_value size second c.memory))
 determined (MultiplyPair sign pair first second) c = pair_set Doubleword c.registers pair (wide_product sign first second)
-determined (DividePair pair dividend divisor) c = divided_set Doubleword c.registers pair (signed_division (signed Doubleword dividend) (signed Doubleword divisor))
-determined (DivideLogicalPair size pair high low divisor) c = divided_set size c.registers pair (unsigned_division size (high * whole size + low) divisor)
+determined (DividePair pair dividend divisor) c = divided_set Doubleword c.registers pair (signed_division (signed_number Doubleword dividend) (signed_number Doubleword divisor))
+determined (DivideLogicalPair size pair high low divisor) c = divided_set size c.registers pair (unsigned_division size (high * modulus size + low) divisor)
 determined (FindLeftmostOne pair x) c = pair_set Doubleword c.registers pair (leftmost x)
-determined (LoadAndOperate operator size target second address) c = sized_set size c.registers target (found size c.memory address)
-determined (CompareAndSwap size target expected replacement address) c = sized_set size c.registers target (found size c.memory address)
+determined (LoadAndOperate operator size target second address) c = sized_set size c.registers target (number_in_memory size c.memory address)
+determined (CompareAndSwap size target expected replacement address) c = sized_set size c.registers target (number_in_memory size c.memory address)
 determined (LoadMultiple first_register count address) c = multiple_set c.registers c.memory.get first_register address count
 determined effect c = kept_all (written effect) c.registers
 

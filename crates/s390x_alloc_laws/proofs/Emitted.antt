@@ -5,7 +5,7 @@ use Rattle.s390x_inst.specs.Portions.{first_portion}
 use Rattle.s390x_inst.specs.declared.inst.Inst.{Inst}
 use Rattle.s390x_inst.specs.declared.inst.Inst.TheVariants.{Call, CondBreak, Loop', ReturnCall}
 use Rattle.s390x_typed_steps.specs.Baseline.{tree_for, whole_or_loaded}
-use Rattle.s390x_typed_steps.specs.Folding.{branches_of, fold, folded, remainder, shortened}
+use Rattle.s390x_typed_steps.specs.Folding.{branches_of, fold, folded_members, remainder, body_with_remainder}
 use Rattle.s390x_typed_steps.specs.Resolved.{resolved_instruction}
 use Rattle.s390x_typed_steps.specs.StepBody.{Remainder, Whole}
 use Rattle.s390x_typed_steps.specs.Steps.{Step, step_of, steps_of}
@@ -22,7 +22,7 @@ body_step : (after : ℕ) (lacks : Bool) (r : Inst) → IsStepOf r (step_of afte
 body_step after false r = whole_step after r
 body_step after true r = refl
 
-shortened_step : (after : ℕ) (left : Option Remainder) (r : Inst) → IsStepOf r (step_of after (shortened left r))
+shortened_step : (after : ℕ) (left : Option Remainder) (r : Inst) → IsStepOf r (step_of after (body_with_remainder left r))
 shortened_step after None r = whole_step after r
 shortened_step after (Some x) r = refl
 
@@ -38,7 +38,7 @@ one_alone Q s q (suc k) d lt = absurd (omega arith)
 whole_alone : (P : Place) (r : Inst) (k after : ℕ) → All (IsStepOf r) (steps_of k after (tree_for P.flags (leaf (Whole r) empty)))
 whole_alone P r k after = one_alone (IsStepOf r) (step_of after (whole_or_loaded (lacks_row P r) r)) (body_step after (lacks_row P r) r)
 
-folded_alone : (P : Place) (r : Inst) (k after next : ℕ) → All (IsStepOf r) (steps_of k after (folded next (tree_for P.flags (leaf (Whole r) empty))))
+folded_alone : (P : Place) (r : Inst) (k after next : ℕ) → All (IsStepOf r) (steps_of k after (folded_members next (tree_for P.flags (leaf (Whole r) empty))))
 folded_alone P r k after next = one_alone (IsStepOf r) (step_of after (fold next (whole_or_loaded (lacks_row P r) r))) (folded_step after next (lacks_row P r) r)
 
 emitted_steps : (P : Place) (j : Inst) → IsOneStep (first_portion j) → (k after : ℕ) → All (IsStepOf (resolved_instruction P.state j)) (steps_of k after (tree_for P.flags (prepend P.state j empty)))
@@ -47,7 +47,7 @@ emitted_steps P (Call link info) one k after = absurd one
 emitted_steps P (ReturnCall info) one k after = absurd one
 emitted_steps P j one k after = whole_alone P (resolved_instruction P.state j) k after
 
-folded_steps : (P : Place) (j : Inst) → IsOneStep (first_portion j) → (k after next : ℕ) → All (IsStepOf (resolved_instruction P.state j)) (steps_of k after (folded next (tree_for P.flags (prepend P.state j empty))))
+folded_steps : (P : Place) (j : Inst) → IsOneStep (first_portion j) → (k after next : ℕ) → All (IsStepOf (resolved_instruction P.state j)) (steps_of k after (folded_members next (tree_for P.flags (prepend P.state j empty))))
 folded_steps P (Loop' mask body all) one k after next = absurd one
 folded_steps P (Call link info) one k after next = absurd one
 folded_steps P (ReturnCall info) one k after next = absurd one

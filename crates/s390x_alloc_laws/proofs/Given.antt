@@ -15,7 +15,7 @@ use Rattle.s390x_inst.specs.declared.inst.Inst.{Inst}
 use Rattle.s390x_inst.specs.declared.state.IsaFlags.{IsaFlags}
 use Rattle.s390x_operands.specs.declared.constraint.Reported.{Reported}
 use Rattle.s390x_operands.specs.Meets.{MeetsEach}
-use Rattle.s390x_operands.specs.Requests.{items_of, used, defined, reused}
+use Rattle.s390x_operands.specs.Requests.{items_of, reported_use, reported_def, reported_reuse}
 use Rattle.s390x_assign.specs.Assignments.{register_at, after}
 use Rattle.s390x_typed_steps.specs.Causes.{first_emit_cause, unless, facility_cause, numbers_cause}
 use Rattle.s390x_typed_steps.specs.Operands.{is_numbered}
@@ -127,7 +127,7 @@ pub record Next (r : Reg) (all all' s s' : List Reg) (xs : List Reported) : Type
   pub given : Given r (register_at r s) (register_at r s')
   pub rest : Gives all all' (after r s) (after r s') xs
 
-pub used_given : (r : Reg) (xs : List (Option Reported)) (all all' s s' : List Reg) → Gives all all' s s' (items_of (used r ∷ xs)) → Next r all all' s s' (items_of xs)
+pub used_given : (r : Reg) (xs : List (Option Reported)) (all all' s s' : List Reg) → Gives all all' s s' (items_of (reported_use r ∷ xs)) → Next r all all' s s' (items_of xs)
 used_given (Real p) xs all all' s s' g = record { given = record { passes = λ h. h; vector = λ h. h; no_scratch = kept_real p }; rest = record { meet = g.meet; spare = g.spare; possible = g.possible } }
 used_given (Virtual n c) xs all all' [] s' g = absurd g.meet
 used_given (Virtual n c) xs all all' (q ∷ s) [] g = absurd g.possible
@@ -137,7 +137,7 @@ used_given (Virtual n c) xs all all' (q ∷ s) (q' ∷ s') g =
       rest = record { meet = g.meet.1.1; spare = g.spare.1; possible = g.possible.1.1 };
     }
 
-pub defined_given : (r : Reg) (xs : List (Option Reported)) (all all' s s' : List Reg) → Gives all all' s s' (items_of (defined r ∷ xs)) → Next r all all' s s' (items_of xs)
+pub defined_given : (r : Reg) (xs : List (Option Reported)) (all all' s s' : List Reg) → Gives all all' s s' (items_of (reported_def r ∷ xs)) → Next r all all' s s' (items_of xs)
 defined_given (Real p) xs all all' s s' g = record { given = record { passes = λ h. h; vector = λ h. h; no_scratch = kept_real p }; rest = record { meet = g.meet; spare = g.spare; possible = g.possible } }
 defined_given (Virtual n c) xs all all' [] s' g = absurd g.meet
 defined_given (Virtual n c) xs all all' (q ∷ s) [] g = absurd g.possible
@@ -166,7 +166,7 @@ reuses_itself t q p q' p' same f h =
     let g : t q ≡ true = f (and_left (t q') (t p') (and_left (t q' && t p') (nat_eq (number_of q') (number_of p')) h)) in
     subst (λ z. pass_alike t q z ≡ true) (sym same) (and_both (t q && t q) (nat_eq (number_of q) (number_of q)) (and_both (t q) (t q) g g) (eq-eqb (number_of q) (number_of q) refl))
 
-pub reused_given : (rd ri : Reg) (xs : List (Option Reported)) (s s' : List Reg) → IsVirtual rd → IsVirtual ri → Gives s s' s s' (items_of (reused rd ∷ used ri ∷ xs)) → Reused rd ri s s' (items_of xs)
+pub reused_given : (rd ri : Reg) (xs : List (Option Reported)) (s s' : List Reg) → IsVirtual rd → IsVirtual ri → Gives s s' s s' (items_of (reported_reuse rd ∷ reported_use ri ∷ xs)) → Reused rd ri s s' (items_of xs)
 reused_given (Real p) ri xs s s' v w g = absurd v
 reused_given (Virtual n c) (Real p) xs s s' v w g = absurd w
 reused_given (Virtual n c) (Virtual m d) xs [] s' v w g = absurd g.meet

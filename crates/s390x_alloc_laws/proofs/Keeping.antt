@@ -20,11 +20,11 @@ use Rattle.s390x_alloc.specs.declared.plan.Place.{Place}
 use Rattle.s390x_alloc.specs.declared.plan.Place.TheVariants.{Reg as InReg, Slot}
 use Rattle.s390x_alloc.specs.Blocks.{after_move, after_step_of}
 use Rattle.s390x_alloc.specs.Assigned.{given_operands, is_operand}
-use Rattle.s390x_alloc.specs.Contents.{carried, is_in_set, moved, stepped, with_operand, with_operands, without_item, without_items, without_place}
+use Rattle.s390x_alloc.specs.Contents.{carried_pairs, is_in_set, contents_after_move, contents_after_step, with_operand, with_operands, without_item, without_items, without_place}
 use Rattle.s390x_alloc.specs.Moves.{holds_other_class, is_no_move, is_of_other_class, is_unlike, is_unmovable}
 use Rattle.s390x_alloc.specs.Same.{is_reserved, same_class, same_place, same_register}
 use Rattle.s390x_alloc.specs.Shape.{is_empty}
-use Rattle.s390x_alloc.specs.Steps.{cause_or, first_unheld, first_unsuited, miscounted, step_cause, suits_constraint, suits_operand, unheld, unless_cause, unreported, unsuited}
+use Rattle.s390x_alloc.specs.Steps.{cause_or, first_unheld, first_unsuited, count_cause, step_cause, suits_constraint, suits_operand, unheld, unless_cause, unreported_cause, constraint_cause}
 use Rattle.s390x_alloc.proofs.Sameness.{class-same, place-same}
 use Rattle.s390x_alloc_laws.specs.Classes.{AreInTheirClass, EditsKeepClasses, IsInItsClass}
 
@@ -53,9 +53,9 @@ abbrev MayCarry : (to from : Place) → List EntryPair → Type 0
 MayCarry to from [] = ⊤
 MayCarry to from (x ∷ xs) = (same_place x.place from ≡ true → IsInItsClass to x.vreg) × MayCarry to from xs
 
-carried_kept : (to from : Place) (xs : List EntryPair) → MayCarry to from xs → AreInTheirClass (carried to from xs)
+carried_kept : (to from : Place) (xs : List EntryPair) → MayCarry to from xs → AreInTheirClass (carried_pairs to from xs)
 carried_kept to from [] f = tt
-carried_kept to from (x ∷ xs) f = either_kept (same_place x.place from) (record { place = to; vreg = x.vreg }) (carried to from xs) f.0 (carried_kept to from xs f.1)
+carried_kept to from (x ∷ xs) f = either_kept (same_place x.place from) (record { place = to; vreg = x.vreg }) (carried_pairs to from xs) f.0 (carried_kept to from xs f.1)
 
 same_kept : (p q : RealRegister) (r : Reg) → p.class ≡ q.class → IsInItsClass (InReg q) r → IsInItsClass (InReg p) r
 same_kept p q (Real z) h i = tt
@@ -84,10 +84,10 @@ may_carry (InReg p) (InReg q) held h a = from_register p q held (class-same p.cl
 may_carry (InReg p) (Slot s) held h a = from_slot p s held h
 may_carry (Slot s) from held h a = to_slot s from held
 
-moved_kept : (layout : FrameLayout) (to from : Place) (held : List EntryPair) → is_no_move layout to from held ≡ false → AreInTheirClass held → AreInTheirClass (moved to from held)
+moved_kept : (layout : FrameLayout) (to from : Place) (held : List EntryPair) → is_no_move layout to from held ≡ false → AreInTheirClass held → AreInTheirClass (contents_after_move to from held)
 moved_kept layout to from held h a =
     let apart = or_parts (is_unmovable layout to || is_unmovable layout from) (is_unlike to from held) h in
-    append_kept (without_place to held) (carried to from held) (filter_kept (λ (x : EntryPair). not (same_place x.place to)) held a) (carried_kept to from held (may_carry to from held apart.1 a))
+    append_kept (without_place to held) (carried_pairs to from held) (filter_kept (λ (x : EntryPair). not (same_place x.place to)) held a) (carried_kept to from held (may_carry to from held apart.1 a))
 
 move_kept : (misplaced none : Bool) (next behind : List EntryPair) → (none ≡ false → AreInTheirClass next) → after_move misplaced none next ≡ Ok behind → AreInTheirClass behind
 move_kept true none next behind f h = absurd cc
@@ -137,16 +137,16 @@ later_none : (a b : Option EditCause) → cause_or a b ≡ None → b ≡ None
 later_none None b h = h
 later_none (Some c) b h = absurd cc
 
-none_unsuited : (o : Option ℕ) → unsuited o ≡ None → o ≡ None
+none_unsuited : (o : Option ℕ) → constraint_cause o ≡ None → o ≡ None
 none_unsuited None h = refl
 none_unsuited (Some n) h = absurd cc
 
 all_suited : (i : Inst) (regs : List Reg) (held : List EntryPair) → step_cause i regs held ≡ None → first_unsuited regs 0 (given_operands (operands i) regs) ≡ None
 all_suited i regs held h =
     let xs = given_operands (operands i) regs in
-    let reported = later_none (unreported (operands_cause false i)) _ h in
-    let counted = later_none (miscounted (nat_eq (count_by is_operand (operands i)) (length regs))) _ reported in
-    none_unsuited _ (earlier_none (unsuited (first_unsuited regs 0 xs)) (unheld (first_unheld held 0 xs)) counted)
+    let reported = later_none (unreported_cause (operands_cause false i)) _ h in
+    let counted = later_none (count_cause (nat_eq (count_by is_operand (operands i)) (length regs))) _ reported in
+    none_unsuited _ (earlier_none (constraint_cause (first_unsuited regs 0 xs)) (unheld (first_unheld held 0 xs)) counted)
 
 unless_kept : (c : Option EditCause) (next behind : List EntryPair) → (c ≡ None → AreInTheirClass next) → unless_cause c next ≡ Ok behind → AreInTheirClass behind
 unless_kept None next behind f h =
@@ -158,9 +158,9 @@ step_kept : (o : Option Inst) (regs : List Reg) (held behind : List EntryPair) �
 step_kept None regs held behind h a = absurd cc
 step_kept (Some i) regs held behind h a =
     let xs = given_operands (operands i) regs in
-    unless_kept (step_cause i regs held) (stepped (operands i) xs held) behind (λ none. operands_kept regs 0 xs (without_items (operands i) held) (all_suited i regs held none) (items_kept (operands i) held a)) h
+    unless_kept (step_cause i regs held) (contents_after_step (operands i) xs held) behind (λ none. operands_kept regs 0 xs (without_items (operands i) held) (all_suited i regs held none) (items_kept (operands i) held a)) h
 
 pub edits_keep : EditsKeepClasses
 edits_keep layout ends (Move to from) is held behind h a =
-    move_kept (ends && is_empty is) (is_no_move layout to from held) (moved to from held) behind (λ none. moved_kept layout to from held none a) h
+    move_kept (ends && is_empty is) (is_no_move layout to from held) (contents_after_move to from held) behind (λ none. moved_kept layout to from held none a) h
 edits_keep layout ends (Step regs) is held behind h a = step_kept (slice_get is 0) regs.items held behind h a

@@ -13,7 +13,7 @@ use Rattle.s390x_typed_steps.specs.Causes.{tree_cause, numbers_cause, instructio
 use Rattle.s390x_typed_steps.specs.Baseline.{tree_for, whole_or_loaded}
 use Rattle.s390x_typed_steps.specs.Tree.{Whole, leaf, empty}
 use Rattle.s390x_operands.specs.Meets.{Meets}
-use Rattle.s390x_assign.specs.Assignments.{assigned, portion_at}
+use Rattle.s390x_assign.specs.Assignments.{assigned_portions, portion_at}
 use Rattle.s390x_alloc_laws.proofs.Given.{clear, first_clear, numbers_clear, Gives}
 use Rattle.s390x_alloc_laws.proofs.Control.{portion_refusal, refused_as_portion}
 use Rattle.s390x_alloc_laws.proofs.Blame.{blames}
@@ -35,7 +35,7 @@ portion_alone (Loop' mask body all) p h = same_first (opening mask) p _ [] h
 portion_alone i p h = same_first (first_portion i) p [] [] h
 
 pub assigned_portion : (i j : Inst) (s : List Reg) → MayStand i → IsAssigned i s j → first_portion j ≡ (portion_at (first_portion i) s).0
-assigned_portion i j s m h = portion_alone j (portion_at (first_portion i) s).0 (h ∙ ap (λ ps. (assigned ps s).0) (alone i m))
+assigned_portion i j s m h = portion_alone j (portion_at (first_portion i) s).0 (h ∙ ap (λ ps. (assigned_portions ps s).0) (alone i m))
 
 pub refused_alone : (P : Place) (i j : Inst) (s : List Reg) → MayStand i → IsAssigned i s j → refusal P j ≡ portion_refusal P (portion_at (first_portion i) s).0
 refused_alone P i j s m h = refused_as_portion P j ∙ ap (portion_refusal P) (assigned_portion i j s m h)

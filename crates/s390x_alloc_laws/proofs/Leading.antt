@@ -16,7 +16,7 @@ use Rattle.s390x_inst.specs.declared.inst.Inst.TheVariants as I
 use Rattle.s390x_inst.specs.declared.state.FrameLayout.{FrameLayout}
 use Rattle.s390x_inst.specs.declared.vec_inst.VecInst.{VecInst}
 use Rattle.s390x_inst.specs.declared.vec_inst.VecInst.TheVariants.{VecInt128SCmpHi, VecInt128UCmpHi}
-use Rattle.s390x_assign.specs.Assignments.{assigned, assigned_operator, assigned_vector, portion_at, register_at}
+use Rattle.s390x_assign.specs.Assignments.{assigned_portions, assigned_operator, assigned_vector, portion_at, register_at}
 use Rattle.s390x_alloc_laws.specs.Allocatable.{IsAssigned}
 use Rattle.s390x_lanes.specs.declared.operators.Signedness.{Signedness}
 use Rattle.s390x_lanes.specs.declared.operators.Signedness.TheVariants.{Signed, Unsigned}
@@ -27,7 +27,7 @@ use Rattle.s390x_operations.specs.declared.stop.StopKind.{StopKind}
 use Rattle.s390x_machine.specs.Layout.{Layout}
 use Rattle.s390x_machine.specs.Storage.{loaded_step, operand_step}
 use Rattle.s390x_machine.specs.StepKinds.{StepKind, Performs, GoesTo, Chooses, GoesByAddress, GoesByTable, ComparesWide, Returns, TrapsAlways, TrapsWhere, DebugStops, Silent, Unsupported}
-use Rattle.s390x_machine.specs.StepKinds.{Performed, branch_kind, composite_kind, instruction_kind, kind_or, loaded_kind, performed, performed_by, performed_in_memory, step_kind, where_kind}
+use Rattle.s390x_machine.specs.StepKinds.{Performed, branch_kind, composite_kind, instruction_kind, kind_or, loaded_kind, single_operation, performed_by, performed_in_memory, step_kind, where_kind}
 use Rattle.s390x_machine.specs.Typed.{At, Ended, Trapped, IsTarget, KindStep, OperationStep, goes_on, traps, TableStep, TypedStep, WhereStep, kind_of_step, table_target}
 use Rattle.s390x_machine.specs.VectorSteps.{ConditionalOperation, conditional_operation}
 use Rattle.s390x_typed_steps.specs.Calls.{map_site, patchable_site, return_site, site_labels}
@@ -153,7 +153,7 @@ either_performs L None others f = f
 either_performs L (Some x) others f = performs L x.needs x.operation x.code
 
 ordinary : (L : Layout) (i : Inst) → Led L falls (branch_kind i) → Led L falls (instruction_kind L i)
-ordinary L i f = either_performs L (performed L i) (kind_or (performed_in_memory L i) (branch_kind i)) (either_performs L (performed_in_memory L i) (branch_kind i) f)
+ordinary L i f = either_performs L (single_operation L i) (kind_or (performed_in_memory L i) (branch_kind i)) (either_performs L (performed_in_memory L i) (branch_kind i) f)
 
 composes : (L : Layout) (v : VecInst) → Led L falls (composite_kind v)
 composes L (VecInt128SCmpHi tmp rn rm) = compares_wide L Signed (number_of tmp) (number_of rn) (number_of rm)
@@ -209,7 +209,7 @@ head_is : (j : Inst) → head_or closing (portions j) ≡ first_portion j
 head_is (I.Loop' mask body all) = refl
 head_is j = refl
 
-head_given : (i : Inst) (s : List Reg) → head_or closing (assigned (portions i) s).0 ≡ (portion_at (first_portion i) s).0
+head_given : (i : Inst) (s : List Reg) → head_or closing (assigned_portions (portions i) s).0 ≡ (portion_at (first_portion i) s).0
 head_given (I.Loop' mask body all) s = refl
 head_given i s = refl
 

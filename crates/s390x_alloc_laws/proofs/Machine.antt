@@ -2,7 +2,7 @@
 use Rattle.std.proofs.Common.{◌≡◌, ℕ, List, [], ◌∷◌, ◌++◌, ap}
 use Rattle.s390x_base.specs.declared.regs.Reg.{Reg}
 use Rattle.s390x_inst.specs.declared.inst.Inst.{Inst}
-use Rattle.s390x_operations.specs.State.{Core, State, written}
+use Rattle.s390x_operations.specs.State.{Core, State, core_after_writes}
 use Rattle.s390x_machine.proofs.Instructions.{step_runs_placed}
 use Rattle.s390x_machine.specs.Layout.{Layout}
 use Rattle.s390x_machine.specs.Match.{EndsMatch, start}
@@ -32,13 +32,13 @@ run_keeps : (L : Layout) (k : ℕ) (changed : List Reg) (c : Core) (trace : List
 run_keeps L k changed c trace keeps (waits few nothing inside) = Kept.under_way few inside
 run_keeps L k changed c trace keeps (silent typed le none) = Kept.silent none
 run_keeps L k changed c trace keeps (goes h rest transition is few some nothing j t typed event memory after loaded) =
-    let held : KeepsOthers changed c.registers t.registers = keeps (written (all_writes (h ++ transition ∷ [])) c) (At j) t typed in
+    let held : KeepsOthers changed c.registers t.registers = keeps (core_after_writes (all_writes (h ++ transition ∷ [])) c) (At j) t typed in
     let same : transition.after.core.registers ≡ t.registers = ap (λ (x : State). x.core.registers) after in
     Kept.goes h rest transition is few j t typed after (kept_by changed c.registers t.registers transition.after.core.registers same held)
 run_keeps L k changed c trace keeps (stops h rest transition kind is nothing event bad) = Kept.wrong bad
 run_keeps L k changed c trace keeps (ends g rest is e t typed group match) =
     let behind : State = after_all (start L k c) g in
-    let held : KeepsOthers changed c.registers t.registers = keeps (written (all_writes g) c) (Ended e) t typed in
+    let held : KeepsOthers changed c.registers t.registers = keeps (core_after_writes (all_writes g) c) (Ended e) t typed in
     let same : behind.core.registers ≡ t.registers = ap (λ (x : Core). x.registers) (ended_core L e t behind rest match) in
     Kept.ends g rest is group.0 e t typed match (kept_by changed c.registers t.registers behind.core.registers same held)
 run_keeps L k changed c trace keeps (stuck bad loses) = Kept.wrong bad

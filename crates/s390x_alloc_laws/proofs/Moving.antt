@@ -22,7 +22,7 @@ use Rattle.s390x_rows.specs.declared.opcodes.TheConstants as opcodes
 use Rattle.s390x_typed_steps.specs.Causes.{addend_fits, facility_cause, first_emit_cause, loses_scratch, unless}
 use Rattle.s390x_typed_steps.specs.General.{is_general}
 use Rattle.s390x_typed_steps.specs.Memory.{MemoryInstruction, RxForm, type_of}
-use Rattle.s390x_typed_steps.specs.Operands.{finalized, is_helped, is_numbered, offset_fits, resolved}
+use Rattle.s390x_typed_steps.specs.Operands.{finalized_operand, is_helped, is_numbered, offset_fits, resolved_operand}
 use Rattle.s390x_typed_steps.specs.Resolved.{resolved_instruction}
 use Rattle.s390x_typed_steps.specs.VectorInstruction.{is_vector}
 use Rattle.s390x_alloc_laws.specs.Unblamed.{MovesAreNotBlamed}
@@ -89,7 +89,7 @@ copy_clear P Float p q hp hq ep eq =
 
 -- the operand of a slot, as an exact offset
 abbrev operand : Emitted.Place → ℕ → MemArg
-operand P s = resolved P.state (slot_operand s)
+operand P s = resolved_operand P.state (slot_operand s)
 
 abbrev fits : MemArg → Bool
 fits m = offset_fits m && addend_fits m
@@ -110,7 +110,7 @@ store_clear : (P : Emitted.Place) (c : RegClass) (p : RealRegister) (s : ℕ) �
 store_clear P Int p s h e r =
     let i = resolved_instruction P.state (store_of Int p s) in
     let m = operand P s in
-    let kept : loses_scratch (stored p m) ≡ false = nothing_lost (is_numbered 1 (Real p)) (is_helped (finalized (type_of (stored p m).form true) m).helpers) (not_scratch p r) in
+    let kept : loses_scratch (stored p m) ≡ false = nothing_lost (is_numbered 1 (Real p)) (is_helped (finalized_operand (type_of (stored p m).form true) m).helpers) (not_scratch p r) in
     first_clear (facility_cause P.flags i) _ (facility_clear P.flags i) (access_clear (is_general (Real p) && true) (loses_scratch (stored p m)) (fits m) (and_from (is_general (Real p)) true (general_real p h e) refl) kept)
 store_clear P Float p s h e r =
     let i = resolved_instruction P.state (store_of Float p s) in

@@ -9,7 +9,7 @@ use Rattle.s390x_base.specs.declared.regs.RegPair.{RegPair}
 use Rattle.s390x_base.specs.declared.regs.WritableRegPair.{WritableRegPair}
 use Rattle.s390x_inst.specs.declared.inst.Inst.{Inst}
 use Rattle.s390x_operands.specs.declared.constraint.Reported.{Reported}
-use Rattle.s390x_operands.specs.Requests.{items_of, used, fixed_use, fixed_def}
+use Rattle.s390x_operands.specs.Requests.{items_of, reported_use, fixed_use, fixed_def}
 use Rattle.s390x_assign.specs.Assignments.{operand_at, register_at, after, pair_at, dividend_at}
 use Rattle.s390x_rows.specs.declared.opcodes.TheConstants as opcodes
 use Rattle.s390x_typed_steps.specs.General.{is_general, is_even_pair, reuses, reuses_pair}
@@ -59,10 +59,10 @@ drop_two : (s : List Reg) → drop 1 (drop 1 s) ≡ drop 2 s
 drop_two [] = refl
 drop_two (q ∷ s) = refl
 
-pub products : (P : Place) (d : WritableRegPair) (a b : Reg) (s s' : List Reg) → Gives s s' s s' (items_of (used a ∷ used b ∷ fixed_def d.hi 2 ∷ fixed_def d.lo 3 ∷ [])) → refusal P (SMulWide (pair_at d (after b (after a s'))) (register_at a s') (register_at b (after a s'))) ≡ None →
+pub products : (P : Place) (d : WritableRegPair) (a b : Reg) (s s' : List Reg) → Gives s s' s s' (items_of (reported_use a ∷ reported_use b ∷ fixed_def d.hi 2 ∷ fixed_def d.lo 3 ∷ [])) → refusal P (SMulWide (pair_at d (after b (after a s'))) (register_at a s') (register_at b (after a s'))) ≡ None →
     IsNotBlamed (refusal P (SMulWide (pair_at d (after b (after a s))) (register_at a s) (register_at b (after a s))))
 products P d a b s s' g h =
-    let n : Next a s s' s s' (items_of (used b ∷ fixed_def d.hi 2 ∷ fixed_def d.lo 3 ∷ [])) = used_given a (used b ∷ fixed_def d.hi 2 ∷ fixed_def d.lo 3 ∷ []) s s' s s' g in
+    let n : Next a s s' s s' (items_of (reported_use b ∷ fixed_def d.hi 2 ∷ fixed_def d.lo 3 ∷ [])) = used_given a (reported_use b ∷ fixed_def d.hi 2 ∷ fixed_def d.lo 3 ∷ []) s s' s s' g in
     let m : Next b s s' (after a s) (after a s') (items_of (fixed_def d.hi 2 ∷ fixed_def d.lo 3 ∷ [])) = used_given b (fixed_def d.hi 2 ∷ fixed_def d.lo 3 ∷ []) s s' (after a s) (after a s') n.rest in
     let t : List Reg = after b (after a s) in let t' : List Reg = after b (after a s') in
     let p : PairPlaced d s s' t t' [] = pair_placed d [] s s' t t' m.rest in
@@ -75,7 +75,7 @@ products P d a b s s' g h =
 
 -- a pair from one register
 pub by_one : (P : Place) (mk : WritableRegPair → Reg → Inst) (row : WritableRegPair → Reg → Option MachineInstruction) → ((d : WritableRegPair) (a : Reg) → IsSingle P (mk d a) (is_even_pair d.hi d.lo && is_general a) (row d a)) → (d : WritableRegPair) (a : Reg) (s s' : List Reg) →
-    Gives s s' s s' (items_of (used a ∷ fixed_def d.hi 2 ∷ fixed_def d.lo 3 ∷ [])) → refusal P (mk (pair_at d (after a s')) (register_at a s')) ≡ None → IsNotBlamed (refusal P (mk (pair_at d (after a s)) (register_at a s)))
+    Gives s s' s s' (items_of (reported_use a ∷ fixed_def d.hi 2 ∷ fixed_def d.lo 3 ∷ [])) → refusal P (mk (pair_at d (after a s')) (register_at a s')) ≡ None → IsNotBlamed (refusal P (mk (pair_at d (after a s)) (register_at a s)))
 by_one P mk row is d a s s' g h =
     let n : Next a s s' s s' (items_of (fixed_def d.hi 2 ∷ fixed_def d.lo 3 ∷ [])) = used_given a (fixed_def d.hi 2 ∷ fixed_def d.lo 3 ∷ []) s s' s s' g in
     let p : PairPlaced d s s' (after a s) (after a s') [] = pair_placed d [] s s' (after a s) (after a s') n.rest in
@@ -86,7 +86,7 @@ by_one P mk row is d a s s' g h =
 
 -- from its low register and another one
 pub by_low : (P : Place) (mk : WritableRegPair → Reg → Reg → Inst) (row : WritableRegPair → Reg → Reg → Option MachineInstruction) → ((d : WritableRegPair) (i a : Reg) → IsSingle P (mk d i a) (is_even_pair d.hi d.lo && reuses d.lo i && is_general a) (row d i a)) →
-    (d : WritableRegPair) (i a : Reg) (s s' : List Reg) → Gives s s' s s' (items_of (used a ∷ fixed_def d.hi 2 ∷ fixed_def d.lo 3 ∷ fixed_use i 3 ∷ [])) → refusal P (mk (pair_at d (after a s')) (operand_at i (drop 2 (after a s'))) (register_at a s')) ≡ None →
+    (d : WritableRegPair) (i a : Reg) (s s' : List Reg) → Gives s s' s s' (items_of (reported_use a ∷ fixed_def d.hi 2 ∷ fixed_def d.lo 3 ∷ fixed_use i 3 ∷ [])) → refusal P (mk (pair_at d (after a s')) (operand_at i (drop 2 (after a s'))) (register_at a s')) ≡ None →
     IsNotBlamed (refusal P (mk (pair_at d (after a s)) (operand_at i (drop 2 (after a s))) (register_at a s)))
 by_low P mk row is d i a s s' g h =
     let n : Next a s s' s s' (items_of (fixed_def d.hi 2 ∷ fixed_def d.lo 3 ∷ fixed_use i 3 ∷ [])) = used_given a (fixed_def d.hi 2 ∷ fixed_def d.lo 3 ∷ fixed_use i 3 ∷ []) s s' s s' g in
@@ -103,7 +103,7 @@ by_low P mk row is d i a s s' g h =
 
 -- from a pair and another register
 pub by_pair : (P : Place) (mk : WritableRegPair → RegPair → Reg → Inst) (row : WritableRegPair → RegPair → Reg → Option MachineInstruction) → ((d : WritableRegPair) (i : RegPair) (a : Reg) → IsSingle P (mk d i a) (is_even_pair d.hi d.lo && reuses_pair d i && is_general a) (row d i a)) →
-    (d : WritableRegPair) (i : RegPair) (a : Reg) (s s' : List Reg) → Gives s s' s s' (items_of (used a ∷ fixed_def d.hi 2 ∷ fixed_def d.lo 3 ∷ fixed_use i.hi 2 ∷ fixed_use i.lo 3 ∷ [])) → refusal P (mk (pair_at d (after a s')) (dividend_at i (drop 2 (after a s'))) (register_at a s')) ≡ None →
+    (d : WritableRegPair) (i : RegPair) (a : Reg) (s s' : List Reg) → Gives s s' s s' (items_of (reported_use a ∷ fixed_def d.hi 2 ∷ fixed_def d.lo 3 ∷ fixed_use i.hi 2 ∷ fixed_use i.lo 3 ∷ [])) → refusal P (mk (pair_at d (after a s')) (dividend_at i (drop 2 (after a s'))) (register_at a s')) ≡ None →
     IsNotBlamed (refusal P (mk (pair_at d (after a s)) (dividend_at i (drop 2 (after a s))) (register_at a s)))
 by_pair P mk row is d i a s s' g h =
     let n : Next a s s' s s' (items_of (fixed_def d.hi 2 ∷ fixed_def d.lo 3 ∷ fixed_use i.hi 2 ∷ fixed_use i.lo 3 ∷ [])) = used_given a (fixed_def d.hi 2 ∷ fixed_def d.lo 3 ∷ fixed_use i.hi 2 ∷ fixed_use i.lo 3 ∷ []) s s' s s' g in

@@ -11,7 +11,7 @@ use Rattle.s390x_inst.specs.declared.args.MemArg.{MemArg}
 use Rattle.s390x_inst.specs.declared.args.MemArg.TheVariants.{BXD12, BXD20, RegOffset}
 use Rattle.s390x_inst.specs.declared.inst.Inst.{Inst}
 use Rattle.s390x_operands.specs.Meets.{MeetsEach}
-use Rattle.s390x_operands.specs.Requests.{items_of, memory_requests, scratch_request, used, defined, reused}
+use Rattle.s390x_operands.specs.Requests.{items_of, memory_requests, scratch_request, reported_use, reported_def, reported_reuse}
 use Rattle.s390x_operands.specs.declared.constraint.Reported.{Reported}
 use Rattle.s390x_assign.specs.Assignments.{register_at, after}
 use Rattle.s390x_typed_steps.proofs.Causes.{first_right, unless_true}
@@ -88,12 +88,12 @@ one_written false x y changed f g = g
 abbrev pub IsOutput : (Reg → Option Reported) → Type 0
 IsOutput f = (r : Reg) (xs : List (Option Reported)) (all s : List Reg) → IsVirtual r → MeetsEach all (items_of (f r ∷ xs)) s → Covers (outputs (items_of (f r ∷ xs)) s) (register_at r s ∷ [])
 
-pub defined_output : IsOutput defined
+pub defined_output : IsOutput reported_def
 defined_output (Real p) xs all s v m = absurd v
 defined_output (Virtual n c) xs all [] v m = absurd m
 defined_output (Virtual n c) xs all (q ∷ s) v m = λ x a. (a.0, tt)
 
-pub reused_output : IsOutput reused
+pub reused_output : IsOutput reported_reuse
 reused_output (Real p) xs all s v m = absurd v
 reused_output (Virtual n c) xs all [] v m = absurd m
 reused_output (Virtual n c) xs all (q ∷ s) v m = λ x a. (a.0, tt)
@@ -106,17 +106,17 @@ fixed_passed : (b : Bool) (ps : List Reg) → Covers (cond b (Real (general 1) �
 fixed_passed true ps q a = a.1
 fixed_passed false ps q a = a
 
-pub used_passed : IsPassed used
+pub used_passed : IsPassed reported_use
 used_passed (Real p) xs all s m = (fixed_passed (is_numbered 1 (Real p)) (outputs (items_of xs) s), m)
 used_passed (Virtual n c) xs all [] m = absurd m
 used_passed (Virtual n c) xs all (q ∷ s) m = (λ x a. a, m.1.1)
 
-pub defined_passed : IsPassed defined
+pub defined_passed : IsPassed reported_def
 defined_passed (Real p) xs all s m = (fixed_passed (is_numbered 1 (Real p)) (outputs (items_of xs) s), m)
 defined_passed (Virtual n c) xs all [] m = absurd m
 defined_passed (Virtual n c) xs all (q ∷ s) m = (λ x a. a.1, m.1.1)
 
-pub reused_passed : IsPassed reused
+pub reused_passed : IsPassed reported_reuse
 reused_passed (Real p) xs all s m = (fixed_passed (is_numbered 1 (Real p)) (outputs (items_of xs) s), m)
 reused_passed (Virtual n c) xs all [] m = absurd m
 reused_passed (Virtual n c) xs all (q ∷ s) m = (λ x a. a.1, m.1.1)
@@ -130,11 +130,11 @@ scratch_listed xs s q a = (a.0, tt)
 
 pub memory_scratch : (m : MemArg) (xs : List (Option Reported)) (all s : List Reg) → MeetsEach all (items_of (memory_requests m ++ xs)) s → Covers (outputs (items_of (memory_requests m ++ xs)) s) scratch_target
 memory_scratch (BXD12 base index disp flags) xs all s m =
-    let b = used_passed base (used index ∷ scratch_request ∷ xs) all s m in
+    let b = used_passed base (reported_use index ∷ scratch_request ∷ xs) all s m in
     let i = used_passed index (scratch_request ∷ xs) all (after base s) b.1 in
     λ q a. scratch_listed xs (after index (after base s)) q (i.0 q (b.0 q a))
 memory_scratch (BXD20 base index disp flags) xs all s m =
-    let b = used_passed base (used index ∷ scratch_request ∷ xs) all s m in
+    let b = used_passed base (reported_use index ∷ scratch_request ∷ xs) all s m in
     let i = used_passed index (scratch_request ∷ xs) all (after base s) b.1 in
     λ q a. scratch_listed xs (after index (after base s)) q (i.0 q (b.0 q a))
 memory_scratch (RegOffset reg off flags) xs all s m =
@@ -205,35 +205,35 @@ pub alike_first : (t : Reg → Bool) (x y : Reg) → pass_alike t x y ≡ true �
 alike_first t x y h = and_left (t x) (t y) (and_left (t x && t y) (nat_eq (number_of x) (number_of y)) h)
 
 pub kept_reuse1 : (P : Place) (L : Layout) (t : Reg → Bool) (T : Reg → List Reg) → IsTarget t T → (mk : Reg → Reg → Inst) (row : Reg → Reg → Option MachineInstruction) → ((d i : Reg) → IsSingle P (mk d i) (pass_alike t d i) (row d i)) → ((d i : Reg) → Kept L T (mk d i) d) →
-    (d i : Reg) (xs : List (Option Reported)) (s : List Reg) → IsVirtual d → MeetsEach s (items_of (reused d ∷ xs)) s → refusal P (mk (register_at d s) (register_at i (after d s))) ≡ None → InstKeeps L (outputs (items_of (reused d ∷ xs)) s) (mk (register_at d s) (register_at i (after d s)))
+    (d i : Reg) (xs : List (Option Reported)) (s : List Reg) → IsVirtual d → MeetsEach s (items_of (reported_reuse d ∷ xs)) s → refusal P (mk (register_at d s) (register_at i (after d s))) ≡ None → InstKeeps L (outputs (items_of (reported_reuse d ∷ xs)) s) (mk (register_at d s) (register_at i (after d s)))
 kept_reuse1 P L t T target mk row is keeps d i xs s v m h =
     let x : Reg = register_at d s in let y : Reg = register_at i (after d s) in
-    keeps x y (outputs (items_of (reused d ∷ xs)) s) (first_listed reused reused_output t T target d xs s v m (alike_first t x y (single_valid P (mk x y) (pass_alike t x y) (row x y) (is x y) h)))
+    keeps x y (outputs (items_of (reported_reuse d ∷ xs)) s) (first_listed reported_reuse reused_output t T target d xs s v m (alike_first t x y (single_valid P (mk x y) (pass_alike t x y) (row x y) (is x y) h)))
 
 -- with a test of something else beside
 pub kept_reuse1_and : (P : Place) (L : Layout) (t : Reg → Bool) (T : Reg → List Reg) → IsTarget t T → (mk : Reg → Reg → Inst) (more : Bool) (row : Reg → Reg → Option MachineInstruction) → ((d i : Reg) → IsSingle P (mk d i) (pass_alike t d i && more) (row d i)) → ((d i : Reg) → Kept L T (mk d i) d) →
-    (d i : Reg) (xs : List (Option Reported)) (s : List Reg) → IsVirtual d → MeetsEach s (items_of (reused d ∷ xs)) s → refusal P (mk (register_at d s) (register_at i (after d s))) ≡ None → InstKeeps L (outputs (items_of (reused d ∷ xs)) s) (mk (register_at d s) (register_at i (after d s)))
+    (d i : Reg) (xs : List (Option Reported)) (s : List Reg) → IsVirtual d → MeetsEach s (items_of (reported_reuse d ∷ xs)) s → refusal P (mk (register_at d s) (register_at i (after d s))) ≡ None → InstKeeps L (outputs (items_of (reported_reuse d ∷ xs)) s) (mk (register_at d s) (register_at i (after d s)))
 kept_reuse1_and P L t T target mk more row is keeps d i xs s v m h =
     let x : Reg = register_at d s in let y : Reg = register_at i (after d s) in
-    keeps x y (outputs (items_of (reused d ∷ xs)) s) (first_listed reused reused_output t T target d xs s v m (alike_first t x y (and_left (pass_alike t x y) more (single_valid P (mk x y) (pass_alike t x y && more) (row x y) (is x y) h))))
+    keeps x y (outputs (items_of (reported_reuse d ∷ xs)) s) (first_listed reported_reuse reused_output t T target d xs s v m (alike_first t x y (and_left (pass_alike t x y) more (single_valid P (mk x y) (pass_alike t x y && more) (row x y) (is x y) h))))
 
 pub kept_reuse2 : (P : Place) (L : Layout) (t : Reg → Bool) (T : Reg → List Reg) → IsTarget t T → (mk : Reg → Reg → Reg → Inst) (u : Reg → Bool) (row : Reg → Reg → Reg → Option MachineInstruction) → ((d i b : Reg) → IsSingle P (mk d i b) (pass_alike t d i && u b) (row d i b)) →
-    ((d i b : Reg) → Kept L T (mk d i b) d) → (d i b : Reg) (xs : List (Option Reported)) (s : List Reg) → IsVirtual d → MeetsEach s (items_of (reused d ∷ xs)) s → refusal P (mk (register_at d s) (register_at i (after d s)) (register_at b (after i (after d s)))) ≡ None →
-    InstKeeps L (outputs (items_of (reused d ∷ xs)) s) (mk (register_at d s) (register_at i (after d s)) (register_at b (after i (after d s))))
+    ((d i b : Reg) → Kept L T (mk d i b) d) → (d i b : Reg) (xs : List (Option Reported)) (s : List Reg) → IsVirtual d → MeetsEach s (items_of (reported_reuse d ∷ xs)) s → refusal P (mk (register_at d s) (register_at i (after d s)) (register_at b (after i (after d s)))) ≡ None →
+    InstKeeps L (outputs (items_of (reported_reuse d ∷ xs)) s) (mk (register_at d s) (register_at i (after d s)) (register_at b (after i (after d s))))
 kept_reuse2 P L t T target mk u row is keeps d i b xs s v m h =
     let x : Reg = register_at d s in let y : Reg = register_at i (after d s) in let z : Reg = register_at b (after i (after d s)) in
     let valid : (pass_alike t x y && u z) ≡ true = single_valid P (mk x y z) (pass_alike t x y && u z) (row x y z) (is x y z) h in
-    keeps x y z (outputs (items_of (reused d ∷ xs)) s) (first_listed reused reused_output t T target d xs s v m (alike_first t x y (and_left (pass_alike t x y) (u z) valid)))
+    keeps x y z (outputs (items_of (reported_reuse d ∷ xs)) s) (first_listed reported_reuse reused_output t T target d xs s v m (alike_first t x y (and_left (pass_alike t x y) (u z) valid)))
 
 pub kept_reuse3 : (P : Place) (L : Layout) (t : Reg → Bool) (T : Reg → List Reg) → IsTarget t T → (mk : Reg → Reg → Reg → Reg → Inst) (u w : Reg → Bool) (row : Reg → Reg → Reg → Reg → Option MachineInstruction) → ((d i b c : Reg) → IsSingle P (mk d i b c) (pass_alike t d i && u b && w c) (row d i b c)) →
-    ((d i b c : Reg) → Kept L T (mk d i b c) d) → (d i b c : Reg) (xs : List (Option Reported)) (s : List Reg) → IsVirtual d → MeetsEach s (items_of (reused d ∷ xs)) s →
+    ((d i b c : Reg) → Kept L T (mk d i b c) d) → (d i b c : Reg) (xs : List (Option Reported)) (s : List Reg) → IsVirtual d → MeetsEach s (items_of (reported_reuse d ∷ xs)) s →
     refusal P (mk (register_at d s) (register_at i (after d s)) (register_at b (after i (after d s))) (register_at c (after b (after i (after d s))))) ≡ None →
-    InstKeeps L (outputs (items_of (reused d ∷ xs)) s) (mk (register_at d s) (register_at i (after d s)) (register_at b (after i (after d s))) (register_at c (after b (after i (after d s)))))
+    InstKeeps L (outputs (items_of (reported_reuse d ∷ xs)) s) (mk (register_at d s) (register_at i (after d s)) (register_at b (after i (after d s))) (register_at c (after b (after i (after d s)))))
 kept_reuse3 P L t T target mk u w row is keeps d i b c xs s v m h =
     let x : Reg = register_at d s in let y : Reg = register_at i (after d s) in
     let z : Reg = register_at b (after i (after d s)) in let o : Reg = register_at c (after b (after i (after d s))) in
     let valid : (pass_alike t x y && u z && w o) ≡ true = single_valid P (mk x y z o) (pass_alike t x y && u z && w o) (row x y z o) (is x y z o) h in
-    keeps x y z o (outputs (items_of (reused d ∷ xs)) s) (first_listed reused reused_output t T target d xs s v m (alike_first t x y (and_left (pass_alike t x y) (u z) (and_left (pass_alike t x y && u z) (w o) valid))))
+    keeps x y z o (outputs (items_of (reported_reuse d ∷ xs)) s) (first_listed reported_reuse reused_output t T target d xs s v m (alike_first t x y (and_left (pass_alike t x y) (u z) (and_left (pass_alike t x y && u z) (w o) valid))))
 
 -- with a test of something else beside
 pub kept1_and : (P : Place) (L : Layout) (f : Reg → Option Reported) → IsOutput f → (t : Reg → Bool) (T : Reg → List Reg) → IsTarget t T → (mk : Reg → Inst) (more : Bool) (row : Reg → Option MachineInstruction) → ((a : Reg) → IsSingle P (mk a) (t a && more) (row a)) → ((a : Reg) → Kept L T (mk a) a) →
@@ -244,13 +244,13 @@ kept1_and P L f F t T target mk more row is keeps a xs s v m h =
 
 -- ---- what is listed behind inputs
 
-pub behind_one : (a : Reg) (xs : List (Option Reported)) (s : List Reg) → MeetsEach s (items_of (used a ∷ xs)) s → (T : List Reg) → (MeetsEach s (items_of xs) (after a s) → Covers (outputs (items_of xs) (after a s)) T) → Covers (outputs (items_of (used a ∷ xs)) s) T
+pub behind_one : (a : Reg) (xs : List (Option Reported)) (s : List Reg) → MeetsEach s (items_of (reported_use a ∷ xs)) s → (T : List Reg) → (MeetsEach s (items_of xs) (after a s) → Covers (outputs (items_of xs) (after a s)) T) → Covers (outputs (items_of (reported_use a ∷ xs)) s) T
 behind_one a xs s g T f =
     let p = used_passed a xs s s g in
     λ q z. f p.1 q (p.0 q z)
 
-pub behind_two : (a b : Reg) (xs : List (Option Reported)) (s : List Reg) → MeetsEach s (items_of (used a ∷ used b ∷ xs)) s → (T : List Reg) → (MeetsEach s (items_of xs) (after b (after a s)) → Covers (outputs (items_of xs) (after b (after a s))) T) → Covers (outputs (items_of (used a ∷ used b ∷ xs)) s) T
+pub behind_two : (a b : Reg) (xs : List (Option Reported)) (s : List Reg) → MeetsEach s (items_of (reported_use a ∷ reported_use b ∷ xs)) s → (T : List Reg) → (MeetsEach s (items_of xs) (after b (after a s)) → Covers (outputs (items_of xs) (after b (after a s))) T) → Covers (outputs (items_of (reported_use a ∷ reported_use b ∷ xs)) s) T
 behind_two a b xs s g T f =
-    let p = used_passed a (used b ∷ xs) s s g in
+    let p = used_passed a (reported_use b ∷ xs) s s g in
     let o = used_passed b xs s (after a s) p.1 in
     λ q z. f o.1 q (o.0 q (p.0 q z))

@@ -15,7 +15,7 @@ use Rattle.s390x_operations.specs.declared.stop.StopKind.{StopKind}
 use Rattle.s390x_machine.specs.Layout.{Layout}
 use Rattle.s390x_machine.specs.Storage.{OperandStep, operand_address, needs_scratch, aligned_where, is_relative_access}
 use Rattle.s390x_machine.specs.StepKinds.{StepKind, Performs, GoesTo, Chooses, GoesByAddress, Leads, GoesByTable, PerformsWhere, ComparesWide, TrapsAlways, TrapsWhere, DebugStops, Silent, Unsupported, fault_codes, performed_at, performed_by, kind_or}
-use Rattle.s390x_machine.specs.Typed.{Position, KindStep, OperationStep, goes_on, traps, loosened, loosen, table_target, TableStep, WhereStep, wide_order}
+use Rattle.s390x_machine.specs.Typed.{Position, KindStep, OperationStep, goes_on, traps, with_scratch_value, loosen, table_target, TableStep, WhereStep, wide_order}
 use Rattle.s390x_alloc_laws.specs.Outputs.{KeepsOthers}
 use Rattle.s390x_alloc_laws.proofs.Effects.{Covers, widened, kept_all, kept_twice, kept_by, general_set, vector_set, coded, written, effect_keeps, written_where}
 
@@ -38,16 +38,16 @@ pub always_free : (needs : Bool) (changed : List Reg) → Covers changed (Real (
 always_free false changed f = tt
 always_free true changed f = f
 
-loosened_keeps : (needs : Bool) (v : ℕ) (changed : List Reg) (r : Registers) → IsScratchFree needs changed → KeepsOthers changed r (loosened needs v r)
+loosened_keeps : (needs : Bool) (v : ℕ) (changed : List Reg) (r : Registers) → IsScratchFree needs changed → KeepsOthers changed r (with_scratch_value needs v r)
 loosened_keeps false v changed r f = kept_all changed r
 loosened_keeps true v changed r f = widened changed (Real (general 1) ∷ []) r (set_general r 1 v) f (general_set r 1 v)
 
 operation_keeps : (changed : List Reg) (needs : Bool) (op : Operation) (code : StopKind → Option TrapKind) (k : ℕ) (c : Core) (position : Position) (t : Core) → Covers changed (written op.effect) → IsScratchFree needs changed → OperationStep needs op code k c position t → KeepsOthers changed c.registers t.registers
 operation_keeps changed needs op code k c position t covers free (goes_on v m e) =
-    let first : Registers = loosened needs v c.registers in
+    let first : Registers = with_scratch_value needs v c.registers in
     kept_twice changed c.registers first t.registers (loosened_keeps needs v changed c.registers free) (widened changed (written op.effect) first t.registers covers (effect_keeps op.effect (loosen needs v c) t.registers m.results))
 operation_keeps changed needs op code k c position t covers free (traps v kind n m coded same p) =
-    kept_by changed c.registers (loosened needs v c.registers) t.registers (ap (λ (x : Core). x.registers) same) (loosened_keeps needs v changed c.registers free)
+    kept_by changed c.registers (with_scratch_value needs v c.registers) t.registers (ap (λ (x : Core). x.registers) same) (loosened_keeps needs v changed c.registers free)
 
 pub performs_keeps : (L : Layout) (changed : List Reg) (needs : Bool) (operation : Registers → Operation) (code : StopKind → Option TrapKind) → ((r : Registers) → Covers changed (written (operation r).effect)) → IsScratchFree needs changed → KindKeeps L changed (Performs needs operation code)
 performs_keeps L changed needs operation code covers free k c position t step = operation_keeps changed needs (operation c.registers) code k c position t (covers c.registers) free step

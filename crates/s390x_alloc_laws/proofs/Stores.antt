@@ -11,14 +11,14 @@ use Rattle.s390x_inst.specs.declared.args.MemArg.{MemArg}
 use Rattle.s390x_inst.specs.declared.inst.Inst.{Inst}
 use Rattle.s390x_inst.specs.declared.inst.Inst.TheVariants.{LoadMultiple64}
 use Rattle.s390x_operands.specs.Meets.{MeetsEach}
-use Rattle.s390x_operands.specs.Requests.{items_of, memory_requests, range_requests, used, reused, fixed_def}
+use Rattle.s390x_operands.specs.Requests.{items_of, memory_requests, range_requests, reported_use, reported_reuse, fixed_def}
 use Rattle.s390x_operands.specs.declared.constraint.Reported.{Reported}
 use Rattle.s390x_assign.specs.Assignments.{register_at, after, memory_at, pair_at}
 use Rattle.s390x_rows.specs.declared.opcodes.TheConstants as opcodes
 use Rattle.s390x_typed_steps.specs.General.{is_general}
 use Rattle.s390x_typed_steps.specs.Memory.{MemoryInstruction, multiple}
 use Rattle.s390x_typed_steps.specs.Operands.{operand_general}
-use Rattle.s390x_typed_steps.specs.Operands.{resolved}
+use Rattle.s390x_typed_steps.specs.Operands.{resolved_operand}
 use Rattle.s390x_machine.specs.Layout.{Layout}
 use Rattle.s390x_machine.specs.Storage.{OperandStep, loaded_step}
 use Rattle.s390x_machine.specs.StepKinds.{Unsupported, performed_by, kind_or}
@@ -47,45 +47,45 @@ KeepsAccess L written j = (changed : List Reg) → Covers changed written → Co
 
 -- the output is the first request
 pub load_kept : (P : Place) (L : Layout) (t : Reg → Bool) (T : Reg → List Reg) → IsTarget t T → (f : Reg → Option Reported) → IsOutput f → IsPassed f → (mk : Reg → MemArg → Inst) (o : Reg → MemArg → Option MemoryInstruction) → ((a : Reg) (m : MemArg) → AreValid (o a m) → t a ≡ true) →
-    ((a : Reg) (m : MemArg) → IsAccess P (mk a m) (o a (resolved P.state m))) → ((a : Reg) (m : MemArg) → KeepsAccess L (T a) (placed_in P (mk a m))) → (a : Reg) (m : MemArg) (s : List Reg) → IsVirtual a → MeetsEach s (items_of (f a ∷ memory_requests m)) s →
+    ((a : Reg) (m : MemArg) → IsAccess P (mk a m) (o a (resolved_operand P.state m))) → ((a : Reg) (m : MemArg) → KeepsAccess L (T a) (placed_in P (mk a m))) → (a : Reg) (m : MemArg) (s : List Reg) → IsVirtual a → MeetsEach s (items_of (f a ∷ memory_requests m)) s →
     refusal P (mk (register_at a s) (memory_at m (after a s)).0) ≡ None → InstKeeps L (outputs (items_of (f a ∷ memory_requests m)) s) (placed_in P (mk (register_at a s) (memory_at m (after a s)).0))
 load_kept P L t T target f F passed mk o valid is keeps a m s v meet h =
     let x : Reg = register_at a s in let y : MemArg = (memory_at m (after a s)).0 in
     let rest = passed a (memory_requests m) s s meet in
-    let test : t x ≡ true = valid x (resolved P.state y) (access_valid P (mk x y) (o x (resolved P.state y)) (is x y) h) in
+    let test : t x ≡ true = valid x (resolved_operand P.state y) (access_valid P (mk x y) (o x (resolved_operand P.state y)) (is x y) h) in
     keeps x y (outputs (items_of (f a ∷ memory_requests m)) s) (first_listed f F t T target a (memory_requests m) s v meet test) (λ q z. memory_listed m s (after a s) rest.1 q (rest.0 q z))
 
 -- no output
-pub store_kept : (P : Place) (L : Layout) (mk : Reg → MemArg → Inst) → ((a : Reg) (m : MemArg) → KeepsAccess L [] (placed_in P (mk a m))) → (a : Reg) (m : MemArg) (s : List Reg) → MeetsEach s (items_of (used a ∷ memory_requests m)) s →
-    InstKeeps L (outputs (items_of (used a ∷ memory_requests m)) s) (placed_in P (mk (register_at a s) (memory_at m (after a s)).0))
+pub store_kept : (P : Place) (L : Layout) (mk : Reg → MemArg → Inst) → ((a : Reg) (m : MemArg) → KeepsAccess L [] (placed_in P (mk a m))) → (a : Reg) (m : MemArg) (s : List Reg) → MeetsEach s (items_of (reported_use a ∷ memory_requests m)) s →
+    InstKeeps L (outputs (items_of (reported_use a ∷ memory_requests m)) s) (placed_in P (mk (register_at a s) (memory_at m (after a s)).0))
 store_kept P L mk keeps a m s meet =
     let rest = used_passed a (memory_requests m) s s meet in
-    keeps (register_at a s) (memory_at m (after a s)).0 (outputs (items_of (used a ∷ memory_requests m)) s) (λ q z. tt) (λ q z. memory_listed m s (after a s) rest.1 q (rest.0 q z))
+    keeps (register_at a s) (memory_at m (after a s)).0 (outputs (items_of (reported_use a ∷ memory_requests m)) s) (λ q z. tt) (λ q z. memory_listed m s (after a s) rest.1 q (rest.0 q z))
 
 -- an output and an input behind it
 pub load_kept2 : (P : Place) (L : Layout) (t : Reg → Bool) (T : Reg → List Reg) → IsTarget t T → (f : Reg → Option Reported) → IsOutput f → IsPassed f → (mk : Reg → Reg → MemArg → Inst) (o : Reg → Reg → MemArg → Option MemoryInstruction) → ((a b : Reg) (m : MemArg) → AreValid (o a b m) → t a ≡ true) →
-    ((a b : Reg) (m : MemArg) → IsAccess P (mk a b m) (o a b (resolved P.state m))) → ((a b : Reg) (m : MemArg) → KeepsAccess L (T a) (placed_in P (mk a b m))) → (a b : Reg) (m : MemArg) (s : List Reg) → IsVirtual a → MeetsEach s (items_of (f a ∷ used b ∷ memory_requests m)) s →
-    refusal P (mk (register_at a s) (register_at b (after a s)) (memory_at m (after b (after a s))).0) ≡ None → InstKeeps L (outputs (items_of (f a ∷ used b ∷ memory_requests m)) s) (placed_in P (mk (register_at a s) (register_at b (after a s)) (memory_at m (after b (after a s))).0))
+    ((a b : Reg) (m : MemArg) → IsAccess P (mk a b m) (o a b (resolved_operand P.state m))) → ((a b : Reg) (m : MemArg) → KeepsAccess L (T a) (placed_in P (mk a b m))) → (a b : Reg) (m : MemArg) (s : List Reg) → IsVirtual a → MeetsEach s (items_of (f a ∷ reported_use b ∷ memory_requests m)) s →
+    refusal P (mk (register_at a s) (register_at b (after a s)) (memory_at m (after b (after a s))).0) ≡ None → InstKeeps L (outputs (items_of (f a ∷ reported_use b ∷ memory_requests m)) s) (placed_in P (mk (register_at a s) (register_at b (after a s)) (memory_at m (after b (after a s))).0))
 load_kept2 P L t T target f F passed mk o valid is keeps a b m s v meet h =
     let x : Reg = register_at a s in let y : Reg = register_at b (after a s) in let z : MemArg = (memory_at m (after b (after a s))).0 in
-    let first = passed a (used b ∷ memory_requests m) s s meet in
+    let first = passed a (reported_use b ∷ memory_requests m) s s meet in
     let rest = used_passed b (memory_requests m) s (after a s) first.1 in
-    let test : t x ≡ true = valid x y (resolved P.state z) (access_valid P (mk x y z) (o x y (resolved P.state z)) (is x y z) h) in
-    keeps x y z (outputs (items_of (f a ∷ used b ∷ memory_requests m)) s) (first_listed f F t T target a (used b ∷ memory_requests m) s v meet test) (λ q w. memory_listed m s (after b (after a s)) rest.1 q (rest.0 q (first.0 q w)))
+    let test : t x ≡ true = valid x y (resolved_operand P.state z) (access_valid P (mk x y z) (o x y (resolved_operand P.state z)) (is x y z) h) in
+    keeps x y z (outputs (items_of (f a ∷ reported_use b ∷ memory_requests m)) s) (first_listed f F t T target a (reported_use b ∷ memory_requests m) s v meet test) (λ q w. memory_listed m s (after b (after a s)) rest.1 q (rest.0 q (first.0 q w)))
 
 -- a swap
-pub swap_kept : (P : Place) (L : Layout) (mk : Reg → Reg → Reg → MemArg → Inst) (o : Reg → Reg → Reg → MemArg → Option MemoryInstruction) → ((a b c : Reg) (m : MemArg) → AreValid (o a b c m) → is_general a ≡ true) → ((a b c : Reg) (m : MemArg) → IsAccess P (mk a b c m) (o a b c (resolved P.state m))) →
-    ((a b c : Reg) (m : MemArg) → KeepsAccess L (general_target a) (placed_in P (mk a b c m))) → IsTarget is_general general_target → (a b c : Reg) (m : MemArg) (s : List Reg) → IsVirtual a → MeetsEach s (items_of (reused a ∷ used b ∷ used c ∷ memory_requests m)) s →
+pub swap_kept : (P : Place) (L : Layout) (mk : Reg → Reg → Reg → MemArg → Inst) (o : Reg → Reg → Reg → MemArg → Option MemoryInstruction) → ((a b c : Reg) (m : MemArg) → AreValid (o a b c m) → is_general a ≡ true) → ((a b c : Reg) (m : MemArg) → IsAccess P (mk a b c m) (o a b c (resolved_operand P.state m))) →
+    ((a b c : Reg) (m : MemArg) → KeepsAccess L (general_target a) (placed_in P (mk a b c m))) → IsTarget is_general general_target → (a b c : Reg) (m : MemArg) (s : List Reg) → IsVirtual a → MeetsEach s (items_of (reported_reuse a ∷ reported_use b ∷ reported_use c ∷ memory_requests m)) s →
     refusal P (mk (register_at a s) (register_at b (after a s)) (register_at c (after b (after a s))) (memory_at m (after c (after b (after a s)))).0) ≡ None →
-    InstKeeps L (outputs (items_of (reused a ∷ used b ∷ used c ∷ memory_requests m)) s) (placed_in P (mk (register_at a s) (register_at b (after a s)) (register_at c (after b (after a s))) (memory_at m (after c (after b (after a s)))).0))
+    InstKeeps L (outputs (items_of (reported_reuse a ∷ reported_use b ∷ reported_use c ∷ memory_requests m)) s) (placed_in P (mk (register_at a s) (register_at b (after a s)) (register_at c (after b (after a s))) (memory_at m (after c (after b (after a s)))).0))
 swap_kept P L mk o valid is keeps target a b c m s v meet h =
     let t : List Reg = after b (after a s) in
     let x : Reg = register_at a s in let y : Reg = register_at b (after a s) in let w : Reg = register_at c t in let z : MemArg = (memory_at m (after c t)).0 in
-    let first = reused_passed a (used b ∷ used c ∷ memory_requests m) s s meet in
-    let second = used_passed b (used c ∷ memory_requests m) s (after a s) first.1 in
+    let first = reused_passed a (reported_use b ∷ reported_use c ∷ memory_requests m) s s meet in
+    let second = used_passed b (reported_use c ∷ memory_requests m) s (after a s) first.1 in
     let rest = used_passed c (memory_requests m) s t second.1 in
-    let test : is_general x ≡ true = valid x y w (resolved P.state z) (access_valid P (mk x y w z) (o x y w (resolved P.state z)) (is x y w z) h) in
-    keeps x y w z (outputs (items_of (reused a ∷ used b ∷ used c ∷ memory_requests m)) s) (first_listed reused reused_output is_general general_target target a (used b ∷ used c ∷ memory_requests m) s v meet test)
+    let test : is_general x ≡ true = valid x y w (resolved_operand P.state z) (access_valid P (mk x y w z) (o x y w (resolved_operand P.state z)) (is x y w z) h) in
+    keeps x y w z (outputs (items_of (reported_reuse a ∷ reported_use b ∷ reported_use c ∷ memory_requests m)) s) (first_listed reported_reuse reused_output is_general general_target target a (reported_use b ∷ reported_use c ∷ memory_requests m) s v meet test)
     (λ q u. memory_listed m s (after c t) rest.1 q (rest.0 q (second.0 q (first.0 q u))))
 
 -- ---- multiples
@@ -112,10 +112,10 @@ range_fits first last le lt = omega arith
 abbrev pub range_listed : Reg → Reg → List Reg
 range_listed first last = generals (number_of first) (number_of last + 1 - number_of first)
 
-range_valid : (P : Place) (first last : Reg) (m : MemArg) → IsAccess P (LoadMultiple64 first last m) (multiple first last opcodes.LMG false (resolved P.state m)) → refusal P (LoadMultiple64 first last m) ≡ None → number_of first + (number_of last + 1 - number_of first) ≤ 16
+range_valid : (P : Place) (first last : Reg) (m : MemArg) → IsAccess P (LoadMultiple64 first last m) (multiple first last opcodes.LMG false (resolved_operand P.state m)) → refusal P (LoadMultiple64 first last m) ≡ None → number_of first + (number_of last + 1 - number_of first) ≤ 16
 range_valid P first last m is h =
-    let valid = access_valid P (LoadMultiple64 first last m) (multiple first last opcodes.LMG false (resolved P.state m)) is h in
-    let range : (is_general first && is_general last && nat_le (number_of first) (number_of last)) ≡ true = and_left (is_general first && is_general last && nat_le (number_of first) (number_of last)) (operand_general (resolved P.state m)) valid in
+    let valid = access_valid P (LoadMultiple64 first last m) (multiple first last opcodes.LMG false (resolved_operand P.state m)) is h in
+    let range : (is_general first && is_general last && nat_le (number_of first) (number_of last)) ≡ true = and_left (is_general first && is_general last && nat_le (number_of first) (number_of last)) (operand_general (resolved_operand P.state m)) valid in
     let ends : (is_general first && is_general last) ≡ true = and_left (is_general first && is_general last) (nat_le (number_of first) (number_of last)) range in
     range_fits (number_of first) (number_of last) (leb-true (number_of first) (number_of last) (and_right (is_general first && is_general last) (nat_le (number_of first) (number_of last)) range)) (below_sixteen last (and_right (is_general first) (is_general last) ends))
   where
@@ -124,7 +124,7 @@ range_valid P first last m is h =
     below_sixteen (Virtual n c) g = absurd (cc)
 
 pub load_range_kept : (P : Place) (L : Layout) (first last : Reg) (m : MemArg) (s : List Reg) → KeepsAccess L (multiple_targets (number_of first) (number_of last + 1 - number_of first)) (placed_in P (LoadMultiple64 first last (memory_at m s).0)) →
-    IsAccess P (LoadMultiple64 first last (memory_at m s).0) (multiple first last opcodes.LMG false (resolved P.state (memory_at m s).0)) → MeetsEach s (items_of (memory_requests m ++ range_requests first last)) s → refusal P (LoadMultiple64 first last (memory_at m s).0) ≡ None →
+    IsAccess P (LoadMultiple64 first last (memory_at m s).0) (multiple first last opcodes.LMG false (resolved_operand P.state (memory_at m s).0)) → MeetsEach s (items_of (memory_requests m ++ range_requests first last)) s → refusal P (LoadMultiple64 first last (memory_at m s).0) ≡ None →
     InstKeeps L (range_listed first last ++ outputs (items_of (memory_requests m ++ range_requests first last)) s) (placed_in P (LoadMultiple64 first last (memory_at m s).0))
 load_range_kept P L first last m s keeps is meet h =
     let own : List Reg = range_listed first last in

@@ -7,11 +7,11 @@ use Rattle.s390x_base.specs.declared.regs.Reg.{Reg}
 use Rattle.s390x_inst.specs.declared.args.MemArg.{MemArg}
 use Rattle.s390x_inst.specs.declared.inst.Inst.{Inst}
 use Rattle.s390x_operands.specs.declared.constraint.Reported.{Reported}
-use Rattle.s390x_operands.specs.Requests.{items_of, memory_requests, used, defined, reused}
+use Rattle.s390x_operands.specs.Requests.{items_of, memory_requests, reported_use, reported_def, reported_reuse}
 use Rattle.s390x_assign.specs.Assignments.{register_at, after, memory_at}
 use Rattle.s390x_rows.specs.declared.opcodes.TheConstants as opcodes
 use Rattle.s390x_typed_steps.specs.Causes.{first_emit_cause, facility_cause, cause_or}
-use Rattle.s390x_typed_steps.specs.Operands.{resolved, loses_base, operand_general}
+use Rattle.s390x_typed_steps.specs.Operands.{resolved_operand, loses_base, operand_general}
 use Rattle.s390x_typed_steps.specs.Memory.{MemoryInstruction, StorageForm, VrxForm, access_vector, access_elements, access_lane, is_left_lane}
 use Rattle.s390x_typed_steps.specs.General.{is_general}
 use Rattle.s390x_typed_steps.specs.MachineInstruction.{MachineInstruction, rr}
@@ -35,20 +35,20 @@ mixed1 P f F mk t T row is a s s' g h =
     single P (mk x) (mk x') (t x) (t x') (row x) (row x') (is x) (is x') h (T a x x' n.given)
 
 pub mixed2 : (P : Place) (f : Reg → Option Reported) → IsGiven f → (mk : Reg → Reg → Inst) (t u : Reg → Bool) → IsKept t → IsKept u → (row : Reg → Reg → Option MachineInstruction) → ((a b : Reg) → IsSingle P (mk a b) (t a && u b) (row a b)) → (a b : Reg) (s s' : List Reg) →
-    Gives s s' s s' (items_of (f a ∷ used b ∷ [])) → refusal P (mk (register_at a s') (register_at b (after a s'))) ≡ None → IsNotBlamed (refusal P (mk (register_at a s) (register_at b (after a s))))
+    Gives s s' s s' (items_of (f a ∷ reported_use b ∷ [])) → refusal P (mk (register_at a s') (register_at b (after a s'))) ≡ None → IsNotBlamed (refusal P (mk (register_at a s) (register_at b (after a s))))
 mixed2 P f F mk t u T U row is a b s s' g h =
-    let n : Next a s s' s s' (items_of (used b ∷ [])) = F a (used b ∷ []) s s' s s' g in
+    let n : Next a s s' s s' (items_of (reported_use b ∷ [])) = F a (reported_use b ∷ []) s s' s s' g in
     let m : Next b s s' (after a s) (after a s') [] = used_given b [] s s' (after a s) (after a s') n.rest in
     let x : Reg = register_at a s in let x' : Reg = register_at a s' in
     let y : Reg = register_at b (after a s) in let y' : Reg = register_at b (after a s') in
     single P (mk x y) (mk x' y') (t x && u y) (t x' && u y') (row x y) (row x' y') (is x y) (is x' y') h (and_passes (t x) (t x') (u y) (u y') (T a x x' n.given) (U b y y' m.given))
 
 pub mixed3 : (P : Place) (f : Reg → Option Reported) → IsGiven f → (mk : Reg → Reg → Reg → Inst) (t u v : Reg → Bool) → IsKept t → IsKept u → IsKept v → (row : Reg → Reg → Reg → Option MachineInstruction) → ((a b c : Reg) → IsSingle P (mk a b c) (t a && u b && v c) (row a b c)) →
-    (a b c : Reg) (s s' : List Reg) → Gives s s' s s' (items_of (f a ∷ used b ∷ used c ∷ [])) → refusal P (mk (register_at a s') (register_at b (after a s')) (register_at c (after b (after a s')))) ≡ None →
+    (a b c : Reg) (s s' : List Reg) → Gives s s' s s' (items_of (f a ∷ reported_use b ∷ reported_use c ∷ [])) → refusal P (mk (register_at a s') (register_at b (after a s')) (register_at c (after b (after a s')))) ≡ None →
     IsNotBlamed (refusal P (mk (register_at a s) (register_at b (after a s)) (register_at c (after b (after a s)))))
 mixed3 P f F mk t u v T U V row is a b c s s' g h =
-    let n : Next a s s' s s' (items_of (used b ∷ used c ∷ [])) = F a (used b ∷ used c ∷ []) s s' s s' g in
-    let m : Next b s s' (after a s) (after a s') (items_of (used c ∷ [])) = used_given b (used c ∷ []) s s' (after a s) (after a s') n.rest in
+    let n : Next a s s' s s' (items_of (reported_use b ∷ reported_use c ∷ [])) = F a (reported_use b ∷ reported_use c ∷ []) s s' s s' g in
+    let m : Next b s s' (after a s) (after a s') (items_of (reported_use c ∷ [])) = used_given b (reported_use c ∷ []) s s' (after a s) (after a s') n.rest in
     let l : Next c s s' (after b (after a s)) (after b (after a s')) [] = used_given c [] s s' (after b (after a s)) (after b (after a s')) m.rest in
     let x : Reg = register_at a s in let x' : Reg = register_at a s' in
     let y : Reg = register_at b (after a s) in let y' : Reg = register_at b (after a s') in
@@ -57,13 +57,13 @@ mixed3 P f F mk t u v T U V row is a b c s s' g h =
     (and_passes (t x && u y) (t x' && u y') (v z) (v z') (and_passes (t x) (t x') (u y) (u y') (T a x x' n.given) (U b y y' m.given)) (V c z z' l.given))
 
 pub mixed4 : (P : Place) (f : Reg → Option Reported) → IsGiven f → (mk : Reg → Reg → Reg → Reg → Inst) (t u v w : Reg → Bool) → IsKept t → IsKept u → IsKept v → IsKept w → (row : Reg → Reg → Reg → Reg → Option MachineInstruction) → ((a b c d : Reg) →
-    IsSingle P (mk a b c d) (t a && u b && v c && w d) (row a b c d)) → (a b c d : Reg) (s s' : List Reg) → Gives s s' s s' (items_of (f a ∷ used b ∷ used c ∷ used d ∷ [])) →
+    IsSingle P (mk a b c d) (t a && u b && v c && w d) (row a b c d)) → (a b c d : Reg) (s s' : List Reg) → Gives s s' s s' (items_of (f a ∷ reported_use b ∷ reported_use c ∷ reported_use d ∷ [])) →
     refusal P (mk (register_at a s') (register_at b (after a s')) (register_at c (after b (after a s'))) (register_at d (after c (after b (after a s'))))) ≡ None →
     IsNotBlamed (refusal P (mk (register_at a s) (register_at b (after a s)) (register_at c (after b (after a s))) (register_at d (after c (after b (after a s))))))
 mixed4 P f F mk t u v w T U V W row is a b c d s s' g h =
-    let n : Next a s s' s s' (items_of (used b ∷ used c ∷ used d ∷ [])) = F a (used b ∷ used c ∷ used d ∷ []) s s' s s' g in
-    let m : Next b s s' (after a s) (after a s') (items_of (used c ∷ used d ∷ [])) = used_given b (used c ∷ used d ∷ []) s s' (after a s) (after a s') n.rest in
-    let l : Next c s s' (after b (after a s)) (after b (after a s')) (items_of (used d ∷ [])) = used_given c (used d ∷ []) s s' (after b (after a s)) (after b (after a s')) m.rest in
+    let n : Next a s s' s s' (items_of (reported_use b ∷ reported_use c ∷ reported_use d ∷ [])) = F a (reported_use b ∷ reported_use c ∷ reported_use d ∷ []) s s' s s' g in
+    let m : Next b s s' (after a s) (after a s') (items_of (reported_use c ∷ reported_use d ∷ [])) = used_given b (reported_use c ∷ reported_use d ∷ []) s s' (after a s) (after a s') n.rest in
+    let l : Next c s s' (after b (after a s)) (after b (after a s')) (items_of (reported_use d ∷ [])) = used_given c (reported_use d ∷ []) s s' (after b (after a s)) (after b (after a s')) m.rest in
     let e : List Reg = after c (after b (after a s)) in let e' : List Reg = after c (after b (after a s')) in
     let k : Next d s s' e e' [] = used_given d [] s s' e e' l.rest in
     let x : Reg = register_at a s in let x' : Reg = register_at a s' in
@@ -74,7 +74,7 @@ mixed4 P f F mk t u v w T U V W row is a b c d s s' g h =
     (and_passes (t x && u y && v z) (t x' && u y' && v z') (w r) (w r') (and_passes (t x && u y) (t x' && u y') (v z) (v z') (and_passes (t x) (t x') (u y) (u y') (T a x x' n.given) (U b y y' m.given)) (V c z z' l.given)) (W d r r' k.given))
 
 -- a vector register that is an input too
-pub reuse_vector1 : (P : Place) (mk : Reg → Reg → Inst) (row : Reg → Reg → Option MachineInstruction) → ((d i : Reg) → IsSingle P (mk d i) (reuses_vector d i) (row d i)) → (d i : Reg) (s s' : List Reg) → IsVirtual d → IsVirtual i → Gives s s' s s' (items_of (reused d ∷ used i ∷ [])) →
+pub reuse_vector1 : (P : Place) (mk : Reg → Reg → Inst) (row : Reg → Reg → Option MachineInstruction) → ((d i : Reg) → IsSingle P (mk d i) (reuses_vector d i) (row d i)) → (d i : Reg) (s s' : List Reg) → IsVirtual d → IsVirtual i → Gives s s' s s' (items_of (reported_reuse d ∷ reported_use i ∷ [])) →
     refusal P (mk (register_at d s') (register_at i (after d s'))) ≡ None → IsNotBlamed (refusal P (mk (register_at d s) (register_at i (after d s))))
 reuse_vector1 P mk row is d i s s' v w g h =
     let n : Reused d i s s' [] = reused_given d i [] s s' v w g in
@@ -83,9 +83,9 @@ reuse_vector1 P mk row is d i s s' v w g h =
     single P (mk x y) (mk x' y') (reuses_vector x y) (reuses_vector x' y') (row x y) (row x' y') (is x y) (is x' y') h n.vector
 
 pub reuse_vector2 : (P : Place) (mk : Reg → Reg → Reg → Inst) (row : Reg → Reg → Reg → Option MachineInstruction) → ((d i m : Reg) → IsSingle P (mk d i m) (reuses_vector d i && is_vector m) (row d i m)) → (d i m : Reg) (s s' : List Reg) → IsVirtual d → IsVirtual i →
-    Gives s s' s s' (items_of (reused d ∷ used i ∷ used m ∷ [])) → refusal P (mk (register_at d s') (register_at i (after d s')) (register_at m (after i (after d s')))) ≡ None → IsNotBlamed (refusal P (mk (register_at d s) (register_at i (after d s)) (register_at m (after i (after d s)))))
+    Gives s s' s s' (items_of (reported_reuse d ∷ reported_use i ∷ reported_use m ∷ [])) → refusal P (mk (register_at d s') (register_at i (after d s')) (register_at m (after i (after d s')))) ≡ None → IsNotBlamed (refusal P (mk (register_at d s) (register_at i (after d s)) (register_at m (after i (after d s)))))
 reuse_vector2 P mk row is d i m s s' v w g h =
-    let n : Reused d i s s' (items_of (used m ∷ [])) = reused_given d i (used m ∷ []) s s' v w g in
+    let n : Reused d i s s' (items_of (reported_use m ∷ [])) = reused_given d i (reported_use m ∷ []) s s' v w g in
     let k : Next m s s' (after i (after d s)) (after i (after d s')) [] = used_given m [] s s' (after i (after d s)) (after i (after d s')) n.rest in
     let x : Reg = register_at d s in let x' : Reg = register_at d s' in
     let y : Reg = register_at i (after d s) in let y' : Reg = register_at i (after d s') in
@@ -94,12 +94,12 @@ reuse_vector2 P mk row is d i m s s' v w g h =
 
 -- two general registers behind it
 pub reuse_vector3 : (P : Place) (mk : Reg → Reg → Reg → Reg → Inst) (row : Reg → Reg → Reg → Reg → Option MachineInstruction) → ((d i m b : Reg) → IsSingle P (mk d i m b) (reuses_vector d i && is_general m && is_general b) (row d i m b)) → (d i m b : Reg) (s s' : List Reg) → IsVirtual d → IsVirtual i →
-    Gives s s' s s' (items_of (reused d ∷ used i ∷ used m ∷ used b ∷ [])) → refusal P (mk (register_at d s') (register_at i (after d s')) (register_at m (after i (after d s'))) (register_at b (after m (after i (after d s'))))) ≡ None →
+    Gives s s' s s' (items_of (reported_reuse d ∷ reported_use i ∷ reported_use m ∷ reported_use b ∷ [])) → refusal P (mk (register_at d s') (register_at i (after d s')) (register_at m (after i (after d s'))) (register_at b (after m (after i (after d s'))))) ≡ None →
     IsNotBlamed (refusal P (mk (register_at d s) (register_at i (after d s)) (register_at m (after i (after d s))) (register_at b (after m (after i (after d s))))))
 reuse_vector3 P mk row is d i m b s s' v w g h =
-    let n : Reused d i s s' (items_of (used m ∷ used b ∷ [])) = reused_given d i (used m ∷ used b ∷ []) s s' v w g in
+    let n : Reused d i s s' (items_of (reported_use m ∷ reported_use b ∷ [])) = reused_given d i (reported_use m ∷ reported_use b ∷ []) s s' v w g in
     let t : List Reg = after i (after d s) in let t' : List Reg = after i (after d s') in
-    let k : Next m s s' t t' (items_of (used b ∷ [])) = used_given m (used b ∷ []) s s' t t' n.rest in
+    let k : Next m s s' t t' (items_of (reported_use b ∷ [])) = used_given m (reported_use b ∷ []) s s' t t' n.rest in
     let l : Next b s s' (after m t) (after m t') [] = used_given b [] s s' (after m t) (after m t') k.rest in
     let x : Reg = register_at d s in let x' : Reg = register_at d s' in
     let y : Reg = register_at i (after d s) in let y' : Reg = register_at i (after d s') in
@@ -126,10 +126,10 @@ pub reverse_single : (P : Place) (count : ℕ) (d n : Reg) → IsSingle P (Vecto
 reverse_single P count d n =
     ap (λ c. first_emit_cause (facility_cause P.flags (Vector (VecEltRev count d n))) c) (rows_single (reversing_rows count (number_of d) (number_of n)) (is_vector d && is_vector n))
 
-pub reverse : (P : Place) (count : ℕ) (d n : Reg) (s s' : List Reg) → Gives s s' s s' (items_of (defined d ∷ used n ∷ [])) → refusal P (Vector (VecEltRev count (register_at d s') (register_at n (after d s')))) ≡ None →
+pub reverse : (P : Place) (count : ℕ) (d n : Reg) (s s' : List Reg) → Gives s s' s s' (items_of (reported_def d ∷ reported_use n ∷ [])) → refusal P (Vector (VecEltRev count (register_at d s') (register_at n (after d s')))) ≡ None →
     IsNotBlamed (refusal P (Vector (VecEltRev count (register_at d s) (register_at n (after d s)))))
 reverse P count d n s s' g h =
-    mixed2 P defined defined_given (λ d n. Vector (VecEltRev count d n)) is_vector is_vector float_kept float_kept (λ d n. first_row (reversing_rows count (number_of d) (number_of n))) (λ d n. reverse_single P count d n) d n s s' g h
+    mixed2 P reported_def defined_given (λ d n. Vector (VecEltRev count d n)) is_vector is_vector float_kept float_kept (λ d n. first_row (reversing_rows count (number_of d) (number_of n))) (λ d n. reverse_single P count d n) d n s s' g h
 
 -- ---- vector registers in memory
 
@@ -160,18 +160,18 @@ vector_follows v v' m m' o o' (inl e) x' f p k = subst (λ z. AllFollow z o') (s
 vector_follows v v' m m' o o' (inr x) (inl e) f p k = subst (λ z. AllFollow z o') (sym x.1) (subst (λ z. AllFollow (access_vector v x.0 m) z) (sym e) tt)
 vector_follows v v' m m' o o' (inr x) (inr x') f p k = subst (λ z. AllFollow z o') (sym x.1) (subst (λ z. AllFollow (access_vector v x.0 m) z) (sym x'.1) (record { valid = f; general = p; keeps_base = k; reads_none = refl }))
 
-pub vector_access : (P : Place) (f : Reg → Option Reported) → IsGiven f → (mk : Reg → MemArg → Inst) (o : Reg → MemArg → Option MemoryInstruction) → ((a : Reg) (m : MemArg) → IsVectorAccess (is_vector a) m (o a m)) → ((a : Reg) (m : MemArg) → IsAccess P (mk a m) (o a (resolved P.state m))) →
+pub vector_access : (P : Place) (f : Reg → Option Reported) → IsGiven f → (mk : Reg → MemArg → Inst) (o : Reg → MemArg → Option MemoryInstruction) → ((a : Reg) (m : MemArg) → IsVectorAccess (is_vector a) m (o a m)) → ((a : Reg) (m : MemArg) → IsAccess P (mk a m) (o a (resolved_operand P.state m))) →
     (a : Reg) (m : MemArg) (s s' : List Reg) → MemoryMayStand m → Gives s s' s s' (items_of (f a ∷ memory_requests m)) → refusal P (mk (register_at a s') (memory_at m (after a s')).0) ≡ None → IsNotBlamed (refusal P (mk (register_at a s) (memory_at m (after a s)).0))
 vector_access P f F mk o by is a m s s' may g h =
     let n : Next a s s' s s' (items_of (memory_requests m)) = F a (memory_requests m) s s' s s' g in
     let k : Addressed P.state m (after a s) (after a s') = addressed_by P.state m s s' (after a s) (after a s') may n.rest in
     let x : Reg = register_at a s in let x' : Reg = register_at a s' in
     let y : MemArg = (memory_at m (after a s)).0 in let y' : MemArg = (memory_at m (after a s')).0 in
-    let z : MemArg = resolved P.state y in let z' : MemArg = resolved P.state y' in
+    let z : MemArg = resolved_operand P.state y in let z' : MemArg = resolved_operand P.state y' in
     accessing P (mk x y) (mk x' y') (o x z) (o x' z') (is x y) (is x' y') h (vector_follows (is_vector x) (is_vector x') z z' (o x z) (o x' z') (by x z) (by x' z') n.given.vector k.general k.keeps)
 
-pub reuse_vector_access : (P : Place) (mk : Reg → Reg → MemArg → Inst) (o : Reg → Reg → MemArg → Option MemoryInstruction) → ((d i : Reg) (m : MemArg) → IsVectorAccess (reuses_vector d i) m (o d i m)) → ((d i : Reg) (m : MemArg) → IsAccess P (mk d i m) (o d i (resolved P.state m))) → (d i : Reg) (m : MemArg) (s s' : List Reg) →
-    IsVirtual d → IsVirtual i → MemoryMayStand m → Gives s s' s s' (items_of (reused d ∷ used i ∷ memory_requests m)) → refusal P (mk (register_at d s') (register_at i (after d s')) (memory_at m (after i (after d s'))).0) ≡ None →
+pub reuse_vector_access : (P : Place) (mk : Reg → Reg → MemArg → Inst) (o : Reg → Reg → MemArg → Option MemoryInstruction) → ((d i : Reg) (m : MemArg) → IsVectorAccess (reuses_vector d i) m (o d i m)) → ((d i : Reg) (m : MemArg) → IsAccess P (mk d i m) (o d i (resolved_operand P.state m))) → (d i : Reg) (m : MemArg) (s s' : List Reg) →
+    IsVirtual d → IsVirtual i → MemoryMayStand m → Gives s s' s s' (items_of (reported_reuse d ∷ reported_use i ∷ memory_requests m)) → refusal P (mk (register_at d s') (register_at i (after d s')) (memory_at m (after i (after d s'))).0) ≡ None →
     IsNotBlamed (refusal P (mk (register_at d s) (register_at i (after d s)) (memory_at m (after i (after d s))).0))
 reuse_vector_access P mk o by is d i m s s' v w may g h =
     let n : Reused d i s s' (items_of (memory_requests m)) = reused_given d i (memory_requests m) s s' v w g in
@@ -179,5 +179,5 @@ reuse_vector_access P mk o by is d i m s s' v w may g h =
     let x : Reg = register_at d s in let x' : Reg = register_at d s' in
     let y : Reg = register_at i (after d s) in let y' : Reg = register_at i (after d s') in
     let a : MemArg = (memory_at m (after i (after d s))).0 in let a' : MemArg = (memory_at m (after i (after d s'))).0 in
-    let z : MemArg = resolved P.state a in let z' : MemArg = resolved P.state a' in
+    let z : MemArg = resolved_operand P.state a in let z' : MemArg = resolved_operand P.state a' in
     accessing P (mk x y a) (mk x' y' a') (o x y z) (o x' y' z') (is x y a) (is x' y' a') h (vector_follows (reuses_vector x y) (reuses_vector x' y') z z' (o x y z) (o x' y' z') (by x y z) (by x' y' z') n.vector k.general k.keeps)

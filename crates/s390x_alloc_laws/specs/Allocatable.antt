@@ -24,7 +24,7 @@ use Rattle.s390x_operands.specs.Meets.{Meets}
 use Rattle.s390x_operands.specs.Operands.{operands}
 use Rattle.s390x_operands.specs.declared.constraint.Reported.{Reported}
 use Rattle.s390x_operands.specs.declared.constraint.Reported.TheVariants.{Operand}
-use Rattle.s390x_assign.specs.Assignments.{assigned}
+use Rattle.s390x_assign.specs.Assignments.{assigned_portions}
 use Rattle.s390x_typed_steps.specs.Baseline.{tree_for}
 use Rattle.s390x_typed_steps.specs.Causes.{Declared, first_emit_cause, facility_cause, memory_cause_or, instruction_cause, tree_cause}
 use Rattle.s390x_typed_steps.specs.Memory.{memory, loaded_memory, accesses_relative}
@@ -240,7 +240,7 @@ refusal P i = own_refusal P (lacks_row P (resolved_instruction P.state i)) (reso
 
 -- one instruction is another with these registers
 abbrev pub IsAssigned : Inst → List Reg → Inst → Type 0
-IsAssigned i regs j = portions j ≡ (assigned (portions i) regs).0
+IsAssigned i regs j = portions j ≡ (assigned_portions (portions i) regs).0
 
 -- some registers that meet the constraints give an instruction that isn't refused, so that an instruction has no cause but its virtual registers
 pub record IsPossible (P : Place) (i : Inst) : Type 0 where

@@ -6,7 +6,7 @@ use Rattle.s390x_inst.specs.declared.inst.Inst.{Inst}
 use Rattle.s390x_operands.specs.Meets.{Meets}
 use Rattle.s390x_operands.specs.Operands.{operands}
 use Rattle.s390x_typed_steps.specs.Baseline.{tree_for}
-use Rattle.s390x_typed_steps.specs.Folding.{folded}
+use Rattle.s390x_typed_steps.specs.Folding.{folded_members}
 use Rattle.s390x_typed_steps.specs.Resolved.{resolved_instruction}
 use Rattle.s390x_typed_steps.specs.Steps.{steps_of}
 use Rattle.s390x_typed_steps.specs.Tree.{empty, prepend}
@@ -18,7 +18,7 @@ use Rattle.s390x_alloc_laws.specs.Outputs.{IsStepOf, StepsKeepOthers, changeable
 -- branches before the next block are folded, and neither they nor a machine that has done their bytes change other registers
 pub record ChangesOnlyOutputs (P : Place) (i : Inst) (registers : List Reg) (j : Inst) : Type 0 where
   pub steps : (k after : ℕ) → All (IsStepOf (resolved_instruction P.state j)) (steps_of k after (tree_for P.flags (prepend P.state j empty)))
-  pub folds : (k after next : ℕ) → All (IsStepOf (resolved_instruction P.state j)) (steps_of k after (folded next (tree_for P.flags (prepend P.state j empty))))
+  pub folds : (k after next : ℕ) → All (IsStepOf (resolved_instruction P.state j)) (steps_of k after (folded_members next (tree_for P.flags (prepend P.state j empty))))
   pub typed : StepsKeepOthers (resolved_instruction P.state j) (changeable i registers)
   pub machine : MachineKeepsOthers (resolved_instruction P.state j) (changeable i registers)
 

@@ -6,7 +6,7 @@ use Rattle.s390x_operands.specs.Meets.{Meets}
 use Rattle.s390x_operands.specs.Operands.{operands}
 use Rattle.s390x_typed_steps.specs.Resolved.{resolved_instruction}
 use Rattle.s390x_typed_steps.specs.Steps.{Step}
-use Rattle.s390x_operations.specs.State.{Core, IsLoaded, written}
+use Rattle.s390x_operations.specs.State.{Core, IsLoaded, core_after_writes}
 use Rattle.s390x_machine.specs.CodeAt.{AllCodeAt}
 use Rattle.s390x_machine.specs.Layout.{Layout, InStep}
 use Rattle.s390x_machine.specs.Match.{EndsMatch, HasNoBytes, start}
@@ -22,10 +22,10 @@ pub data RunKeeps (L : Layout) (k : ℕ) (changed : List Reg) (c : Core) (trace 
   -- the step has no bytes
   silent : HasNoBytes L k → RunKeeps L k changed c trace
   -- at most four transitions are the step, and lead to step j
-  goes : (h rest : List Transition) (transition : Transition) → trace ≡ h ++ transition ∷ rest → length h ≤ 3 → (j : ℕ) (t : Core) → TypedStep L k (written (all_writes (h ++ transition ∷ [])) c) (At j) t → transition.after ≡ start L j t →
+  goes : (h rest : List Transition) (transition : Transition) → trace ≡ h ++ transition ∷ rest → length h ≤ 3 → (j : ℕ) (t : Core) → TypedStep L k (core_after_writes (all_writes (h ++ transition ∷ [])) c) (At j) t → transition.after ≡ start L j t →
       KeepsOthers changed c.registers transition.after.core.registers → RunKeeps L k changed c trace
   -- the step ends the run
-  ends : (g rest : List Transition) → trace ≡ g ++ rest → length g ≤ 4 → (e : Ending) (t : Core) → TypedStep L k (written (all_writes g) c) (Ended e) t → EndsMatch L (Ended e) t (after_all (start L k c) g) rest →
+  ends : (g rest : List Transition) → trace ≡ g ++ rest → length g ≤ 4 → (e : Ending) (t : Core) → TypedStep L k (core_after_writes (all_writes g) c) (Ended e) t → EndsMatch L (Ended e) t (after_all (start L k c) g) rest →
       KeepsOthers changed c.registers (after_all (start L k c) g).core.registers → RunKeeps L k changed c trace
   -- the step is wrong, and nothing more is said
   wrong : Wrong L k c → RunKeeps L k changed c trace

@@ -14,7 +14,7 @@ use Rattle.s390x_operands.specs.declared.constraint.Reported.TheVariants.{Operan
 use Rattle.s390x_typed_steps.specs.Operands.{is_numbered}
 use Rattle.s390x_typed_steps.specs.Resolved.{resolved_instruction}
 use Rattle.s390x_typed_steps.specs.Baseline.{tree_for}
-use Rattle.s390x_typed_steps.specs.Folding.{folded}
+use Rattle.s390x_typed_steps.specs.Folding.{folded_members}
 use Rattle.s390x_typed_steps.specs.Tree.{empty, prepend}
 use Rattle.s390x_typed_steps.specs.Steps.{Step, Plain, Shortened, LoadedStep, Break, steps_of}
 use Rattle.s390x_operations.specs.State.{Registers, Core}
@@ -77,4 +77,4 @@ ChangesOutputs P i =
 -- emission makes none but steps of the instruction that it becomes, at any place in a block or a loop; also where the branches before the next block are folded
 abbrev pub EmitsItsSteps : Place → Inst → Type 0
 EmitsItsSteps P i =
-    (registers : List Reg) (j : Inst) → IsAssigned i registers j → (k after : ℕ) → All (IsStepOf (resolved_instruction P.state j)) (steps_of k after (tree_for P.flags (prepend P.state j empty))) × ((next : ℕ) → All (IsStepOf (resolved_instruction P.state j)) (steps_of k after (folded next (tree_for P.flags (prepend P.state j empty)))))
+    (registers : List Reg) (j : Inst) → IsAssigned i registers j → (k after : ℕ) → All (IsStepOf (resolved_instruction P.state j)) (steps_of k after (tree_for P.flags (prepend P.state j empty))) × ((next : ℕ) → All (IsStepOf (resolved_instruction P.state j)) (steps_of k after (folded_members next (tree_for P.flags (prepend P.state j empty)))))

@@ -4,7 +4,7 @@ use Rattle.s390x_base.specs.declared.regs.Reg.{Reg}
 use Rattle.s390x_inst.specs.declared.inst.Inst.{Inst}
 use Rattle.s390x_inst.specs.declared.inst.Inst.TheVariants.{Loop', IndirectBr, JTSequence, Call, ReturnCall, Args, Rets, Fence}
 use Rattle.s390x_inst.specs.Portions.{Portion, closing, first_portion, portions}
-use Rattle.s390x_described.specs.Instructions.{described}
+use Rattle.s390x_described.specs.Instructions.{description_of}
 use Rattle.s390x_described.specs.Roles.{again_or_none}
 use Rattle.s390x_assign.specs.Assignments.{assigned_role, as_it_is, portion_by, portion_at, IsPortion}
 
@@ -19,7 +19,7 @@ portion_again None t other = other t
 portion_again (Some j) t other = (first_portion j, t)
 
 abbrev again : Inst → List Reg → Option Inst × List Reg
-again i s = again_or_none assigned_role (described i) s
+again i s = again_or_none assigned_role (description_of i) s
 
 abbrev by_lists : Inst → List Reg → Portion × List Reg
 by_lists i t = portion_by as_it_is (first_portion i) t
@@ -29,10 +29,10 @@ portion_is : (i : Inst) (s : List Reg) → ◌≡◌ {A = Portion × List Reg} (
 portion_is Fence s = refl
 portion_is i s = refl
 
-pub given_again : (i j : Inst) (s t : List Reg) → (again_or_none assigned_role (described i) s).0 ≡ Some j → t ≡ (again_or_none assigned_role (described i) s).1 → IsPortion (portion_at (first_portion i) s) j t
+pub given_again : (i j : Inst) (s t : List Reg) → (again_or_none assigned_role (description_of i) s).0 ≡ Some j → t ≡ (again_or_none assigned_role (description_of i) s).1 → IsPortion (portion_at (first_portion i) s) j t
 given_again i j s t h left = portion_is i s ∙ ap (λ o. portion_again o (again i s).1 (by_lists i)) h ∙ ap (λ r. (first_portion j, r)) (sym left)
 
-pub not_described : (i : Inst) (s t : List Reg) → (again_or_none assigned_role (described i) s).0 ≡ None → t ≡ (again_or_none assigned_role (described i) s).1 → ◌≡◌ {A = Portion × List Reg} (portion_at (first_portion i) s) (portion_by as_it_is (first_portion i) t)
+pub not_described : (i : Inst) (s t : List Reg) → (again_or_none assigned_role (description_of i) s).0 ≡ None → t ≡ (again_or_none assigned_role (description_of i) s).1 → ◌≡◌ {A = Portion × List Reg} (portion_at (first_portion i) s) (portion_by as_it_is (first_portion i) t)
 not_described i s t h left = portion_is i s ∙ ap (λ o. portion_again o (again i s).1 (by_lists i)) h ∙ ap (by_lists i) (sym left)
 
 -- an instruction with the same portions begins with the same one

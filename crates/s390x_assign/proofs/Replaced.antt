@@ -24,18 +24,18 @@ use Rattle.s390x_inst.specs.declared.inst.Inst.TheVariants.{Loop', IndirectBr, J
 use Rattle.s390x_inst.specs.declared.vec_inst.VecInst.{VecInst}
 use Rattle.s390x_inst.specs.declared.vec_inst.VecInst.TheVariants.{VecMov}
 use Rattle.s390x_inst.specs.Portions.{Portion, plain, indirect_branch, jump_table, calling, tail_calling, arguments, results, opening, closing, first_portion, portions, row_portions}
-use Rattle.s390x_described.specs.Instructions.{described, described_vector}
+use Rattle.s390x_described.specs.Instructions.{description_of, described_vector}
 use Rattle.s390x_described.specs.Roles.{Role, Written, Tied, Read, WrittenPair, LowRead, ReadPair, InMemory, Described, each_role}
 use Rattle.s390x_operands.specs.declared.constraint.Reported.{Reported}
 use Rattle.s390x_operands.specs.declared.constraint.Reported.TheVariants.{Operand, Fixed, Clobbers}
-use Rattle.s390x_operands.specs.Calls.{placed_use, placed_def, destination_requests, argument, result_in, call_result, incoming, outgoing, clobbered}
+use Rattle.s390x_operands.specs.Calls.{placed_use, placed_def, destination_requests, argument, result_in, call_result, reported_argument, reported_result, reported_clobbers}
 use Rattle.s390x_operands.specs.Operands.{leaf_requests, vector_requests, requests, row_requests, operands}
-use Rattle.s390x_operands.specs.Requests.{items_of, used, defined, reused, fixed_use, fixed_def, scratch_request, memory_requests, fixed_general, range_requests}
-use Rattle.s390x_assign.specs.Assignments.{operand_at, register_at, after, placed_at, after_placed, pair_at, dividend_at, memory_at, assigned_role, each_at, assigned_vector, destination_at, argument_at, result_at, call_result_at, incoming_at, outgoing_at, portion_at, assigned, reported_again, replaced, operand_count}
+use Rattle.s390x_operands.specs.Requests.{items_of, reported_use, reported_def, reported_reuse, fixed_use, fixed_def, scratch_request, memory_requests, fixed_general, range_requests}
+use Rattle.s390x_assign.specs.Assignments.{operand_at, register_at, after, placed_at, after_placed, pair_at, dividend_at, memory_at, assigned_role, each_at, assigned_vector, destination_at, argument_at, result_at, call_result_at, incoming_at, outgoing_at, portion_at, assigned_portions, reported_again, replaced_operands, operand_count}
 
 -- requests become others, whose operands are replaced by the next registers of a list; so much is left of it
 record Follows (xs ys : List (Option Reported)) (s t : List Reg) : Type 0 where
-  items : items_of ys ≡ replaced (items_of xs) s
+  items : items_of ys ≡ replaced_operands (items_of xs) s
   left : t ≡ drop (operand_count (items_of xs)) s
 
 items_append : (xs ys : List (Option Reported)) → items_of (xs ++ ys) ≡ items_of xs ++ items_of ys
@@ -54,10 +54,10 @@ drop_more n s =
     let c : 1 + n ≡ n + 1 = omega arith in
     drop-drop n 1 s ∙ ap (λ m. drop m s) c
 
-replaced_append : (xs ys : List Reported) (s : List Reg) → replaced (xs ++ ys) s ≡ replaced xs s ++ replaced ys (drop (operand_count xs) s)
+replaced_append : (xs ys : List Reported) (s : List Reg) → replaced_operands (xs ++ ys) s ≡ replaced_operands xs s ++ replaced_operands ys (drop (operand_count xs) s)
 replaced_append [] ys s = refl
 replaced_append (Operand reg constraint kind pos ∷ xs) ys s =
-    ap (λ zs. reported_again (operand_at reg s) constraint kind pos ∷ zs) (replaced_append xs ys (drop 1 s) ∙ ap (λ t. replaced xs (drop 1 s) ++ replaced ys t) (drop_more (operand_count xs) s))
+    ap (λ zs. reported_again (operand_at reg s) constraint kind pos ∷ zs) (replaced_append xs ys (drop 1 s) ∙ ap (λ t. replaced_operands xs (drop 1 s) ++ replaced_operands ys t) (drop_more (operand_count xs) s))
 replaced_append (Fixed p ∷ xs) ys s = ap (λ zs. Fixed p ∷ zs) (replaced_append xs ys s)
 replaced_append (Clobbers regs ∷ xs) ys s = ap (λ zs. Clobbers regs ∷ zs) (replaced_append xs ys s)
 
@@ -69,10 +69,10 @@ both {xs = xs} {ys = ys} {xs' = xs'} {ys' = ys'} {s = s} {t = t} {u = u} p q =
       items =
           items_append ys ys'
           ∙ ap (λ zs. zs ++ items_of ys') p.items
-          ∙ ap (λ zs. replaced (items_of xs) s ++ zs) q.items
-          ∙ ap (λ r. replaced (items_of xs) s ++ replaced (items_of xs') r) p.left
+          ∙ ap (λ zs. replaced_operands (items_of xs) s ++ zs) q.items
+          ∙ ap (λ r. replaced_operands (items_of xs) s ++ replaced_operands (items_of xs') r) p.left
           ∙ sym (replaced_append (items_of xs) (items_of xs') s)
-          ∙ ap (λ zs. replaced zs s) (sym (items_append xs xs'));
+          ∙ ap (λ zs. replaced_operands zs s) (sym (items_append xs xs'));
       left =
           q.left
           ∙ ap (λ r. drop (operand_count (items_of xs')) r) p.left
@@ -93,15 +93,15 @@ scratch : (s : List Reg) → Follows (scratch_request ∷ []) (scratch_request �
 scratch s = record { items = refl; left = refl }
 
 -- a register of its own constraint
-used_one : (r : Reg) (s : List Reg) → Follows (used r ∷ []) (used (register_at r s) ∷ []) s (after r s)
+used_one : (r : Reg) (s : List Reg) → Follows (reported_use r ∷ []) (reported_use (register_at r s) ∷ []) s (after r s)
 used_one (Real p) s = record { items = refl; left = refl }
 used_one (Virtual n c) s = record { items = refl; left = refl }
 
-defined_one : (r : Reg) (s : List Reg) → Follows (defined r ∷ []) (defined (register_at r s) ∷ []) s (after r s)
+defined_one : (r : Reg) (s : List Reg) → Follows (reported_def r ∷ []) (reported_def (register_at r s) ∷ []) s (after r s)
 defined_one (Real p) s = record { items = refl; left = refl }
 defined_one (Virtual n c) s = record { items = refl; left = refl }
 
-reused_one : (r : Reg) (s : List Reg) → Follows (reused r ∷ []) (reused (register_at r s) ∷ []) s (after r s)
+reused_one : (r : Reg) (s : List Reg) → Follows (reported_reuse r ∷ []) (reported_reuse (register_at r s) ∷ []) s (after r s)
 reused_one (Real p) s = record { items = refl; left = refl }
 reused_one (Virtual n c) s = record { items = refl; left = refl }
 
@@ -158,13 +158,13 @@ argument_one x s = use_one x.vreg x.preg s
 call_result_one : (x : CallRetPair) (s : List Reg) → Follows (call_result x ∷ []) (call_result (call_result_at x s).0 ∷ []) s (call_result_at x s).1
 call_result_one x s = result_one x.vreg x.location s
 
-incoming_one : (x : ArgPair) (s : List Reg) → Follows (incoming x ∷ []) (incoming (incoming_at x s).0 ∷ []) s (incoming_at x s).1
+incoming_one : (x : ArgPair) (s : List Reg) → Follows (reported_argument x ∷ []) (reported_argument (incoming_at x s).0 ∷ []) s (incoming_at x s).1
 incoming_one x s = def_one x.vreg x.preg s
 
-outgoing_one : (x : RetPair) (s : List Reg) → Follows (outgoing x ∷ []) (outgoing (outgoing_at x s).0 ∷ []) s (outgoing_at x s).1
+outgoing_one : (x : RetPair) (s : List Reg) → Follows (reported_result x ∷ []) (reported_result (outgoing_at x s).0 ∷ []) s (outgoing_at x s).1
 outgoing_one x s = use_one x.vreg x.preg s
 
-clobbers : (set : PRegSet) (link : Reg) (s : List Reg) → Follows (clobbered set link ∷ []) (clobbered set link ∷ []) s s
+clobbers : (set : PRegSet) (link : Reg) (s : List Reg) → Follows (reported_clobbers set link ∷ []) (reported_clobbers set link ∷ []) s s
 clobbers set (Real p) s = record { items = refl; left = refl }
 clobbers set (Virtual n c) s = missing s
 
@@ -175,12 +175,12 @@ each g f F (x ∷ xs) s = next (F x s) (each g f F xs (f x s).1)
 -- what a portion of an instruction reports
 abbrev portion_requests : Portion → List (Option Reported)
 portion_requests (plain i) = leaf_requests i
-portion_requests (indirect_branch rn targets) = used rn ∷ []
-portion_requests (jump_table ridx default mask targets) = used ridx ∷ scratch_request ∷ []
-portion_requests (calling link dest uses defs terms) = destination_requests dest ++ (map argument uses ++ (map call_result defs ++ clobbered terms.clobbers link ∷ []))
+portion_requests (indirect_branch rn targets) = reported_use rn ∷ []
+portion_requests (jump_table ridx default mask targets) = reported_use ridx ∷ scratch_request ∷ []
+portion_requests (calling link dest uses defs terms) = destination_requests dest ++ (map argument uses ++ (map call_result defs ++ reported_clobbers terms.clobbers link ∷ []))
 portion_requests (tail_calling dest uses pop) = destination_requests dest ++ map argument uses
-portion_requests (arguments xs) = map incoming xs
-portion_requests (results xs) = map outgoing xs
+portion_requests (arguments xs) = map reported_argument xs
+portion_requests (results xs) = map reported_result xs
 portion_requests (opening mask) = []
 portion_requests closing = []
 
@@ -203,9 +203,9 @@ followed_append xs (y ∷ ys) = refl
 -- what registers by their roles report
 abbrev role_requests : List Role → List (Option Reported)
 role_requests [] = []
-role_requests (Written r ∷ xs) = defined r ∷ role_requests xs
-role_requests (Tied r ∷ xs) = reused r ∷ role_requests xs
-role_requests (Read r ∷ xs) = used r ∷ role_requests xs
+role_requests (Written r ∷ xs) = reported_def r ∷ role_requests xs
+role_requests (Tied r ∷ xs) = reported_reuse r ∷ role_requests xs
+role_requests (Read r ∷ xs) = reported_use r ∷ role_requests xs
 role_requests (WrittenPair d ∷ xs) = fixed_def d.hi 2 ∷ fixed_def d.lo 3 ∷ role_requests xs
 role_requests (LowRead r ∷ xs) = fixed_use r 3 ∷ role_requests xs
 role_requests (ReadPair d ∷ xs) = fixed_use d.hi 2 ∷ fixed_use d.lo 3 ∷ role_requests xs
@@ -214,7 +214,7 @@ role_requests (InMemory m ∷ xs) = followed_by (memory_requests m) (role_reques
 -- requests that are equal to others follow as these do
 as_equal : {xs ys xs' ys' : List (Option Reported)} {s t : List Reg} → xs ≡ xs' → ys ≡ ys' → Follows xs' ys' s t → Follows xs ys s t
 as_equal {s = s} p q h = record {
-  items = ap items_of q ∙ h.items ∙ ap (λ zs. replaced (items_of zs) s) (sym p);
+  items = ap items_of q ∙ h.items ∙ ap (λ zs. replaced_operands (items_of zs) s) (sym p);
   left = h.left ∙ ap (λ zs. drop (operand_count (items_of zs)) s) (sym p);
 }
 
@@ -250,13 +250,13 @@ portion_follows (JTSequence ridx default default_cond targets) s = next (used_on
 portion_follows (Call link info) s = called link info s
 portion_follows (ReturnCall info) s = both (target info.dest s) (each argument argument_at argument_one info.uses.items (destination_at info.dest s).1)
 portion_follows (LoadSymbolReloc rd symbol_reloc) s = next (defined_one rd s) (scratch (after rd s))
-portion_follows (Args args) s = each incoming incoming_at incoming_one args.items s
-portion_follows (Rets rets) s = each outgoing outgoing_at outgoing_one rets.items s
+portion_follows (Args args) s = each reported_argument incoming_at incoming_one args.items s
+portion_follows (Rets rets) s = each reported_result outgoing_at outgoing_one rets.items s
 portion_follows (LoadMultiple64 rt rt2 mem) s = both (with_memory mem s) (range rt rt2 (memory_at mem s).1)
 portion_follows (StoreMultiple64 rt rt2 mem) s = both (with_memory mem s) (range rt rt2 (memory_at mem s).1)
 portion_follows (MovPReg rd rm) s = next (defined_one rd s) (fixed rm (after rd s))
 portion_follows (Vector v) s = vector_follows v s
-portion_follows i s = roles_follow (roles_of (described i)) s
+portion_follows i s = roles_follow (roles_of (description_of i)) s
 
 closing_follows : IsGood closing
 closing_follows s = none s
@@ -284,7 +284,7 @@ abbrev portions_requests : List Portion → List (Option Reported)
 portions_requests [] = []
 portions_requests (p ∷ ps) = portion_requests p ++ portions_requests ps
 
-portions_follow : (ps : List Portion) → AreGood ps → (s : List Reg) → Follows (portions_requests ps) (portions_requests (assigned ps s).0) s (assigned ps s).1
+portions_follow : (ps : List Portion) → AreGood ps → (s : List Reg) → Follows (portions_requests ps) (portions_requests (assigned_portions ps s).0) s (assigned_portions ps s).1
 portions_follow [] g s = none s
 portions_follow (p ∷ ps) g s = both (g.0 s) (portions_follow ps g.1 (portion_at p s).1)
 
@@ -306,12 +306,12 @@ mutual
   row_report (more_of-Inst i rest) = ap (λ xs. requests i ++ xs) (row_report rest) ∙ ap (λ xs. xs ++ portions_requests (row_portions rest)) (portions_report i) ∙ sym (requests_append (portions i) (row_portions rest))
 
 -- an instruction with the portions that registers give another one reports the operands of that, replaced
-pub operands_replaced : (i j : Inst) (s : List Reg) → portions j ≡ (assigned (portions i) s).0 → operands j ≡ replaced (operands i) s
+pub operands_replaced : (i j : Inst) (s : List Reg) → portions j ≡ (assigned_portions (portions i) s).0 → operands j ≡ replaced_operands (operands i) s
 operands_replaced i j s h =
     ap items_of (portions_report j ∙ ap portions_requests h)
     ∙ (portions_follow (portions i) (instruction_good i) s).items
-    ∙ ap (λ xs. replaced (items_of xs) s) (sym (portions_report i))
+    ∙ ap (λ xs. replaced_operands (items_of xs) s) (sym (portions_report i))
 
-pub answer_replaced : {E : Type 0} (i : Inst) (r : Result Inst E) (s : List Reg) → IfOk r (λ j. portions j ≡ (assigned (portions i) s).0) → IfOk r (λ j. operands j ≡ replaced (operands i) s)
+pub answer_replaced : {E : Type 0} (i : Inst) (r : Result Inst E) (s : List Reg) → IfOk r (λ j. portions j ≡ (assigned_portions (portions i) s).0) → IfOk r (λ j. operands j ≡ replaced_operands (operands i) s)
 answer_replaced i (Ok j) s h = operands_replaced i j s h
 answer_replaced i (Err e) s h = tt

@@ -17,7 +17,7 @@ use Rattle.s390x_inst.specs.declared.calls.RetLocation.TheVariants.{Reg as InReg
 use Rattle.s390x_inst.specs.declared.calls.RetPair.{RetPair}
 use Rattle.s390x_inst.specs.declared.inst.Inst.{Inst}
 use Rattle.s390x_inst.specs.declared.vec_inst.VecInst.{VecInst}
-use Rattle.s390x_described.specs.Instructions.{described, described_vector}
+use Rattle.s390x_described.specs.Instructions.{description_of, described_vector}
 use Rattle.s390x_described.specs.Roles.{Role, Written, Tied, Read, WrittenPair, LowRead, ReadPair, InMemory, Described, described_again}
 use Rattle.s390x_assign.specs.declared.assigning.AssignError.{AssignError}
 use Rattle.s390x_assign.specs.declared.assigning.AssignError.TheVariants.{Count, Operands, NoMemory}
@@ -95,7 +95,7 @@ assigned_by (Some d) i s = described_again assigned_role d s
 
 -- an instruction without lists and members, with its registers: each role takes what it needs of the list, in order, and all else stays
 abbrev pub assigned_operator : Inst → List Reg → Inst × List Reg
-assigned_operator i s = assigned_by (described i) i s
+assigned_operator i s = assigned_by (description_of i) i s
 
 -- the items of a list, one after the other
 abbrev pub each_at : {T : Type 0} → (T → List Reg → T × List Reg) → List T → List Reg → List T × List Reg
@@ -157,8 +157,8 @@ abbrev pub portion_at : Portion → List Reg → Portion × List Reg
 portion_at p s = portion_by assigned_operator p s
 
 -- the portions of an instruction with their registers: its operands are replaced one by one, and all else stays
-abbrev pub assigned : List Portion → List Reg → List Portion × List Reg
-assigned ps s = each_at portion_at ps s
+abbrev pub assigned_portions : List Portion → List Reg → List Portion × List Reg
+assigned_portions ps s = each_at portion_at ps s
 
 -- this has become of something, and so much is left of the list
 abbrev pub IsGiven : {T : Type 0} → T × List Reg → T → List Reg → Type 0
@@ -179,10 +179,10 @@ reported_again q Any kind pos = Operand q Any kind pos
 reported_again q constraint kind pos = placed_or constraint kind pos q
 
 -- the items with the k-th operand replaced by the k-th register
-abbrev pub replaced : List Reported → List Reg → List Reported
-replaced [] s = []
-replaced (Operand reg constraint kind pos ∷ xs) s = reported_again (operand_at reg s) constraint kind pos ∷ replaced xs (drop 1 s)
-replaced (x ∷ xs) s = x ∷ replaced xs s
+abbrev pub replaced_operands : List Reported → List Reg → List Reported
+replaced_operands [] s = []
+replaced_operands (Operand reg constraint kind pos ∷ xs) s = reported_again (operand_at reg s) constraint kind pos ∷ replaced_operands xs (drop 1 s)
+replaced_operands (x ∷ xs) s = x ∷ replaced_operands xs s
 
 -- how many of the items are operands
 abbrev pub operand_count : List Reported → ℕ

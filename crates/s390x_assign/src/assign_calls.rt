@@ -28,7 +28,7 @@ impl TakesRegisters for CallArgPair {
 
     fn with_registers(self, registers: &mut AssignedRegisters<'_>) -> CallArgPair {
         CallArgPair {
-            vreg: registers.placed(self.preg, self.vreg),
+            vreg: registers.operand_in_place(self.preg, self.vreg),
             preg: self.preg,
         }
     }
@@ -51,7 +51,7 @@ impl TakesRegisters for ArgPair {
 
     fn with_registers(self, registers: &mut AssignedRegisters<'_>) -> ArgPair {
         ArgPair {
-            vreg: Writable::from_reg(registers.placed(self.preg, self.vreg.to_reg())),
+            vreg: Writable::from_reg(registers.operand_in_place(self.preg, self.vreg.to_reg())),
             preg: self.preg,
         }
     }
@@ -62,7 +62,7 @@ impl TakesRegisters for RetPair {
 
     fn with_registers(self, registers: &mut AssignedRegisters<'_>) -> RetPair {
         RetPair {
-            vreg: registers.placed(self.preg, self.vreg),
+            vreg: registers.operand_in_place(self.preg, self.vreg),
             preg: self.preg,
         }
     }

@@ -30,7 +30,7 @@ impl<'a> AssignedRegisters<'a> {
     }
 
     /// An operand that stands in a place that has to be real; the operand itself where that is virtual.
-    pub fn placed(&mut self, place: Reg, reg: Reg) -> Reg
+    pub fn operand_in_place(&mut self, place: Reg, reg: Reg) -> Reg
         ensures value { result ≡ placed_at place reg self.old.left.now }
         ensures left { self.new.left.now ≡ after_placed place self.old.left.now }
     {
@@ -46,7 +46,7 @@ impl<'a> AssignedRegisters<'a> {
         ensures left { self.new.left.now ≡ (result_at reg location.now self.old.left.now).1 }
     {
         match location {
-            RetLocation::Reg(place, _) => self.placed(*place, reg),
+            RetLocation::Reg(place, _) => self.operand_in_place(*place, reg),
             RetLocation::Stack(..) => self.operand(reg),
         }
     }
@@ -84,7 +84,7 @@ impl<'a> Replacer for AssignedRegisters<'a> {
         Writable::from_reg(self.input(reg.to_reg()))
     }
 
-    fn reused(&mut self, reg: Writable<Reg>) -> Writable<Reg> {
+    fn tied_output(&mut self, reg: Writable<Reg>) -> Writable<Reg> {
         self.output(reg)
     }
 

@@ -2,7 +2,7 @@
 ghost use Rattle.std.specs.Prelude.{◌≡◌, ◌≤◌, ◌∷◌, [], List, IfOk};
 ghost use Rattle.s390x_inst.specs.Portions.{portions, members_portions};
 ghost use Rattle.s390x_operands.specs.Operands.{operands};
-ghost use Rattle.s390x_assign.specs.Assignments.{assigned, ArePortions, IsAssignAnswer, operand_count, replaced};
+ghost use Rattle.s390x_assign.specs.Assignments.{assigned_portions, ArePortions, IsAssignAnswer, operand_count, replaced_operands};
 
 use crate::assign_control::assign_operator;
 use crate::assigned_registers::AssignedRegisters;
@@ -34,7 +34,7 @@ fn assign_members(
     insts: &[Inst],
 ) -> Result<Vec<Inst>, AllocError>
     ensures { IfOk result
-        (λ body. ArePortions (assigned (members_portions insts.now) registers.old.left.now)
+        (λ body. ArePortions (assigned_portions (members_portions insts.now) registers.old.left.now)
         (members_portions body.items) registers.new.left.now) }
 {
     let mut body = Vec::new(alloc);
@@ -52,8 +52,8 @@ fn assign_inst(
     inst: &Inst,
 ) -> Result<Inst, AllocError>
     ensures { IfOk result
-        (λ j. ArePortions (assigned (portions inst.now) registers.old.left.now) (portions j)
-        registers.new.left.now) }
+        (λ j. ArePortions (assigned_portions (portions inst.now) registers.old.left.now)
+        (portions j) registers.new.left.now) }
 {
     match inst {
         Inst::Loop { cond, body } => {
@@ -91,8 +91,10 @@ fn count_operands(items: &[Reported]) -> usize
 /// `Operands` comes exactly where `get_operands` has a cause of `ReuseInLoop` or `NotReal`, which it carries; else
 /// `Count` exactly where there are more or fewer registers than operands; `NoMemory` where there is none for the copy.
 pub fn assign(alloc: Global, inst: &Inst, regs: &[Reg]) -> Result<Inst, AssignError>
-    ensures value { IfOk result (λ j. portions j ≡ (assigned (portions inst.now) regs.now).0) }
-    ensures operands { IfOk result (λ j. operands j ≡ replaced (operands inst.now) regs.now) }
+    ensures value { IfOk result
+        (λ j. portions j ≡ (assigned_portions (portions inst.now) regs.now).0) }
+    ensures operands { IfOk result
+        (λ j. operands j ≡ replaced_operands (operands inst.now) regs.now) }
     ensures cause { IsAssignAnswer inst.now regs.now result }
 {
     let mut list = OperandList::new(alloc);

@@ -19,21 +19,21 @@ impl Judge for Reader {
         line: &str,
     ) -> Result<Option<Verdict>, LineError> {
         match self.take_line(alloc, number, line)? {
-            Some(case) => judged(alloc, case),
+            Some(case) => verdict_of(alloc, case),
             None => Ok(None),
         }
     }
 
     fn end(&mut self, alloc: Global) -> Result<Option<Verdict>, LineError> {
         match self.take_end(alloc)? {
-            Some(case) => judged(alloc, case),
+            Some(case) => verdict_of(alloc, case),
             None => Ok(None),
         }
     }
 }
 
 // Runs the program on a case.
-fn judged(alloc: Global, case: Case) -> Result<Option<Verdict>, LineError> {
+fn verdict_of(alloc: Global, case: Case) -> Result<Option<Verdict>, LineError> {
     let line = case.line;
     let is_met = is_met(alloc, case).map_err(|_| LineError::NoMemory)?;
     Ok(Some(Verdict { line, is_met }))

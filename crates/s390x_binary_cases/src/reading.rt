@@ -65,7 +65,7 @@ impl Reader {
         if line.starts_with("#") {
             return Ok(None);
         }
-        if let Some(words) = marked(line, ">") {
+        if let Some(words) = text_behind_mark(line, ">") {
             self.case = empty_case(alloc, self.number);
             self.case.words.push_str(words)?;
             self.part = Part::Input;
@@ -76,7 +76,7 @@ impl Reader {
 
     // A line of a case's input, or the one behind it with the status.
     fn take_input(&mut self, line: &str) -> Result<Option<Case>, LineError> {
-        match marked(line, "<") {
+        match text_behind_mark(line, "<") {
             Some(rest) => {
                 let digits = rest.strip_suffix(" in hex");
                 let status = digits.unwrap_or(rest);
@@ -112,7 +112,7 @@ impl Reader {
 }
 
 // What stands behind a mark and a space, if a line begins so; behind the mark alone stands nothing.
-fn marked<'a>(line: &'a str, mark: &str) -> Option<&'a str> {
+fn text_behind_mark<'a>(line: &'a str, mark: &str) -> Option<&'a str> {
     match line.strip_prefix(mark) {
         Some("") => Some(""),
         Some(rest) => rest.strip_prefix(" "),
@@ -122,7 +122,7 @@ fn marked<'a>(line: &'a str, mark: &str) -> Option<&'a str> {
 
 // Whether a line ends the text of a case: it is a comment, or begins a case.
 fn ends_text(line: &str) -> bool {
-    line.starts_with("#") || marked(line, ">").is_some()
+    line.starts_with("#") || text_behind_mark(line, ">").is_some()
 }
 
 // A case of which nothing was read.

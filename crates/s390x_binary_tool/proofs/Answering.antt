@@ -7,7 +7,7 @@ use Rattle.s390x_base.specs.declared.error.EmitError.TheVariants as emit
 use Rattle.s390x_buffer.specs.declared.entries.MachBufferFinalized.{MachBufferFinalized}
 use Rattle.s390x_binary_tool.specs.CodeListing.{IsCodeListing}
 use Rattle.s390x_image.specs.Causes.{link_cause}
-use Rattle.s390x_image.specs.Fields.{filled}
+use Rattle.s390x_image.specs.Fields.{with_fields_filled}
 use Rattle.s390x_image.specs.declared.error.LinkError.{LinkError}
 use Rattle.s390x_image.specs.declared.error.LinkError.TheVariants as linking
 use Rattle.hex.specs.Hex.{encode_lower}
@@ -65,7 +65,7 @@ refusal_answer input j (Shared s) text is spelled one reply = absurd reply
 
 -- a job has one image at a base
 same_image : (base : ℕ) (j : Job) (a b : List ℕ) → IsJobImage base j a → IsJobImage base j b → a ≡ b
-same_image base j a b x y = x.is ∙ ap₂ (filled base (symbols_of j)) (x.finished.relocs ∙ sym y.finished.relocs) (x.finished.bytes ∙ sym y.finished.bytes) ∙ sym y.is
+same_image base j a b x y = x.is ∙ ap₂ (with_fields_filled base (symbols_of j)) (x.finished.relocs ∙ sym y.finished.relocs) (x.finished.bytes ∙ sym y.finished.bytes) ∙ sym y.is
 
 pub verify_memory : (base : ℕ) (j : Job) (given : List ℕ) (s : BinaryStatus) (text : List ℕ) → s ≡ Shared status.NoMemory → text ≡ line (codes "no memory") → IsVerifyReply base j given s text
 verify_memory base j given s text is spelled = subst (λ t. IsVerifyReply base j given t text) (sym is) spelled

@@ -5,7 +5,7 @@ use Rattle.s390x_buffer.specs.declared.entries.MachBufferFinalized.{MachBufferFi
 use Rattle.s390x_buffer.specs.declared.entries.RelocEntry.{RelocEntry}
 use Rattle.s390x_emit_int.specs.Function.{IsFinishedCode, constants_of, folded_trees_of}
 use Rattle.s390x_image.specs.Causes.{base_cause, first_link_cause, link_cause, relocs_cause}
-use Rattle.s390x_image.specs.Fields.{filled}
+use Rattle.s390x_image.specs.Fields.{with_fields_filled}
 use Rattle.s390x_image.specs.Symbols.{Symbols, no_symbols}
 use Rattle.s390x_image.specs.declared.error.LinkError.{LinkError}
 use Rattle.s390x_job.specs.Jobs.{IsJob}
@@ -55,9 +55,9 @@ moved j k code a b e h = (same_code k j code b a (sym e) h).emitted
 -- two finished codes of one function are linked to the same bytes
 same_bytes : (j : Job) (base : ℕ) (table : Symbols) (f g : MachBufferFinalized)
     → IsFinishedCode (folded_trees_of j.info.isa_flags j.state j.function) (constants_of j.function) f → IsFinishedCode (folded_trees_of j.info.isa_flags j.state j.function) (constants_of j.function) g
-    → filled base table f.relocs.items f.bytes.items ≡ filled base table g.relocs.items g.bytes.items
+    → with_fields_filled base table f.relocs.items f.bytes.items ≡ with_fields_filled base table g.relocs.items g.bytes.items
 same_bytes j base table f g x y =
-    ap (λ rs. filled base table rs f.bytes.items) (x.relocs ∙ sym y.relocs) ∙ ap (filled base table g.relocs.items) (x.bytes ∙ sym y.bytes)
+    ap (λ rs. with_fields_filled base table rs f.bytes.items) (x.relocs ∙ sym y.relocs) ∙ ap (with_fields_filled base table g.relocs.items) (x.bytes ∙ sym y.bytes)
 
 -- and linking has the same cause to refuse them
 abbrev cause_by : (base : ℕ) (table : Symbols) (alignment : ℕ) (bytes : List ℕ) (rs : List RelocEntry) → Option LinkError
@@ -76,7 +76,7 @@ one_image : (base : ℕ) (j k : Job) (bytes given : List ℕ) → IsJob j → Is
 one_image base j k bytes given a b e x y =
     x.is
     ∙ same_bytes j base (symbols_of j) x.code y.code x.finished (moved j k y.code a b e y.is)
-    ∙ ap (λ table. filled base table y.code.relocs.items y.code.bytes.items) (same_table j k a b e)
+    ∙ ap (λ table. with_fields_filled base table y.code.relocs.items y.code.bytes.items) (same_table j k a b e)
     ∙ sym y.filled
 
 -- where one has an image, linking has no cause to refuse a code of the other

@@ -5,7 +5,7 @@ use Rattle.std.proofs.Math.Seq.{take-append-add, take-append_seam}
 use Rattle.hex.specs.Hex.{decode_of}
 use Rattle.hex.specs.declared.error.FromHexError.{FromHexError}
 use Rattle.s390x_job_fields.specs.Marks.{upto, past}
-use Rattle.s390x_job.specs.Completions.{joined, pieces}
+use Rattle.s390x_job.specs.Completions.{text_of_lines, pieces}
 use Rattle.s390x_job.proofs.Above.{pieces_none}
 use Rattle.s390x_job_bundle.proofs.Lines.{AllFree, first_line, free_append, joined_append, pieces_free, pieces_joined, text_cut}
 use Rattle.s390x_binary_tool.specs.ImageText.{IsImageText, IsWrongLine, bytes_before, bytes_of_lines}
@@ -52,7 +52,7 @@ line_wrong ws vs w e wrong =
 pub record Read (text rest image : List ℕ) (number : ℕ) : Type 0 where
   pub lines : List (List ℕ)
   pub free : AllFree lines
-  pub whole : text ≡ joined lines ++ rest
+  pub whole : text ≡ text_of_lines lines ++ rest
   pub bytes : bytes_of_lines lines ≡ Some image
   pub count : number ≡ length lines + 1
 
@@ -69,8 +69,8 @@ read_more text rest image bytes number r n decoded =
       free = free_append r.lines (upto 10 rest ∷ []) r.free (first_free rest n);
       whole =
           r.whole
-          ∙ ap (λ t. joined r.lines ++ t) (text_cut rest n ∙ sym (append_assoc (upto 10 rest) (10 ∷ []) (past 10 rest)))
-          ∙ sym (append_assoc (joined r.lines) (upto 10 rest ++ 10 ∷ []) (past 10 rest))
+          ∙ ap (λ t. text_of_lines r.lines ++ t) (text_cut rest n ∙ sym (append_assoc (upto 10 rest) (10 ∷ []) (past 10 rest)))
+          ∙ sym (append_assoc (text_of_lines r.lines) (upto 10 rest ++ 10 ∷ []) (past 10 rest))
           ∙ ap (λ t. t ++ past 10 rest) (sym (joined_append r.lines (upto 10 rest ∷ [])));
       bytes = line_more r.lines (upto 10 rest) image bytes r.bytes decoded;
       count = omega (arith, r.count, length-append r.lines (upto 10 rest ∷ []));
@@ -89,7 +89,7 @@ read_end text rest image number r empty =
     let none = nothing rest empty in
     let all : pieces text ≡ r.lines = all_lines text rest image number r ∙ ap (λ t. r.lines ++ pieces t) none ∙ append-nil r.lines in
     record {
-      lines = r.whole ∙ ap (λ t. joined r.lines ++ t) none ∙ append-nil (joined r.lines) ∙ ap joined (sym all);
+      lines = r.whole ∙ ap (λ t. text_of_lines r.lines ++ t) none ∙ append-nil (text_of_lines r.lines) ∙ ap text_of_lines (sym all);
       bytes = ap bytes_of_lines all ∙ r.bytes;
     }
 
@@ -100,9 +100,9 @@ some_of o image is = subst IsSome (sym is) refl
 pub read_unended : (text rest image : List ℕ) (number : ℕ) → Read text rest image number → length (upto 10 rest) ≡ length rest → 0 < length rest → IsWrongLine text number
 read_unended text rest image number r last some =
     let all : pieces text ≡ r.lines = all_lines text rest image number r ∙ ap (λ t. r.lines ++ t) (pieces_none rest [] last) ∙ append-nil r.lines in
-    let size : length text ≡ length (joined r.lines) + length rest = ap length r.whole ∙ length-append (joined r.lines) rest in
+    let size : length text ≡ length (text_of_lines r.lines) + length rest = ap length r.whole ∙ length-append (text_of_lines r.lines) rest in
     record {
-      none = λ other is. absurd (omega (arith, size, some, ap length (is.lines ∙ ap joined all)));
+      none = λ other is. absurd (omega (arith, size, some, ap length (is.lines ∙ ap text_of_lines all)));
       first = record {
         k = length r.lines;
         is = r.count;

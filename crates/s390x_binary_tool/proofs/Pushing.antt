@@ -3,15 +3,15 @@ use Rattle.std.proofs.Common.{◌≡◌, ℕ, ◌+◌, ◌<◌, List, [], ◌∷
 use Rattle.std.proofs.lemmas.List.{drop_more}
 use Rattle.std.specs.Prelude.{codes}
 use Rattle.s390x_disassembler.specs.declared.noted.Note.{Note}
-use Rattle.s390x_binary_tool.specs.Notes.{constant_notes, placed_note, plain}
+use Rattle.s390x_binary_tool.specs.Notes.{constant_notes, placed_note, plain_note}
 
 -- the element at an index, and those behind it
 pub item : {A : Type 0} (xs : List A) (i : ℕ) (z d : A) → i < length xs → d ≡ get_or xs i z → drop i xs ≡ d ∷ drop (i + 1) xs
 item xs i z d h e = drop_more xs i z h ∙ ap (λ y. y ∷ drop (i + 1) xs) (sym e)
 
-pub pushed : (ns : List Note) (n : Note) → map plain (ns ++ n ∷ []) ≡ map plain ns ++ plain n ∷ []
+pub pushed : (ns : List Note) (n : Note) → map plain_note (ns ++ n ∷ []) ≡ map plain_note ns ++ plain_note n ∷ []
 pushed [] n = refl
-pushed (m ∷ ms) n = ap (λ t. plain m ∷ t) (pushed ms n)
+pushed (m ∷ ms) n = ap (λ t. plain_note m ∷ t) (pushed ms n)
 
 -- some more, with which what was left begins
 pub went : (old out new more left rest : List (ℕ × List ℕ)) → new ≡ out ++ more → left ≡ more ++ rest → out ++ left ≡ old → new ++ rest ≡ old

@@ -5,7 +5,7 @@ use Rattle.s390x_inst.specs.Emission.{Emission}
 use Rattle.s390x_inst.specs.declared.inst.Inst.{Inst}
 use Rattle.s390x_inst.specs.declared.state.IsaFlags.{IsaFlags}
 use Rattle.s390x_inst.specs.declared.function.Block.{Block}
-use Rattle.s390x_text_rows.specs.Texts.{first}
+use Rattle.s390x_text_rows.specs.Texts.{first_cause}
 use Rattle.s390x_text_rows.specs.declared.error.TextError.{TextError}
 use Rattle.s390x_text.specs.Instructions.{after, inst_text}
 use Rattle.s390x_listing.specs.Texts.{blocks_texts, inst_texts}
@@ -14,17 +14,17 @@ use Rattle.s390x_binary_tool.specs.Notes.{block_notes, inst_line, inst_notes, pl
 use Rattle.s390x_binary_tool.proofs.Pushing.{item, went}
 
 -- two causes, of which the first is none
-pub first_left : (a b : Option TextError) → first a b ≡ None → a ≡ None
+pub first_left : (a b : Option TextError) → first_cause a b ≡ None → a ≡ None
 first_left None b e = refl
 first_left (Some x) b e = e
 
-pub first_right : (a b : Option TextError) → first a b ≡ None → b ≡ None
+pub first_right : (a b : Option TextError) → first_cause a b ≡ None → b ≡ None
 first_right None b e = e
 first_right (Some x) b e = absurd cc
 
 -- ---- instructions
 
-insts_at : (flags : IsaFlags) (e : Emission) (is : List Inst) (i : ℕ) (z d : Inst) → i < length is → d ≡ get_or is i z → (inst_texts flags e (drop i is)).cause ≡ first (inst_text flags 0 e d).cause (inst_texts flags (after e d) (drop (i + 1) is)).cause
+insts_at : (flags : IsaFlags) (e : Emission) (is : List Inst) (i : ℕ) (z d : Inst) → i < length is → d ≡ get_or is i z → (inst_texts flags e (drop i is)).cause ≡ first_cause (inst_text flags 0 e d).cause (inst_texts flags (after e d) (drop (i + 1) is)).cause
 insts_at flags e is i z d h q = ap (λ js. (inst_texts flags e js).cause) (item is i z d h q)
 
 pub inst_told : (flags : IsaFlags) (e : Emission) (is : List Inst) (i : ℕ) (z d : Inst) → i < length is → d ≡ get_or is i z → (inst_texts flags e (drop i is)).cause ≡ None → (inst_text flags 0 e d).cause ≡ None
@@ -54,7 +54,7 @@ starts_went e f left behind all is i z d h q b a inv =
 
 -- ---- blocks
 
-blocks_at : (flags : IsaFlags) (e : Emission) (bs : List Block) (i : ℕ) (z d : Block) → i < length bs → d ≡ get_or bs i z → (blocks_texts flags e i (drop i bs)).cause ≡ first (inst_texts flags e d.insts.items).cause (blocks_texts flags e (i + 1) (drop (i + 1) bs)).cause
+blocks_at : (flags : IsaFlags) (e : Emission) (bs : List Block) (i : ℕ) (z d : Block) → i < length bs → d ≡ get_or bs i z → (blocks_texts flags e i (drop i bs)).cause ≡ first_cause (inst_texts flags e d.insts.items).cause (blocks_texts flags e (i + 1) (drop (i + 1) bs)).cause
 blocks_at flags e bs i z d h q = ap (λ cs. (blocks_texts flags e i cs).cause) (item bs i z d h q)
 
 pub block_told : (flags : IsaFlags) (e : Emission) (bs : List Block) (i : ℕ) (z d : Block) → i < length bs → d ≡ get_or bs i z → (blocks_texts flags e i (drop i bs)).cause ≡ None → (inst_texts flags e d.insts.items).cause ≡ None

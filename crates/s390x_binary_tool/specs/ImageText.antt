@@ -2,7 +2,7 @@
 use Rattle.std.specs.Prelude.{◌≡◌, ◌≢◌, ℕ, ◌+◌, List, [], ◌∷◌, ◌++◌, ◌==◌, if◌then◌else◌, Option, Some, None, IsSome, Result, Ok}
 use Rattle.hex.specs.Hex.{decode_of}
 use Rattle.hex.specs.declared.error.FromHexError.{FromHexError}
-use Rattle.s390x_job.specs.Completions.{IsFirstWrongLine, joined, pieces}
+use Rattle.s390x_job.specs.Completions.{IsFirstWrongLine, text_of_lines, pieces}
 
 -- bytes before others, where both are there
 abbrev pub bytes_before : Result (List ℕ) FromHexError → Option (List ℕ) → Option (List ℕ)
@@ -16,7 +16,7 @@ bytes_of_lines (w ∷ ws) = bytes_before (decode_of w) (bytes_of_lines ws)
 
 -- lines of hex digits, each ended by a line feed, write these bytes
 pub record IsImageText (text image : List ℕ) : Type 0 where
-  pub lines : text ≡ joined (pieces text)
+  pub lines : text ≡ text_of_lines (pieces text)
   pub bytes : bytes_of_lines (pieces text) ≡ Some image
 
 -- the text writes no bytes, and this is the number of its first line that isn't hex or has no line feed

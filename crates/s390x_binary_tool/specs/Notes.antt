@@ -16,8 +16,8 @@ use Rattle.s390x_binary_tool.specs.InstSteps.{steps_of}
 use Rattle.s390x_disassembler.specs.declared.noted.Note.{Note}
 
 -- the place of a note, and its text
-abbrev pub plain : Note → ℕ × List ℕ
-plain n = (n.offset, string_bytes n.text)
+abbrev pub plain_note : Note → ℕ × List ℕ
+plain_note n = (n.offset, string_bytes n.text)
 
 -- the address of an offset, in hexadecimal digits
 abbrev pub address_text : (base offset : ℕ) → List ℕ

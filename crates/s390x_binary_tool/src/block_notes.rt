@@ -2,7 +2,7 @@
 ghost use Rattle.std.specs.Prelude.{◌≡◌, ◌∷◌, [], ◌++◌, None, IfOk, OnOk, get_or, map, string_bytes};
 ghost use Rattle.s390x_listing.specs.Texts.{inst_texts, texts_listing};
 ghost use Rattle.s390x_text.specs.Instructions.{after, inst_text};
-ghost use Rattle.s390x_binary_tool.specs.Notes.{block_notes, inst_line, inst_notes, plain, starts_behind};
+ghost use Rattle.s390x_binary_tool.specs.Notes.{block_notes, inst_line, inst_notes, plain_note, starts_behind};
 
 use crate::inst_steps::behind_inst;
 use crate::notes::{put_note, put_placed};
@@ -27,7 +27,7 @@ pub fn block_notes(
 ) -> Result<Vec<Note>, AllocError>
     requires { (texts_listing info.now.isa_flags state blocks.now).cause ≡ None }
     ensures { IfOk result
-        (λ notes. map plain notes.items
+        (λ notes. map plain_note notes.items
         ≡ block_notes info.now.isa_flags state base code.now.block_starts.items
         code.now.starts.items 0 blocks.now) }
 {
@@ -62,8 +62,8 @@ fn put_insts<'a>(
 ) -> Result<&'a [CodeOffset], AllocError>
     requires { (inst_texts info.now.isa_flags start insts.now).cause ≡ None }
     ensures notes { IfOk result
-        (λ _. map plain notes.new.items
-        ≡ map plain notes.old.items
+        (λ _. map plain_note notes.new.items
+        ≡ map plain_note notes.old.items
         ++ inst_notes info.now.isa_flags start starts.now insts.now) }
     ensures left { IfOk result (λ left. left.now ≡ starts_behind start starts.now insts.now) }
 {
@@ -88,9 +88,9 @@ fn put_inst(
 ) -> Result<(), AllocError>
     requires { (inst_text info.now.isa_flags 0 state.old inst.now).cause ≡ None }
     ensures notes { OnOk result
-        (map plain notes.new.items
-        ≡ map plain notes.old.items ++ (offset, inst_line info.now.isa_flags state.old inst.now)
-        ∷ []) }
+        (map plain_note notes.new.items
+        ≡ map plain_note notes.old.items
+        ++ (offset, inst_line info.now.isa_flags state.old inst.now) ∷ []) }
     ensures after { OnOk result (state.new ≡ after state.old inst.now) }
 {
     let text = line_of(alloc, info, state, inst)?;

@@ -1,7 +1,7 @@
 //! The listing of a function's code.
 ghost use Rattle.std.specs.Prelude.{◌≡◌, ◌≤◌, ◌++◌, None, IfOk, OnOk, length, map, string_bytes};
 ghost use Rattle.s390x_listing.specs.Texts.{texts_listing};
-ghost use Rattle.s390x_binary_tool.specs.Notes.{entry_notes, notes_of, plain};
+ghost use Rattle.s390x_binary_tool.specs.Notes.{entry_notes, notes_of, plain_note};
 ghost use Rattle.s390x_binary_tool.specs.CodeListing.{IsCodeListing, code_length};
 
 use crate::block_notes::block_notes;
@@ -57,7 +57,7 @@ fn all_notes(
 ) -> Result<Vec<Note>, AllocError>
     requires { (texts_listing info.now.isa_flags state blocks.now).cause ≡ None }
     ensures { IfOk result
-        (λ notes. map plain notes.items
+        (λ notes. map plain_note notes.items
         ≡ notes_of info.now.isa_flags state base blocks.now code.now) }
 {
     let mut notes = block_notes(alloc, info, state, base, blocks, code)?;
@@ -73,7 +73,8 @@ fn put_entries(
     code: &MachBufferFinalized,
 ) -> Result<(), AllocError>
     ensures { OnOk result
-        (map plain notes.new.items ≡ map plain notes.old.items ++ entry_notes base code.now) }
+        (map plain_note notes.new.items
+        ≡ map plain_note notes.old.items ++ entry_notes base code.now) }
 {
     put_constants(alloc, notes, base, &code.constant_starts)?;
     put_relocs(alloc, notes, base, &code.relocs)?;

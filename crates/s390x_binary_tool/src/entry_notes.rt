@@ -2,7 +2,7 @@
 ghost use Rattle.std.specs.Prelude.{◌≡◌, ◌∷◌, [], ◌++◌, OnOk, map, string_bytes};
 ghost use Rattle.s390x_job_fields.specs.Atoms.{trap_text};
 ghost use Rattle.s390x_tool.specs.Emitted.{reloc_kind_text};
-ghost use Rattle.s390x_binary_tool.specs.Notes.{constant_notes, plain, reloc_note, trap_note};
+ghost use Rattle.s390x_binary_tool.specs.Notes.{constant_notes, plain_note, reloc_note, trap_note};
 
 use crate::notes::{put_note, put_placed};
 use s390x_base::{CodeOffset, Reloc, TrapCode, TrapKind};
@@ -19,8 +19,8 @@ pub fn put_constants(
     starts: &[CodeOffset],
 ) -> Result<(), AllocError>
     ensures { OnOk result
-        (map plain notes.new.items
-        ≡ map plain notes.old.items ++ constant_notes base 0 starts.now) }
+        (map plain_note notes.new.items
+        ≡ map plain_note notes.old.items ++ constant_notes base 0 starts.now) }
 {
     for (number, start) in starts.iter().enumerate() {
         put_placed(alloc, notes, "const", base, number, *start)?;
@@ -37,8 +37,8 @@ pub fn put_relocs(
     relocs: &[RelocEntry],
 ) -> Result<(), AllocError>
     ensures { OnOk result
-        (map plain notes.new.items
-        ≡ map plain notes.old.items ++ map (reloc_note base) relocs.now) }
+        (map plain_note notes.new.items
+        ≡ map plain_note notes.old.items ++ map (reloc_note base) relocs.now) }
 {
     for reloc in relocs {
         put_reloc(alloc, notes, base, reloc)?;
@@ -54,7 +54,8 @@ fn put_reloc(
     reloc: &RelocEntry,
 ) -> Result<(), AllocError>
     ensures { OnOk result
-        (map plain notes.new.items ≡ map plain notes.old.items ++ reloc_note base reloc.now ∷ []) }
+        (map plain_note notes.new.items
+        ≡ map plain_note notes.old.items ++ reloc_note base reloc.now ∷ []) }
 {
     let address = base.wrapping_add(reloc.offset as u64);
     let kind = kind_name(reloc.kind);
@@ -83,7 +84,8 @@ pub fn put_traps(
     traps: &[TrapEntry],
 ) -> Result<(), AllocError>
     ensures { OnOk result
-        (map plain notes.new.items ≡ map plain notes.old.items ++ map (trap_note base) traps.now) }
+        (map plain_note notes.new.items
+        ≡ map plain_note notes.old.items ++ map (trap_note base) traps.now) }
 {
     for trap in traps {
         put_trap(alloc, notes, base, trap)?;
@@ -99,7 +101,8 @@ fn put_trap(
     trap: &TrapEntry,
 ) -> Result<(), AllocError>
     ensures { OnOk result
-        (map plain notes.new.items ≡ map plain notes.old.items ++ trap_note base trap.now ∷ []) }
+        (map plain_note notes.new.items
+        ≡ map plain_note notes.old.items ++ trap_note base trap.now ∷ []) }
 {
     let address = base.wrapping_add(trap.offset as u64);
     let mut text = format!(in alloc; "      {address:x}: trap ")?;

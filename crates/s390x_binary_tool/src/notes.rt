@@ -1,6 +1,6 @@
 //! Notes that are appended to others.
 ghost use Rattle.std.specs.Prelude.{◌≡◌, ◌∷◌, [], ◌++◌, OnOk, map, string_bytes};
-ghost use Rattle.s390x_binary_tool.specs.Notes.{placed_note, placed_text, plain};
+ghost use Rattle.s390x_binary_tool.specs.Notes.{placed_note, placed_text, plain_note};
 
 use s390x_base::CodeOffset;
 use s390x_disassembler::Note;
@@ -16,8 +16,8 @@ pub fn put_placed(
     offset: CodeOffset,
 ) -> Result<(), AllocError>
     ensures { OnOk result
-        (map plain notes.new.items
-        ≡ map plain notes.old.items ++ placed_note name.now base number offset ∷ []) }
+        (map plain_note notes.new.items
+        ≡ map plain_note notes.old.items ++ placed_note name.now base number offset ∷ []) }
 {
     let address = base.wrapping_add(offset as u64);
     let text = format!(in alloc; "{name} {number} at {address:x}")?;
@@ -28,8 +28,8 @@ pub fn put_placed(
 #[tactic(auto, using(crate::proofs::Pushing::pushed))]
 pub fn put_note(notes: &mut Vec<Note>, offset: CodeOffset, text: String) -> Result<(), AllocError>
     ensures { OnOk result
-        (map plain notes.new.items
-        ≡ map plain notes.old.items ++ (offset, string_bytes text) ∷ []) }
+        (map plain_note notes.new.items
+        ≡ map plain_note notes.old.items ++ (offset, string_bytes text) ∷ []) }
 {
     notes.push(Note {
         offset: offset as usize,

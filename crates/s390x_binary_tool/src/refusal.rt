@@ -32,13 +32,13 @@ fn refusal_of_job(alloc: Global, job: &Job) -> BinaryReply
 {
     match first_refusal(alloc, &job.function, &job.info, job.state) {
         Ok(None) => shared_reply(static_reply(Status::Ok, "none\n")),
-        Ok(Some(refusal)) => placed(alloc, &refusal),
+        Ok(Some(refusal)) => refusal_with_place(alloc, &refusal),
         Err(NoMemory) => shared_reply(no_memory()),
     }
 }
 
 // The reply with a cause and its place.
-fn placed(alloc: Global, refusal: &Refusal) -> BinaryReply
+fn refusal_with_place(alloc: Global, refusal: &Refusal) -> BinaryReply
     ensures { IsMadeReply (Shared status.Refused)
         (refusal_line refusal.now.error refusal.now.position) result.status
         (cow_slice_items result.text) }

@@ -9,7 +9,7 @@ use Rattle.std.proofs.lemmas.List.{get_or-set_same, get_or-set_other}
 use Rattle.std.proofs.lemmas.List.Elements.{All-tail}
 use Rattle.s390x_buffer.specs.State.{BufferState}
 use Rattle.s390x_buffer.specs.Patch.{set2, set4, halfword_from, word_from, half_between, patch, patch_use, patch_all, patch_size, offset_of_label, is_bound, is_in_reach, sum_fits, can_patch, use_cause, uses_cause, first_use_cause, max_pos_range, max_neg_range}
-use Rattle.s390x_buffer.specs.Finish.{final_labels, unpatched, finish_cause, length_cause, patch_cause}
+use Rattle.s390x_buffer.specs.Finish.{final_labels, unpatched_bytes, finish_cause, length_cause, patch_cause}
 use Rattle.s390x_buffer.specs.Branches.{field_start, field_end, IsApart, BranchLeadsTo, BranchesLead}
 use Rattle.s390x_base.specs.declared.error.EmitError.{EmitError}
 use Rattle.s390x_base.specs.declared.error.EmitError.TheVariants.{LabelOutOfRange, UnboundLabel}
@@ -189,8 +189,8 @@ middle labels (v ∷ before) after u bs h a =
     let here = first-none _ _ h in
     middle labels before after u (patch_use (offset_of_label labels) v bs) here.1 a
 
-pub branches_lead : (s : BufferState) (bs : List ℕ) → finish_cause s ≡ None → bs ≡ patch_all (offset_of_label (final_labels s)) s.uses (unpatched s) → BranchesLead s bs
+pub branches_lead : (s : BufferState) (bs : List ℕ) → finish_cause s ≡ None → bs ≡ patch_all (offset_of_label (final_labels s)) s.uses (unpatched_bytes s) → BranchesLead s bs
 branches_lead s bs h e before after u split a =
-    let fine : uses_cause (final_labels s) (before ++ u ∷ after) (unpatched s) ≡ None = ap (λ us. uses_cause (final_labels s) us (unpatched s)) (sym split) ∙ (first-none (length_cause s) (patch_cause s) h).1 in
-    let same : patch_all (offset_of_label (final_labels s)) (before ++ u ∷ after) (unpatched s) ≡ bs = ap (λ us. patch_all (offset_of_label (final_labels s)) us (unpatched s)) (sym split) ∙ sym e in
-    subst (BranchLeadsTo u.kind u.offset (offset_of_label (final_labels s) u.label.0)) same (middle (final_labels s) before after u (unpatched s) fine a)
+    let fine : uses_cause (final_labels s) (before ++ u ∷ after) (unpatched_bytes s) ≡ None = ap (λ us. uses_cause (final_labels s) us (unpatched_bytes s)) (sym split) ∙ (first-none (length_cause s) (patch_cause s) h).1 in
+    let same : patch_all (offset_of_label (final_labels s)) (before ++ u ∷ after) (unpatched_bytes s) ≡ bs = ap (λ us. patch_all (offset_of_label (final_labels s)) us (unpatched_bytes s)) (sym split) ∙ sym e in
+    subst (BranchLeadsTo u.kind u.offset (offset_of_label (final_labels s) u.label.0)) same (middle (final_labels s) before after u (unpatched_bytes s) fine a)

@@ -4,7 +4,7 @@ use Rattle.std.proofs.lemmas.List.{take-append-le, take_all}
 use Rattle.std.proofs.lemmas.Bool.{and_from}
 use Rattle.s390x_base.specs.declared.ir.MachLabel.{MachLabel}
 use Rattle.s390x_buffer.specs.State.{BufferState}
-use Rattle.s390x_buffer.specs.BlockEnd.{is_branch_use, has_use, without_use, with_jump, with_conditional, cut, inverted_alone, both_ended, ended_by, ended}
+use Rattle.s390x_buffer.specs.BlockEnd.{is_branch_use, has_use, without_use, with_jump, with_conditional, cut, inverted_alone, both_ended, ended_by, at_block_end}
 use Rattle.s390x_buffer.specs.declared.entries.LabelFixup.{LabelFixup}
 use Rattle.s390x_buffer.specs.declared.entries.RecordedBranches.TheVariants.{NoBranch, LoneJump, ConditionalThenJump}
 use Rattle.s390x_buffer.specs.declared.label_use.LabelUse.TheVariants.{BranchRIL}
@@ -50,7 +50,7 @@ lone_end s l bs next none six =
     ap (λ b. ended_by (with_jump b n l) next P) none
     ∙ ap (λ b. cond (b && nat_eq l.0 next) (cut n l.0 P) P) (eq-eqb (n + 6) (length (s.bytes ++ bs)) long)
 
-pub jump_cut : (s : BufferState) (l : MachLabel) (bs : List ℕ) → s.branches ≡ NoBranch → length bs ≡ 6 → ended (Some l) (put_jump s l bs) ≡ s
+pub jump_cut : (s : BufferState) (l : MachLabel) (bs : List ℕ) → s.branches ≡ NoBranch → length bs ≡ 6 → at_block_end (Some l) (put_jump s l bs) ≡ s
 jump_cut s l bs none six =
     let P = put_jump s l bs in
     let n = length s.bytes in
@@ -59,7 +59,7 @@ jump_cut s l bs none six =
     ∙ ap₂ (λ xs us. record s { bytes = xs; uses = us; branches = NoBranch }) (front s.bytes bs n refl) (without_behind n l.0 s.uses (use_at n l) (own_use n n l refl))
     ∙ ap (λ b. record s { branches = b }) (sym none)
 
-pub jump_stays : (s : BufferState) (l next : MachLabel) (bs : List ℕ) → s.branches ≡ NoBranch → length bs ≡ 6 → l.0 ≢ next.0 → ended (Some next) (put_jump s l bs) ≡ put_jump s l bs
+pub jump_stays : (s : BufferState) (l next : MachLabel) (bs : List ℕ) → s.branches ≡ NoBranch → length bs ≡ 6 → l.0 ≢ next.0 → at_block_end (Some next) (put_jump s l bs) ≡ put_jump s l bs
 jump_stays s l next bs none six other =
     let P = put_jump s l bs in
     lone_end s l bs next.0 none six ∙ ap (λ b. cond b (cut (length s.bytes) l.0 P) P) (ne_eqb l.0 next.0 other)
@@ -78,7 +78,7 @@ module _ (s : BufferState) (taken not_taken : MachLabel) (first second inverted 
       ap (λ b. with_jump (with_conditional b n taken inverted) m not_taken) none
       ∙ ap (λ b. cond b (ConditionalThenJump n taken not_taken inverted) (LoneJump m not_taken)) (eq-eqb (n + 6) m long)
 
-  both_end : (next : MachLabel) → ended (Some next) both_put ≡ both_ended next.0 (length s.bytes) taken not_taken inverted both_put
+  both_end : (next : MachLabel) → at_block_end (Some next) both_put ≡ both_ended next.0 (length s.bytes) taken not_taken inverted both_put
   both_end next =
       let n = length s.bytes in
       let all = length ((s.bytes ++ first) ++ second) in
@@ -98,7 +98,7 @@ module _ (s : BufferState) (taken not_taken : MachLabel) (first second inverted 
   first_use = without_behind (length s.bytes) taken.0 s.uses (use_at (length s.bytes) taken) (own_use (length s.bytes) (length s.bytes) taken refl)
 
   -- the second one leads to the next block, and the first one doesn't
-  pub second_cut : (next : MachLabel) → not_taken.0 ≡ next.0 → taken.0 ≢ next.0 → ended (Some next) both_put ≡ put_branch s taken first
+  pub second_cut : (next : MachLabel) → not_taken.0 ≡ next.0 → taken.0 ≢ next.0 → at_block_end (Some next) both_put ≡ put_branch s taken first
   second_cut next leads other =
       let n = length s.bytes in
       both_end next
@@ -108,7 +108,7 @@ module _ (s : BufferState) (taken not_taken : MachLabel) (first second inverted 
       ∙ ap (λ b. record s { bytes = s.bytes ++ first; uses = s.uses ++ use_at n taken ∷ []; branches = b }) (sym none)
 
   -- both do
-  pub both_cut : (next : MachLabel) → not_taken.0 ≡ next.0 → taken.0 ≡ next.0 → ended (Some next) both_put ≡ s
+  pub both_cut : (next : MachLabel) → not_taken.0 ≡ next.0 → taken.0 ≡ next.0 → at_block_end (Some next) both_put ≡ s
   both_cut next leads too =
       let n = length s.bytes in
       both_end next
@@ -119,7 +119,7 @@ module _ (s : BufferState) (taken not_taken : MachLabel) (first second inverted 
       ∙ ap (λ b. record s { branches = b }) (sym none)
 
   -- the first one alone does
-  pub first_inverted : (next : MachLabel) → not_taken.0 ≢ next.0 → taken.0 ≡ next.0 → ended (Some next) both_put ≡ put_branch s not_taken inverted
+  pub first_inverted : (next : MachLabel) → not_taken.0 ≢ next.0 → taken.0 ≡ next.0 → at_block_end (Some next) both_put ≡ put_branch s not_taken inverted
   first_inverted next other leads =
       let n = length s.bytes in
       let bytes_left : take n ((s.bytes ++ first) ++ second) ≡ s.bytes = ap (λ xs. take n xs) (append_assoc s.bytes first second) ∙ front s.bytes (first ++ second) n refl in
@@ -130,7 +130,7 @@ module _ (s : BufferState) (taken not_taken : MachLabel) (first second inverted 
       ∙ ap (λ b. record s { bytes = s.bytes ++ inverted; uses = s.uses ++ use_at n not_taken ∷ []; branches = b }) (sym none)
 
   -- neither does
-  pub both_stay : (next : MachLabel) → not_taken.0 ≢ next.0 → taken.0 ≢ next.0 → ended (Some next) both_put ≡ both_put
+  pub both_stay : (next : MachLabel) → not_taken.0 ≢ next.0 → taken.0 ≢ next.0 → at_block_end (Some next) both_put ≡ both_put
   both_stay next other too =
       let n = length s.bytes in
       both_end next

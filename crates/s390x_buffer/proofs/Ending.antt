@@ -3,9 +3,9 @@ use Rattle.std.proofs.Common.{◌≡◌, ℕ, zero, suc, ◌+◌, ◌-◌, ◌<�
 use Rattle.std.proofs.lemmas.List.{drop_all, drop_more}
 use Rattle.std.proofs.lemmas.Bool.{and_from}
 use Rattle.s390x_base.specs.declared.ir.MachLabel.{MachLabel}
-use Rattle.s390x_buffer.specs.State.{BufferState, poisoned}
+use Rattle.s390x_buffer.specs.State.{BufferState, poisoned_buffer}
 use Rattle.s390x_buffer.specs.Extends.{IsPrefix}
-use Rattle.s390x_buffer.specs.BlockEnd.{is_branch_use, has_use, without_use, cut, inverted_alone, both_ended, ended_by, ended, KeepsTables}
+use Rattle.s390x_buffer.specs.BlockEnd.{is_branch_use, has_use, without_use, cut, inverted_alone, both_ended, ended_by, at_block_end, KeepsTables}
 use Rattle.s390x_buffer.specs.declared.entries.LabelFixup.{LabelFixup}
 use Rattle.s390x_buffer.specs.declared.entries.RecordedBranches.{RecordedBranches}
 use Rattle.s390x_buffer.specs.declared.entries.RecordedBranches.TheVariants.{NoBranch, LoneJump, LoneConditional, ConditionalThenJump, OtherBranches}
@@ -149,7 +149,7 @@ prefix_whole (x ∷ xs) (suc k) = ap (λ l. x ∷ l) (prefix_whole xs k)
 keeps_same : (s : BufferState) → KeepsTables s s
 keeps_same s = keeps_bytes s s.bytes s.uses s.branches (prefix_whole s.bytes (length s.bytes - 12))
 
-keeps_marked : (s : BufferState) → KeepsTables s (poisoned s)
+keeps_marked : (s : BufferState) → KeepsTables s (poisoned_buffer s)
 keeps_marked s = record {
   bytes = prefix_whole s.bytes (length s.bytes - 12);
   labels = refl;
@@ -164,7 +164,7 @@ keeps_marked s = record {
   constants = refl;
 }
 
-pub keeps_mark : (s t : BufferState) → t ≡ poisoned s → KeepsTables s t
+pub keeps_mark : (s t : BufferState) → t ≡ poisoned_buffer s → KeepsTables s t
 keeps_mark s t e = subst (KeepsTables s) (sym e) (keeps_marked s)
 
 keeps_jump : (p q : Bool) (start l : ℕ) (s : BufferState) → (p ≡ true → start + 6 ≡ length s.bytes) → KeepsTables s (cond (p && q) (cut start l s) s)
@@ -202,9 +202,9 @@ keeps_by (ConditionalThenJump start taken not_taken inverted) next s =
     (λ e. keeps_both (nat_eq not_taken.0 next) (nat_eq taken.0 next) start taken not_taken inverted s (eqb-true (start + 12) (length s.bytes) e))
 keeps_by (OtherBranches stop) next s = keeps_same s
 
-keeps_end : (next : Option MachLabel) (s : BufferState) → KeepsTables s (ended next s)
+keeps_end : (next : Option MachLabel) (s : BufferState) → KeepsTables s (at_block_end next s)
 keeps_end None s = keeps_same s
 keeps_end (Some next) s = keeps_by s.branches next.0 s
 
-pub keeps_ended : (next : Option MachLabel) (s t : BufferState) → t ≡ ended next s → KeepsTables s t
+pub keeps_ended : (next : Option MachLabel) (s t : BufferState) → t ≡ at_block_end next s → KeepsTables s t
 keeps_ended next s t e = subst (KeepsTables s) (sym e) (keeps_end next s)

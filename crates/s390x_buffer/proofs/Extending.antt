@@ -1,7 +1,7 @@
 -- What each change keeps, and that keeping goes on.
 use Rattle.std.proofs.Common.{◌≡◌, ℕ, zero, suc, ◌+◌, ◌<◌, ◌≤◌, ◌≢◌, List, [], ◌∷◌, ◌++◌, length, get_or, set, Option, None, refl, sym, ap, ◌∙◌, subst, arith}
 use Rattle.std.proofs.lemmas.List.{get_or-set_other, length-append, length-set}
-use Rattle.s390x_buffer.specs.State.{BufferState, TryCallSite, poisoned}
+use Rattle.s390x_buffer.specs.State.{BufferState, TryCallSite, poisoned_buffer}
 use Rattle.s390x_buffer.specs.Extends.{Extends, ExtendsEntries, ExtendsExcept, IsPrefix}
 use Rattle.s390x_buffer.specs.declared.entries.LabelFixup.{LabelFixup}
 use Rattle.s390x_buffer.specs.declared.entries.RecordedBranches.{RecordedBranches}
@@ -42,7 +42,7 @@ ruleset kept_entries = (prefix_refl, prefix_more, same_count, more_labels, as_ma
 pub extends_same : (s : BufferState) → Extends s s
 extends_same s = record { entries = search kept_entries; labels = λ l lt. refl }
 
-pub extends_mark : (s t : BufferState) → t ≡ poisoned s → Extends s t
+pub extends_mark : (s t : BufferState) → t ≡ poisoned_buffer s → Extends s t
 extends_mark s t e = subst (Extends s) (sym e) (record { entries = search kept_entries; labels = λ l lt. refl })
 
 entries_on : (s t u : BufferState) → ExtendsEntries s t → ExtendsEntries t u → ExtendsEntries s u
@@ -118,5 +118,5 @@ extends_draw s = record { entries = search kept_entries; labels = drawn_kept s.l
 pub extends_bind : (s : BufferState) (b : ℕ) (v : Option ℕ) → ExtendsExcept b s (record s { labels = set s.labels b v; branches = NoBranch })
 extends_bind s b v = record { entries = search kept_entries; labels = λ l lt other. get_or-set_other s.labels b l v None other }
 
-pub except_mark : (s t : BufferState) (b : ℕ) → t ≡ poisoned s → ExtendsExcept b s t
+pub except_mark : (s t : BufferState) (b : ℕ) → t ≡ poisoned_buffer s → ExtendsExcept b s t
 except_mark s t b e = let k = extends_mark s t e in record { entries = k.entries; labels = λ l lt other. k.labels l lt }

@@ -3,7 +3,7 @@ use Rattle.std.proofs.Common.{◌≡◌, ℕ, suc, ◌+◌, ◌-◌, ◌<◌, �
 use Rattle.std.proofs.lemmas.List.{drop_more, map_more, set_at, length-take-le, length-map, length-replicate}
 use Rattle.s390x_base.specs.declared.ir.ConstantData.{ConstantData}
 use Rattle.s390x_buffer.specs.State.{Constant, constant_of}
-use Rattle.s390x_buffer.specs.Constants.{round_up, constant_start, constant_starts, constants_end, padded, constant_bytes}
+use Rattle.s390x_buffer.specs.Constants.{round_up, constant_start, constant_starts, constants_end, padded_constant, constant_bytes}
 use Rattle.s390x_buffer.specs.Finish.{bind_constants}
 
 pub round_up-ge : (n a : ℕ) → 1 ≤ a → n ≤ round_up n a
@@ -19,7 +19,7 @@ end-ge n (c ∷ cs) =
     let b = end-ge (constant_start n c + length c.bytes) cs in
     omega (arith, a, b)
 
-pub length-padded : (n : ℕ) (c : Constant) → n + length (padded n c) ≡ constant_start n c + length c.bytes
+pub length-padded : (n : ℕ) (c : Constant) → n + length (padded_constant n c) ≡ constant_start n c + length c.bytes
 length-padded n c =
     let a = start-ge n c in
     let b = length-append (replicate (constant_start n c - n) 0) c.bytes in
@@ -30,7 +30,7 @@ pub length-constant_bytes : (n : ℕ) (cs : List Constant) → n + length (const
 length-constant_bytes n [] = omega arith
 length-constant_bytes n (c ∷ cs) =
     let m = constant_start n c + length c.bytes in
-    let a = length-append (padded n c) (constant_bytes m cs) in
+    let a = length-append (padded_constant n c) (constant_bytes m cs) in
     let b = length-padded n c in
     let d = length-constant_bytes m cs in
     omega (arith, a, b, d)
@@ -49,10 +49,10 @@ unrolled cs i x h e =
     ap (map constant_of) (drop_more cs i x h) ∙ ap (λ (y : ConstantData). constant_of y ∷ map constant_of (drop (i + 1) cs)) (sym e)
 
 -- behind the next constant
-grown : (bs : List ℕ) (c : Constant) → length (bs ++ padded (length bs) c) ≡ constant_start (length bs) c + length c.bytes
-grown bs c = length-append bs (padded (length bs) c) ∙ length-padded (length bs) c
+grown : (bs : List ℕ) (c : Constant) → length (bs ++ padded_constant (length bs) c) ≡ constant_start (length bs) c + length c.bytes
+grown bs c = length-append bs (padded_constant (length bs) c) ∙ length-padded (length bs) c
 
-pub step-bytes : (bs bs' : List ℕ) (cs : List ConstantData) (i : ℕ) (x : ConstantData) → i < length cs → x ≡ get_or cs i x → bs' ≡ bs ++ padded (length bs) (constant_of x) → bs' ++ constant_bytes (length bs') (map constant_of (drop (i + 1) cs)) ≡ bs ++ constant_bytes (length bs) (map constant_of (drop i cs))
+pub step-bytes : (bs bs' : List ℕ) (cs : List ConstantData) (i : ℕ) (x : ConstantData) → i < length cs → x ≡ get_or cs i x → bs' ≡ bs ++ padded_constant (length bs) (constant_of x) → bs' ++ constant_bytes (length bs') (map constant_of (drop (i + 1) cs)) ≡ bs ++ constant_bytes (length bs) (map constant_of (drop i cs))
 step-bytes bs bs' cs i x h e b =
     let c = constant_of x in
     let rest = map constant_of (drop (i + 1) cs) in
@@ -60,10 +60,10 @@ step-bytes bs bs' cs i x h e b =
     let long : length bs' ≡ m = ap length b ∙ grown bs c in
     ap (λ n. bs' ++ constant_bytes n rest) long
     ∙ ap (λ l. l ++ constant_bytes m rest) b
-    ∙ append_assoc bs (padded (length bs) c) (constant_bytes m rest)
+    ∙ append_assoc bs (padded_constant (length bs) c) (constant_bytes m rest)
     ∙ ap (λ l. bs ++ constant_bytes (length bs) l) (sym (unrolled cs i x h e))
 
-pub step-starts : (bs bs' starts : List ℕ) (cs : List ConstantData) (i : ℕ) (x : ConstantData) → i < length cs → x ≡ get_or cs i x → bs' ≡ bs ++ padded (length bs) (constant_of x) → (starts ++ constant_start (length bs) (constant_of x) ∷ []) ++ constant_starts (length bs') (map constant_of (drop (i + 1) cs)) ≡ starts ++ constant_starts (length bs) (map constant_of (drop i cs))
+pub step-starts : (bs bs' starts : List ℕ) (cs : List ConstantData) (i : ℕ) (x : ConstantData) → i < length cs → x ≡ get_or cs i x → bs' ≡ bs ++ padded_constant (length bs) (constant_of x) → (starts ++ constant_start (length bs) (constant_of x) ∷ []) ++ constant_starts (length bs') (map constant_of (drop (i + 1) cs)) ≡ starts ++ constant_starts (length bs) (map constant_of (drop i cs))
 step-starts bs bs' starts cs i x h e b =
     let c = constant_of x in
     let rest = map constant_of (drop (i + 1) cs) in
@@ -73,7 +73,7 @@ step-starts bs bs' starts cs i x h e b =
     ∙ append_assoc starts (constant_start (length bs) c ∷ []) (constant_starts m rest)
     ∙ ap (λ l. starts ++ constant_starts (length bs) l) (sym (unrolled cs i x h e))
 
-pub step-end : (bs bs' : List ℕ) (cs : List ConstantData) (i : ℕ) (x : ConstantData) → i < length cs → x ≡ get_or cs i x → bs' ≡ bs ++ padded (length bs) (constant_of x) → constants_end (length bs') (map constant_of (drop (i + 1) cs)) ≡ constants_end (length bs) (map constant_of (drop i cs))
+pub step-end : (bs bs' : List ℕ) (cs : List ConstantData) (i : ℕ) (x : ConstantData) → i < length cs → x ≡ get_or cs i x → bs' ≡ bs ++ padded_constant (length bs) (constant_of x) → constants_end (length bs') (map constant_of (drop (i + 1) cs)) ≡ constants_end (length bs) (map constant_of (drop i cs))
 step-end bs bs' cs i x h e b =
     let c = constant_of x in
     let rest = map constant_of (drop (i + 1) cs) in

@@ -3,7 +3,7 @@ use Rattle.std.proofs.Common.{◌≡◌, ℕ, ◌+◌, ◌%◌, ◌<◌, ◌≤�
 use Rattle.std.proofs.lemmas.List.Elements.{All-tail}
 use Rattle.s390x_buffer.specs.State.{BufferState}
 use Rattle.s390x_buffer.specs.Patch.{set4, word_from, half_between, distance_between, patch, patch_use, patch_all, offset_of_label, can_patch, uses_cause}
-use Rattle.s390x_buffer.specs.Finish.{final_labels, unpatched, finish_cause, length_cause, patch_cause, Finished}
+use Rattle.s390x_buffer.specs.Finish.{final_labels, unpatched_bytes, finish_cause, length_cause, patch_cause, Finished}
 use Rattle.s390x_buffer.specs.Branches.{field_start, field_end, IsApart}
 use Rattle.s390x_buffer.specs.Sums.{IsSum, SumsStand, Leaves, OthersStand}
 use Rattle.s390x_buffer.proofs.Branching.{length-patch_all, word-set4, reach_parts, patch_other, all_other, first-none, use_cause-none}
@@ -65,9 +65,9 @@ middle labels (v ∷ before) after u bs h a b =
 pub sums : (s : BufferState) (f : MachBufferFinalized) → finish_cause s ≡ None → Finished s f → SumsStand s f.bytes.items
 sums s f h done before after u split a b =
     let labels = final_labels s in
-    let fine : uses_cause labels (before ++ u ∷ after) (unpatched s) ≡ None = ap (λ us. uses_cause labels us (unpatched s)) (sym split) ∙ (first-none (length_cause s) (patch_cause s) h).1 in
-    let same : patch_all (offset_of_label labels) (before ++ u ∷ after) (unpatched s) ≡ f.bytes.items = ap (λ us. patch_all (offset_of_label labels) us (unpatched s)) (sym split) ∙ sym done.bytes in
-    subst (IsSum u.kind u.offset (offset_of_label labels u.label.0) (unpatched s)) same (middle labels before after u (unpatched s) fine a b)
+    let fine : uses_cause labels (before ++ u ∷ after) (unpatched_bytes s) ≡ None = ap (λ us. uses_cause labels us (unpatched_bytes s)) (sym split) ∙ (first-none (length_cause s) (patch_cause s) h).1 in
+    let same : patch_all (offset_of_label labels) (before ++ u ∷ after) (unpatched_bytes s) ≡ f.bytes.items = ap (λ us. patch_all (offset_of_label labels) us (unpatched_bytes s)) (sym split) ∙ sym done.bytes in
+    subst (IsSum u.kind u.offset (offset_of_label labels u.label.0) (unpatched_bytes s)) same (middle labels before after u (unpatched_bytes s) fine a b)
 
 -- uses that all leave a byte
 all_leave : (off : ℕ → ℕ) (us : List LabelFixup) (bs : List ℕ) (i : ℕ) → All (Leaves i) us → get_or (patch_all off us bs) i 0 ≡ get_or bs i 0
@@ -78,6 +78,6 @@ all_leave off (u ∷ us) bs i a =
 
 pub others : (s : BufferState) (f : MachBufferFinalized) → Finished s f → OthersStand s f.bytes.items
 others s f done = (
-  ap (λ bs. length bs) done.bytes ∙ length-patch_all (offset_of_label (final_labels s)) s.uses (unpatched s),
-  λ i a. ap (λ bs. get_or bs i 0) done.bytes ∙ all_leave (offset_of_label (final_labels s)) s.uses (unpatched s) i a,
+  ap (λ bs. length bs) done.bytes ∙ length-patch_all (offset_of_label (final_labels s)) s.uses (unpatched_bytes s),
+  λ i a. ap (λ bs. get_or bs i 0) done.bytes ∙ all_leave (offset_of_label (final_labels s)) s.uses (unpatched_bytes s) i a,
 )

@@ -82,9 +82,9 @@ ended_by (ConditionalThenJump start taken not_taken inverted) next s = cond (nat
 ended_by (OtherBranches stop) next s = s
 
 -- the buffer at the end of a block, before the block of this label, if any
-abbrev pub ended : Option MachLabel → BufferState → BufferState
-ended None s = s
-ended (Some next) s = ended_by s.branches next.0 s
+abbrev pub at_block_end : Option MachLabel → BufferState → BufferState
+at_block_end None s = s
+at_block_end (Some next) s = ended_by s.branches next.0 s
 
 -- all bytes stay but the last twelve at most, and all tables but the uses
 pub record KeepsTables (s t : BufferState) : Type 0 where

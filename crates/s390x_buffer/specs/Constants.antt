@@ -21,13 +21,13 @@ constants_end n [] = n
 constants_end n (c ∷ cs) = constants_end (constant_start n c + length c.bytes) cs
 
 -- a constant's bytes behind n bytes, with zero bytes before them
-abbrev pub padded : ℕ → Constant → List ℕ
-padded n c = replicate (constant_start n c - n) 0 ++ c.bytes
+abbrev pub padded_constant : ℕ → Constant → List ℕ
+padded_constant n c = replicate (constant_start n c - n) 0 ++ c.bytes
 
 -- the bytes of all of them
 abbrev pub constant_bytes : ℕ → List Constant → List ℕ
 constant_bytes n [] = []
-constant_bytes n (c ∷ cs) = padded n c ++ constant_bytes (constant_start n c + length c.bytes) cs
+constant_bytes n (c ∷ cs) = padded_constant n c ++ constant_bytes (constant_start n c + length c.bytes) cs
 
 -- the greatest of a number and the alignments
 abbrev pub greatest_align : ℕ → List Constant → ℕ

@@ -49,8 +49,8 @@ abbrev pub with_constants : List ℕ → List Constant → List ℕ
 with_constants bs cs = bs ++ constant_bytes (length bs) cs
 
 -- a buffer's bytes and constants, before any use is patched
-abbrev pub unpatched : BufferState → List ℕ
-unpatched s = with_constants s.bytes s.constants
+abbrev pub unpatched_bytes : BufferState → List ℕ
+unpatched_bytes s = with_constants s.bytes s.constants
 
 -- why a buffer can't be finished, before any memory is taken: the mark, then the length
 abbrev pub length_cause : BufferState → Option EmitError
@@ -58,7 +58,7 @@ length_cause s = cond s.is_poisoned (Some Failed) (cond (nat_lt (finished_length
 
 -- why its uses can't be patched
 abbrev pub patch_cause : BufferState → Option EmitError
-patch_cause s = uses_cause (final_labels s) s.uses (unpatched s)
+patch_cause s = uses_cause (final_labels s) s.uses (unpatched_bytes s)
 
 -- why a buffer can't be finished: the mark, the length, then the uses in order
 abbrev pub finish_cause : BufferState → Option EmitError
@@ -75,7 +75,7 @@ offsets_of labels n = map bound_offset (take n labels)
 
 -- the bytes that were put and the constants, each use patched, and the tables as they were added
 pub record Finished (s : BufferState) (f : MachBufferFinalized) : Type 0 where
-  pub bytes : f.bytes.items ≡ patch_all (offset_of_label (final_labels s)) s.uses (unpatched s)
+  pub bytes : f.bytes.items ≡ patch_all (offset_of_label (final_labels s)) s.uses (unpatched_bytes s)
   pub block_starts : f.block_starts.items ≡ offsets_of s.labels s.block_count
   pub constant_starts : f.constant_starts.items ≡ starts_of_constants s
   pub starts : f.starts.items ≡ s.starts

@@ -63,14 +63,14 @@ abbrev pub is_in_reach : LabelUse → ℕ → ℕ → Bool
 is_in_reach k offset target = nat_eq ((offset + target) % 2) 0 && (nat_le target (offset + max_pos_range k) && nat_le offset (target + max_neg_range k))
 
 -- a word as a signed number, plus 2 ^ 31
-abbrev pub flipped : ℕ → ℕ
-flipped w = (w + 2147483648) % 4294967296
+abbrev pub biased_word : ℕ → ℕ
+biased_word w = (w + 2147483648) % 4294967296
 
 -- a signed word plus the distance is a signed word again; only PCRel32 asks for it
 abbrev pub sum_fits : LabelUse → ℕ → ℕ → ℕ → Bool
 sum_fits BranchRI w offset target = true
 sum_fits BranchRIL w offset target = true
-sum_fits PCRel32 w offset target = nat_le offset (flipped w + target) && nat_lt (flipped w + target) (offset + 4294967296)
+sum_fits PCRel32 w offset target = nat_le offset (biased_word w + target) && nat_lt (biased_word w + target) (offset + 4294967296)
 sum_fits PCRel32Dbl w offset target = true
 
 -- a label's place; 0 for one that isn't bound

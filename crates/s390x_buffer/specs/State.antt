@@ -71,8 +71,8 @@ fresh_buffer n cs = record {
 }
 
 -- a refused call leaves the mark, and all else as it was
-abbrev pub poisoned : BufferState → BufferState
-poisoned s = record s { is_poisoned = true }
+abbrev pub poisoned_buffer : BufferState → BufferState
+poisoned_buffer s = record s { is_poisoned = true }
 
 -- an error is the cause where there is one, else want of memory
 abbrev pub FailsWith : Option EmitError → EmitError → Type 0

@@ -4,10 +4,10 @@ ghost use Rattle.std.specs.Int.{to_be_bytes, w32, w64};
 ghost use Rattle.s390x_buffer.specs.Branches.{BranchesLead};
 ghost use Rattle.s390x_buffer.specs.Finish.{length_cause, patch_cause, finish_cause, FailsWithEither, Finished};
 ghost use Rattle.s390x_buffer.specs.Extends.{Extends, ExtendsExcept};
-ghost use Rattle.s390x_buffer.specs.BlockEnd.{has_use, with_jump, with_conditional, cut, inverted_alone, both_ended, ended_by, ended, KeepsTables};
+ghost use Rattle.s390x_buffer.specs.BlockEnd.{has_use, with_jump, with_conditional, cut, inverted_alone, both_ended, ended_by, at_block_end, KeepsTables};
 ghost use Rattle.s390x_buffer.specs.declared.entries.RecordedBranches.TheVariants.{NoBranch};
 ghost use Rattle.s390x_base.specs.declared.error.EmitError.TheVariants.{NoMemory};
-ghost use Rattle.s390x_buffer.specs.State.{BufferState, FailsWith, poisoned, mark_cause, put_cause, draw_cause, label_cause, handlers_cause, labels_below, constant_cause, new_cause, fresh_buffer, constant_of, constant_label, is_alignment, all_aligned, IsNoConstant, align_of, limit, label_limit};
+ghost use Rattle.s390x_buffer.specs.State.{BufferState, FailsWith, poisoned_buffer, mark_cause, put_cause, draw_cause, label_cause, handlers_cause, labels_below, constant_cause, new_cause, fresh_buffer, constant_of, constant_label, is_alignment, all_aligned, IsNoConstant, align_of, limit, label_limit};
 
 use crate::block_end::{
     drop_use, ends_at, invert_uses, put_last, six_bytes, with_conditional, with_jump,
@@ -175,7 +175,7 @@ impl MachBuffer {
 
     /// Marks the buffer.
     pub fn poison(&mut self)
-        ensures { self.new ≡ poisoned self.old }
+        ensures { self.new ≡ poisoned_buffer self.old }
     {
         self.is_poisoned = true;
     }
@@ -183,7 +183,7 @@ impl MachBuffer {
     // A refusal: the mark stands from now on.
     fn refuse(&mut self, e: EmitError) -> Result<(), EmitError>
         ensures { MatchResult result (λ _. false ≡ true)
-            (λ x. (x ≡ e) × (self.new ≡ poisoned self.old)) }
+            (λ x. (x ≡ e) × (self.new ≡ poisoned_buffer self.old)) }
     {
         self.poison();
         Err(e)
@@ -196,7 +196,7 @@ impl MachBuffer {
             (λ _. (put_cause self.old (length bytes.now) ≡ None)
             × (self.new ≡ record self.old { bytes = self.old.bytes ++ bytes.now }))
             (λ e. FailsWith (put_cause self.old (length bytes.now)) e
-            × (self.new ≡ poisoned self.old)) }
+            × (self.new ≡ poisoned_buffer self.old)) }
         ensures kept { Extends self.old self.new }
     {
         if self.is_poisoned {
@@ -214,7 +214,7 @@ impl MachBuffer {
         requires { length self.old.bytes + length bytes.now < limit }
         ensures { MatchResult result
             (λ _. self.new ≡ record self.old { bytes = self.old.bytes ++ bytes.now })
-            (λ e. (e ≡ NoMemory) × (self.new ≡ poisoned self.old)) }
+            (λ e. (e ≡ NoMemory) × (self.new ≡ poisoned_buffer self.old)) }
     {
         match self.bytes.extend_from_slice(bytes) {
             Ok(()) => Ok(()),
@@ -227,7 +227,7 @@ impl MachBuffer {
         ensures answer { MatchResult result
             (λ _. (put_cause self.old 1 ≡ None)
             × (self.new ≡ record self.old { bytes = self.old.bytes ++ value ∷ [] }))
-            (λ e. FailsWith (put_cause self.old 1) e × (self.new ≡ poisoned self.old)) }
+            (λ e. FailsWith (put_cause self.old 1) e × (self.new ≡ poisoned_buffer self.old)) }
         ensures kept { Extends self.old self.new }
     {
         self.put(&[value])
@@ -238,7 +238,7 @@ impl MachBuffer {
         ensures answer { MatchResult result
             (λ _. (put_cause self.old 4 ≡ None)
             × (self.new ≡ record self.old { bytes = self.old.bytes ++ to_be_bytes w32 value }))
-            (λ e. FailsWith (put_cause self.old 4) e × (self.new ≡ poisoned self.old)) }
+            (λ e. FailsWith (put_cause self.old 4) e × (self.new ≡ poisoned_buffer self.old)) }
         ensures kept { Extends self.old self.new }
     {
         let word = value.to_be_bytes();
@@ -250,7 +250,7 @@ impl MachBuffer {
         ensures answer { MatchResult result
             (λ _. (put_cause self.old 8 ≡ None)
             × (self.new ≡ record self.old { bytes = self.old.bytes ++ to_be_bytes w64 value }))
-            (λ e. FailsWith (put_cause self.old 8) e × (self.new ≡ poisoned self.old)) }
+            (λ e. FailsWith (put_cause self.old 8) e × (self.new ≡ poisoned_buffer self.old)) }
         ensures kept { Extends self.old self.new }
     {
         let doubleword = value.to_be_bytes();
@@ -263,7 +263,7 @@ impl MachBuffer {
             (λ _. (put_cause self.old (length code.now) ≡ None)
             × (self.new ≡ record self.old { bytes = self.old.bytes ++ code.now }))
             (λ e. FailsWith (put_cause self.old (length code.now)) e
-            × (self.new ≡ poisoned self.old)) }
+            × (self.new ≡ poisoned_buffer self.old)) }
         ensures kept { Extends self.old self.new }
     {
         let bytes = code.bytes();
@@ -304,7 +304,7 @@ impl MachBuffer {
               traps = self.old.traps
                   ++ record { offset = length self.old.bytes; code = code } ∷ [];
             }))
-            (λ e. FailsWith (mark_cause self.old) e × (self.new ≡ poisoned self.old)) }
+            (λ e. FailsWith (mark_cause self.old) e × (self.new ≡ poisoned_buffer self.old)) }
         ensures kept { Extends self.old self.new }
     {
         if self.is_poisoned {
@@ -337,7 +337,7 @@ impl MachBuffer {
                     addend = addend;
                   } ∷ [];
             }))
-            (λ e. FailsWith (mark_cause self.old) e × (self.new ≡ poisoned self.old)) }
+            (λ e. FailsWith (mark_cause self.old) e × (self.new ≡ poisoned_buffer self.old)) }
         ensures kept { Extends self.old self.new }
     {
         let offset = self.cur_offset();
@@ -360,7 +360,7 @@ impl MachBuffer {
                   ++ record { offset = offset; kind = kind; name = name; addend = addend }
                   ∷ [];
             }))
-            (λ e. FailsWith (mark_cause self.old) e × (self.new ≡ poisoned self.old)) }
+            (λ e. FailsWith (mark_cause self.old) e × (self.new ≡ poisoned_buffer self.old)) }
         ensures kept { Extends self.old self.new }
     {
         if self.is_poisoned {
@@ -386,7 +386,7 @@ impl MachBuffer {
         ensures answer { MatchResult result
             (λ l. (draw_cause self.old ≡ None) × (l.0 ≡ length self.old.labels)
             × (self.new ≡ record self.old { labels = self.old.labels ++ None ∷ [] }))
-            (λ e. FailsWith (draw_cause self.old) e × (self.new ≡ poisoned self.old)) }
+            (λ e. FailsWith (draw_cause self.old) e × (self.new ≡ poisoned_buffer self.old)) }
         ensures kept { Extends self.old self.new }
     {
         if self.is_poisoned {
@@ -416,7 +416,7 @@ impl MachBuffer {
             (λ l. (constant_cause self.old constant.0 ≡ None)
             × (l.0 ≡ constant_label self.old constant.0) × (self.new ≡ self.old))
             (λ e. FailsWith (constant_cause self.old constant.0) e
-            × (self.new ≡ poisoned self.old)) }
+            × (self.new ≡ poisoned_buffer self.old)) }
         ensures kept { Extends self.old self.new }
     {
         if self.is_poisoned {
@@ -442,7 +442,8 @@ impl MachBuffer {
                   (Some (length self.old.bytes));
               branches = NoBranch;
             }))
-            (λ e. FailsWith (label_cause self.old label.0) e × (self.new ≡ poisoned self.old)) }
+            (λ e. FailsWith (label_cause self.old label.0) e
+            × (self.new ≡ poisoned_buffer self.old)) }
         ensures kept { ExtendsExcept label.0 self.old self.new }
     {
         if self.is_poisoned {
@@ -471,7 +472,8 @@ impl MachBuffer {
               uses = self.old.uses
                   ++ record { kind = kind; offset = offset; label = label } ∷ [];
             }))
-            (λ e. FailsWith (label_cause self.old label.0) e × (self.new ≡ poisoned self.old)) }
+            (λ e. FailsWith (label_cause self.old label.0) e
+            × (self.new ≡ poisoned_buffer self.old)) }
         ensures kept { Extends self.old self.new }
     {
         if self.is_poisoned {
@@ -501,7 +503,7 @@ impl MachBuffer {
               call_sites = self.old.call_sites ++ length self.old.bytes
                   ∷ [];
             }))
-            (λ e. FailsWith (mark_cause self.old) e × (self.new ≡ poisoned self.old)) }
+            (λ e. FailsWith (mark_cause self.old) e × (self.new ≡ poisoned_buffer self.old)) }
         ensures kept { Extends self.old self.new }
     {
         if self.is_poisoned {
@@ -534,7 +536,7 @@ impl MachBuffer {
                   } ∷ [];
             }))
             (λ e. FailsWith (handlers_cause self.old handlers.now) e
-            × (self.new ≡ poisoned self.old)) }
+            × (self.new ≡ poisoned_buffer self.old)) }
         ensures kept { Extends self.old self.new }
     {
         if self.is_poisoned {
@@ -569,7 +571,7 @@ impl MachBuffer {
               patchable_sites = self.old.patchable_sites
                   ++ record { offset = length self.old.bytes; len = len } ∷ [];
             }))
-            (λ e. FailsWith (mark_cause self.old) e × (self.new ≡ poisoned self.old)) }
+            (λ e. FailsWith (mark_cause self.old) e × (self.new ≡ poisoned_buffer self.old)) }
         ensures kept { Extends self.old self.new }
     {
         if self.is_poisoned {
@@ -591,7 +593,7 @@ impl MachBuffer {
               stack_maps = self.old.stack_maps
                   ++ record { offset = offset; map = map } ∷ [];
             }))
-            (λ e. FailsWith (mark_cause self.old) e × (self.new ≡ poisoned self.old)) }
+            (λ e. FailsWith (mark_cause self.old) e × (self.new ≡ poisoned_buffer self.old)) }
         ensures kept { Extends self.old self.new }
     {
         if self.is_poisoned {
@@ -613,7 +615,7 @@ impl MachBuffer {
               starts = self.old.starts ++ length self.old.bytes ∷ [];
               branches = NoBranch;
             }))
-            (λ e. FailsWith (mark_cause self.old) e × (self.new ≡ poisoned self.old)) }
+            (λ e. FailsWith (mark_cause self.old) e × (self.new ≡ poisoned_buffer self.old)) }
         ensures kept { Extends self.old self.new }
     {
         if self.is_poisoned {
@@ -642,7 +644,7 @@ impl MachBuffer {
             (λ _. (mark_cause self.old ≡ None)
             × (self.new
             ≡ record self.old { branches = with_jump self.old.branches start target }))
-            (λ e. FailsWith (mark_cause self.old) e × (self.new ≡ poisoned self.old)) }
+            (λ e. FailsWith (mark_cause self.old) e × (self.new ≡ poisoned_buffer self.old)) }
         ensures kept { Extends self.old self.new }
     {
         if self.is_poisoned {
@@ -673,7 +675,7 @@ impl MachBuffer {
               branches = with_conditional self.old.branches start target
                   inverted.now;
             }))
-            (λ e. FailsWith (mark_cause self.old) e × (self.new ≡ poisoned self.old)) }
+            (λ e. FailsWith (mark_cause self.old) e × (self.new ≡ poisoned_buffer self.old)) }
         ensures kept { Extends self.old self.new }
     {
         if self.is_poisoned {
@@ -693,8 +695,8 @@ impl MachBuffer {
     #[tactic(auto, using(crate::proofs::Ending::keeps_mark, crate::proofs::Ending::keeps_ended))]
     pub fn end_block(&mut self, next: Option<MachLabel>) -> Result<(), EmitError>
         ensures answer { MatchResult result
-            (λ _. (mark_cause self.old ≡ None) × (self.new ≡ ended next self.old))
-            (λ e. FailsWith (mark_cause self.old) e × (self.new ≡ poisoned self.old)) }
+            (λ _. (mark_cause self.old ≡ None) × (self.new ≡ at_block_end next self.old))
+            (λ e. FailsWith (mark_cause self.old) e × (self.new ≡ poisoned_buffer self.old)) }
         ensures kept { KeepsTables self.old self.new }
     {
         if self.is_poisoned {
@@ -709,7 +711,7 @@ impl MachBuffer {
     // What is recorded up to the current offset is folded, where the next block has this label.
     fn fold(&mut self, next: MachLabel) -> Result<(), EmitError>
         ensures { MatchResult result (λ _. self.new ≡ ended_by self.old.branches next.0 self.old)
-            (λ e. (e ≡ NoMemory) × (self.new ≡ poisoned self.old)) }
+            (λ e. (e ≡ NoMemory) × (self.new ≡ poisoned_buffer self.old)) }
     {
         let here = self.cur_offset();
         match self.branches {
@@ -747,7 +749,7 @@ impl MachBuffer {
         requires small { start + 12 < limit }
         ensures { MatchResult result
             (λ _. self.new ≡ both_ended next.0 start taken not_taken inverted self.old)
-            (λ e. (e ≡ NoMemory) × (self.new ≡ poisoned self.old)) }
+            (λ e. (e ≡ NoMemory) × (self.new ≡ poisoned_buffer self.old)) }
     {
         if not_taken.0 == next.0 {
             self.cut(start + 6, not_taken);
@@ -783,7 +785,7 @@ impl MachBuffer {
         requires differ { taken.0 ≢ not_taken.0 }
         ensures { MatchResult result
             (λ _. self.new ≡ inverted_alone start taken.0 not_taken inverted self.old)
-            (λ e. (e ≡ NoMemory) × (self.new ≡ poisoned self.old)) }
+            (λ e. (e ≡ NoMemory) × (self.new ≡ poisoned_buffer self.old)) }
     {
         if invert_uses(&mut self.uses, start, taken, not_taken).is_err() {
             return self.refuse(EmitError::NoMemory);

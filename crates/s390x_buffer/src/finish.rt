@@ -3,7 +3,7 @@ ghost use Rattle.std.specs.Prelude.{◌≡◌, ◌+◌, ◌≤◌, ◌<◌, ◌+
 ghost use Rattle.s390x_base.specs.declared.error.EmitError.TheVariants.{NoMemory};
 ghost use Rattle.s390x_buffer.specs.State.{constant_of, site_of, limit};
 ghost use Rattle.s390x_buffer.specs.Patch.{offset_of_label, patch_all, uses_cause};
-ghost use Rattle.s390x_buffer.specs.Constants.{round_up, constant_start, constant_starts, constants_end, padded, constant_bytes, greatest_align};
+ghost use Rattle.s390x_buffer.specs.Constants.{round_up, constant_start, constant_starts, constants_end, padded_constant, constant_bytes, greatest_align};
 ghost use Rattle.s390x_buffer.specs.Finish.{bind_constants, with_constants, offsets_of, entry_of, bound_handler, bound_site};
 
 use crate::entries::{HandlerEntry, LabelFixup, TryEntry, TryHandler, TrySite};
@@ -55,7 +55,7 @@ fn append_constant(bytes: &mut Vec<u8>, constant: &ConstantData) -> Result<CodeO
     ensures { IfOk result
         (λ start. (start ≡ constant_start (length bytes.old.items) (constant_of constant.now))
         × (bytes.new.items
-        ≡ bytes.old.items ++ padded (length bytes.old.items) (constant_of constant.now))) }
+        ≡ bytes.old.items ++ padded_constant (length bytes.old.items) (constant_of constant.now))) }
 {
     let start = start_of(bytes.len(), constant.align);
     let gap = start - bytes.len();

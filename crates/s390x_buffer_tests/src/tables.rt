@@ -94,7 +94,7 @@ fn has_handlers(rt: &impl Abort, code: &MachBufferFinalized) -> Result<(), Fail>
     Ok(())
 }
 
-fn finished(alloc: Global) -> Result<MachBufferFinalized, EmitError> {
+fn finished_buffer(alloc: Global) -> Result<MachBufferFinalized, EmitError> {
     let mut buffer = with_entries(alloc)?;
     add_references(&mut buffer)?;
     buffer.finish()
@@ -102,7 +102,7 @@ fn finished(alloc: Global) -> Result<MachBufferFinalized, EmitError> {
 
 #[test]
 fn tables_have_their_entries(rt: HostRuntime) -> Result<(), Fail> {
-    let code = finished(rt.alloc())?;
+    let code = finished_buffer(rt.alloc())?;
     assert_eq!(rt; code.starts.as_slice(), [0, 2].as_slice());
     assert_eq!(rt; code.block_starts.as_slice(), [0, 0].as_slice());
     assert_eq!(rt; code.alignment, 4);

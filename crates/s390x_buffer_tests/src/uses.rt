@@ -6,7 +6,7 @@ use s390x_buffer::{LabelUse, MachBuffer, MachBufferFinalized};
 use std::alloc::{AllocError, Global};
 use std::test::Fail;
 
-fn constant(alloc: Global, bytes: &[u8], align: u32) -> Result<ConstantData, AllocError> {
+fn constant_data(alloc: Global, bytes: &[u8], align: u32) -> Result<ConstantData, AllocError> {
     let mut copy = Vec::new(alloc);
     copy.extend_from_slice(bytes)?;
     Ok(ConstantData { bytes: copy, align })
@@ -29,8 +29,8 @@ fn short_branch(alloc: Global, count: u32) -> Result<Result<MachBufferFinalized,
         zeros.push(0)?;
     }
     let mut constants = Vec::new(alloc);
-    constants.push(constant(alloc, &zeros, 1)?)?;
-    constants.push(constant(alloc, &[0], 1)?)?;
+    constants.push(constant_data(alloc, &zeros, 1)?)?;
+    constants.push(constant_data(alloc, &[0], 1)?)?;
     let mut buffer = MachBuffer::new(alloc, 0, &constants)?;
     let label = buffer.get_label_for_constant(VCodeConstant(1))?;
     buffer.use_label_at_offset(0, label, LabelUse::BranchRI)?;

@@ -3,7 +3,7 @@ use Rattle.std.proofs.Common.{◌≡◌, ℕ, suc, ◌+◌, ◌-◌, ◌<◌, �
 use Rattle.std.specs.Prelude.{IfOk, is_err}
 use Rattle.s390x_buffer.specs.declared.entries.MachBufferFinalized.{MachBufferFinalized}
 use Rattle.s390x_image.specs.Causes.{link_cause}
-use Rattle.s390x_image.specs.Fields.{filled}
+use Rattle.s390x_image.specs.Fields.{with_fields_filled}
 use Rattle.s390x_image.specs.declared.error.LinkError.{LinkError}
 use Rattle.s390x_bundle.specs.declared.member.Member.{Member}
 use Rattle.s390x_bundle.specs.Bytes.{Part, Rise, end_of, part_behind, parts_behind, zeros}
@@ -39,7 +39,7 @@ module _ (base : ℕ) (ms : List Member) (ss : List ℕ) (fs : List MachBufferFi
       ∙ ap (λ l. first_unlinked base ms ss k (m ∷ drop (k + 1) ms) (get_or ss k 0 ∷ drop (k + 1) ss) l) (cons_of fs k f lt'' at')
 
   abbrev part : Part
-  part = record { start = get_or ss k 0; bytes = filled (base + get_or ss k 0) (symbols_of base ms ss m.symbols.items) f.relocs.items f.bytes.items }
+  part = record { start = get_or ss k 0; bytes = with_fields_filled (base + get_or ss k 0) (symbols_of base ms ss m.symbols.items) f.relocs.items f.bytes.items }
 
   parts_here : parts_from k ≡ part ∷ parts_from (k + 1)
   parts_here =

@@ -8,7 +8,7 @@ use Rattle.s390x_base.specs.declared.ir.ExternalName.{ExternalName}
 use Rattle.s390x_buffer.specs.declared.entries.MachBufferFinalized.{MachBufferFinalized}
 use Rattle.s390x_buffer.specs.declared.entries.RelocEntry.{RelocEntry}
 use Rattle.s390x_image.specs.Causes.{base_cause, first_link_cause, link_cause, relocs_cause, symbol_cause}
-use Rattle.s390x_image.specs.Fields.{address_or_zero, fill, filled}
+use Rattle.s390x_image.specs.Fields.{address_or_zero, fill, with_fields_filled}
 use Rattle.s390x_image.specs.Symbols.{Symbols, address_of, address_of-no_symbols, address_of-with_address, no_symbols, with_address}
 use Rattle.s390x_image.specs.declared.error.LinkError.{LinkError}
 use Rattle.s390x_image.specs.declared.image.Image.{Image}
@@ -118,15 +118,15 @@ cause_alike base (r ∷ rs) t s h =
     ap (λ o. first_link_cause (symbol_cause base r o) (relocs_cause base t rs)) (h 0 r (omega arith))
     ∙ ap (λ c. first_link_cause (symbol_cause base r (address_of s r.name)) c) (cause_alike base rs t s (λ k d lt. h (suc k) d (omega (arith, lt))))
 
-fill_alike : (base : ℕ) (rs : List RelocEntry) (t s : Symbols) (bytes : List ℕ) → AnswersAlike rs t s → filled base t rs bytes ≡ filled base s rs bytes
+fill_alike : (base : ℕ) (rs : List RelocEntry) (t s : Symbols) (bytes : List ℕ) → AnswersAlike rs t s → with_fields_filled base t rs bytes ≡ with_fields_filled base s rs bytes
 fill_alike base [] t s bytes h = refl
 fill_alike base (r ∷ rs) t s bytes h =
-    ap (λ o. filled base t rs (fill base (address_or_zero o) r bytes)) (h 0 r (omega arith))
+    ap (λ o. with_fields_filled base t rs (fill base (address_or_zero o) r bytes)) (h 0 r (omega arith))
     ∙ fill_alike base rs t s (fill base (address_or_zero (address_of s r.name)) r bytes) (λ k d lt. h (suc k) d (omega (arith, lt)))
 
 -- what linking answers by the one table it answers by the other
 pub linked_alike : (code : MachBufferFinalized) (address : ℕ) (t s : Symbols) → AnswersAlike code.relocs.items t s → (r : Result Image LinkError) →
-    MatchResult r (λ image. (link_cause code address t ≡ None) × (image.base ≡ address) × (image.bytes.items ≡ filled address t code.relocs.items code.bytes.items)) (λ e. (e ≡ LinkError.NoMemory) ⊎ (link_cause code address t ≡ Some e)) →
+    MatchResult r (λ image. (link_cause code address t ≡ None) × (image.base ≡ address) × (image.bytes.items ≡ with_fields_filled address t code.relocs.items code.bytes.items)) (λ e. (e ≡ LinkError.NoMemory) ⊎ (link_cause code address t ≡ Some e)) →
     MatchResult r (λ image. IsLinked code address s image.bytes.items) (λ e. IsLinkCause code address s e)
 linked_alike code address t s alike (Ok image) h =
     let same = ap (λ c. first_link_cause (base_cause code.alignment (length code.bytes.items) address) c) (cause_alike address code.relocs.items t s alike) in

@@ -5,7 +5,7 @@ use Rattle.s390x_base.specs.declared.ir.ExternalName.{ExternalName}
 use Rattle.s390x_buffer.specs.declared.entries.MachBufferFinalized.{MachBufferFinalized}
 use Rattle.s390x_image.proofs.Filled.{length-filled}
 use Rattle.s390x_image.specs.Causes.{link_cause}
-use Rattle.s390x_image.specs.Fields.{filled}
+use Rattle.s390x_image.specs.Fields.{with_fields_filled}
 use Rattle.s390x_image.specs.declared.error.LinkError.{LinkError}
 use Rattle.s390x_operations.specs.State.{CodeImage}
 use Rattle.s390x_typed_steps.proofs.Causes.{first_right}
@@ -44,7 +44,7 @@ none_of_both n (Some error) later h = absurd (cc)
 module _ (base : ℕ) (all : List Member) (all_starts : List ℕ) (whole : CodeImage) (at_base : whole.base ≡ base) where
   -- a member's linked code at its start
   abbrev part_of : Member → ℕ → MachBufferFinalized → Part
-  part_of m start f = record { start = start; bytes = filled (base + start) (symbols_of base all all_starts m.symbols.items) f.relocs.items f.bytes.items }
+  part_of m start f = record { start = start; bytes = with_fields_filled (base + start) (symbols_of base all all_starts m.symbols.items) f.relocs.items f.bytes.items }
 
   lies : (m : Member) (start : ℕ) (f : MachBufferFinalized) → IsEmitted m f → link_cause f (base + start) (symbols_of base all all_starts m.symbols.items) ≡ None → 0 < length f.bytes.items → PartStands whole.bytes (part_of m start f) →
       IsMember whole (member_layout base all all_starts m start f)

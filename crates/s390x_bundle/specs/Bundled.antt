@@ -8,7 +8,7 @@ use Rattle.s390x_machine.specs.Functions.{function_layout}
 use Rattle.s390x_machine.specs.Layout.{Layout}
 use Rattle.s390x_schedule.specs.Joint.{AreMembers}
 use Rattle.s390x_schedule.specs.JointMatch.{EveryJointBlockRun, EveryJointReturnRun}
-use Rattle.s390x_emit_int.specs.Headline.{linked, linked_image}
+use Rattle.s390x_emit_int.specs.Headline.{linked_environment, linked_image}
 use Rattle.s390x_bundle.specs.declared.error.BundleError.{BundleError}
 use Rattle.s390x_bundle.specs.declared.error.BundleError.TheVariants.{DuplicateName, Emit as EmitRefused, EmptyMember as HasNoBytes, TooLong as EndsTooLate, AddressTooHigh as StartsTooHigh, Link as LinkRefused, NoMemory}
 use Rattle.s390x_bundle.specs.declared.joining.Bundle.{Bundle}
@@ -31,7 +31,7 @@ duplicate_of members = first_duplicate (names_of members) [] members
 abbrev pub member_layout : (base : ℕ) → (all : List Member) → (all_starts : List ℕ) → Member → (start : ℕ) → MachBufferFinalized → Layout
 member_layout base all all_starts m start f =
     let symbols = symbols_of base all all_starts m.symbols.items in
-    function_layout (linked symbols (base + start) (folded_trees_of_member m) (constants_of_member m)) (folded_trees_of_member m) (linked_image f (base + start) symbols)
+    function_layout (linked_environment symbols (base + start) (folded_trees_of_member m) (constants_of_member m)) (folded_trees_of_member m) (linked_image f (base + start) symbols)
 
 -- those of these members, by their starts and their finished code
 abbrev pub member_layouts : (base : ℕ) → (all : List Member) → (all_starts : List ℕ) → List Member → (starts : List ℕ) → List MachBufferFinalized → List Layout

@@ -3,7 +3,7 @@ use Rattle.std.specs.Prelude.{◌≡◌, ℕ, ◌+◌, ◌⊎◌, List, [], ◌�
 use Rattle.std.specs.List.{All}
 use Rattle.s390x_buffer.specs.declared.entries.MachBufferFinalized.{MachBufferFinalized}
 use Rattle.s390x_image.specs.Causes.{link_cause}
-use Rattle.s390x_image.specs.Fields.{LiesIn, filled}
+use Rattle.s390x_image.specs.Fields.{LiesIn, with_fields_filled}
 use Rattle.s390x_image.specs.Symbols.{Symbols}
 use Rattle.s390x_image.specs.declared.error.LinkError.{LinkError}
 use Rattle.s390x_image.specs.declared.error.LinkError.TheVariants.{NoMemory}
@@ -18,7 +18,7 @@ HasItsFields f = All (LiesIn (length f.bytes.items)) f.relocs.items
 
 -- code that has no cause to be refused at an address, and its bytes with the fields filled
 abbrev pub IsLinked : MachBufferFinalized → (address : ℕ) → Symbols → List ℕ → Type 0
-IsLinked code address symbols bytes = (link_cause code address symbols ≡ None) × (bytes ≡ filled address symbols code.relocs.items code.bytes.items)
+IsLinked code address symbols bytes = (link_cause code address symbols ≡ None) × (bytes ≡ with_fields_filled address symbols code.relocs.items code.bytes.items)
 
 -- the first cause by which code is refused at an address; want of memory is free
 abbrev pub IsLinkCause : MachBufferFinalized → (address : ℕ) → Symbols → LinkError → Type 0
@@ -49,7 +49,7 @@ linked_parts base all all_starts [] starts codes = []
 linked_parts base all all_starts (m ∷ ms) [] codes = []
 linked_parts base all all_starts (m ∷ ms) (start ∷ starts) [] = []
 linked_parts base all all_starts (m ∷ ms) (start ∷ starts) (f ∷ fs) =
-    record { start = start; bytes = filled (base + start) (symbols_of base all all_starts m.symbols.items) f.relocs.items f.bytes.items } ∷ linked_parts base all all_starts ms starts fs
+    record { start = start; bytes = with_fields_filled (base + start) (symbols_of base all all_starts m.symbols.items) f.relocs.items f.bytes.items } ∷ linked_parts base all all_starts ms starts fs
 
 -- the refusal is want of memory, or tells this cause
 abbrev pub IsUnlinked : Option Unlinked → LinkRefusal → Type 0

@@ -8,7 +8,7 @@ use Rattle.s390x_refusal.specs.Refusal.{IsRefusedBy}
 use Rattle.s390x_refusal.specs.declared.position.Position.{Position}
 use Rattle.s390x_refusal.specs.declared.position.Position.TheVariants.{Start, Instruction, BlockEnd, Length}
 use Rattle.s390x_calls.specs.Input.{by_cause}
-use Rattle.s390x_calls.specs.Places.{block_end, of_instruction, start, whole}
+use Rattle.s390x_calls.specs.Places.{block_end, of_instruction, start, whole_code}
 use Rattle.s390x_calls.specs.declared.place.Place.{Place}
 use Rattle.s390x_calls.specs.declared.reason.Reason.{Reason}
 use Rattle.s390x_calls.specs.declared.status.Status.{Status}
@@ -23,7 +23,7 @@ abbrev pub place_of : Position → Place
 place_of Start = start
 place_of (Instruction block path) = of_instruction block path.items
 place_of (BlockEnd block) = block_end block
-place_of Length = whole
+place_of Length = whole_code
 
 -- a cause, at its place
 abbrev pub reason_of : EmitError → Position → Reason

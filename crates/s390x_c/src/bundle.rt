@@ -34,11 +34,11 @@ pub extern "C" fn s390x_bundle(
     // Functions that nothing keeps from an image are done, where the buffer has room.
     ensures complete { IsBundled base input.now out.old → (result ≡ 0) ⊎ (result ≡ 9) }
 {
-    bundled(alloc, input, base, out, count, reason).number()
+    bundle_status(alloc, input, base, out, count, reason).number()
 }
 
 // The image of the functions whose text the input is.
-fn bundled(
+fn bundle_status(
     alloc: Global,
     input: &[u8],
     base: u64,

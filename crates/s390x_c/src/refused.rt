@@ -39,6 +39,6 @@ fn place_of(position: &Position) -> Place
         Position::Start => Place::start(),
         Position::Instruction { block, path } => Place::of_instruction(*block, path),
         Position::BlockEnd { block } => Place::block_end(*block),
-        Position::Length => Place::whole(),
+        Position::Length => Place::whole_code(),
     }
 }

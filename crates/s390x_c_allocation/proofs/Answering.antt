@@ -5,7 +5,7 @@ use Rattle.std.proofs.lemmas.Option.{none-some}
 use Rattle.std.specs.Prelude.{Result, Err, IsOk}
 use Rattle.s390x_alloc.specs.Answered.{IsAnswered}
 use Rattle.s390x_alloc.specs.Blocks.{IsFault}
-use Rattle.s390x_alloc.specs.Checked.{checked}
+use Rattle.s390x_alloc.specs.Checked.{plan_contents}
 use Rattle.s390x_alloc.specs.Walks.{EveryWalkReadsAlike}
 use Rattle.s390x_alloc.specs.declared.fault.PlanFault.{PlanFault}
 use Rattle.s390x_inst.specs.declared.function.AllocatedFunction.{AllocatedFunction}
@@ -53,9 +53,9 @@ report_put j out out' count count' reason status.TooSmall valid put = (record { 
 
 -- the same of a fault, where the layout is a call's
 pub faulty : (p : PlannedJob) (layout : FrameLayout) (f : PlanFault) (reason reason' : PlanReason) (s : Status) → layout ≡ p.job.state.layout
-    → IsFault (checked layout p.job.function.blocks.items p.plan.blocks.items) f → IsFaultTold f reason reason' s → ChecksPlanTo reason reason' p s
+    → IsFault (plan_contents layout p.job.function.blocks.items p.plan.blocks.items) f → IsFaultTold f reason reason' s → ChecksPlanTo reason reason' p s
 faulty p layout f reason reason' s same cause told =
-    fault_told p f reason reason' s (subst (λ l. IsFault (checked l p.job.function.blocks.items p.plan.blocks.items) f) same cause) told
+    fault_told p f reason reason' s (subst (λ l. IsFault (plan_contents l p.job.function.blocks.items p.plan.blocks.items) f) same cause) told
 
 -- a plan without a fault is done
 pub faultless : (p : PlannedJob) (layout : FrameLayout) (function : AllocatedFunction) (reason : PlanReason) → layout ≡ p.job.state.layout

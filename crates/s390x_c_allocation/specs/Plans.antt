@@ -1,6 +1,6 @@
 -- What `s390x_check_plan` answers. A name with a prime is of what a call leaves.
 use Rattle.std.specs.Prelude.{◌≡◌, ◌≢◌, ℕ, List, Result, Err, IsOk}
-use Rattle.s390x_alloc.specs.Checked.{checked}
+use Rattle.s390x_alloc.specs.Checked.{plan_contents}
 use Rattle.s390x_alloc.specs.Walks.{EveryWalkReadsAlike}
 use Rattle.s390x_alloc.specs.declared.fault.PlanFault.{PlanFault}
 use Rattle.s390x_alloc.specs.declared.fault.PlanFault.TheVariants as fault
@@ -50,7 +50,7 @@ IsFaultTold f reason reason' s = ⊥
 
 -- the check of a plan
 abbrev pub check_of : PlannedJob → Result (List (List EntryPair)) PlanFault
-check_of p = checked p.job.state.layout p.job.function.blocks.items p.plan.blocks.items
+check_of p = plan_contents p.job.state.layout p.job.function.blocks.items p.plan.blocks.items
 
 -- the plan has no fault, and on every walk from the first block, and whatever the values are, each instruction reads by its registers the values of its virtual
 -- registers

@@ -32,12 +32,12 @@ each report k [] = record { first = None; entries = [] }
 each report k (x ∷ xs) = both (report k x) (each report (k + 1) xs)
 
 -- an instruction that can't be reported by this cause, want of memory aside
-abbrev pub unreported : Spot → Option OperandError → Option Unreported
-unreported s None = None
-unreported s (Some cause) = Some (record { block = s.block; instruction = s.instruction; cause = cause })
+abbrev pub report_failure : Spot → Option OperandError → Option Unreported
+report_failure s None = None
+report_failure s (Some cause) = Some (record { block = s.block; instruction = s.instruction; cause = cause })
 
 abbrev pub inst_report : Spot → Inst → Report
-inst_report s i = record { first = unreported s (operands_cause false i); entries = items_entries s (operands i) }
+inst_report s i = record { first = report_failure s (operands_cause false i); entries = items_entries s (operands i) }
 
 -- the instruction of this number in a block
 abbrev pub inst_report_in : (block instruction : ℕ) → Inst → Report

@@ -4,7 +4,7 @@ ghost use Rattle.s390x_c_allocation.specs.Operands.{ReportsJobTo, ReportsTo, rea
 
 use crate::numbers::operand_error_number;
 use crate::operand_entries::OperandEntry;
-use crate::report::{ReportError, Unreported, reported};
+use crate::report::{ReportError, Unreported, entries_of_blocks};
 use s390x_calls::{MOST_BYTES, Place, Reason, Status, put_entries};
 use s390x_job::{Job, LineError, read_lines};
 use std::alloc::Global;
@@ -46,7 +46,7 @@ fn operands_of_job(
     ensures { ReportsJobTo out.old out.new count.old count.new
         reason.old reason.new job.now result }
 {
-    match reported(alloc, &job.function.blocks) {
+    match entries_of_blocks(alloc, &job.function.blocks) {
         Ok(entries) => put_entries(&entries, out, count),
         Err(ReportError::Unreported(unreported)) => {
             *reason = unreported_reason(unreported);

@@ -98,7 +98,7 @@ fn no_register() -> Register
     }
 }
 
-fn free(kind: u32) -> Constraint
+fn free_constraint(kind: u32) -> Constraint
     ensures { result ≡ record { kind = kind; fixed = no_register; reused = 0 } }
 {
     Constraint {
@@ -112,8 +112,8 @@ fn flat_constraint(constraint: OperandConstraint) -> Constraint
     ensures { result ≡ constraint_of constraint }
 {
     match constraint {
-        OperandConstraint::Any => free(1),
-        OperandConstraint::Reg => free(2),
+        OperandConstraint::Any => free_constraint(1),
+        OperandConstraint::Reg => free_constraint(2),
         OperandConstraint::FixedReg(preg) => Constraint {
             kind: 3,
             fixed: real_register(preg),
@@ -155,7 +155,7 @@ fn real_entry(spot: Spot, kind: u32, preg: PReg) -> OperandEntry
         kind,
         is_late: 0,
         register: real_register(preg),
-        constraint: free(0),
+        constraint: free_constraint(0),
     }
 }
 

@@ -24,7 +24,7 @@ pub enum ReportError {
 
 /// The entries of all instructions of the blocks, in order. An error comes exactly where the operands of one can't be reported: the first
 /// such instruction; or for want of memory.
-pub fn reported(alloc: Global, blocks: &[Block]) -> Result<Vec<OperandEntry>, ReportError>
+pub fn entries_of_blocks(alloc: Global, blocks: &[Block]) -> Result<Vec<OperandEntry>, ReportError>
     ensures { Reporting result (blocks_report blocks.now) }
 {
     let mut out = Vec::new(alloc);

@@ -1,6 +1,6 @@
 //! Where a cause stands.
 ghost use Rattle.std.specs.Prelude.{◌≡◌, []};
-ghost use Rattle.s390x_calls.specs.Places.{block_end, no_place, of_instruction, padded, start, whole};
+ghost use Rattle.s390x_calls.specs.Places.{block_end, no_place, of_instruction, padded_path, start, whole_code};
 
 /// How many numbers of a path are told. No instruction has more, since loops are nested at most eight deep.
 pub const MOST_NUMBERS: usize = 9;
@@ -55,8 +55,8 @@ impl Place {
     }
 
     /// The length of the whole code.
-    pub fn whole() -> Place
-        ensures { result ≡ whole }
+    pub fn whole_code() -> Place
+        ensures { result ≡ whole_code }
     {
         of_kind(4, 0)
     }
@@ -64,7 +64,7 @@ impl Place {
 
 // A place without a path.
 fn of_kind(kind: u32, block: usize) -> Place
-    ensures { result ≡ record { kind = kind; block = block; depth = 0; path = padded [] } }
+    ensures { result ≡ record { kind = kind; block = block; depth = 0; path = padded_path [] } }
 {
     Place {
         kind,
@@ -76,7 +76,7 @@ fn of_kind(kind: u32, block: usize) -> Place
 
 // The first numbers of a path, and zeros.
 fn first_numbers(path: &[usize]) -> [usize; 9]
-    ensures { result ≡ padded path.now }
+    ensures { result ≡ padded_path path.now }
 {
     let mut numbers = [0; 9];
     let told = if path.len() < MOST_NUMBERS {

@@ -26,7 +26,7 @@ pub struct Instruction {
 }
 
 /// What was decoded, for C.
-pub fn described(decoded: Decoded) -> Instruction
+pub fn instruction_of(decoded: Decoded) -> Instruction
     ensures { Describes decoded result }
 {
     let registers = decoded.fields.regs;

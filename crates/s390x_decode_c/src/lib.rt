@@ -8,7 +8,7 @@ ghost use Rattle.s390x_decode_c.specs.Instructions.{Begins};
 
 mod instruction;
 
-use crate::instruction::described;
+use crate::instruction::instruction_of;
 pub use instruction::Instruction;
 use s390x_format::decode;
 
@@ -24,7 +24,7 @@ pub extern "C" fn s390x_decode(bytes: &[u8], out: &mut Instruction) -> bool
 {
     match decode(bytes) {
         Some(decoded) => {
-            *out = described(decoded);
+            *out = instruction_of(decoded);
             true
         }
         None => false,

@@ -21,7 +21,7 @@ pub trait Replacer {
         ensures after { state self.new ≡ (role_at (Written reg) (state self.old)).1 };
 
     /// In place of a register that is written and has to be that of the input `ri`.
-    fn reused(&mut self, reg: Writable<Reg>) -> Writable<Reg>
+    fn tied_output(&mut self, reg: Writable<Reg>) -> Writable<Reg>
         ensures value { result ≡ register (role_at (Tied reg) (state self.old)).0 }
         ensures after { state self.new ≡ (role_at (Tied reg) (state self.old)).1 };
 

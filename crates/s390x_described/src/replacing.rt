@@ -1,7 +1,7 @@
 //! An instruction with other registers.
 ghost use Rattle.std.specs.Prelude.{◌≡◌};
 ghost use Rattle.s390x_described.specs.Roles.{again_or_none, described_again};
-ghost use Rattle.s390x_described.specs.Instructions.{described, described_move, described_storage, described_store, described_rest, described_control, described_wide, described_vector};
+ghost use Rattle.s390x_described.specs.Instructions.{description_of, described_move, described_storage, described_store, described_rest, described_control, described_wide, described_vector};
 
 use crate::replacer::Replacer;
 use crate::table::{
@@ -100,9 +100,9 @@ fn replace_move<R: Replacer>(inst: &Inst, r: &mut R) -> Option<Inst>
 /// The instruction with other registers in its roles; nothing where it has none, or lists or members.
 pub fn replace<R: Replacer>(inst: &Inst, r: &mut R) -> Option<Inst>
     ensures value { result
-        ≡ (again_or_none R.role_at (described inst.now) (R.state r.old)).0 }
+        ≡ (again_or_none R.role_at (description_of inst.now) (R.state r.old)).0 }
     ensures after { R.state r.new
-        ≡ (again_or_none R.role_at (described inst.now) (R.state r.old)).1 }
+        ≡ (again_or_none R.role_at (description_of inst.now) (R.state r.old)).1 }
 {
     operator_table!(again, inst, r, replace_move(inst, r))
 }

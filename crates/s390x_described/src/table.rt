@@ -6,13 +6,13 @@ macro_rules! operator_table {
         $walk! { ($($with)*)
             AluRRR { alu_op: plain, rd: output, rn: input, rm: input }
             AluRRSImm16 { alu_op: plain, rd: output, rn: input, imm: plain }
-            AluRR { alu_op: plain, rd: reused, ri: input, rm: input }
-            AluRX { alu_op: plain, rd: reused, ri: input, mem: memory }
-            AluRSImm16 { alu_op: plain, rd: reused, ri: input, imm: plain }
-            AluRSImm32 { alu_op: plain, rd: reused, ri: input, imm: plain }
-            AluRUImm32 { alu_op: plain, rd: reused, ri: input, imm: plain }
-            AluRUImm16Shifted { alu_op: plain, rd: reused, ri: input, imm: plain }
-            AluRUImm32Shifted { alu_op: plain, rd: reused, ri: input, imm: plain }
+            AluRR { alu_op: plain, rd: tied_output, ri: input, rm: input }
+            AluRX { alu_op: plain, rd: tied_output, ri: input, mem: memory }
+            AluRSImm16 { alu_op: plain, rd: tied_output, ri: input, imm: plain }
+            AluRSImm32 { alu_op: plain, rd: tied_output, ri: input, imm: plain }
+            AluRUImm32 { alu_op: plain, rd: tied_output, ri: input, imm: plain }
+            AluRUImm16Shifted { alu_op: plain, rd: tied_output, ri: input, imm: plain }
+            AluRUImm32Shifted { alu_op: plain, rd: tied_output, ri: input, imm: plain }
             SMulWide { rn: input, rm: input, rd: output_pair }
             UMulWide { rn: input, rd: output_pair, ri: low_input }
             SDivMod32 { rn: input, rd: output_pair, ri: low_input }
@@ -21,7 +21,7 @@ macro_rules! operator_table {
             UDivMod64 { rn: input, rd: output_pair, ri: input_pair }
             Flogr { rn: input, rd: output_pair }
             ShiftRR { shift_op: plain, rd: output, rn: input, shift_imm: plain, shift_reg: input }
-            RxSBG { op: plain, rd: reused, ri: input, rn: input, start_bit: plain, end_bit: plain, rotate_amt: plain }
+            RxSBG { op: plain, rd: tied_output, ri: input, rn: input, start_bit: plain, end_bit: plain, rotate_amt: plain }
             RxSBGTest { op: plain, rd: input, rn: input, start_bit: plain, end_bit: plain, rotate_amt: plain }
             UnaryRR { op: plain, rd: output, rn: input }
             CmpRR { op: plain, rn: input, rm: input }
@@ -49,15 +49,15 @@ macro_rules! move_table {
             Mov64SImm32 { rd: output, imm: plain }
             Mov64UImm16Shifted { rd: output, imm: plain }
             Mov64UImm32Shifted { rd: output, imm: plain }
-            Insert64UImm16Shifted { rd: reused, ri: input, imm: plain }
-            Insert64UImm32Shifted { rd: reused, ri: input, imm: plain }
-            CMov32 { rd: reused, cond: plain, ri: input, rm: input }
-            CMov64 { rd: reused, cond: plain, ri: input, rm: input }
-            CMov32SImm16 { rd: reused, cond: plain, ri: input, imm: plain }
-            CMov64SImm16 { rd: reused, cond: plain, ri: input, imm: plain }
+            Insert64UImm16Shifted { rd: tied_output, ri: input, imm: plain }
+            Insert64UImm32Shifted { rd: tied_output, ri: input, imm: plain }
+            CMov32 { rd: tied_output, cond: plain, ri: input, rm: input }
+            CMov64 { rd: tied_output, cond: plain, ri: input, rm: input }
+            CMov32SImm16 { rd: tied_output, cond: plain, ri: input, imm: plain }
+            CMov64SImm16 { rd: tied_output, cond: plain, ri: input, imm: plain }
             Extend { rd: output, rn: input, signed: plain, from_bits: plain, to_bits: plain }
             LoadAR { rd: output, ar: plain }
-            InsertAR { rd: reused, ri: input, ar: plain }
+            InsertAR { rd: tied_output, ri: input, ar: plain }
         }
     };
 }
@@ -76,8 +76,8 @@ macro_rules! rest_table {
             LoadIndexedAddr { rd: output, base: input, index: input, offset: plain, size: plain }
             LoadLogicalIndexedAddr { rd: output, base: input, index: input, offset: plain, size: plain }
             AtomicRmw { alu_op: plain, rd: output, rn: input, mem: memory }
-            AtomicCas32 { rd: reused, ri: input, rn: input, mem: memory }
-            AtomicCas64 { rd: reused, ri: input, rn: input, mem: memory }
+            AtomicCas32 { rd: tied_output, ri: input, rn: input, mem: memory }
+            AtomicCas64 { rd: tied_output, ri: input, rn: input, mem: memory }
         }
     };
 }
@@ -128,8 +128,8 @@ macro_rules! vector_table {
             VecStoreElt64Rev { rd: input, mem: memory }
             VecLoadReplicate { size: plain, rd: output, mem: memory }
             VecLoadReplicateRev { size: plain, rd: output, mem: memory }
-            VecLoadLane { size: plain, rd: reused, ri: input, mem: memory, lane_imm: plain }
-            VecLoadLaneRev { size: plain, rd: reused, ri: input, mem: memory, lane_imm: plain }
+            VecLoadLane { size: plain, rd: tied_output, ri: input, mem: memory, lane_imm: plain }
+            VecLoadLaneRev { size: plain, rd: tied_output, ri: input, mem: memory, lane_imm: plain }
             VecLoadLaneUndef { size: plain, rd: output, mem: memory, lane_imm: plain }
             VecLoadLaneRevUndef { size: plain, rd: output, mem: memory, lane_imm: plain }
             VecStoreLane { size: plain, rd: input, mem: memory, lane_imm: plain }
@@ -137,17 +137,17 @@ macro_rules! vector_table {
             VecMov { rd: output, rn: input }
             FpuMove32 { rd: output, rn: input }
             FpuMove64 { rd: output, rn: input }
-            FpuCMov32 { rd: reused, cond: plain, ri: input, rm: input }
-            FpuCMov64 { rd: reused, cond: plain, ri: input, rm: input }
-            VecCMov { rd: reused, cond: plain, ri: input, rm: input }
+            FpuCMov32 { rd: tied_output, cond: plain, ri: input, rm: input }
+            FpuCMov64 { rd: tied_output, cond: plain, ri: input, rm: input }
+            VecCMov { rd: tied_output, cond: plain, ri: input, rm: input }
             MovToVec128 { rd: output, rn: input, rm: input }
             VecImmByteMask { rd: output, mask: plain }
             VecImmBitMask { size: plain, rd: output, start_bit: plain, end_bit: plain }
             VecImmReplicate { size: plain, rd: output, imm: plain }
-            VecInsertLane { size: plain, rd: reused, ri: input, rn: input, lane_imm: plain, lane_reg: input }
+            VecInsertLane { size: plain, rd: tied_output, ri: input, rn: input, lane_imm: plain, lane_reg: input }
             VecInsertLaneUndef { size: plain, rd: output, rn: input, lane_imm: plain, lane_reg: input }
             VecExtractLane { size: plain, rd: output, rn: input, lane_imm: plain, lane_reg: input }
-            VecInsertLaneImm { size: plain, rd: reused, ri: input, imm: plain, lane_imm: plain }
+            VecInsertLaneImm { size: plain, rd: tied_output, ri: input, imm: plain, lane_imm: plain }
             VecInsertLaneImmUndef { size: plain, rd: output, imm: plain, lane_imm: plain }
             VecReplicateLane { size: plain, rd: output, rn: input, lane_imm: plain }
             VecEltRev { lane_count: plain, rd: output, rn: input }

@@ -4,7 +4,7 @@ use lib.Seq.{drop-cons}
 use Rattle.s390x_format.specs.declared.fields.Fields.{Fields}
 use Rattle.s390x_disassembler.specs.declared.forms.Operand.{Operand}
 use Rattle.s390x_disassembler.specs.Text.{is_written, operand_text, operands_text}
-use Rattle.s390x_disassembler.specs.Fitted.{Adds, fitting}
+use Rattle.s390x_disassembler.specs.Fitted.{Adds, fitting_text}
 
 cut_again : (n : ℕ) (xs ys : List ℕ) → take n (take n xs ++ ys) ≡ take n (xs ++ ys)
 cut_again zero xs ys = refl
@@ -23,7 +23,7 @@ cut_off (suc n) [] ys h = absurd (omega arith)
 cut_off (suc n) (x ∷ xs) ys h = ap (λ l. x ∷ l) (cut_off n xs ys (omega arith))
 
 -- a text that has room
-pub fits : (text : List ℕ) → length text ≤ 96 → fitting text ≡ text
+pub fits : (text : List ℕ) → length text ≤ 96 → fitting_text text ≡ text
 fits text h = whole 96 text h
 
 -- where there is no room, nothing is added
@@ -48,7 +48,7 @@ pub byte_then : (before mid after rest : List ℕ) (byte : ℕ) → Adds before 
 byte_then before mid after rest byte p q = both before mid after (byte ∷ []) rest p q
 
 -- what stands behind a text that is added
-pub behind : (before after text rest : List ℕ) → Adds before text after → fitting (after ++ rest) ≡ fitting (before ++ (text ++ rest))
+pub behind : (before after text rest : List ℕ) → Adds before text after → fitting_text (after ++ rest) ≡ fitting_text (before ++ (text ++ rest))
 behind before after text rest p =
     sym (cut_again 96 after rest)
     ∙ ap (λ l. take 96 (l ++ rest)) p
@@ -56,7 +56,7 @@ behind before after text rest p =
     ∙ ap (λ l. take 96 l) (append_assoc before text rest)
 
 -- a text that was cut, and more
-pub same_then : (cut text rest : List ℕ) → fitting cut ≡ fitting text → fitting (cut ++ rest) ≡ fitting (text ++ rest)
+pub same_then : (cut text rest : List ℕ) → fitting_text cut ≡ fitting_text text → fitting_text (cut ++ rest) ≡ fitting_text (text ++ rest)
 same_then cut text rest p = sym (cut_again 96 cut rest) ∙ ap (λ l. take 96 (l ++ rest)) p ∙ cut_again 96 text rest
 
 -- the first of the items that are left, and the others
@@ -64,18 +64,18 @@ pub drop_next : {A : Type 0} (xs : List A) (i : ℕ) (d : A) → i < length xs �
 drop_next xs i d lt = drop-cons xs i d lt ∙ ap (λ (k : ℕ). get_or xs i d ∷ drop k xs) {x = suc i} {y = i + 1} (omega arith)
 
 -- an operand is written, and the others are left
-pub written_next : (out mid after : List ℕ) (separator a : ℕ) (letters : List ℕ) (f : Fields) (o : Operand) (os : List Operand) → is_written letters f o ≡ true → Adds out (separator ∷ []) mid → Adds mid (operand_text a f o) after → fitting (after ++ operands_text 44 a letters f os) ≡ fitting (out ++ operands_text separator a letters f (o ∷ os))
+pub written_next : (out mid after : List ℕ) (separator a : ℕ) (letters : List ℕ) (f : Fields) (o : Operand) (os : List Operand) → is_written letters f o ≡ true → Adds out (separator ∷ []) mid → Adds mid (operand_text a f o) after → fitting_text (after ++ operands_text 44 a letters f os) ≡ fitting_text (out ++ operands_text separator a letters f (o ∷ os))
 written_next out mid after separator a letters f o os written p q =
     behind out after (separator ∷ operand_text a f o) (operands_text 44 a letters f os) (byte_then out mid after (operand_text a f o) separator p q)
-    ∙ ap (λ (b : Bool). fitting (out ++ (if b then separator ∷ (operand_text a f o ++ operands_text 44 a letters f os) else operands_text separator a letters f os))) (sym written)
+    ∙ ap (λ (b : Bool). fitting_text (out ++ (if b then separator ∷ (operand_text a f o ++ operands_text 44 a letters f os) else operands_text separator a letters f os))) (sym written)
 
 -- an operand isn't written
-pub left_away : (out : List ℕ) (separator a : ℕ) (letters : List ℕ) (f : Fields) (o : Operand) (os : List Operand) → is_written letters f o ≡ false → fitting (out ++ operands_text separator a letters f os) ≡ fitting (out ++ operands_text separator a letters f (o ∷ os))
+pub left_away : (out : List ℕ) (separator a : ℕ) (letters : List ℕ) (f : Fields) (o : Operand) (os : List Operand) → is_written letters f o ≡ false → fitting_text (out ++ operands_text separator a letters f os) ≡ fitting_text (out ++ operands_text separator a letters f (o ∷ os))
 left_away out separator a letters f o os away =
-    ap (λ (b : Bool). fitting (out ++ (if b then separator ∷ (operand_text a f o ++ operands_text 44 a letters f os) else operands_text separator a letters f os))) (sym away)
+    ap (λ (b : Bool). fitting_text (out ++ (if b then separator ∷ (operand_text a f o ++ operands_text 44 a letters f os) else operands_text separator a letters f os))) (sym away)
 
 -- a short line that is what was written of a text is the text
-pub fitted_same : (line written text : List ℕ) → fitting written ≡ fitting text → length line < 96 → line ≡ written → line ≡ text
+pub fitted_same : (line written text : List ℕ) → fitting_text written ≡ fitting_text text → length line < 96 → line ≡ written → line ≡ text
 fitted_same line written text fits short e =
     let small : length written < 96 = omega (arith, short, ap length e) in
     let cut : take 96 text ≡ line = sym fits ∙ whole 96 written (omega (arith, small)) ∙ sym e in
@@ -87,6 +87,6 @@ fitted_same line written text fits short e =
     short_whole (suc n) (x ∷ xs) h = ap (λ l. x ∷ l) (short_whole n xs (omega (arith, h)))
 
 -- and the text, where it is short, is what was written of it
-pub same_fitted : (line written text : List ℕ) → fitting written ≡ fitting text → length line < 96 → length written ≤ 96 → line ≡ text → line ≡ written
+pub same_fitted : (line written text : List ℕ) → fitting_text written ≡ fitting_text text → length line < 96 → length written ≤ 96 → line ≡ text → line ≡ written
 same_fitted line written text fits short room e =
     sym (whole 96 line (omega (arith, short))) ∙ ap (λ l. take 96 l) e ∙ sym fits ∙ whole 96 written room

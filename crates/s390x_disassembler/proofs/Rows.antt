@@ -3,9 +3,9 @@ use Rattle.std.proofs.Common.{◌≡◌, ℕ, zero, suc, ◌<◌, ◌≤◌, Lis
 use Rattle.s390x_format.specs.declared.fields.Fields.{Fields}
 use Rattle.s390x_format.specs.declared.spelling.Form.{Form}
 use Rattle.s390x_format.specs.declared.spelling.Suffix.{Suffix}
-use Rattle.s390x_disassembler.specs.Text.{plain_row, row_text, spelled}
+use Rattle.s390x_disassembler.specs.Text.{plain_row, row_text, spelled_instruction}
 
-pub row_at : (rows : List (Bor (List ℕ) × Suffix × Form)) (a i : ℕ) (f : Fields) (d : Bor (List ℕ) × Suffix × Form) → i < length rows → row_text (map (λ row. plain_row row) rows) a i f ≡ spelled a (plain_row (slice_index_or rows i d)) f
+pub row_at : (rows : List (Bor (List ℕ) × Suffix × Form)) (a i : ℕ) (f : Fields) (d : Bor (List ℕ) × Suffix × Form) → i < length rows → row_text (map (λ row. plain_row row) rows) a i f ≡ spelled_instruction a (plain_row (slice_index_or rows i d)) f
 unfolding row_text
 row_at [] a i f d lt = absurd (omega arith)
 row_at (row ∷ rows) a zero f d lt = refl

@@ -24,7 +24,7 @@ use Rattle.s390x_format.specs.declared.spelling.Form.TheVariants.{BranchRegister
 use Rattle.s390x_format.specs.declared.spelling.Suffix.{Suffix}
 use Rattle.s390x_disassembler.specs.Forms.{operands_of}
 use Rattle.s390x_disassembler.specs.Spelling.{letters_of, choice}
-use Rattle.s390x_disassembler.specs.Text.{spellings, spelled, row_text, found_text, operands_text}
+use Rattle.s390x_disassembler.specs.Text.{spellings, spelled_instruction, row_text, found_text, operands_text}
 use Rattle.s390x_disassembler.specs.Start.{is_legible, are_legible}
 use Rattle.s390x_disassembler.specs.Bare.{no_spelling, is_unit}
 use Rattle.s390x_disassembler.proofs.Names.{is_plain, plain_name}
@@ -40,7 +40,7 @@ legible_at (row ∷ rows) [] i lt h = cc
 legible_at (row ∷ rows) (s ∷ ss) zero lt h = (and_parts (is_legible row s) (are_legible rows ss) h).0
 legible_at (row ∷ rows) (s ∷ ss) (suc i) lt h = legible_at rows ss i (omega (arith, lt)) (and_parts (is_legible row s) (are_legible rows ss) h).1
 
-row_spelled : (ss : List (List ℕ × Suffix × Form)) (a i : ℕ) (f : Fields) → i < length ss → row_text ss a i f ≡ spelled a (get_or ss i no_spelling) f
+row_spelled : (ss : List (List ℕ × Suffix × Form)) (a i : ℕ) (f : Fields) → i < length ss → row_text ss a i f ≡ spelled_instruction a (get_or ss i no_spelling) f
 unfolding row_text
 row_spelled [] a i f lt = absurd (omega (arith, lt))
 row_spelled (s ∷ ss) a zero f lt = refl
@@ -73,7 +73,7 @@ row_of : (a : ℕ) (u : List ℕ) (l : Located) (values : List ℕ) (at : ℕ) (
     → l.decoded.row.format ≡ row.format → SlotsFit (layout_of l.decoded.row.format) values → slice_index values 0 ≡ row.opcode → is_allowed row.allowed values ≡ true
     → take (length_of l.decoded.row.format) u ≡ encode l.decoded.row.format values → length_of l.decoded.row.format ≡ fetch_length_of (slice_index u 0) → l.decoded.fields ≡ fields_of l.decoded.row.format values
     → IsRowOf a u l row (get_or spellings l.at no_spelling) values
-unfolding spelled
+unfolding spelled_instruction
 row_of a u l values at row below row_is format fit opcode allowed bytes size fields =
     let f : l.decoded.fields ≡ fields_of row.format values = fields ∙ ap (λ (k : FormatKind). fields_of k values) format in
     record {
@@ -82,7 +82,7 @@ row_of a u l values at row below row_is format fit opcode allowed bytes size fie
       allowed = allowed;
       legible = subst (λ (r : MachineRow). is_legible r (get_or spellings l.at no_spelling) ≡ true) (sym row_is) (legible_at MACHINE_ROWS spellings l.at below legible_rows);
       text = row_spelled spellings a l.at l.decoded.fields below
-          ∙ ap (λ (g : Fields). spelled a (get_or spellings l.at no_spelling) g) f
+          ∙ ap (λ (g : Fields). spelled_instruction a (get_or spellings l.at no_spelling) g) f
           ∙ sym (append_assoc (get_or spellings l.at no_spelling).0 (letters_of (get_or spellings l.at no_spelling).1 (fields_of row.format values)) _);
       bytes = λ unit. sym (take_all (length_of l.decoded.row.format) u (omega (arith, size, unit_few u unit))) ∙ bytes ∙ ap (λ (k : FormatKind). encode k values) format;
     }

@@ -75,12 +75,12 @@ abbrev pub plain_row : Bor (List ℕ) × Suffix × Form → List ℕ × Suffix �
 plain_row row = (row.0.now, row.1, row.2)
 
 -- a mnemonic with its letters, and after a blank the operands
-unfoldable pub spelled : ℕ → List ℕ × Suffix × Form → Fields → List ℕ
-spelled a s f = s.0 ++ (letters_of s.1 f ++ operands_text 32 a (letters_of s.1 f) f (operands_of s.2))
+unfoldable pub spelled_instruction : ℕ → List ℕ × Suffix × Form → Fields → List ℕ
+spelled_instruction a s f = s.0 ++ (letters_of s.1 f ++ operands_text 32 a (letters_of s.1 f) f (operands_of s.2))
 
 -- an instruction of the row at a place of the table, at an address
 unfoldable pub row_text : List (List ℕ × Suffix × Form) → ℕ → ℕ → Fields → List ℕ
-row_text spellings a at f = get_or (map (λ s. spelled a s f) spellings) at []
+row_text spellings a at f = get_or (map (λ s. spelled_instruction a s f) spellings) at []
 
 -- the spellings of the machine rows, in the order of their table
 abbrev pub spellings : List (List ℕ × Suffix × Form)

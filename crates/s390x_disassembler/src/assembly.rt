@@ -27,7 +27,7 @@ pub fn assemble(alloc: Global, base: u64, text: &[u8]) -> Result<Vec<u8>, Assemb
     ensures error { (line : ℕ) → result ≡ Err (Syntax line) → IsNoSource base text.now }
     ensures line { (line : ℕ) → result ≡ Err (Syntax line) → IsWrongSource base text.now line }
 {
-    match assembled(alloc, base, text) {
+    match assembled_bytes(alloc, base, text) {
         Ok(Ok(code)) => Ok(code),
         Ok(Err(line)) => Err(AssembleError::Syntax { line }),
         Err(_) => Err(AssembleError::OutOfMemory),
@@ -35,7 +35,11 @@ pub fn assemble(alloc: Global, base: u64, text: &[u8]) -> Result<Vec<u8>, Assemb
 }
 
 // The code, or the number of the first wrong line.
-fn assembled(alloc: Global, base: u64, text: &[u8]) -> Result<Result<Vec<u8>, usize>, AllocError>
+fn assembled_bytes(
+    alloc: Global,
+    base: u64,
+    text: &[u8],
+) -> Result<Result<Vec<u8>, usize>, AllocError>
     ensures code { IfOk result (λ answer. IfOk answer (λ code. IsSource base code.items text.now)) }
     ensures one { IfOk result
         (λ answer. IfOk answer (λ code. IsOnlySource base code.items text.now)) }

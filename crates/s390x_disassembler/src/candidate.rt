@@ -30,7 +30,7 @@ pub fn candidate(alloc: Global, address: u64, text: &[u8]) -> Result<Vec<u8>, Al
         groups(alloc, 1, rest)
     } else {
         let bytes = named_bytes(address, &SPELLINGS, &MACHINE_ROWS, mnemonic, rest);
-        stored(alloc, &bytes)
+        vector_of_bytes(alloc, &bytes)
     }
 }
 
@@ -45,7 +45,7 @@ pub fn instruction_bytes(address: u64, text: &[u8]) -> ArrayVec<u8, 6>
 }
 
 // The bytes as a vector.
-fn stored(alloc: Global, bytes: &[u8]) -> Result<Vec<u8>, AllocError>
+fn vector_of_bytes(alloc: Global, bytes: &[u8]) -> Result<Vec<u8>, AllocError>
     ensures { IfOk result (λ v. v.items ≡ bytes.now) }
 {
     let mut items = Vec::new(alloc);

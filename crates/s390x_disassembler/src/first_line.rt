@@ -9,7 +9,7 @@ ghost use Rattle.s390x_disassembler.specs.Disassembly.{full_line};
 use crate::candidate::candidate;
 use crate::line::found_in;
 use crate::listing::put_full_line;
-use crate::scan::{first, hex_bytes, word};
+use crate::scan::{first_byte, hex_bytes, word};
 use crate::text::put_found;
 use s390x_format::{Located, fetch_length};
 use std::alloc::{AllocError, Global};
@@ -59,7 +59,7 @@ fn with_columns<'a>(
     let found = found_in(&bytes);
     let line = full_line(alloc, address, &bytes, &found)?;
     match strip(text, line.as_bytes()) {
-        Some(more) => Ok(kept(bytes, more)),
+        Some(more) => Ok(unit_with_rest(bytes, more)),
         None => Ok(None),
     }
 }
@@ -80,13 +80,13 @@ fn without_columns(
     let found = found_in(&bytes);
     let line = bare_line(alloc, address, &bytes, &found)?;
     match strip(text, line.as_bytes()) {
-        Some(more) => Ok(kept(bytes, more)),
+        Some(more) => Ok(unit_with_rest(bytes, more)),
         None => Ok(None),
     }
 }
 
 // The bytes of a line with what stands behind it, where they stand together.
-fn kept(bytes: Vec<u8>, more: &[u8]) -> Option<(Vec<u8>, &[u8])>
+fn unit_with_rest(bytes: Vec<u8>, more: &[u8]) -> Option<(Vec<u8>, &[u8])>
     ensures { MatchOption result (is_unit bytes.items ≡ false)
         (λ p. (is_unit bytes.items ≡ true) × (p.0.items ≡ bytes.items) × (p.1.now ≡ more.now)) }
 {
@@ -102,7 +102,7 @@ fn kept(bytes: Vec<u8>, more: &[u8]) -> Option<(Vec<u8>, &[u8])>
 pub fn is_unit(bytes: &[u8]) -> bool
     ensures { result ≡ is_unit bytes.now }
 {
-    0 < bytes.len() && bytes.len() <= fetch_length(first(bytes))
+    0 < bytes.len() && bytes.len() <= fetch_length(first_byte(bytes))
 }
 
 /// Whether a line's bytes are as many as the first of them tells, or nothing stands behind the line.
@@ -110,7 +110,7 @@ pub fn ends_well(bytes: &[u8], more: &[u8]) -> bool
     ensures ends { result ≡ ends_well bytes.now more.now }
     ensures bytes { IsBytes bytes.now }
 {
-    bytes.len() == fetch_length(first(bytes)) || more.is_empty()
+    bytes.len() == fetch_length(first_byte(bytes)) || more.is_empty()
 }
 
 // The line of some bytes at an address.

@@ -2,22 +2,22 @@
 ghost use Rattle.std.specs.Prelude.{◌≡◌, ◌∷◌, [], ◌++◌, ℕ, List, false, map};
 ghost use Rattle.std.specs.Fmt.{digits};
 ghost use Rattle.s390x_format.specs.Fetch.{IsLocated};
-ghost use Rattle.s390x_disassembler.specs.Text.{register_text, registers_text, storage_text, operand_text, operands_text, spelled, plain_row, row_text, spellings};
-ghost use Rattle.s390x_disassembler.specs.Fitted.{Adds, fitting};
+ghost use Rattle.s390x_disassembler.specs.Text.{register_text, registers_text, storage_text, operand_text, operands_text, spelled_instruction, plain_row, row_text, spellings};
+ghost use Rattle.s390x_disassembler.specs.Fitted.{Adds, fitting_text};
 
 use crate::forms::{Operand, operands};
 use crate::glyphs::{put_digits, put_integer, put_natural};
 use crate::room::{Text, put, put_byte};
 use crate::spelling::letters;
-use crate::text::{is_written, signed, value_at};
+use crate::text::{is_written, signed_immediate, value_at};
 use s390x_format::{Fields, Located, SPELLINGS, Spelling};
 
 /// An instruction's text at an address, as GNU's assembler writes it, as far as it has 96 bytes: the whole of it where some
 /// bytes are read as the instruction. No memory is taken.
 pub fn located_text(address: u64, located: &Located) -> Text
-    ensures cut { fitting result.items
-        ≡ fitting (row_text spellings address located.now.at located.now.decoded.fields) }
-    ensures whole { (bytes : List ℕ) → IsLocated bytes located.now → fitting result.items
+    ensures cut { fitting_text result.items
+        ≡ fitting_text (row_text spellings address located.now.at located.now.decoded.fields) }
+    ensures whole { (bytes : List ℕ) → IsLocated bytes located.now → fitting_text result.items
         ≡ row_text spellings address located.now.at located.now.decoded.fields }
 {
     let mut out = Text::new();
@@ -44,9 +44,9 @@ fn put_row(out: &mut Text, spellings: &[Spelling], address: u64, at: usize, fiel
 }
 
 // The mnemonic and the operands.
-#[tactic(auto, using(crate::proofs::Fitting::both), unfolding(crate::specs::Text::spelled))]
+#[tactic(auto, using(crate::proofs::Fitting::both), unfolding(crate::specs::Text::spelled_instruction))]
 fn put_spelled(out: &mut Text, address: u64, spelling: Spelling, fields: &Fields)
-    ensures { Adds out.old.items (spelled address (plain_row spelling.entry) fields.now)
+    ensures { Adds out.old.items (spelled_instruction address (plain_row spelling.entry) fields.now)
         out.new.items }
 {
     let (stem, suffix, form) = spelling;
@@ -83,8 +83,8 @@ fn put_operand(out: &mut Text, address: u64, fields: &Fields, operand: Operand)
         Operand::Mask(k) => put_natural(out, value_at(&fields.masks, k)),
         Operand::NonzeroMask | Operand::UnnamedMask => put_natural(out, fields.masks[0]),
         Operand::Unsigned => put_integer(out, fields.imm),
-        Operand::Signed16 => put_integer(out, signed(32768, fields.imm)),
-        Operand::Signed32 => put_integer(out, signed(2147483648, fields.imm)),
+        Operand::Signed16 => put_integer(out, signed_immediate(32768, fields.imm)),
+        Operand::Signed32 => put_integer(out, signed_immediate(2147483648, fields.imm)),
         Operand::Target => put_target(out, address.wrapping_add(fields.imm.cast_unsigned())),
         Operand::Storage(base) => put_storage(out, fields.disp, 0, value_at(&fields.regs, base)),
         Operand::Indexed(index, base) => put_storage(

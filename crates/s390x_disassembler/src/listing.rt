@@ -18,7 +18,7 @@ pub fn disassemble(alloc: Global, base: u64, code: &[u8]) -> Result<String, Allo
     ensures lines { IfOk result (λ text. IsDisassembly base code.now (string_bytes text)) }
     ensures only { IfOk result (λ text. IsOnlyCode base code.now (string_bytes text)) }
 {
-    disassembled(alloc, base, code)
+    listing_of_code(alloc, base, code)
 }
 
 /// The text of the instruction whose bytes these are, or of bytes that are no machine row's, at an address: a line of a
@@ -45,7 +45,7 @@ fn found_string(
 }
 
 // The disassembly.
-fn disassembled(alloc: Global, base: u64, code: &[u8]) -> Result<String, AllocError>
+fn listing_of_code(alloc: Global, base: u64, code: &[u8]) -> Result<String, AllocError>
     ensures { IfOk result (λ text. IsDisassembly base code.now (string_bytes text)) }
 {
     let lines = lines_of(alloc, code)?;

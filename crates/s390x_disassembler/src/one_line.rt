@@ -2,7 +2,7 @@
 ghost use Rattle.std.specs.Prelude.{◌≡◌, ◌<◌, ◌≤◌, length, true, false, IfNone, IfSome};
 ghost use Rattle.s390x_disassembler.specs.Assembly.{IsInstructionLine, IsNoLine, IsOnlyLine, located_line};
 ghost use Rattle.s390x_disassembler.specs.Bare.{is_unit};
-ghost use Rattle.s390x_disassembler.specs.Fitted.{fitting};
+ghost use Rattle.s390x_disassembler.specs.Fitted.{fitting_text};
 
 use crate::candidate::instruction_bytes;
 use crate::first_line::is_unit;
@@ -82,7 +82,7 @@ fn is_line(address: u64, line: &[u8], located: &Located) -> bool
 
 // An instruction's line, as far as there is room.
 fn written_line(address: u64, located: &Located) -> Text
-    ensures { fitting result.items ≡ fitting (located_line address located.now) }
+    ensures { fitting_text result.items ≡ fitting_text (located_line address located.now) }
 {
     let mut out = located_text(address, located);
     put_byte(&mut out, b'\n');

@@ -165,14 +165,14 @@ fn written_registers(text: &[u8]) -> (u32, u32, &[u8])
     let (first, rest) = number(text);
     if begins(rest, b',') {
         let (second, rest) = number(rest);
-        (low(first), low(second), text_behind(rest, 1))
+        (low_word(first), low_word(second), text_behind(rest, 1))
     } else {
-        (0, low(first), text_behind(rest, 1))
+        (0, low_word(first), text_behind(rest, 1))
     }
 }
 
 // The low bits.
-fn low(value: u64) -> u32
+fn low_word(value: u64) -> u32
     ensures { result ≡ value % 2 ^ 32 }
 {
     (value % 4294967296) as u32

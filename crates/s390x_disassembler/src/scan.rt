@@ -22,7 +22,7 @@ pub fn position(text: &[u8], byte: u8) -> usize
 }
 
 /// The first byte, or 0.
-pub fn first(text: &[u8]) -> u8
+pub fn first_byte(text: &[u8]) -> u8
     ensures { result ≡ slice_index text.now 0 }
 {
     if text.is_empty() { 0 } else { text[0] }
@@ -71,7 +71,7 @@ fn signed_number(text: &[u8]) -> (u64, &[u8])
     ensures value { result.0 ≡ signed_read text.now }
     ensures rest { result.1.now ≡ signed_left text.now }
 {
-    if first(text) == b'-' {
+    if first_byte(text) == b'-' {
         let (value, rest) = digits(10, text_behind(text, 1));
         (value.wrapping_neg(), rest)
     } else {

@@ -51,7 +51,7 @@ pub fn letter_table(suffix: Suffix) -> &'static [&'static str]
 }
 
 // Which of them an instruction's fields choose.
-fn chosen(suffix: Suffix, fields: &Fields) -> usize
+fn name_index(suffix: Suffix, fields: &Fields) -> usize
     ensures { result ≡ choice suffix fields.now }
 {
     match suffix {
@@ -67,7 +67,7 @@ fn chosen(suffix: Suffix, fields: &Fields) -> usize
 pub fn letters(suffix: Suffix, fields: &Fields) -> &'static str
     ensures { result.now ≡ letters_of suffix fields.now }
 {
-    name_at(letter_table(suffix), chosen(suffix, fields))
+    name_at(letter_table(suffix), name_index(suffix, fields))
 }
 
 // The name at a place of a table; an empty text past its end.

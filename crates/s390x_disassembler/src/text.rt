@@ -3,7 +3,7 @@ ghost use Rattle.std.specs.Prelude.{◌≡◌, ◌∷◌, [], ◌++◌, ◌<◌,
 ghost use Rattle.std.specs.Prelude.{false};
 ghost use Rattle.std.specs.Fmt.{decimal, signed_decimal, digits};
 ghost use Rattle.hex.specs.Hex.{encode_lower};
-ghost use Rattle.s390x_disassembler.specs.Text.{register_text, registers_text, storage_text, signed_of, target_of, operand_text, is_written, operands_text, spelled, plain_row, row_text, pairs_text, bytes_text, data_text, found_text};
+ghost use Rattle.s390x_disassembler.specs.Text.{register_text, registers_text, storage_text, signed_of, target_of, operand_text, is_written, operands_text, spelled_instruction, plain_row, row_text, pairs_text, bytes_text, data_text, found_text};
 
 use crate::forms::{Operand, operands};
 use crate::spelling::letters;
@@ -54,7 +54,7 @@ fn put_row(
 }
 
 // The mnemonic and the operands.
-#[tactic(auto, unfolding(crate::specs::Text::spelled))]
+#[tactic(auto, unfolding(crate::specs::Text::spelled_instruction))]
 fn put_spelled(
     out: &mut String,
     address: u64,
@@ -63,7 +63,8 @@ fn put_spelled(
 ) -> Result<(), AllocError>
     ensures { OnOk result
         (string_bytes out.new
-        ≡ string_bytes out.old ++ spelled address (plain_row spelling.entry) fields.now) }
+        ≡ string_bytes out.old
+        ++ spelled_instruction address (plain_row spelling.entry) fields.now) }
 {
     let (stem, suffix, form) = spelling;
     let letters = letters(suffix, fields);
@@ -125,8 +126,8 @@ fn put_operand(
         Operand::Mask(k) => put_natural(out, value_at(&fields.masks, k)),
         Operand::NonzeroMask | Operand::UnnamedMask => put_natural(out, fields.masks[0]),
         Operand::Unsigned => put_integer(out, fields.imm),
-        Operand::Signed16 => put_integer(out, signed(32768, fields.imm)),
-        Operand::Signed32 => put_integer(out, signed(2147483648, fields.imm)),
+        Operand::Signed16 => put_integer(out, signed_immediate(32768, fields.imm)),
+        Operand::Signed32 => put_integer(out, signed_immediate(2147483648, fields.imm)),
         Operand::Target => put_address(out, address.wrapping_add(fields.imm.cast_unsigned())),
         Operand::Storage(base) => put_storage(out, fields.disp, 0, value_at(&fields.regs, base)),
         Operand::Indexed(index, base) => put_storage(
@@ -150,7 +151,7 @@ pub fn value_at(values: &[u8], k: u8) -> u8
 }
 
 /// The signed number that an immediate stands for, which is negative from `half` on.
-pub fn signed(half: u32, imm: i64) -> i64
+pub fn signed_immediate(half: u32, imm: i64) -> i64
     ensures { result ≡ signed_of half imm }
 {
     if imm < i64::from(half) {

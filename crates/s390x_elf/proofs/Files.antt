@@ -3,7 +3,7 @@ use Rattle.std.proofs.Common.{◌≡◌, ℕ, suc, ◌+◌, ◌*◌, ◌^◌, �
 use Rattle.std.proofs.lemmas.List.Elements.{All-head, All-tail, All-append, All-cons, All-nil}
 use Rattle.std.proofs.lemmas.List.Concat.{flat_map-append}
 use Rattle.std.proofs.lemmas.Nat.{from_be_bytes-to_be_bytes_2, from_be_bytes-to_be_bytes_4, from_be_bytes-to_be_bytes_8}
-use Rattle.s390x_elf.specs.Reading.{wide, text_at, pieces}
+use Rattle.s390x_elf.specs.Reading.{doubleword_at, text_at, pieces}
 use Rattle.s390x_elf.specs.File.{file_header, Section, section, content_of, section_headers, sections, null_section}
 use Rattle.s390x_elf.specs.Writing.{file_header_bytes, section_header_bytes, header_table, names_of, contents_of, names_section, headers_end, file_bytes, FieldsFit}
 use Rattle.s390x_elf.proofs.Parts.{text_read, content_read}
@@ -20,7 +20,7 @@ section_read file names name_at content_at s fit name_small content_small size_s
   sh_info = from_be_bytes-to_be_bytes_4 s.sh_info fit.sh_info i;
   sh_addralign = from_be_bytes-to_be_bytes_8 s.sh_addralign fit.sh_addralign i;
   sh_entsize = from_be_bytes-to_be_bytes_8 s.sh_entsize fit.sh_entsize i;
-  content = (ap (λ (n : ℕ). take n (drop (wide (section_header_bytes name_at content_at s) 24) file)) (from_be_bytes-to_be_bytes_8 (length s.content) size_small)
+  content = (ap (λ (n : ℕ). take n (drop (doubleword_at (section_header_bytes name_at content_at s) 24) file)) (from_be_bytes-to_be_bytes_8 (length s.content) size_small)
       ∙ ap (λ (n : ℕ). take (length s.content) (drop n file)) (from_be_bytes-to_be_bytes_8 content_at content_small)
       ∙ content) i;
 }
@@ -54,7 +54,7 @@ module _ (file : List ℕ) (file_small : length file < 2 ^ 64) where
       let inner = length-append x.content behind in
       let size_small : length x.content < 2 ^ 64 = omega arith in
       let content_small : content_at < 2 ^ 64 = omega arith in
-      ap (λ (n : ℕ). take n (drop (wide (section_header_bytes name_at content_at x) 24) file)) (from_be_bytes-to_be_bytes_8 (length x.content) size_small)
+      ap (λ (n : ℕ). take n (drop (doubleword_at (section_header_bytes name_at content_at x) 24) file)) (from_be_bytes-to_be_bytes_8 (length x.content) size_small)
       ∙ ap (λ (n : ℕ). take (length x.content) (drop n file)) (from_be_bytes-to_be_bytes_8 content_at content_small)
       ∙ content_read file before x.content behind content_at split h
   last_content (s ∷ ss) x name_at content_at before behind e h =

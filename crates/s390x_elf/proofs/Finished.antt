@@ -10,7 +10,7 @@ use Rattle.s390x_elf.specs.declared.error.ObjectError.TheVariants.{EmptyName, Ze
 use Rattle.s390x_elf.specs.Reading.{IsText}
 use Rattle.s390x_elf.specs.File.{Section, sections}
 use Rattle.s390x_elf.specs.Symbols.{Symbol, Relocation, named_section, relocations_for}
-use Rattle.s390x_elf.specs.Linking.{fits_at, applied}
+use Rattle.s390x_elf.specs.Linking.{fits_at, relocated_bytes}
 use Rattle.s390x_elf.specs.declared.names.GivenName.{GivenName}
 use Rattle.s390x_elf.specs.Names.{Naming, name_in}
 use Rattle.s390x_elf.specs.Object.{Function, function_symbol, place, global_symbols, string_table, relocation_of, whole_function, IsObjectOf, IsLinkedAsFilled, IsLinkedAsNamed}
@@ -84,8 +84,8 @@ object_is_filled named fs alignment bytes rs file object = λ base others table 
     let fits : All (λ (r : Relocation). fits_at base others r ≡ true) (relocations_for (sections file) (codes ".text")) =
     subst (λ (all : List Relocation). All (λ (r : Relocation). fits_at base others r ≡ true) all) (sym object.relocations) (linked_fields_fit named base others table fs rs agree none) in (
       fits,
-      ap (λ (all : List Relocation). applied base others all (named_section (sections file) (codes ".text")).content) object.relocations
-          ∙ ap (λ (s : Section). applied base others (map (relocation_of named (global_symbols named fs rs)) rs) s.content) object.text
+      ap (λ (all : List Relocation). relocated_bytes base others all (named_section (sections file) (codes ".text")).content) object.relocations
+          ∙ ap (λ (s : Section). relocated_bytes base others (map (relocation_of named (global_symbols named fs rs)) rs) s.content) object.text
           ∙ linked_as_filled named base others table fs rs bytes agree,
     )
 

@@ -7,17 +7,17 @@ use Rattle.s390x_base.specs.declared.ir.Reloc.{Reloc}
 use Rattle.s390x_base.specs.declared.ir.Reloc.TheVariants.{S390xPCRel32Dbl, S390xPLTRel32Dbl, Abs8}
 use Rattle.s390x_buffer.specs.declared.entries.RelocEntry.{RelocEntry}
 use Rattle.s390x_image.specs.Symbols.{Symbols, address_of}
-use Rattle.s390x_image.specs.Fields.{address_or_zero, stored, filled, field_of}
+use Rattle.s390x_image.specs.Fields.{address_or_zero, with_bytes_at, with_fields_filled, field_of}
 use Rattle.s390x_image.specs.Causes.{first_link_cause, is_address, is_even, is_signed_word, absolute_cause, half_cause, field_cause, symbol_cause, reloc_cause, relocs_cause}
 use Rattle.s390x_image.specs.declared.error.LinkError.{LinkError}
 use Rattle.s390x_image.specs.declared.error.LinkError.TheVariants.{AddressOverflow, OddSymbol, TooFar}
 use Rattle.s390x_elf.specs.Symbols.{Symbol, Relocation}
-use Rattle.s390x_elf.specs.Linking.{symbol_address, calculated, fits_field, fits_at, applied}
+use Rattle.s390x_elf.specs.Linking.{symbol_address, relocation_field, fits_field, fits_at, relocated_bytes}
 use Rattle.s390x_elf.specs.Names.{Naming}
 use Rattle.s390x_elf.specs.Object.{Function, function_symbol, undefined_symbol, first_or_later, place, with_name, with_used_names, global_symbols, named_symbol, type_of, relocation_of, name_address, Agrees}
 use Rattle.s390x_elf.proofs.Places.{place_behind}
 
-pub same_field : (k : Reloc) (s a p : ℤ) → calculated (type_of k) s a p ≡ field_of k (s +ℤ a) ((s +ℤ a) -ℤ p)
+pub same_field : (k : Reloc) (s a p : ℤ) → relocation_field (type_of k) s a p ≡ field_of k (s +ℤ a) ((s +ℤ a) -ℤ p)
 same_field S390xPCRel32Dbl s a p = refl
 same_field S390xPLTRel32Dbl s a p = refl
 same_field Abs8 s a p = refl
@@ -27,14 +27,14 @@ abbrev pub HasAddress : (named : Naming) → (base : ℕ) (others : List ℕ →
 HasAddress named base others table ss r = address_or_zero (address_of table r.name) ≡ symbol_address base others (named_symbol ss (named r.name))
 
 pub same_fields : (named : Naming) → (base : ℕ) (others : List ℕ → ℕ) (table : Symbols) (ss : List Symbol) (rs : List RelocEntry) (bytes : List ℕ) → All (HasAddress named base others table ss) rs →
-    applied base others (map (relocation_of named ss) rs) bytes ≡ filled base table rs bytes
+    relocated_bytes base others (map (relocation_of named ss) rs) bytes ≡ with_fields_filled base table rs bytes
 same_fields named base others table ss [] bytes h = refl
 same_fields named base others table ss (r ∷ rs) bytes h =
     let there : ℕ = symbol_address base others (named_symbol ss (named r.name)) in
     let here : address_or_zero (address_of table r.name) ≡ there = All-head (HasAddress named base others table ss) r rs h in
-    same_fields named base others table ss rs (stored bytes r.offset (calculated (type_of r.kind) (pos there) r.addend (pos (base + r.offset)))) (All-tail (HasAddress named base others table ss) r rs h)
-    ∙ ap (λ (symbol : ℕ). filled base table rs (stored bytes r.offset (calculated (type_of r.kind) (pos symbol) r.addend (pos (base + r.offset))))) (sym here)
-    ∙ ap (λ (field : List ℕ). filled base table rs (stored bytes r.offset field)) (same_field r.kind (pos (address_or_zero (address_of table r.name))) r.addend (pos (base + r.offset)))
+    same_fields named base others table ss rs (with_bytes_at bytes r.offset (relocation_field (type_of r.kind) (pos there) r.addend (pos (base + r.offset)))) (All-tail (HasAddress named base others table ss) r rs h)
+    ∙ ap (λ (symbol : ℕ). with_fields_filled base table rs (with_bytes_at bytes r.offset (relocation_field (type_of r.kind) (pos symbol) r.addend (pos (base + r.offset))))) (sym here)
+    ∙ ap (λ (field : List ℕ). with_fields_filled base table rs (with_bytes_at bytes r.offset field)) (same_field r.kind (pos (address_or_zero (address_of table r.name))) r.addend (pos (base + r.offset)))
 
 -- the names that relocations add to symbols
 added : (named : Naming) → List Symbol → List RelocEntry → List (List ℕ)
@@ -136,13 +136,13 @@ resolved named base others table fs all rs agree found =
     (addresses named base others fs us table rs agree (subst (λ (ss : List Symbol). All (IsThere named ss) rs) e found))
 
 pub linked_as_filled : (named : Naming) → (base : ℕ) (others : List ℕ → ℕ) (table : Symbols) (fs : List Function) (rs : List RelocEntry) (bytes : List ℕ) → Agrees named (name_address base others fs) table rs →
-    applied base others (map (relocation_of named (global_symbols named fs rs)) rs) bytes ≡ filled base table rs bytes
+    relocated_bytes base others (map (relocation_of named (global_symbols named fs rs)) rs) bytes ≡ with_fields_filled base table rs bytes
 linked_as_filled named base others table fs rs bytes agree =
     let start : List Symbol = map function_symbol fs in
     let us : List (List ℕ) = added named start rs in
     let e : global_symbols named fs rs ≡ start ++ map undefined_symbol us = used_names named start rs in
     let found : All (IsThere named (start ++ map undefined_symbol us)) rs = subst (λ (ss : List Symbol). All (IsThere named ss) rs) e (used_are_there named start rs) in
-    ap (λ (ss : List Symbol). applied base others (map (relocation_of named ss) rs) bytes) e
+    ap (λ (ss : List Symbol). relocated_bytes base others (map (relocation_of named ss) rs) bytes) e
     ∙ same_fields named base others table (start ++ map undefined_symbol us) rs bytes (addresses named base others fs us table rs agree found)
 
 -- where `link` has no cause, each value fits its field

@@ -9,7 +9,7 @@ use Rattle.s390x_buffer.specs.declared.entries.MachBufferFinalized.{MachBufferFi
 use Rattle.s390x_elf.specs.declared.metadata.TableKind.{TableKind}
 use Rattle.s390x_elf.specs.declared.metadata.TableKind.TheVariants.{Traps, Calls, Tries, Handlers, Patches, StackMaps}
 use Rattle.s390x_buffer.specs.declared.entries.RelocEntry.{RelocEntry}
-use Rattle.s390x_elf.specs.Reading.{IsText, wide, pieces}
+use Rattle.s390x_elf.specs.Reading.{IsText, doubleword_at, pieces}
 use Rattle.s390x_elf.specs.File.{Section, sections, null_section}
 use Rattle.s390x_elf.specs.Symbols.{Symbol, symbol, null_symbol, relocation, named_section, relocations_for}
 use Rattle.s390x_elf.specs.Names.{Naming}
@@ -29,11 +29,11 @@ wides_long (n ∷ ns) =
     let next = wides_long ns in
     omega (arith, next, length-append (to_be_bytes w64 n) (wides ns))
 
-pieces_read : (ns : List ℕ) → All IsWide ns → map (λ (piece : List ℕ). wide piece 0) (pieces 8 (length ns) (wides ns)) ≡ ns
+pieces_read : (ns : List ℕ) → All IsWide ns → map (λ (piece : List ℕ). doubleword_at piece 0) (pieces 8 (length ns) (wides ns)) ≡ ns
 pieces_read [] fit = refl
 pieces_read (n ∷ ns) fit =
-    let head : wide (to_be_bytes w64 n) 0 ≡ n = from_be_bytes-to_be_bytes_8 n (All-head IsWide n ns fit) in
-    let tail : map (λ (piece : List ℕ). wide piece 0) (pieces 8 (length ns) (wides ns)) ≡ ns = pieces_read ns (All-tail IsWide n ns fit) in
+    let head : doubleword_at (to_be_bytes w64 n) 0 ≡ n = from_be_bytes-to_be_bytes_8 n (All-head IsWide n ns fit) in
+    let tail : map (λ (piece : List ℕ). doubleword_at piece 0) (pieces 8 (length ns) (wides ns)) ≡ ns = pieces_read ns (All-tail IsWide n ns fit) in
     λ i. head i ∷ tail i
 
 eighth : (bytes n : ℕ) → bytes ≡ 8 * n → bytes / 8 ≡ n
@@ -41,7 +41,7 @@ eighth bytes n h = omega arith
 
 pub doublewords_read : (ns : List ℕ) → All IsWide ns → doublewords (wides ns) ≡ ns
 doublewords_read ns fit =
-    ap (λ (n : ℕ). map (λ (piece : List ℕ). wide piece 0) (pieces 8 n (wides ns))) (eighth (length (wides ns)) (length ns) (wides_long ns)) ∙ pieces_read ns fit
+    ap (λ (n : ℕ). map (λ (piece : List ℕ). doubleword_at piece 0) (pieces 8 n (wides ns))) (eighth (length (wides ns)) (length ns) (wides_long ns)) ∙ pieces_read ns fit
 
 -- the symbol with a number, where the symbols from there on are known
 numbered_here : (ss more : List Symbol) (s : Symbol) (n : ℕ) → drop n ss ≡ s ∷ more → get_or ss n null_symbol ≡ s

@@ -1,6 +1,6 @@
 -- The file's header and its sections ("ELF-64 Object File Format", "ELF Header" and "Sections").
 use Rattle.std.specs.Prelude.{ℕ, List, [], take, drop, map, slice_index_or}
-use Rattle.s390x_elf.specs.Reading.{half, word, wide, text_at, pieces}
+use Rattle.s390x_elf.specs.Reading.{half, word, doubleword_at, text_at, pieces}
 
 pub record FileHeader : Type 0 where
   pub e_ident : List ℕ
@@ -25,9 +25,9 @@ file_header file = record {
   e_type = half file 16;
   e_machine = half file 18;
   e_version = word file 20;
-  e_entry = wide file 24;
-  e_phoff = wide file 32;
-  e_shoff = wide file 40;
+  e_entry = doubleword_at file 24;
+  e_phoff = doubleword_at file 32;
+  e_shoff = doubleword_at file 40;
   e_flags = word file 48;
   e_ehsize = half file 52;
   e_phentsize = half file 54;
@@ -51,19 +51,19 @@ pub record Section : Type 0 where
 
 -- the part of a file that a section's header tells
 abbrev pub content_of : (file header : List ℕ) → List ℕ
-content_of file header = take (wide header 32) (drop (wide header 24) file)
+content_of file header = take (doubleword_at header 32) (drop (doubleword_at header 24) file)
 
 -- the section of a header in a file, the names standing in a string table
 abbrev pub section : (file names header : List ℕ) → Section
 section file names header = record {
   name = text_at names (word header 0);
   sh_type = word header 4;
-  sh_flags = wide header 8;
-  sh_addr = wide header 16;
+  sh_flags = doubleword_at header 8;
+  sh_addr = doubleword_at header 16;
   sh_link = word header 40;
   sh_info = word header 44;
-  sh_addralign = wide header 48;
-  sh_entsize = wide header 56;
+  sh_addralign = doubleword_at header 48;
+  sh_entsize = doubleword_at header 56;
   content = content_of file header;
 }
 

@@ -4,7 +4,7 @@ use Rattle.std.specs.List.{All}
 use Rattle.s390x_buffer.specs.Constants.{round_up}
 use Rattle.s390x_buffer.specs.declared.entries.RelocEntry.{RelocEntry}
 use Rattle.s390x_image.specs.Symbols.{Symbols}
-use Rattle.s390x_image.specs.Fields.{LiesIn, filled}
+use Rattle.s390x_image.specs.Fields.{LiesIn, with_fields_filled}
 use Rattle.s390x_image.specs.Causes.{link_cause}
 use Rattle.s390x_elf.specs.declared.error.ObjectError.{ObjectError}
 use Rattle.s390x_elf.specs.declared.error.ObjectError.TheVariants.{TooLong}
@@ -62,13 +62,13 @@ text_behind end [] = []
 text_behind end (m ∷ ms) = member_text end m ++ text_behind (Some (end_of end m)) ms
 
 -- a relocation of a member that starts there
-abbrev pub moved : (start : ℕ) → RelocEntry → RelocEntry
-moved start r = record { offset = start + r.offset; kind = r.kind; name = r.name; addend = r.addend }
+abbrev pub member_relocation : (start : ℕ) → RelocEntry → RelocEntry
+member_relocation start r = record { offset = start + r.offset; kind = r.kind; name = r.name; addend = r.addend }
 
 -- the members' relocations, by their offsets in the text
 abbrev pub relocs_behind : (end : Option ℕ) → List ObjectMember → List RelocEntry
 relocs_behind end [] = []
-relocs_behind end (m ∷ ms) = map (moved (start_of end m)) m.code.relocs.items ++ relocs_behind (Some (end_of end m)) ms
+relocs_behind end (m ∷ ms) = map (member_relocation (start_of end m)) m.code.relocs.items ++ relocs_behind (Some (end_of end m)) ms
 
 -- the greatest of an alignment and the members'
 abbrev pub greatest_alignment : ℕ → List ObjectMember → ℕ
@@ -87,7 +87,7 @@ pub record HasMember (end : Option ℕ) (m : ObjectMember) (old new : Text) : Ty
   pub functions : map function_of new.functions.items ≡ map function_of old.functions.items ++ function_at (start_of end m) m ∷ []
   pub alignment : new.alignment ≡ max old.alignment m.code.alignment
   pub bytes : new.bytes.items ≡ old.bytes.items ++ member_text end m
-  pub relocs : new.relocs.items ≡ old.relocs.items ++ map (moved (start_of end m)) m.code.relocs.items
+  pub relocs : new.relocs.items ≡ old.relocs.items ++ map (member_relocation (start_of end m)) m.code.relocs.items
 
 -- a file is the object of these members, some of whose symbols are given names
 abbrev pub IsObjectOfMembers : List GivenName → List ObjectMember → (file : List ℕ) → Type 0
@@ -121,7 +121,7 @@ members_cause names ms = first_cause (places_cause None ms) (text_cause names (f
 
 -- a member's code linked at its start by a table of its own, with zeros before it
 abbrev pub member_image : (base : ℕ) (end : Option ℕ) → Symbols → ObjectMember → List ℕ
-member_image base end table m = zeros (start_of end m - end_or_zero end) ++ filled (base + start_of end m) table m.code.relocs.items m.code.bytes.items
+member_image base end table m = zeros (start_of end m - end_or_zero end) ++ with_fields_filled (base + start_of end m) table m.code.relocs.items m.code.bytes.items
 
 -- the members' code, each one linked at its start by a table of its own, with zeros between
 abbrev pub images_behind : (base : ℕ) (end : Option ℕ) → List Symbols → List ObjectMember → List ℕ

@@ -12,7 +12,7 @@ use Rattle.s390x_tables.specs.Numbers.{number_of_trap, tag_count, tag_or_zero}
 use Rattle.s390x_elf.specs.declared.metadata.TableKind.{TableKind}
 use Rattle.s390x_elf.specs.declared.metadata.TableKind.TheVariants.{Traps, Calls, Tries, Handlers, Patches, StackMaps}
 use Rattle.s390x_elf.specs.declared.members.ObjectMember.{ObjectMember}
-use Rattle.s390x_elf.specs.Reading.{wide, pieces}
+use Rattle.s390x_elf.specs.Reading.{doubleword_at, pieces}
 use Rattle.s390x_elf.specs.File.{Section, sections, null_section}
 use Rattle.s390x_elf.specs.Symbols.{Relocation, named_section, relocations_for}
 use Rattle.s390x_elf.specs.Object.{Function, function_symbol, whole_function}
@@ -92,7 +92,7 @@ table_name StackMaps = codes "s390x_stack_maps"
 
 -- the numbers of eight bytes in bytes
 abbrev pub doublewords : List ℕ → List ℕ
-doublewords bytes = map (λ (piece : List ℕ). wide piece 0) (pieces 8 (length bytes / 8) bytes)
+doublewords bytes = map (λ (piece : List ℕ). doubleword_at piece 0) (pieces 8 (length bytes / 8) bytes)
 
 -- the relocations of functions' parts, the first of which starts there: each one's first number is the distance from there to its function (`R_390_PC64`)
 abbrev pub part_relocations : TableKind → (at : ℕ) → List Function → List MachBufferFinalized → List Relocation

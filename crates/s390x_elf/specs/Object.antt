@@ -7,7 +7,7 @@ use Rattle.s390x_base.specs.declared.ir.Reloc.TheVariants.{S390xPCRel32Dbl, S390
 use Rattle.s390x_buffer.specs.declared.entries.RelocEntry.{RelocEntry}
 use Rattle.s390x_buffer.specs.declared.entries.MachBufferFinalized.{MachBufferFinalized}
 use Rattle.s390x_image.specs.Symbols.{Symbols, address_of}
-use Rattle.s390x_image.specs.Fields.{filled}
+use Rattle.s390x_image.specs.Fields.{with_fields_filled}
 use Rattle.s390x_image.specs.Causes.{link_cause, relocs_cause}
 use Rattle.s390x_elf.specs.declared.names.GivenName.{GivenName}
 use Rattle.s390x_elf.specs.declared.symbols.TextFunction.{TextFunction}
@@ -129,13 +129,13 @@ Agrees named address table rs = All (λ (r : RelocEntry). address_of table r.nam
 abbrev pub IsLinkedAsFilled : Naming → (fs : List Function) (bytes : List ℕ) (rs : List RelocEntry) (file : List ℕ) → Type 0
 IsLinkedAsFilled named fs bytes rs file =
     (base : ℕ) (others : List ℕ → ℕ) (table : Symbols) → Agrees named (name_address base others fs) table rs → relocs_cause base table rs ≡ None →
-    All (λ (r : Relocation). fits_at base others r ≡ true) (relocations_for (sections file) (codes ".text")) × (linked_text file base others ≡ filled base table rs bytes)
+    All (λ (r : Relocation). fits_at base others r ≡ true) (relocations_for (sections file) (codes ".text")) × (linked_text file base others ≡ with_fields_filled base table rs bytes)
 
 -- linked at any base where `link` has no cause, each value fits its field, and the text is `link`'s image
 abbrev pub IsLinkedAsNamed : List GivenName → (name : List ℕ) (code : MachBufferFinalized) (file : List ℕ) → Type 0
 IsLinkedAsNamed names name code file =
     (base : ℕ) (others : List ℕ → ℕ) (table : Symbols) → Agrees (name_in names) (name_address base others (whole_function name code)) table code.relocs.items → link_cause code base table ≡ None →
-    All (λ (r : Relocation). fits_at base others r ≡ true) (relocations_for (sections file) (codes ".text")) × (linked_text file base others ≡ filled base table code.relocs.items code.bytes.items)
+    All (λ (r : Relocation). fits_at base others r ≡ true) (relocations_for (sections file) (codes ".text")) × (linked_text file base others ≡ with_fields_filled base table code.relocs.items code.bytes.items)
 
 abbrev pub IsLinkedAsImage : (name : List ℕ) (code : MachBufferFinalized) (file : List ℕ) → Type 0
 IsLinkedAsImage name code file = IsLinkedAsNamed [] name code file

@@ -13,8 +13,8 @@ half bytes at = from_be_bytes w16 (drop at bytes)
 abbrev pub word : List ℕ → ℕ → ℕ
 word bytes at = from_be_bytes w32 (drop at bytes)
 
-abbrev pub wide : List ℕ → ℕ → ℕ
-wide bytes at = from_be_bytes w64 (drop at bytes)
+abbrev pub doubleword_at : List ℕ → ℕ → ℕ
+doubleword_at bytes at = from_be_bytes w64 (drop at bytes)
 
 -- the bytes before the first zero
 abbrev pub text : List ℕ → List ℕ

@@ -2,7 +2,7 @@
 use Rattle.std.specs.Prelude.{ℕ, ◌^◌, ◌/◌, ◌%◌, ℤ, Bool, cond, ◌&&◌, nat_eq, List, [], ◌∷◌, map, length, slice_index_or}
 use Rattle.std.specs.Str.{bytes_eq}
 use Rattle.std.specs.Int.{w64, cast_signed}
-use Rattle.s390x_elf.specs.Reading.{byte, half, word, wide, text_at, pieces}
+use Rattle.s390x_elf.specs.Reading.{byte, half, word, doubleword_at, text_at, pieces}
 use Rattle.s390x_elf.specs.File.{Section, null_section}
 
 -- a symbol: its name in place of the name's offset, and the two halves of `st_info`
@@ -23,8 +23,8 @@ symbol names entry = record {
   kind = byte entry 4 % 16;
   st_other = byte entry 5;
   st_shndx = half entry 6;
-  st_value = wide entry 8;
-  st_size = wide entry 16;
+  st_value = doubleword_at entry 8;
+  st_size = doubleword_at entry 16;
 }
 
 -- the symbol with the number 0, which stands for none
@@ -41,10 +41,10 @@ pub record Relocation : Type 0 where
 -- the relocation of an entry, by the symbols of its table
 abbrev pub relocation : (symbols : List Symbol) (entry : List ℕ) → Relocation
 relocation symbols entry = record {
-  r_offset = wide entry 0;
-  r_type = wide entry 8 % 2 ^ 32;
-  r_sym = slice_index_or symbols (wide entry 8 / 2 ^ 32) null_symbol;
-  r_addend = cast_signed w64 (wide entry 16);
+  r_offset = doubleword_at entry 0;
+  r_type = doubleword_at entry 8 % 2 ^ 32;
+  r_sym = slice_index_or symbols (doubleword_at entry 8 / 2 ^ 32) null_symbol;
+  r_addend = cast_signed w64 (doubleword_at entry 16);
 }
 
 -- the first section that passes a test; the one with the number 0 where none does
@@ -53,8 +53,8 @@ first_section p [] = null_section
 first_section p (s ∷ ss) = cond (p s) s (first_section p ss)
 
 -- the section with a number
-abbrev pub numbered : List Section → ℕ → Section
-numbered ss n = slice_index_or ss n null_section
+abbrev pub section_at : List Section → ℕ → Section
+section_at ss n = slice_index_or ss n null_section
 
 -- the section with a name
 abbrev pub named_section : List Section → List ℕ → Section
@@ -66,7 +66,7 @@ entries s = pieces s.sh_entsize (length s.content / s.sh_entsize) s.content
 
 -- the symbols of a section that is a symbol table: their names stand in the section to which it links
 abbrev pub symbols_in : List Section → Section → List Symbol
-symbols_in ss s = map (symbol (numbered ss s.sh_link).content) (entries s)
+symbols_in ss s = map (symbol (section_at ss s.sh_link).content) (entries s)
 
 -- the section of type 2, `SHT_SYMTAB`
 abbrev pub symbol_table : List Section → Section
@@ -78,8 +78,8 @@ symbols_of ss = symbols_in ss (symbol_table ss)
 
 -- the section of type 4, `SHT_RELA`, for the section with a name, whose number it tells
 abbrev pub relocation_table : List Section → List ℕ → Section
-relocation_table ss name = first_section (λ (s : Section). nat_eq s.sh_type 4 && bytes_eq name (numbered ss s.sh_info).name) ss
+relocation_table ss name = first_section (λ (s : Section). nat_eq s.sh_type 4 && bytes_eq name (section_at ss s.sh_info).name) ss
 
 -- the relocations for the section with a name, by the symbols of the section to which their table links
 unfoldable pub relocations_for : List Section → List ℕ → List Relocation
-relocations_for ss name = let table = relocation_table ss name in map (relocation (symbols_in ss (numbered ss table.sh_link))) (entries table)
+relocations_for ss name = let table = relocation_table ss name in map (relocation (symbols_in ss (section_at ss table.sh_link))) (entries table)

@@ -2,7 +2,7 @@
 ghost use Rattle.std.specs.Prelude.{◌≡◌, ◌+◌, ◌-◌, ◌<◌, ◌≤◌, ◌++◌, ◌∷◌, [], None, Some, IfOk, MatchResult, length, map};
 ghost use Rattle.s390x_elf.specs.Answers.{MembersAnswer, MemberAnswer, TextOfMembersAnswer};
 ghost use Rattle.s390x_elf.specs.Causes.{IsCause};
-ghost use Rattle.s390x_elf.specs.Members.{IsLinkedAsMembers, end_or_zero, function_at, limit_cause, moved, offsets_cause, start_behind, zeros};
+ghost use Rattle.s390x_elf.specs.Members.{IsLinkedAsMembers, end_or_zero, function_at, limit_cause, member_relocation, offsets_cause, start_behind, zeros};
 ghost use Rattle.s390x_elf.specs.Metadata.{HasTablesOfMembers};
 ghost use Rattle.s390x_elf.specs.Object.{function_of};
 
@@ -58,9 +58,10 @@ fn checked_end(start: u64, size: u64) -> Result<u32, ObjectError>
 }
 
 // A relocation of a member that starts there, where its offset is below 2^32.
-fn moved(start: u32, reloc: RelocEntry) -> Result<RelocEntry, ObjectError>
+fn member_relocation(start: u32, reloc: RelocEntry) -> Result<RelocEntry, ObjectError>
     ensures { let cause = limit_cause 4294967296 (start + reloc.offset) in
-        MatchResult result (λ r. (cause ≡ None) × (r ≡ moved start reloc)) (λ e. cause ≡ Some e) }
+        MatchResult result (λ r. (cause ≡ None) × (r ≡ member_relocation start reloc))
+        (λ e. cause ≡ Some e) }
 {
     let offset = u64::from(start) + u64::from(reloc.offset);
     if 4294967296 <= offset {
@@ -82,11 +83,12 @@ fn put_relocs(
 ) -> Result<(), ObjectError>
     ensures { let cause = offsets_cause start added.now in
         MatchResult result
-        (λ _. (cause ≡ None) × (relocs.new.items ≡ relocs.old.items ++ map (moved start) added.now))
+        (λ _. (cause ≡ None)
+        × (relocs.new.items ≡ relocs.old.items ++ map (member_relocation start) added.now))
         (IsCause cause) }
 {
     for reloc in added {
-        match moved(start, *reloc) {
+        match member_relocation(start, *reloc) {
             Ok(reloc) => {
                 if relocs.push(reloc).is_err() {
                     return Err(ObjectError::NoMemory);

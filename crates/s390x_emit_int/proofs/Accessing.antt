@@ -3,7 +3,7 @@ use Rattle.std.proofs.Common.{◌≡◌, ◌+◌, List, [], ◌∷◌, ◌++◌,
 use Rattle.s390x_base.specs.declared.trap.TrapKind.{TrapKind}
 use Rattle.s390x_buffer.specs.State.{BufferState}
 use Rattle.s390x_typed_steps.specs.Parts.{CodePart, Row, Trapping, Relative, RelativeConstant, RelativeSymbol, TrapHere, ToBlock}
-use Rattle.s390x_address.specs.Appended.{with_part, appended}
+use Rattle.s390x_address.specs.Appended.{with_part, with_parts}
 use Rattle.s390x_address.proofs.Putting.{AllPut}
 use Rattle.s390x_emit_int.specs.Emission.{part_fragment, part_fragments}
 use Rattle.s390x_emit_int.specs.Fragments.{apply, apply_all}
@@ -15,7 +15,7 @@ trap_applied s code =
     ap₂ (λ bs n. let t : BufferState = record s { bytes = bs; traps = s.traps ++ record { offset = n; code = code } ∷ [] } in t) (append-nil s.bytes) here
 
 -- as fragments they do to a buffer what appending them does
-pub parts_run : (parts : List CodePart) (s : BufferState) → AllPut parts → apply_all s (part_fragments parts) ≡ appended s parts
+pub parts_run : (parts : List CodePart) (s : BufferState) → AllPut parts → apply_all s (part_fragments parts) ≡ with_parts s parts
 unfolding AllPut
 parts_run [] s h = refl
 parts_run (Row m ∷ parts) s h = parts_run parts (with_part s (Row m)) h

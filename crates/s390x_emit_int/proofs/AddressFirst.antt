@@ -15,7 +15,7 @@ use Rattle.s390x_typed_steps.proofs.Causes.{first_left, first_right}
 use Rattle.s390x_typed_steps.specs.Baseline.{whole_or_loaded, body_for}
 use Rattle.s390x_typed_steps.specs.Causes.{Declared, first_emit_cause, declared_in, facility_cause, stack_cause, numbers_cause, memory_cause, memory_cause_or, loaded_cause, instruction_fresh_labels, body_cause, body_fresh_labels, body_nominal_after}
 use Rattle.s390x_typed_steps.specs.Memory.{StorageForm, RxForm, RsForm, SiForm, SilForm, VrxForm, FloatForm, MemoryInstruction, memory, loaded_memory, without_relative, other_rows, with_rows, has_relative_row, accesses_relative}
-use Rattle.s390x_typed_steps.specs.Operands.{resolved, is_relative}
+use Rattle.s390x_typed_steps.specs.Operands.{resolved_operand, is_relative}
 use Rattle.s390x_typed_steps.specs.Parts.{memory_or, memory_parts, parts_size}
 use Rattle.s390x_typed_steps.specs.Ranges.{MaskInRange, OperandInRange, MemoryInRange, InRange, BodyInRange}
 use Rattle.s390x_typed_steps.specs.Resolved.{resolved_instruction}
@@ -178,15 +178,15 @@ loaded_adds flags D t e i size (Err y) none same h = ap (λ o. first_emit_cause 
 
 -- ---- its ranges
 
-kept_range : (e : Emission) (o : Option MemoryInstruction) (x : MemoryInstruction) → Some x ≡ without_relative o → OperandInRange (resolved e x.operand) → MemoryInRange (option_map (in_state e) o)
+kept_range : (e : Emission) (o : Option MemoryInstruction) (x : MemoryInstruction) → Some x ≡ without_relative o → OperandInRange (resolved_operand e x.operand) → MemoryInRange (option_map (in_state e) o)
 kept_range e None x h r = tt
 kept_range e (Some y) x h r = go (other_rows y.form y.accesses) h
   where
-    go : (o : Option StorageForm) → Some x ≡ option_map (with_rows y) o → OperandInRange (resolved e y.operand)
+    go : (o : Option StorageForm) → Some x ≡ option_map (with_rows y) o → OperandInRange (resolved_operand e y.operand)
     go None h = absurd (cc)
-    go (Some form) h = let same : x ≡ with_rows y form = cc in subst (λ m. OperandInRange (resolved e m)) (ap (λ z. z.operand) same) r
+    go (Some form) h = let same : x ≡ with_rows y form = cc in subst (λ m. OperandInRange (resolved_operand e m)) (ap (λ z. z.operand) same) r
 
-pub loaded_range : (e : Emission) (i : Inst) (x : MemoryInstruction) → Some x ≡ loaded_memory i → OperandInRange (resolved e x.operand) → InRange (resolved_instruction e i)
+pub loaded_range : (e : Emission) (i : Inst) (x : MemoryInstruction) → Some x ≡ loaded_memory i → OperandInRange (resolved_operand e x.operand) → InRange (resolved_instruction e i)
 loaded_range e i x is r = (mask_resolved e i (loaded_mask i x is), subst MemoryInRange (sym (memory_resolved e i)) (kept_range e (memory i) x is r))
 
 -- ---- one body as a tree

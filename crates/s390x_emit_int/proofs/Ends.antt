@@ -2,14 +2,14 @@
 use Rattle.std.proofs.Common.{◌≡◌, ◌≢◌, ℕ, ◌+◌, ◌-◌, List, [], ◌∷◌, ◌++◌, Option, Some, None, Bool, true, false, cond, nat_eq, refl, sym, ap, ◌∙◌, append-nil, eq-eqb, eqb-true, true≢false, Result, Ok, Err, MatchResult, OnOk}
 use Rattle.s390x_base.specs.declared.ir.MachLabel.{MachLabel}
 use Rattle.s390x_base.specs.declared.error.EmitError.{EmitError}
-use Rattle.s390x_buffer.specs.BlockEnd.{ended, ended_by}
+use Rattle.s390x_buffer.specs.BlockEnd.{at_block_end, ended_by}
 use Rattle.s390x_buffer.specs.State.{BufferState}
 use Rattle.s390x_buffer.specs.declared.entries.RecordedBranches.TheVariants.{NoBranch}
 use Rattle.s390x_buffer.proofs.Ended.{jump_cut, jump_stays, second_cut, both_cut, first_inverted, both_stay}
 use Rattle.s390x_inst.specs.declared.inst.Inst.TheVariants.{Jump, CondBr, CondBreak, JTSequence}
 use Rattle.s390x_rows.specs.declared.opcodes.TheConstants as opcodes
 use Rattle.s390x_typed_steps.specs.Causes.{body_fresh_labels, fresh_labels}
-use Rattle.s390x_typed_steps.specs.Folding.{shortened, fold, folded, folded_before}
+use Rattle.s390x_typed_steps.specs.Folding.{body_with_remainder, fold, folded_members, folded_before}
 use Rattle.s390x_typed_steps.specs.MachineInstruction.{ril_c, bytes_of}
 use Rattle.s390x_typed_steps.specs.Parts.{CodePart, Branch, Relative, TableWord, ToBlock, ToStep, instruction_parts, table_words, step_parts}
 use Rattle.s390x_typed_steps.specs.Steps.{step_of}
@@ -43,10 +43,10 @@ quiet_parts (TableWord before (ToBlock b) ∷ parts) = quiet_parts parts
 quiet_parts (TableWord before (ToStep k) ∷ parts) = quiet_parts parts
 quiet_parts (part ∷ parts) = quiet_parts parts
 
-ended_none : (s : BufferState) (next : MachLabel) → s.branches ≡ NoBranch → ended (Some next) s ≡ s
+ended_none : (s : BufferState) (next : MachLabel) → s.branches ≡ NoBranch → at_block_end (Some next) s ≡ s
 ended_none s next none = ap (λ b. ended_by b next.0 s) none
 
-quiet_ended : (s : BufferState) (ps : List Fragment) (next : MachLabel) → Quiet ps → s.branches ≡ NoBranch → ended (Some next) (apply_all s ps) ≡ apply_all s ps
+quiet_ended : (s : BufferState) (ps : List Fragment) (next : MachLabel) → Quiet ps → s.branches ≡ NoBranch → at_block_end (Some next) (apply_all s ps) ≡ apply_all s ps
 quiet_ended s ps next h none = ended_none (apply_all s ps) next (quiet_run ps s h none)
 
 -- ---- the last body of a block
@@ -55,15 +55,15 @@ differs : (a b : ℕ) → nat_eq a b ≡ false → a ≢ b
 differs a b e = λ same. true≢false (sym (eq-eqb a b same) ∙ e)
 
 jump_ended : (s : BufferState) (n after : ℕ) (dest next : MachLabel) (t : Bool) → nat_eq dest.0 next.0 ≡ t → s.branches ≡ NoBranch →
-    ended (Some next) (apply_all s (jump_fragments dest.0)) ≡ apply_all s (body_fragments n after (shortened (cond t (Some NothingLeft) None) (Jump dest)))
+    at_block_end (Some next) (apply_all s (jump_fragments dest.0)) ≡ apply_all s (body_fragments n after (body_with_remainder (cond t (Some NothingLeft) None) (Jump dest)))
 jump_ended s n after dest next true e none =
-    ap (λ m. ended (Some (record { 0 = m })) (apply_all s (jump_fragments dest.0))) (sym (eqb-true dest.0 next.0 e))
+    ap (λ m. at_block_end (Some (record { 0 = m })) (apply_all s (jump_fragments dest.0))) (sym (eqb-true dest.0 next.0 e))
     ∙ jump_cut s dest (bytes_of (ril_c opcodes.BRCL 15 0)) none (length-branch 15)
 jump_ended s n after dest next false e none = jump_stays s dest next (bytes_of (ril_c opcodes.BRCL 15 0)) none (length-branch 15) (differs dest.0 next.0 e)
 
 choice_ended : (s : BufferState) (n after : ℕ) (taken not_taken : MachLabel) (mask : ℕ) (next : MachLabel) (u t : Bool) → nat_eq not_taken.0 next.0 ≡ u → nat_eq taken.0 next.0 ≡ t → s.branches ≡ NoBranch →
-    ended (Some next) (apply_all s (choice_fragments mask taken.0 not_taken.0))
-    ≡ apply_all s (body_fragments n after (shortened (cond u (cond t (Some NothingLeft) (Some (BranchLeft mask taken.0))) (cond t (Some (BranchLeft (15 - mask) not_taken.0)) None)) (CondBr taken not_taken mask)))
+    at_block_end (Some next) (apply_all s (choice_fragments mask taken.0 not_taken.0))
+    ≡ apply_all s (body_fragments n after (body_with_remainder (cond u (cond t (Some NothingLeft) (Some (BranchLeft mask taken.0))) (cond t (Some (BranchLeft (15 - mask) not_taken.0)) None)) (CondBr taken not_taken mask)))
 choice_ended s n after taken not_taken mask next true true e f none =
     both_cut s taken not_taken (bytes_of (ril_c opcodes.BRCL mask 0)) (bytes_of (ril_c opcodes.BRCL 15 0)) (bytes_of (ril_c opcodes.BRCL (15 - mask) 0)) none (length-branch mask) (length-branch 15) next (eqb-true not_taken.0 next.0 e) (eqb-true taken.0 next.0 f)
 choice_ended s n after taken not_taken mask next true false e f none =
@@ -73,7 +73,7 @@ choice_ended s n after taken not_taken mask next false true e f none =
 choice_ended s n after taken not_taken mask next false false e f none =
     both_stay s taken not_taken (bytes_of (ril_c opcodes.BRCL mask 0)) (bytes_of (ril_c opcodes.BRCL 15 0)) (bytes_of (ril_c opcodes.BRCL (15 - mask) 0)) none (length-branch mask) (length-branch 15) next (differs not_taken.0 next.0 e) (differs taken.0 next.0 f)
 
-body_ended : (s : BufferState) (n after : ℕ) (next : MachLabel) (b : StepBody) → s.branches ≡ NoBranch → ended (Some next) (apply_all s (body_fragments n after b)) ≡ apply_all s (body_fragments n after (fold next.0 b))
+body_ended : (s : BufferState) (n after : ℕ) (next : MachLabel) (b : StepBody) → s.branches ≡ NoBranch → at_block_end (Some next) (apply_all s (body_fragments n after b)) ≡ apply_all s (body_fragments n after (fold next.0 b))
 body_ended s n after next (Whole (Jump dest)) none = jump_ended s n after dest next (nat_eq dest.0 next.0) refl none
 body_ended s n after next (Whole (CondBr taken not_taken mask)) none =
     choice_ended s n after taken not_taken mask next (nat_eq not_taken.0 next.0) (nat_eq taken.0 next.0) refl refl none
@@ -96,25 +96,25 @@ starts_cleared s (leaf b rest) none = tt
 starts_cleared s (loop_node mask members rest) none = tt
 
 -- fragments, and then those of other members
-behind_ended : (s : BufferState) (ps qs rs : List Fragment) (next : MachLabel) → ended (Some next) (apply_all (apply_all s ps) qs) ≡ apply_all (apply_all s ps) rs → ended (Some next) (apply_all s (ps ++ qs)) ≡ apply_all s (ps ++ rs)
-behind_ended s ps qs rs next h = ap (λ x. ended (Some next) x) (run-append s ps qs) ∙ h ∙ sym (run-append s ps rs)
+behind_ended : (s : BufferState) (ps qs rs : List Fragment) (next : MachLabel) → at_block_end (Some next) (apply_all (apply_all s ps) qs) ≡ apply_all (apply_all s ps) rs → at_block_end (Some next) (apply_all s (ps ++ qs)) ≡ apply_all s (ps ++ rs)
+behind_ended s ps qs rs next h = ap (λ x. at_block_end (Some next) x) (run-append s ps qs) ∙ h ∙ sym (run-append s ps rs)
 
-pub tree_ended : (t : Tree) (s : BufferState) (n after : ℕ) (next : MachLabel) → Starts s t → ended (Some next) (apply_all s (fragments n after t)) ≡ apply_all s (fragments n after (folded next.0 t))
+pub tree_ended : (t : Tree) (s : BufferState) (n after : ℕ) (next : MachLabel) → Starts s t → at_block_end (Some next) (apply_all s (fragments n after t)) ≡ apply_all s (fragments n after (folded_members next.0 t))
 tree_ended empty s n after next h = ended_none s next h
 tree_ended (leaf b empty) s n after next h =
     let s1 = apply s StartStep in
-    ap (λ ps. ended (Some next) (apply_all s1 ps)) (append-nil (body_fragments n after b))
+    ap (λ ps. at_block_end (Some next) (apply_all s1 ps)) (append-nil (body_fragments n after b))
     ∙ body_ended s1 n after next b refl
     ∙ ap (λ ps. apply_all s1 ps) (sym (append-nil (body_fragments n after (fold next.0 b))))
 tree_ended (leaf b (leaf c rest)) s n after next h =
     let s1 = apply s StartStep in
     let m = n + body_fresh_labels b in
-    behind_ended s1 (body_fragments n after b) (fragments m after (leaf c rest)) (fragments m after (folded next.0 (leaf c rest))) next
+    behind_ended s1 (body_fragments n after b) (fragments m after (leaf c rest)) (fragments m after (folded_members next.0 (leaf c rest))) next
     (tree_ended (leaf c rest) (apply_all s1 (body_fragments n after b)) m after next tt)
 tree_ended (leaf b (loop_node mask members rest)) s n after next h =
     let s1 = apply s StartStep in
     let m = n + body_fresh_labels b in
-    behind_ended s1 (body_fragments n after b) (fragments m after (loop_node mask members rest)) (fragments m after (folded next.0 (loop_node mask members rest))) next
+    behind_ended s1 (body_fragments n after b) (fragments m after (loop_node mask members rest)) (fragments m after (folded_members next.0 (loop_node mask members rest))) next
     (tree_ended (loop_node mask members rest) (apply_all s1 (body_fragments n after b)) m after next tt)
 tree_ended (loop_node mask members rest) s n after next h =
     let s1 = apply_all s (StartStep ∷ Draw ∷ Draw ∷ Bind n ∷ []) in
@@ -122,13 +122,13 @@ tree_ended (loop_node mask members rest) s n after next h =
     let back = back_fragments n mask in
     let m = n + 2 + fresh_labels members in
     let later = fragments m after rest in
-    let left = fragments m after (folded next.0 rest) in
+    let left = fragments m after (folded_members next.0 rest) in
     let s2 = apply_all s1 inner in
     behind_ended s1 inner (back ++ later) (back ++ left) next
     (behind_ended s2 back later left next (tree_ended rest (apply_all s2 back) m after next (starts_cleared (apply_all s2 back) rest refl)))
 
 -- the same before the next block, if there is one
-pub block_ended : (t : Tree) (s : BufferState) (n : ℕ) (next : Option MachLabel) → s.branches ≡ NoBranch → ended next (apply_all s (fragments n 0 t)) ≡ apply_all s (fragments n 0 (folded_before (number_of_next next) t))
+pub block_ended : (t : Tree) (s : BufferState) (n : ℕ) (next : Option MachLabel) → s.branches ≡ NoBranch → at_block_end next (apply_all s (fragments n 0 t)) ≡ apply_all s (fragments n 0 (folded_before (number_of_next next) t))
 block_ended t s n None none = refl
 block_ended t s n (Some next) none = tree_ended t s n 0 next (starts_cleared s t none)
 

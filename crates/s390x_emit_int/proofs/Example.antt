@@ -9,11 +9,11 @@ use Rattle.s390x_base.specs.declared.ir.Reloc.TheVariants.{S390xPCRel32Dbl, S390
 use Rattle.s390x_base.specs.declared.trap.TrapKind.TheVariants.{User}
 use Rattle.s390x_buffer.specs.declared.entries.RelocEntry.{RelocEntry}
 use Rattle.s390x_image.specs.Causes.{first_link_cause, symbol_cause}
-use Rattle.s390x_image.specs.Fields.{address_or_zero, fill, filled}
+use Rattle.s390x_image.specs.Fields.{address_or_zero, fill, with_fields_filled}
 use Rattle.s390x_image.specs.Symbols.{no_symbols, address_of, address_of-with_address}
 use Rattle.s390x_operations.specs.State.{IsLoaded}
 use Rattle.s390x_machine.specs.Machine.{Run}
-use Rattle.s390x_machine.specs.Example.{image, left}
+use Rattle.s390x_machine.specs.Example.{image, remaining_trees}
 use Rattle.s390x_machine.specs.RelativeExample as Relative
 use Rattle.s390x_machine.proofs.Example.{ranges, loop_runs}
 use Rattle.s390x_machine.proofs.RelativeExample as Relatively
@@ -40,7 +40,7 @@ code = record {
   alignment = 4;
 }
 
-finished : IsFinishedCode left [] code
+finished : IsFinishedCode remaining_trees [] code
 unfolding vec code number bits layout_of length_of be_bytes
 finished = record {
   bytes = refl;
@@ -115,7 +115,7 @@ found : address_of symbols (record { 0 = 1 }) ≡ Some 8192
 found = address_of-with_address no_symbols (record { 0 = 1 }) 8192 (record { 0 = 1 })
 
 -- the field is filled as an assembler gives it
-linked_bytes : filled 4096 symbols (to_symbol ∷ []) unlinked_bytes ≡ Relative.image.bytes
+linked_bytes : with_fields_filled 4096 symbols (to_symbol ∷ []) unlinked_bytes ≡ Relative.image.bytes
 unfolding be_bytes
 linked_bytes = ap (λ o. fill 4096 (address_or_zero o) to_symbol unlinked_bytes) found
 
@@ -172,7 +172,7 @@ call_finished = record {
   short = omega arith;
 }
 
-linked_call : filled 4096 symbols (to_callee ∷ []) unlinked_call ≡ Call.image.bytes
+linked_call : with_fields_filled 4096 symbols (to_callee ∷ []) unlinked_call ≡ Call.image.bytes
 unfolding be_bytes
 linked_call = ap (λ o. fill 4096 (address_or_zero o) to_callee unlinked_call) found
 

@@ -14,7 +14,7 @@ use Rattle.s390x_base.specs.declared.ir.ExternalName.{ExternalName}
 use Rattle.s390x_buffer.specs.declared.entries.RelocEntry.{RelocEntry}
 use Rattle.s390x_image.specs.Symbols.{Symbols, address_of}
 use Rattle.s390x_base.specs.declared.ir.Reloc.TheVariants.{S390xPCRel32Dbl, S390xPLTRel32Dbl}
-use Rattle.s390x_image.specs.Fields.{address_or_zero, stored, filled, LiesIn}
+use Rattle.s390x_image.specs.Fields.{address_or_zero, with_bytes_at, with_fields_filled, LiesIn}
 use Rattle.s390x_image.specs.Values.{symbol_value, symbol_distance}
 use Rattle.s390x_rows.specs.declared.opcodes.TheConstants as opcodes
 use Rattle.s390x_typed_steps.specs.Tree.{Tree}
@@ -24,20 +24,20 @@ use Rattle.s390x_typed_steps.specs.MachineInstruction.{ril_b, ril_c, bytes_of}
 use Rattle.s390x_typed_steps.specs.Sizes.{blocks_size}
 use Rattle.s390x_typed_steps.specs.Rows.{LinkEnvironment, Offsets, symbol_call, part_bytes, parts_bytes, step_bytes}
 use Rattle.s390x_typed_steps.specs.Relocs.{part_relocs, parts_relocs, step_relocs, relocs_from, function_relocs}
-use Rattle.s390x_typed_steps.specs.Image.{step_offset, offsets, unlinked, code, function_code}
+use Rattle.s390x_typed_steps.specs.Image.{step_offset, offsets, unlinked_environment, code, function_code}
 use Rattle.s390x_machine.proofs.Standing.{part_length, step_length}
 use Rattle.s390x_buffer.specs.State.{Constant}
 use Rattle.s390x_buffer.specs.Constants.{constant_bytes}
 use Rattle.s390x_buffer.specs.declared.entries.MachBufferFinalized.{MachBufferFinalized}
 use Rattle.s390x_emit_int.specs.Function.{IsFinishedCode}
-use Rattle.s390x_emit_int.specs.Headline.{linked}
+use Rattle.s390x_emit_int.specs.Headline.{linked_environment}
 use Rattle.s390x_emit_int.specs.Bound.{StepsFollow}
 use Rattle.s390x_emit_int.proofs.Branches.{relative_head, relative_split}
 use Rattle.s390x_emit_int.proofs.Functions.{place_follows, place_zero}
 use Rattle.s390x_emit_int.proofs.Joining.{total}
 
 -- bytes in the place of as many
-stored_between : (earlier old new later : List ℕ) (at : ℕ) → at ≡ length earlier → length new ≡ length old → stored (earlier ++ (old ++ later)) at new ≡ earlier ++ (new ++ later)
+stored_between : (earlier old new later : List ℕ) (at : ℕ) → at ≡ length earlier → length new ≡ length old → with_bytes_at (earlier ++ (old ++ later)) at new ≡ earlier ++ (new ++ later)
 stored_between earlier old new later at e same =
     let all = earlier ++ (old ++ later) in
     let front : take at all ≡ earlier = ap (λ n. take n all) e ∙ take-append_seam earlier (old ++ later) in
@@ -45,7 +45,7 @@ stored_between earlier old new later at e same =
     let behind : drop (at + length new) all ≡ later = ap (λ k. drop k all) n ∙ ap (drop (length (earlier ++ old))) (sym (append_assoc earlier old later)) ∙ drop-append_seam (earlier ++ old) later in
     ap (λ l. l ++ (new ++ drop (at + length new) all)) front ∙ ap (λ l. earlier ++ (new ++ l)) behind
 
-filled_append : (base : ℕ) (table : Symbols) (rs qs : List RelocEntry) (bytes : List ℕ) → filled base table (rs ++ qs) bytes ≡ filled base table qs (filled base table rs bytes)
+filled_append : (base : ℕ) (table : Symbols) (rs qs : List RelocEntry) (bytes : List ℕ) → with_fields_filled base table (rs ++ qs) bytes ≡ with_fields_filled base table qs (with_fields_filled base table rs bytes)
 filled_append base table [] qs bytes = refl
 filled_append base table (r ∷ rs) qs bytes = filled_append base table rs qs _
 
@@ -55,7 +55,7 @@ same_distance base p address offset = omega (arith, ints)
 
 -- the field of an address relative to the instruction
 relative_filled : (base : ℕ) (table : Symbols) (opcode register p : ℕ) (name : ExternalName) (offset : ℤ) (earlier later : List ℕ) → p ≡ length earlier →
-    filled base table (record { offset = p + 2; kind = S390xPCRel32Dbl; name = name; addend = offset +ℤ pos 2 } ∷ []) (earlier ++ (bytes_of (ril_b opcode register 0) ++ later))
+    with_fields_filled base table (record { offset = p + 2; kind = S390xPCRel32Dbl; name = name; addend = offset +ℤ pos 2 } ∷ []) (earlier ++ (bytes_of (ril_b opcode register 0) ++ later))
     ≡ earlier ++ (bytes_of (ril_b opcode register (symbol_distance base table p name offset)) ++ later)
 relative_filled base table opcode register p name offset earlier later e =
     let head = relative_head opcode register in
@@ -68,8 +68,8 @@ relative_filled base table opcode register p name offset earlier later e =
     ap (λ l. earlier ++ (l ++ later)) (sym (relative_split opcode register 0)) ∙ ap (λ l. earlier ++ l) (append_assoc head (to_be_bytes w32 0) later) ∙ sym (append_assoc earlier head (to_be_bytes w32 0 ++ later)) in
     let new : (earlier ++ head) ++ (to_be_bytes w32 (half distance) ++ later) ≡ earlier ++ (bytes_of (ril_b opcode register (half distance)) ++ later) =
     append_assoc earlier head (to_be_bytes w32 (half distance) ++ later) ∙ ap (λ l. earlier ++ l) (sym (append_assoc head (to_be_bytes w32 (half distance)) later)) ∙ ap (λ l. earlier ++ (l ++ later)) (relative_split opcode register (half distance)) in
-    ap (λ z. stored (earlier ++ (bytes_of (ril_b opcode register 0) ++ later)) (p + 2) (to_be_bytes w32 (half z))) (same_distance base p address offset)
-    ∙ ap (λ l. stored l (p + 2) (to_be_bytes w32 (half distance))) old
+    ap (λ z. with_bytes_at (earlier ++ (bytes_of (ril_b opcode register 0) ++ later)) (p + 2) (to_be_bytes w32 (half z))) (same_distance base p address offset)
+    ∙ ap (λ l. with_bytes_at l (p + 2) (to_be_bytes w32 (half distance))) old
     ∙ stored_between (earlier ++ head) (to_be_bytes w32 0) (to_be_bytes w32 (half distance)) later (p + 2) at refl
     ∙ new
 
@@ -80,17 +80,17 @@ jump_bytes half = refl
 
 -- the field of a call of a symbol, or of a jump to it
 call_filled : (base : ℕ) (table : Symbols) (link : Option ℕ) (p : ℕ) (name : ExternalName) (earlier later : List ℕ) → p ≡ length earlier →
-    filled base table (record { offset = p + 2; kind = S390xPLTRel32Dbl; name = name; addend = pos 2 } ∷ []) (earlier ++ (bytes_of (symbol_call link 0) ++ later))
+    with_fields_filled base table (record { offset = p + 2; kind = S390xPLTRel32Dbl; name = name; addend = pos 2 } ∷ []) (earlier ++ (bytes_of (symbol_call link 0) ++ later))
     ≡ earlier ++ (bytes_of (symbol_call link (symbol_distance base table p name (pos 0))) ++ later)
 call_filled base table (Some link) p name earlier later e = relative_filled base table opcodes.BRASL link p name (pos 0) earlier later e
 call_filled base table None p name earlier later e =
     let r : RelocEntry = record { offset = p + 2; kind = S390xPLTRel32Dbl; name = name; addend = pos 2 } in
-    ap (λ bs. filled base table (r ∷ []) (earlier ++ (bs ++ later))) (jump_bytes 0)
+    ap (λ bs. with_fields_filled base table (r ∷ []) (earlier ++ (bs ++ later))) (jump_bytes 0)
     ∙ relative_filled base table opcodes.BRCL 15 p name (pos 0) earlier later e
     ∙ ap (λ bs. earlier ++ (bs ++ later)) (sym (jump_bytes (symbol_distance base table p name (pos 0))))
 
 module _ (base : ℕ) (table : Symbols) (ts : List Tree) (cs : List Constant) where
-  part_filled : (part : CodePart) (p : ℕ) (earlier later : List ℕ) → p ≡ length earlier → filled base table (part_relocs p part) (earlier ++ (part_bytes (offsets (unlinked ts cs) ts) p part ++ later)) ≡ earlier ++ (part_bytes (offsets (linked table base ts cs) ts) p part ++ later)
+  part_filled : (part : CodePart) (p : ℕ) (earlier later : List ℕ) → p ≡ length earlier → with_fields_filled base table (part_relocs p part) (earlier ++ (part_bytes (offsets (unlinked_environment ts cs) ts) p part ++ later)) ≡ earlier ++ (part_bytes (offsets (linked_environment table base ts cs) ts) p part ++ later)
   part_filled (Row m) p earlier later e = refl
   part_filled (Trapping m byte code) p earlier later e = refl
   part_filled (Branch mask (ToBlock b)) p earlier later e = refl
@@ -106,44 +106,44 @@ module _ (base : ℕ) (table : Symbols) (ts : List Tree) (cs : List Constant) wh
   part_filled (TableWord before (ToStep k)) p earlier later e = refl
   part_filled (SymbolValue name offset) p earlier later e = stored_between earlier (to_be_bytes w64 0) (to_be_bytes w64 (symbol_value table name offset)) later p e refl
 
-  parts_filled : (parts : List CodePart) (p : ℕ) (earlier later : List ℕ) → p ≡ length earlier → filled base table (parts_relocs p parts) (earlier ++ (parts_bytes (offsets (unlinked ts cs) ts) p parts ++ later)) ≡ earlier ++ (parts_bytes (offsets (linked table base ts cs) ts) p parts ++ later)
+  parts_filled : (parts : List CodePart) (p : ℕ) (earlier later : List ℕ) → p ≡ length earlier → with_fields_filled base table (parts_relocs p parts) (earlier ++ (parts_bytes (offsets (unlinked_environment ts cs) ts) p parts ++ later)) ≡ earlier ++ (parts_bytes (offsets (linked_environment table base ts cs) ts) p parts ++ later)
   parts_filled [] p earlier later e = refl
   parts_filled (part ∷ parts) p earlier later e =
       let q = p + part_size part in
-      let old = part_bytes (offsets (unlinked ts cs) ts) p part in
-      let new = part_bytes (offsets (linked table base ts cs) ts) p part in
-      let old_rest = parts_bytes (offsets (unlinked ts cs) ts) q parts in
-      let new_rest = parts_bytes (offsets (linked table base ts cs) ts) q parts in
-      let at : q ≡ length (earlier ++ new) = omega (arith, e, length-append earlier new, part_length (offsets (linked table base ts cs) ts) p part) in
+      let old = part_bytes (offsets (unlinked_environment ts cs) ts) p part in
+      let new = part_bytes (offsets (linked_environment table base ts cs) ts) p part in
+      let old_rest = parts_bytes (offsets (unlinked_environment ts cs) ts) q parts in
+      let new_rest = parts_bytes (offsets (linked_environment table base ts cs) ts) q parts in
+      let at : q ≡ length (earlier ++ new) = omega (arith, e, length-append earlier new, part_length (offsets (linked_environment table base ts cs) ts) p part) in
       let rs = parts_relocs q parts in
       filled_append base table (part_relocs p part) rs (earlier ++ ((old ++ old_rest) ++ later))
-      ∙ ap (λ l. filled base table rs (filled base table (part_relocs p part) (earlier ++ l))) (append_assoc old old_rest later)
-      ∙ ap (filled base table rs) (part_filled part p earlier (old_rest ++ later) e)
-      ∙ ap (filled base table rs) (sym (append_assoc earlier new (old_rest ++ later)))
+      ∙ ap (λ l. with_fields_filled base table rs (with_fields_filled base table (part_relocs p part) (earlier ++ l))) (append_assoc old old_rest later)
+      ∙ ap (with_fields_filled base table rs) (part_filled part p earlier (old_rest ++ later) e)
+      ∙ ap (with_fields_filled base table rs) (sym (append_assoc earlier new (old_rest ++ later)))
       ∙ parts_filled parts q (earlier ++ new) later at
       ∙ append_assoc earlier new (new_rest ++ later)
       ∙ ap (λ l. earlier ++ l) (sym (append_assoc new new_rest later))
 
   steps_filled : (ss : List Step) (k : ℕ) (earlier later : List ℕ) → step_offset (function_steps ts) k ≡ length earlier → StepsFollow (step_offset (function_steps ts)) k ss →
-      filled base table (relocs_from (step_offset (function_steps ts)) k ss) (earlier ++ (code (offsets (unlinked ts cs) ts) k ss ++ later)) ≡ earlier ++ (code (offsets (linked table base ts cs) ts) k ss ++ later)
+      with_fields_filled base table (relocs_from (step_offset (function_steps ts)) k ss) (earlier ++ (code (offsets (unlinked_environment ts cs) ts) k ss ++ later)) ≡ earlier ++ (code (offsets (linked_environment table base ts cs) ts) k ss ++ later)
   steps_filled [] k earlier later e follow = refl
   steps_filled (s ∷ ss) k earlier later e follow =
       let p = step_offset (function_steps ts) k in
-      let old = step_bytes (offsets (unlinked ts cs) ts) p s in
-      let new = step_bytes (offsets (linked table base ts cs) ts) p s in
-      let old_rest = code (offsets (unlinked ts cs) ts) (k + 1) ss in
-      let new_rest = code (offsets (linked table base ts cs) ts) (k + 1) ss in
-      let at : step_offset (function_steps ts) (k + 1) ≡ length (earlier ++ new) = omega (arith, follow.0, e, length-append earlier new, step_length (offsets (linked table base ts cs) ts) p s) in
+      let old = step_bytes (offsets (unlinked_environment ts cs) ts) p s in
+      let new = step_bytes (offsets (linked_environment table base ts cs) ts) p s in
+      let old_rest = code (offsets (unlinked_environment ts cs) ts) (k + 1) ss in
+      let new_rest = code (offsets (linked_environment table base ts cs) ts) (k + 1) ss in
+      let at : step_offset (function_steps ts) (k + 1) ≡ length (earlier ++ new) = omega (arith, follow.0, e, length-append earlier new, step_length (offsets (linked_environment table base ts cs) ts) p s) in
       let rs = relocs_from (step_offset (function_steps ts)) (k + 1) ss in
       filled_append base table (step_relocs p s) rs (earlier ++ ((old ++ old_rest) ++ later))
-      ∙ ap (λ l. filled base table rs (filled base table (step_relocs p s) (earlier ++ l))) (append_assoc old old_rest later)
-      ∙ ap (filled base table rs) (parts_filled (step_parts s) p earlier (old_rest ++ later) e)
-      ∙ ap (filled base table rs) (sym (append_assoc earlier new (old_rest ++ later)))
+      ∙ ap (λ l. with_fields_filled base table rs (with_fields_filled base table (step_relocs p s) (earlier ++ l))) (append_assoc old old_rest later)
+      ∙ ap (with_fields_filled base table rs) (parts_filled (step_parts s) p earlier (old_rest ++ later) e)
+      ∙ ap (with_fields_filled base table rs) (sym (append_assoc earlier new (old_rest ++ later)))
       ∙ steps_filled ss (k + 1) (earlier ++ new) later at follow.1
       ∙ append_assoc earlier new (new_rest ++ later)
       ∙ ap (λ l. earlier ++ l) (sym (append_assoc new new_rest later))
 
-  pub function_filled : (constants : List ℕ) → filled base table (function_relocs ts) (function_code (unlinked ts cs) ts ++ constants) ≡ function_code (linked table base ts cs) ts ++ constants
+  pub function_filled : (constants : List ℕ) → with_fields_filled base table (function_relocs ts) (function_code (unlinked_environment ts cs) ts ++ constants) ≡ function_code (linked_environment table base ts cs) ts ++ constants
   function_filled constants = steps_filled (function_steps ts) 0 [] constants (place_zero (function_steps ts)) (place_follows (function_steps ts))
 
 -- linking leaves the length
@@ -183,7 +183,7 @@ pub relocs_lie : (ts : List Tree) (cs : List Constant) (f : MachBufferFinalized)
 relocs_lie ts cs f image =
     let ss = function_steps ts in
     let constants = constant_bytes (blocks_size ts) cs in
-    let code = function_code (unlinked ts cs) ts in
+    let code = function_code (unlinked_environment ts cs) ts in
     let n = length f.bytes.items in
-    let size : total ss ≤ n = omega (arith, ap length image.bytes, length-append code constants, code_length (offsets (unlinked ts cs) ts) 0 ss) in
+    let size : total ss ≤ n = omega (arith, ap length image.bytes, length-append code constants, code_length (offsets (unlinked_environment ts cs) ts) 0 ss) in
     subst (All (LiesIn n)) (sym image.relocs) (steps_lie (step_offset ss) 0 n ss (place_follows ss) (omega (arith, place_zero ss)))

@@ -8,11 +8,11 @@ use Rattle.s390x_inst.specs.declared.state.IsaFlags.{IsaFlags}
 use Rattle.s390x_base.specs.declared.error.EmitError.{EmitError}
 use Rattle.s390x_base.specs.declared.error.EmitError.TheVariants.{LabelOutOfRange, UnboundLabel, Failed, NoMemory}
 use Rattle.s390x_buffer.specs.State.{BufferState, Constant, fresh_buffer, limit, all_aligned, new_cause}
-use Rattle.s390x_buffer.specs.Patch.{first_use_cause as first_use, bound_offset, offset_of_label, is_bound, word_from, flipped, sum_fits, is_in_reach, can_patch, use_cause, uses_cause, patch, patch_size, patch_use}
+use Rattle.s390x_buffer.specs.Patch.{first_use_cause as first_use, bound_offset, offset_of_label, is_bound, word_from, biased_word, sum_fits, is_in_reach, can_patch, use_cause, uses_cause, patch, patch_size, patch_use}
 use Rattle.s390x_buffer.specs.Branches.{field_end}
 use Rattle.s390x_buffer.proofs.Branching.{patch_other}
 use Rattle.s390x_buffer.specs.Constants.{constant_starts, constant_bytes, constants_end}
-use Rattle.s390x_buffer.specs.Finish.{final_labels, finished_length, starts_of_constants, unpatched, length_cause as long_cause, patch_cause, FailsWithEither, finish_cause}
+use Rattle.s390x_buffer.specs.Finish.{final_labels, finished_length, starts_of_constants, unpatched_bytes, length_cause as long_cause, patch_cause, FailsWithEither, finish_cause}
 use Rattle.s390x_buffer.specs.declared.entries.LabelFixup.{LabelFixup}
 use Rattle.s390x_buffer.specs.declared.label_use.LabelUse.{LabelUse}
 use Rattle.s390x_buffer.specs.declared.label_use.LabelUse.TheVariants.{BranchRI, BranchRIL, PCRel32, PCRel32Dbl}
@@ -62,9 +62,9 @@ use_reaches PCRel32 place target bs bears even_place even_target near within sho
     let up : nat_le target (place + 2147483647) ≡ true = le-leb target (place + 2147483647) (omega arith) in
     let down : nat_le place (target + 2147483648) ≡ true = le-leb place (target + 2147483648) (omega arith) in
     let inside : nat_le (place + 4) (length bs) ≡ true = le-leb (place + 4) (length bs) within in
-    let whole : flipped w ≡ w + 2147483648 = omega (arith, bears) in
-    let low : nat_le place (flipped w + target) ≡ true = le-leb place (flipped w + target) (omega (arith, whole)) in
-    let high : nat_lt (flipped w + target) (place + 4294967296) ≡ true = lt-ltb (flipped w + target) (place + 4294967296) (omega (arith, whole, bears)) in
+    let whole : biased_word w ≡ w + 2147483648 = omega (arith, bears) in
+    let low : nat_le place (biased_word w + target) ≡ true = le-leb place (biased_word w + target) (omega (arith, whole)) in
+    let high : nat_lt (biased_word w + target) (place + 4294967296) ≡ true = lt-ltb (biased_word w + target) (place + 4294967296) (omega (arith, whole, bears)) in
     let reach : is_in_reach PCRel32 place target ≡ true = and_from _ _ even (and_from _ _ up down) in
     and_from (is_in_reach PCRel32 place target) _ reach (and_from (sum_fits PCRel32 w place target) _ (and_from _ _ low high) inside)
 use_reaches PCRel32Dbl place target bs bears even_place even_target near within short = absurd bears
@@ -185,9 +185,9 @@ can_finish flags ts cs u0 is passes =
     let sound : AllSound May b 0 ps = function_sound May ts n 0 b (length cs) names (λ l lt. omega arith) (λ c lt. omega arith) (λ l lo hi. hi) (omega arith) in
     let begins : Orderly May s0 = record { even = refl; labels = All-replicate (Stands 0) n None tt; uses = tt } in
     let orderly : Orderly May u = orderly_run May ps s0 b 0 refl (omega arith) sound begins in
-    let full : length (unpatched u) ≡ finished_length u = length-append u.bytes (constant_bytes (length u.bytes) u.constants) ∙ length-constant_bytes (length u.bytes) u.constants in
-    let far : length u.bytes ≤ length (unpatched u) = omega (arith, length-append u.bytes (constant_bytes (length u.bytes) u.constants)) in
-    let short : length (unpatched u) < limit = omega (arith, full, ends, below) in
+    let full : length (unpatched_bytes u) ≡ finished_length u = length-append u.bytes (constant_bytes (length u.bytes) u.constants) ∙ length-constant_bytes (length u.bytes) u.constants in
+    let far : length u.bytes ≤ length (unpatched_bytes u) = omega (arith, length-append u.bytes (constant_bytes (length u.bytes) u.constants)) in
+    let short : length (unpatched_bytes u) < limit = omega (arith, full, ends, below) in
     let near : length u.bytes < limit = omega arith in
     let starts : length (starts_of_constants u) ≡ length cs = length-starts (length u.bytes) u.constants ∙ ap length same.constants in
     let held : u.block_count ≡ b = same.block_count in
@@ -214,7 +214,7 @@ can_finish flags ts cs u0 is passes =
     ] in
     let done : CanFinish u = record {
       short = ap (λ f. cond f (Some Failed) (cond (nat_lt (finished_length u) limit) None (Some LabelOutOfRange))) same.is_poisoned ∙ ap (λ t. cond t None (Some LabelOutOfRange)) (lt-ltb (finished_length u) limit (omega (arith, ends, below)));
-      patched = uses_fine May (final_labels u) u.uses 0 (unpatched u) named (uses_still May u.uses 0 0 u.bytes (unpatched u) (same_append 0 u.bytes (constant_bytes (length u.bytes) u.constants)) (omega arith) orderly.uses) short;
+      patched = uses_fine May (final_labels u) u.uses 0 (unpatched_bytes u) named (uses_still May u.uses 0 0 u.bytes (unpatched_bytes u) (same_append 0 u.bytes (constant_bytes (length u.bytes) u.constants)) (omega arith) orderly.uses) short;
     } in
     subst CanFinish (sym is) done
 

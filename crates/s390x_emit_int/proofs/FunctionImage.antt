@@ -5,7 +5,7 @@ use Rattle.s390x_inst.specs.declared.function.AllocatedFunction.{AllocatedFuncti
 use Rattle.s390x_inst.specs.declared.state.IsaFlags.{IsaFlags}
 use Rattle.s390x_buffer.specs.declared.entries.MachBufferFinalized.{MachBufferFinalized}
 use Rattle.s390x_image.specs.Causes.{link_cause}
-use Rattle.s390x_image.specs.Fields.{filled}
+use Rattle.s390x_image.specs.Fields.{with_fields_filled}
 use Rattle.s390x_image.specs.Symbols.{Symbols}
 use Rattle.s390x_image.specs.declared.error.LinkError.{LinkError}
 use Rattle.s390x_image.specs.declared.error.LinkError.TheVariants.{NoMemory}
@@ -17,7 +17,7 @@ use Rattle.s390x_emit_int.specs.Headline.{RunsAsTyped}
 use Rattle.s390x_emit_int.proofs.Linked.{runs_as_typed}
 
 module _ (flags : IsaFlags) (state : Emission) (f : AllocatedFunction) (base : ℕ) (symbols : Symbols) (code : MachBufferFinalized) where
-  pub image_of : (bytes : List ℕ) → function_cause flags (trees_of flags state f) (constants_of f) state ≡ None → IsFinishedCode (folded_trees_of flags state f) (constants_of f) code → BlocksInRange (trees_of flags state f) → link_cause code base symbols ≡ None → bytes ≡ filled base symbols code.relocs.items code.bytes.items → IsImageOf flags state f base symbols bytes
+  pub image_of : (bytes : List ℕ) → function_cause flags (trees_of flags state f) (constants_of f) state ≡ None → IsFinishedCode (folded_trees_of flags state f) (constants_of f) code → BlocksInRange (trees_of flags state f) → link_cause code base symbols ≡ None → bytes ≡ with_fields_filled base symbols code.relocs.items code.bytes.items → IsImageOf flags state f base symbols bytes
   image_of bytes valid finished ranges linked is = record {
     code = code;
     valid = valid;

@@ -17,7 +17,7 @@ use Rattle.s390x_typed_steps.specs.Ranges.{AllInRange, BlocksInRange}
 use Rattle.s390x_emit_int.specs.Room.{HasRoom}
 use Rattle.s390x_inst.specs.declared.inst.Inst.{Inst}
 use Rattle.s390x_typed_steps.specs.Steps.{function_steps, first_step}
-use Rattle.s390x_typed_steps.specs.Image.{step_offset, offsets, constant_offset, unlinked, function_code}
+use Rattle.s390x_typed_steps.specs.Image.{step_offset, offsets, constant_offset, unlinked_environment, function_code}
 use Rattle.s390x_typed_steps.specs.Folding.{folded_before, next_block, folded_from}
 use Rattle.s390x_typed_steps.specs.Sizes.{blocks_size}
 use Rattle.s390x_typed_steps.specs.Causes.{declared_of, fresh_labels, blocks_cause}
@@ -105,13 +105,13 @@ pub length-starts : (n : ℕ) (cs : List Constant) → length (constant_starts n
 length-starts n [] = refl
 length-starts n (c ∷ cs) = ap suc (length-starts (constant_start n c + length c.bytes) cs)
 
-code_is : (ts : List Tree) (cs : List Constant) (off : ℕ → ℕ) (n : ℕ) → ((l : ℕ) → l < length ts → off l ≡ (offsets (unlinked ts cs) ts).block l) → ((c : ℕ) → c < length cs → off (length ts + c) ≡ constant_offset ts cs c) →
-    TreesName (length ts) (length cs) ts → AllBound off n 0 (step_offset (function_steps ts) 0) ts → resolve (length ts) off 0 (function_fragments n 0 ts) ≡ function_code (unlinked ts cs) ts
+code_is : (ts : List Tree) (cs : List Constant) (off : ℕ → ℕ) (n : ℕ) → ((l : ℕ) → l < length ts → off l ≡ (offsets (unlinked_environment ts cs) ts).block l) → ((c : ℕ) → c < length cs → off (length ts + c) ≡ constant_offset ts cs c) →
+    TreesName (length ts) (length cs) ts → AllBound off n 0 (step_offset (function_steps ts) 0) ts → resolve (length ts) off 0 (function_fragments n 0 ts) ≡ function_code (unlinked_environment ts cs) ts
 code_is [] cs off n agree held names bound = refl
 code_is (t ∷ ts) cs off n agree held names bound =
     let all = function_steps (t ∷ ts) in
     ap (λ m. resolve (length (t ∷ ts)) off m (function_fragments n 0 (t ∷ ts))) (sym (place_zero all))
-    ∙ function_join (t ∷ ts) off (offsets (unlinked (t ∷ ts) cs) (t ∷ ts)) (length (t ∷ ts)) (length cs) n 0 0 (agree, held, λ name offset. refl, λ p name offset. refl) names bound (place_follows all) bound.0
+    ∙ function_join (t ∷ ts) off (offsets (unlinked_environment (t ∷ ts) cs) (t ∷ ts)) (length (t ∷ ts)) (length cs) n 0 0 (agree, held, λ name offset. refl, λ p name offset. refl) names bound (place_follows all) bound.0
 
 -- what was emitted, as one buffer has it
 pub record Emitted (flags : IsaFlags) (ts : List Tree) (cs : List Constant) (u : BufferState) : Type 0 where
@@ -140,7 +140,7 @@ image_of flags ts cs u0 f emitted fin0 =
     let tells : (l : ℕ) → n ≤ l → l < length u.labels → off l ≡ offset_of_label u.labels l = λ l lo hi. let le : u.block_count + length (starts_of_constants u) ≤ l = omega arith in ap bound_offset (high_label u.block_count (starts_of_constants u) u.labels l le enough) in
     let bound0 : AllBound off n 0 0 ts = all_bound ts s0 n 0 off (sym drawn) (omega arith) blocks tells in
     let bound : AllBound off n 0 (at 0) ts = subst (λ m. AllBound off n 0 m ts) (sym (place_zero all)) bound0 in
-    let agree : (l : ℕ) → l < b → off l ≡ (offsets (unlinked ts cs) ts).block l = λ l h. ap off (sym (zero-add l)) ∙ block_at ts off at n 0 0 l bound follow h ∙ ap at (zero-add (first_step ts l)) in
+    let agree : (l : ℕ) → l < b → off l ≡ (offsets (unlinked_environment ts cs) ts).block l = λ l h. ap off (sym (zero-add l)) ∙ block_at ts off at n 0 0 l bound follow h ∙ ap at (zero-add (first_step ts l)) in
     let wide : Wide ps = function_wide ts n 0 in
     let within : UsesWithin (length u.bytes) u.uses = within_run ps s0 tt wide in
     let size : length u.bytes ≡ blocks_size ts = bytes_run ps s0 ∙ omega (arith, function_put ts n 0) in
@@ -150,7 +150,7 @@ image_of flags ts cs u0 f emitted fin0 =
     ∙ ap (λ m. get_or (constant_starts m u.constants) c 0) size
     ∙ ap (λ x. get_or (constant_starts (blocks_size ts) x) c 0) same.constants in
     let names : TreesName b (length cs) ts = subst (λ k. TreesName b k ts) (length-map cs (λ (c : Constant). c.align)) (all_names flags (declared_of ts cs) n ts emitted.checked) in
-    let code = function_code (unlinked ts cs) ts in
+    let code = function_code (unlinked_environment ts cs) ts in
     let body : patched off u ≡ code = patched_run ps s0 off tt wide ∙ code_is ts cs off n agree held names bound in
     let sized : length code ≡ blocks_size ts = ap length (sym body) ∙ length-patch_all off u.uses u.bytes ∙ size in
     let whole : f.bytes.items ≡ code ++ constant_bytes (blocks_size ts) cs = fin.bytes ∙ all_left off u.uses u.bytes (constant_bytes (length u.bytes) u.constants) within ∙ ap (λ l. l ++ constant_bytes (length u.bytes) u.constants) body ∙ ap (λ m. code ++ constant_bytes m u.constants) size ∙ ap (λ x. code ++ constant_bytes (blocks_size ts) x) same.constants in

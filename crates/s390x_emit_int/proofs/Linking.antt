@@ -10,7 +10,7 @@ use Rattle.s390x_buffer.specs.declared.entries.MachBufferFinalized.{MachBufferFi
 use Rattle.s390x_buffer.specs.declared.entries.RelocEntry.{RelocEntry}
 use Rattle.s390x_buffer.proofs.Placing.{length-constant_bytes}
 use Rattle.s390x_image.specs.Causes.{first_link_cause as first_link, base_cause, reloc_cause, relocs_cause, link_cause}
-use Rattle.s390x_image.specs.Fields.{filled}
+use Rattle.s390x_image.specs.Fields.{with_fields_filled}
 use Rattle.s390x_image.specs.Values.{symbol_value, symbol_distance}
 use Rattle.s390x_image.specs.ReadingBack.{distance_leads, call_leads}
 use Rattle.s390x_image.specs.Symbols.{Symbols}
@@ -25,13 +25,13 @@ use Rattle.s390x_typed_steps.specs.Tree.{Tree}
 use Rattle.s390x_typed_steps.specs.Steps.{Step, step_count, steps_of, steps_from, function_steps}
 use Rattle.s390x_typed_steps.specs.Parts.{CodePart, RelativeSymbol, part_size, parts_size, step_parts, CallSymbol}
 use Rattle.s390x_typed_steps.specs.Rows.{LinkEnvironment}
-use Rattle.s390x_typed_steps.specs.Image.{step_offset, offsets, unlinked, function_code}
+use Rattle.s390x_typed_steps.specs.Image.{step_offset, offsets, unlinked_environment, function_code}
 use Rattle.s390x_typed_steps.specs.Relocs.{part_relocs, parts_relocs, step_relocs, relocs_from, function_relocs}
 use Rattle.s390x_typed_steps.specs.Sizes.{blocks_size}
 use Rattle.s390x_typed_steps.specs.Causes.{aligns_of}
 use Rattle.s390x_emit_int.specs.Bound.{StepsFollow}
 use Rattle.s390x_emit_int.specs.Function.{IsFinishedCode}
-use Rattle.s390x_emit_int.specs.Headline.{linked}
+use Rattle.s390x_emit_int.specs.Headline.{linked_environment}
 use Rattle.s390x_emit_int.proofs.Constants.{IsAlignment, byte, halfword, word, doubleword, quadword, alignment_of, aligned_constants, starts_of, greatest_ge}
 use Rattle.s390x_emit_int.proofs.Filling.{function_filled, linked_length, code_length}
 use Rattle.s390x_emit_int.proofs.Functions.{place_follows, place_zero}
@@ -142,7 +142,7 @@ module _ (symbols : Symbols) (base : ℕ) where
 
   module _ (ts : List Tree) (cs : List Constant) (bytes : List ℕ) where
     abbrev here : Layout
-    here = function_layout (linked symbols base ts cs) ts (record { base = base; bytes = bytes })
+    here = function_layout (linked_environment symbols base ts cs) ts (record { base = base; bytes = bytes })
 
     part_reaches : (part : CodePart) (p : ℕ) → base + (p + part_size part) ≤ 2 ^ 64 → relocs_cause base symbols (part_relocs p part) ≡ None → PartReaches here p part
     part_reaches (RelativeSymbol opcode register name offset) p room h =
@@ -200,17 +200,17 @@ abbrev pub AllFolded : LinkEnvironment → List Tree → CodeImage → Type 0
 AllFolded environment ts image = (k : ℕ) (s : Step) → slice_get (function_steps ts) k ≡ Some s → IsFoldedRight (function_layout environment ts image) k s
 
 -- linked code stands as the machine layer asks, where each step is fine
-pub stands_as_code : (ts : List Tree) (cs : List Constant) (f : MachBufferFinalized) (base : ℕ) (symbols : Symbols) → new_cause (length ts) cs ≡ None → IsFinishedCode ts cs f → link_cause f base symbols ≡ None → ((image : CodeImage) → AllValid (linked symbols base ts cs) ts image) → ((image : CodeImage) → AllFolded (linked symbols base ts cs) ts image) →
-    StandsAsCode (linked symbols base ts cs) ts (record { base = base; bytes = filled base symbols f.relocs.items f.bytes.items })
+pub stands_as_code : (ts : List Tree) (cs : List Constant) (f : MachBufferFinalized) (base : ℕ) (symbols : Symbols) → new_cause (length ts) cs ≡ None → IsFinishedCode ts cs f → link_cause f base symbols ≡ None → ((image : CodeImage) → AllValid (linked_environment symbols base ts cs) ts image) → ((image : CodeImage) → AllFolded (linked_environment symbols base ts cs) ts image) →
+    StandsAsCode (linked_environment symbols base ts cs) ts (record { base = base; bytes = with_fields_filled base symbols f.relocs.items f.bytes.items })
 stands_as_code ts cs f base symbols declared image links valid_steps folded_steps =
     let ss = function_steps ts in
     let constants = constant_bytes (blocks_size ts) cs in
-    let environment = linked symbols base ts cs in
-    let before = function_code (unlinked ts cs) ts in
-    let code : CodeImage = record { base = base; bytes = filled base symbols f.relocs.items f.bytes.items } in
-    let is : code.bytes ≡ function_code environment ts ++ constants = ap (λ rs. filled base symbols rs f.bytes.items) image.relocs ∙ ap (filled base symbols (function_relocs ts)) image.bytes ∙ function_filled base symbols ts cs constants in
-    let size : length code.bytes ≡ length f.bytes.items = ap length is ∙ linked_length (unlinked ts cs) environment ts constants ∙ ap length (sym image.bytes) in
-    let whole : length f.bytes.items ≡ total ss + length constants = ap length image.bytes ∙ length-append before constants ∙ ap (λ n. n + length constants) (code_length (offsets (unlinked ts cs) ts) 0 ss) in
+    let environment = linked_environment symbols base ts cs in
+    let before = function_code (unlinked_environment ts cs) ts in
+    let code : CodeImage = record { base = base; bytes = with_fields_filled base symbols f.relocs.items f.bytes.items } in
+    let is : code.bytes ≡ function_code environment ts ++ constants = ap (λ rs. with_fields_filled base symbols rs f.bytes.items) image.relocs ∙ ap (with_fields_filled base symbols (function_relocs ts)) image.bytes ∙ function_filled base symbols ts cs constants in
+    let size : length code.bytes ≡ length f.bytes.items = ap length is ∙ linked_length (unlinked_environment ts cs) environment ts constants ∙ ap length (sym image.bytes) in
+    let whole : length f.bytes.items ≡ total ss + length constants = ap length image.bytes ∙ length-append before constants ∙ ap (λ n. n + length constants) (code_length (offsets (unlinked_environment ts cs) ts) 0 ss) in
     let ends : length code.bytes ≡ constants_end (blocks_size ts) cs = size ∙ whole ∙ ap (λ n. n + length constants) (blocks_total ts 0) ∙ length-constant_bytes (blocks_size ts) cs in
     let aligned : all_aligned cs ≡ true = aligned_constants _ _ _ declared in
     let causes = base_cause f.alignment (length f.bytes.items) base in

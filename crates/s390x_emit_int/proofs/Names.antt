@@ -20,7 +20,7 @@ use Rattle.s390x_inst.specs.declared.args.MemArg.TheVariants.{BXD12, BXD20, RegO
 use Rattle.s390x_inst.specs.declared.inst.Inst.TheVariants.{Mov64SImm32, LoadAddr, Jump, CondBr, IndirectBr, Ret, JTSequence, LabelAddress, LoadSymbolReloc, Trap, TrapIf, Debugtrap, Vector}
 use Rattle.s390x_typed_steps.specs.Tree.{Tree, empty, leaf, loop_node, NothingLeft, BranchLeft, Whole, Loaded, Folded, StepBody, CallStep, NoLoad, TailOpening, TailJump}
 use Rattle.s390x_typed_steps.specs.MachineInstruction.{MachineInstruction}
-use Rattle.s390x_typed_steps.specs.Operands.{Finalized, finalized, displaced, addressed, widened, needs_address, scratch, no_register, is_relative, has_form, operand_general, fits_12, fits_20, fits_32}
+use Rattle.s390x_typed_steps.specs.Operands.{Finalized, finalized_operand, with_displacement, with_address_loaded, with_long_displacement, needs_address, scratch, no_register, is_relative, has_form, operand_general, fits_12, fits_20, fits_32}
 use Rattle.s390x_typed_steps.specs.declared.mem_inst_type.MemInstType.{MemInstType}
 use Rattle.s390x_typed_steps.specs.VectorComposite.{composite_rows}
 use Rattle.s390x_typed_steps.specs.Parts.{CodePart, parts_or, memory_or, memory_parts, trap_here, relative_part, relative_parts, access_parts, operand_parts, helper_parts, helpers_parts, instruction_parts, table_words, row_parts, call_part, tail_part, site_parts}
@@ -58,7 +58,7 @@ module _ (D : Declared) where
   either_bound true x y h k = h
   either_bound false x y h k = k
 
-  displaced_bound : (m : MemArg) → bound_cause D m ≡ None → FinalBound (displaced m)
+  displaced_bound : (m : MemArg) → bound_cause D m ≡ None → FinalBound (with_displacement m)
   displaced_bound (RegOffset reg off flags) h =
       either_bound (fits_12 off) _ _ (record { helpers = tt; operand = refl })
       (either_bound (fits_20 off) _ _ (record { helpers = tt; operand = refl })
@@ -69,7 +69,7 @@ module _ (D : Declared) where
   one_more_bound [] i h k = (k, tt)
   one_more_bound (j ∷ is) i h k = (h.0, one_more_bound is i h.1 k)
 
-  addressed_bound : (mi : MemInstType) (f : Finalized) → FinalBound f → FinalBound (addressed mi f)
+  addressed_bound : (mi : MemInstType) (f : Finalized) → FinalBound f → FinalBound (with_address_loaded mi f)
   addressed_bound mi f h =
       either_bound (needs_address mi f.operand) (record { helpers = f.helpers ++ LoadAddr scratch f.operand ∷ []; operand = BXD12 scratch no_register 0 (flags_of f.operand) }) f
       (record { helpers = one_more_bound f.helpers (LoadAddr scratch f.operand) h.helpers h.operand; operand = refl }) h
@@ -78,14 +78,14 @@ module _ (D : Declared) where
   either_operand true x y h k = h
   either_operand false x y h k = k
 
-  widened_operand : (mi : MemInstType) (m : MemArg) → bound_cause D m ≡ None → bound_cause D (widened mi m) ≡ None
+  widened_operand : (mi : MemInstType) (m : MemArg) → bound_cause D m ≡ None → bound_cause D (with_long_displacement mi m) ≡ None
   widened_operand mi (BXD12 base index disp flags) h = either_operand (not mi.have_d12 && mi.have_d20) (BXD20 base index (pos disp) flags) (BXD12 base index disp flags) refl refl
   widened_operand mi m h = h
 
-  final_bound : (mi : MemInstType) (m : MemArg) → bound_cause D m ≡ None → FinalBound (finalized mi m)
+  final_bound : (mi : MemInstType) (m : MemArg) → bound_cause D m ≡ None → FinalBound (finalized_operand mi m)
   final_bound mi m h =
-      let f = addressed_bound mi (displaced m) (displaced_bound m h) in
-      record { helpers = f.helpers; operand = widened_operand mi (addressed mi (displaced m)).operand f.operand }
+      let f = addressed_bound mi (with_displacement m) (displaced_bound m h) in
+      record { helpers = f.helpers; operand = widened_operand mi (with_address_loaded mi (with_displacement m)).operand f.operand }
 
   -- the same of parts
   abbrev Named : List CodePart → Type 0
@@ -129,7 +129,7 @@ module _ (D : Declared) where
   memory_named : (x : MemoryInstruction) → memory_cause D x ≡ None → Named (memory_parts x)
   memory_named x h =
       let placed = first_right (late_cause x) _ (first_right (unless (x.operands_valid && operand_general x.operand) BadRegister) _ (first_right (unless (has_form (type_of x.form x.accesses) x.operand) BadOperator) _ h)) in
-      let f = finalized (type_of x.form x.accesses) x.operand in
+      let f = finalized_operand (type_of x.form x.accesses) x.operand in
       let b = final_bound (type_of x.form x.accesses) x.operand (first_left _ _ placed) in
       names_append D.blocks (length D.aligns) (helpers_parts f.helpers) (operand_parts x.form (fault_code x) f.operand) (helpers_named f.helpers b.helpers) (operand_named x.form (fault_code x) f.operand b.operand)
 

@@ -35,7 +35,7 @@ use Rattle.s390x_typed_steps.specs.VectorComposite.{composite_rows}
 use Rattle.s390x_typed_steps.specs.Parts.{CodePart, Row, Trapping, Branch, Relative, RelativeConstant, RelativeSymbol, TableWord, ToBlock, ToStep, table_words, branch_parts, row_part, parts_or, instruction_parts, memory_or, memory_parts}
 use Rattle.s390x_typed_steps.specs.Parts.{trap_here, relative_part, relative_parts, access_parts, operand_parts, helper_parts, helpers_parts, SymbolValue, TrapHere, row_parts, CallSymbol, SiteHere, step_parts, call_part, tail_part, site_parts}
 use Rattle.s390x_typed_steps.specs.Memory.{StorageForm, RxForm, MemoryInstruction, memory, loaded_memory, type_of, storage_row, address_form, fault_code}
-use Rattle.s390x_typed_steps.specs.Operands.{is_relative, finalized}
+use Rattle.s390x_typed_steps.specs.Operands.{is_relative, finalized_operand}
 use Rattle.s390x_emit_int.specs.Fragments.{Fragment, apply, apply_all, Put, PutTrapping, Link, LinkConstant, StartStep, Draw, Bind, PutReloc, AddSite, RecordBranch}
 use Rattle.s390x_emit_int.specs.Emission.{part_fragments, leaf_fragments, back_fragments, fragments, function_fragments, body_fragments}
 use Rattle.s390x_emit_int.specs.Resolve.{put_length}
@@ -228,7 +228,7 @@ helpers_wordless (i ∷ is) = wordless_append (helper_parts i) (helpers_parts is
 
 memory_wordless : (x : MemoryInstruction) → NoWords (memory_parts x)
 memory_wordless x =
-    let f = finalized (type_of x.form x.accesses) x.operand in
+    let f = finalized_operand (type_of x.form x.accesses) x.operand in
     wordless_append (helpers_parts f.helpers) (operand_parts x.form (fault_code x) f.operand) (helpers_wordless f.helpers) (operand_wordless x.form (fault_code x) f.operand)
 
 all_begin : (n : ℕ) (parts : List CodePart) → NoWords parts → TablesBegin n parts

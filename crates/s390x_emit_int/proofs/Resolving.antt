@@ -16,7 +16,7 @@ use Rattle.s390x_inst.specs.declared.state.IsaFlags.{IsaFlags}
 use Rattle.s390x_typed_steps.specs.SingleInstruction.{SingleInstruction, single_instruction, stop_code}
 use Rattle.s390x_typed_steps.specs.Causes.{Declared, first_emit_cause, facility_cause, cause_or, memory_cause_or, branch_cause, instruction_cause, instruction_fresh_labels, stack_cause, tree_cause}
 use Rattle.s390x_typed_steps.specs.Memory.{MemoryInstruction, has_relative_row, accesses_relative, operate, load_and_operate, memory}
-use Rattle.s390x_typed_steps.specs.Operands.{resolved, is_relative}
+use Rattle.s390x_typed_steps.specs.Operands.{resolved_operand, is_relative}
 use Rattle.s390x_typed_steps.specs.Ranges.{MaskInRange, OperandInRange, MemoryInRange, InRange}
 use Rattle.s390x_typed_steps.specs.Resolved.{resolved_instruction}
 use Rattle.s390x_typed_steps.specs.Storage.{alu_rx, alu_rxy, atomic_rsy}
@@ -64,11 +64,11 @@ size_resolved e (CondBreak mask) = refl
 size_resolved e (Vector v) = ap (λ (ms : List MachineInstruction). parts_size (row_parts ms)) (composites e v)
 size_resolved e i = refl
 
-operate_resolved : (e : Emission) (has : Bool) (rx rxy : Option ℕ) (rd ri : Reg) (mem : MemArg) → operate has rx rxy rd ri (resolved e mem) ≡ option_map (in_state e) (operate has rx rxy rd ri mem)
+operate_resolved : (e : Emission) (has : Bool) (rx rxy : Option ℕ) (rd ri : Reg) (mem : MemArg) → operate has rx rxy rd ri (resolved_operand e mem) ≡ option_map (in_state e) (operate has rx rxy rd ri mem)
 operate_resolved e true rx rxy rd ri mem = refl
 operate_resolved e false rx rxy rd ri mem = refl
 
-atomic_resolved : (e : Emission) (rsy : Option ℕ) (rd rn : Reg) (mem : MemArg) → load_and_operate rsy rd rn (resolved e mem) ≡ option_map (in_state e) (load_and_operate rsy rd rn mem)
+atomic_resolved : (e : Emission) (rsy : Option ℕ) (rd rn : Reg) (mem : MemArg) → load_and_operate rsy rd rn (resolved_operand e mem) ≡ option_map (in_state e) (load_and_operate rsy rd rn mem)
 atomic_resolved e None rd rn mem = refl
 atomic_resolved e (Some opcode) rd rn mem = refl
 
@@ -85,7 +85,7 @@ found_memory e i x h = memory_resolved e i ∙ ap (option_map (in_state e)) (sym
 pub no_memory : (e : Emission) (i : Inst) → None ≡ memory i → memory (resolved_instruction e i) ≡ None
 no_memory e i h = memory_resolved e i ∙ ap (option_map (in_state e)) (sym h)
 
-relative_operand : (e : Emission) (m : MemArg) → is_relative (resolved e m) ≡ is_relative m
+relative_operand : (e : Emission) (m : MemArg) → is_relative (resolved_operand e m) ≡ is_relative m
 relative_operand e (InitialSPOffset off) = refl
 relative_operand e m = refl
 
@@ -184,7 +184,7 @@ of_memory None x h r = absurd (cc)
 of_memory (Some y) x h r = let same : y.operand ≡ x.operand = cc in subst OperandInRange (sym same) r
 
 -- one with a memory operand has its displacement
-pub memory_range : (e : Emission) (i : Inst) (x : MemoryInstruction) → Some x ≡ memory i → OperandInRange (resolved e x.operand) → InRange (resolved_instruction e i)
+pub memory_range : (e : Emission) (i : Inst) (x : MemoryInstruction) → Some x ≡ memory i → OperandInRange (resolved_operand e x.operand) → InRange (resolved_instruction e i)
 memory_range e i x h r = (mask_resolved e i (memory_mask i x h), of_memory (memory (resolved_instruction e i)) (in_state e x) (found_memory e i x h) r)
 
 without_memory : (o : Option MemoryInstruction) → o ≡ None → MemoryInRange o

@@ -16,7 +16,7 @@ use Rattle.std.specs.Int.{w64, to_be_bytes}
 use Rattle.s390x_typed_steps.specs.Rows.{symbol_call, word_bytes}
 use Rattle.s390x_typed_steps.specs.Parts.{CodePart, Row, Trapping, Branch, Relative, RelativeConstant, RelativeSymbol, SymbolValue, TrapHere, TableWord, ToBlock, ToStep, table_words, table_parts, instruction_parts, part_size, parts_size, CallSymbol, SiteHere, step_parts}
 use Rattle.s390x_emit_int.specs.Fragments.{Fragment, FoldableBranch, AlwaysTaken, TakenWhere, apply, apply_all, Put, StartStep, Draw, Bind, RecordBranch}
-use Rattle.s390x_emit_int.specs.Emission.{branch, jump_fragments, where_fragments, choice_fragments, relative, table_word, part_fragment, part_fragments, table_rows, table_head, table_fragments, leaf_fragments, back_fragments, fragments, body_fragments}
+use Rattle.s390x_emit_int.specs.Emission.{branch, jump_fragments, where_fragments, choice_fragments, relative_fragment, table_word, part_fragment, part_fragments, table_rows, table_head, table_fragments, leaf_fragments, back_fragments, fragments, body_fragments}
 use Rattle.s390x_format.specs.Formats.{length_of}
 use Rattle.s390x_format.proofs.Encoding.{encode-length}
 
@@ -66,7 +66,7 @@ branch_grows s mask l = record {
   bytes = length-append s.bytes (bytes_of (ril_c opcodes.BRCL mask 0)) ∙ ap (λ m. length s.bytes + m) (length-branch mask);
 }
 
-relative_grows : (s : BufferState) (opcode register l : ℕ) → Grows s (apply s (relative opcode register l)) 0 6
+relative_grows : (s : BufferState) (opcode register l : ℕ) → Grows s (apply s (relative_fragment opcode register l)) 0 6
 relative_grows s opcode register l = record {
   labels = omega arith;
   kept = λ l h. refl;
@@ -132,7 +132,7 @@ unfolding length_of
 begun_grows s n index mask other =
     let s1 = apply s Draw in
     let s2 = apply s1 (branch mask other) in
-    let s3 = apply s2 (relative opcodes.LARL 1 n) in
+    let s3 = apply s2 (relative_fragment opcodes.LARL 1 n) in
     let s4 = apply s3 (Put (bytes_of (rxy opcodes.AGF 1 1 index 0))) in
     let a = draw_grows s in
     let b = branch_grows s1 mask other in

@@ -20,7 +20,7 @@ use Rattle.s390x_buffer.specs.Extends.{Extends}
 use Rattle.s390x_typed_steps.specs.SingleInstruction.{SingleInstruction, single_instruction, stop_code}
 use Rattle.s390x_typed_steps.specs.MachineInstruction.{MachineInstruction}
 use Rattle.s390x_typed_steps.specs.Memory.{StorageForm, RxForm, MemoryInstruction, accesses_relative, loaded_memory, memory, type_of, storage_row, address_form, fault_code}
-use Rattle.s390x_typed_steps.specs.Operands.{Finalized, finalized, is_relative, displaced, needs_address, fits_12, fits_20, fits_32}
+use Rattle.s390x_typed_steps.specs.Operands.{Finalized, finalized_operand, is_relative, with_displacement, needs_address, fits_12, fits_20, fits_32}
 use Rattle.s390x_typed_steps.specs.Resolved.{resolved_instruction}
 use Rattle.s390x_typed_steps.specs.VectorComposite.{MoveUnder, composite_rows, exchanges_doublewords, exchanges_halves, move_under, rows_or_none, rows_under}
 use Rattle.s390x_typed_steps.specs.Parts.{CodePart, branch_parts, row_part, access_parts, trap_here, relative_part, relative_parts, operand_parts, helper_parts, helpers_parts, memory_parts, memory_or, parts_or, parts_size, row_parts}
@@ -91,7 +91,7 @@ one_of false true c w x y z hw hx hy hz = hx
 one_of false false true w x y z hw hx hy hz = hy
 one_of false false false w x y z hw hx hy hz = hz
 
-displaced_few : (m : MemArg) → length (displaced m).helpers ≤ 1
+displaced_few : (m : MemArg) → length (with_displacement m).helpers ≤ 1
 displaced_few (RegOffset reg off flags) = one_of (fits_12 off) (fits_20 off) (fits_32 off) _ _ _ _ (omega arith) (omega arith) (omega arith) (omega arith)
 displaced_few m = omega arith
 
@@ -103,11 +103,11 @@ one_more false f i m h = omega (arith, h)
 memory_few : (x : MemoryInstruction) → parts_size (memory_parts x) ≤ 44
 memory_few x =
     let mi = type_of x.form x.accesses in
-    let f = displaced x.operand in
-    let two : length (finalized mi x.operand).helpers ≤ 2 = one_more (needs_address mi f.operand) f _ _ (displaced_few x.operand) in
-    let helpers = helpers_few (finalized mi x.operand).helpers in
-    let access = operand_few x.form (fault_code x) (finalized mi x.operand).operand in
-    let both = size_append (helpers_parts (finalized mi x.operand).helpers) (operand_parts x.form (fault_code x) (finalized mi x.operand).operand) in
+    let f = with_displacement x.operand in
+    let two : length (finalized_operand mi x.operand).helpers ≤ 2 = one_more (needs_address mi f.operand) f _ _ (displaced_few x.operand) in
+    let helpers = helpers_few (finalized_operand mi x.operand).helpers in
+    let access = operand_few x.form (fault_code x) (finalized_operand mi x.operand).operand in
+    let both = size_append (helpers_parts (finalized_operand mi x.operand).helpers) (operand_parts x.form (fault_code x) (finalized_operand mi x.operand).operand) in
     omega (arith, two, helpers, access, both)
 
 memory_few_or : (o : Option MemoryInstruction) (others : List CodePart) → parts_size others ≤ 44 → parts_size (memory_or o others) ≤ 44

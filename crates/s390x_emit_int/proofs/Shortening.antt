@@ -20,7 +20,7 @@ use Rattle.s390x_inst.specs.declared.inst.Inst.TheVariants.{Loop', Jump, CondBr,
 use Rattle.s390x_inst.specs.declared.state.IsaFlags.{IsaFlags}
 use Rattle.s390x_typed_steps.specs.Baseline.{whole_or_loaded, tree_for}
 use Rattle.s390x_typed_steps.specs.Calls.{wholes, load_or, load_before, load_bodies, behind_call, result_bodies, continuation_bodies, calling, safepoint, jump_target, loses_target}
-use Rattle.s390x_typed_steps.specs.Folding.{shortened, fold, folded, folded_before}
+use Rattle.s390x_typed_steps.specs.Folding.{body_with_remainder, fold, folded_members, folded_before}
 use Rattle.s390x_typed_steps.specs.Memory.{memory, accesses_relative}
 use Rattle.s390x_typed_steps.specs.Resolved.{resolved_instruction}
 use Rattle.s390x_typed_steps.specs.Sizes.{tree_size}
@@ -37,7 +37,7 @@ abbrev IsFull : Tree → Type 0
 IsFull empty = ⊥
 IsFull t = Unit {0}
 
-folded_joined : (next : ℕ) (t u : Tree) → IsFull u → folded next (joined t u) ≡ joined t (folded next u)
+folded_joined : (next : ℕ) (t u : Tree) → IsFull u → folded_members next (joined t u) ≡ joined t (folded_members next u)
 folded_joined next empty u full = refl
 folded_joined next (leaf b empty) empty full = absurd full
 folded_joined next (leaf b empty) (leaf c rest) full = refl
@@ -48,19 +48,19 @@ folded_joined next (loop_node mask members rest) u full = ap (loop_node mask mem
 
 -- so many bytes are taken off a tree
 abbrev Takes : (next n : ℕ) → Tree → Type 0
-Takes next n t = tree_size (folded next t) + n ≡ tree_size t
+Takes next n t = tree_size (folded_members next t) + n ≡ tree_size t
 
 takes_joined : (next n : ℕ) (t u : Tree) → IsFull u → Takes next n u → Takes next n (joined t u)
-takes_joined next n t u full h = omega (arith, ap tree_size (folded_joined next t u full), joined_size t (folded next u), joined_size t u, h)
+takes_joined next n t u full h = omega (arith, ap tree_size (folded_joined next t u full), joined_size t (folded_members next u), joined_size t u, h)
 
 -- ---- one instruction
 
-jump_takes : (next : ℕ) (dest : MachLabel) (t : Bool) → tree_size (leaf (shortened (cond t (Some NothingLeft) None) (Jump dest)) empty) + cond t 6 0 ≡ tree_size (leaf (Whole (Jump dest)) empty)
+jump_takes : (next : ℕ) (dest : MachLabel) (t : Bool) → tree_size (leaf (body_with_remainder (cond t (Some NothingLeft) None) (Jump dest)) empty) + cond t 6 0 ≡ tree_size (leaf (Whole (Jump dest)) empty)
 jump_takes next dest true = refl
 jump_takes next dest false = refl
 
 choice_takes : (taken not_taken : MachLabel) (mask : ℕ) (u t : Bool) →
-    tree_size (leaf (shortened (cond u (cond t (Some NothingLeft) (Some (BranchLeft mask taken.0))) (cond t (Some (BranchLeft (15 - mask) not_taken.0)) None)) (CondBr taken not_taken mask)) empty) + (cond t 6 0 + cond u 6 0)
+    tree_size (leaf (body_with_remainder (cond u (cond t (Some NothingLeft) (Some (BranchLeft mask taken.0))) (cond t (Some (BranchLeft (15 - mask) not_taken.0)) None)) (CondBr taken not_taken mask)) empty) + (cond t 6 0 + cond u 6 0)
     ≡ tree_size (leaf (Whole (CondBr taken not_taken mask)) empty)
 choice_takes taken not_taken mask true true = refl
 choice_takes taken not_taken mask true false = refl
@@ -76,7 +76,7 @@ stay_append : (next : ℕ) (a b : List StepBody) → AllStay next a → AllStay 
 stay_append next [] b h k = k
 stay_append next (x ∷ a) b h k = (h.0, stay_append next a b h.1 k)
 
-leaves_stay : (next : ℕ) (bs : List StepBody) → AllStay next bs → folded next (leaves bs empty) ≡ leaves bs empty
+leaves_stay : (next : ℕ) (bs : List StepBody) → AllStay next bs → folded_members next (leaves bs empty) ≡ leaves bs empty
 leaves_stay next [] h = refl
 leaves_stay next (b ∷ []) h = ap (λ c. leaf c empty) h.0
 leaves_stay next (b ∷ (c ∷ bs)) h = ap (leaf b) (leaves_stay next (c ∷ bs) h.1)

@@ -10,7 +10,7 @@ use Rattle.s390x_inst.specs.declared.vec_inst.VecInst.{VecInst}
 use Rattle.s390x_inst.specs.declared.vec_inst.VecInst.TheVariants.{VecMov, VecLoadReplicate, VecLoadReplicateRev, VecLoadLane, VecLoadLaneRev, VecLoadLaneUndef, VecLoadLaneRevUndef, VecStoreLane, VecStoreLaneRev}
 use Rattle.s390x_rows.specs.declared.opcodes.TheConstants as opcodes
 use Rattle.s390x_typed_steps.specs.Memory.{MemoryInstruction, StorageForm, access_vector, access_elements, access_lane, reversed_code, is_left_lane, load_left, store_left, load_lane_opcode, store_lane_opcode, load_reversed_opcode, store_reversed_opcode, vector_memory}
-use Rattle.s390x_typed_steps.specs.Operands.{resolved}
+use Rattle.s390x_typed_steps.specs.Operands.{resolved_operand}
 use Rattle.s390x_typed_steps.specs.Resolved.{resolved_vector}
 use Rattle.s390x_typed_steps.specs.SingleInstruction.{single_with}
 use Rattle.s390x_typed_steps.specs.VectorComposite.{composite_cause, composite_rows}
@@ -39,7 +39,7 @@ composites e v = refl
 
 -- ---- an operand
 
-elements_resolved : (e : Emission) (opcode : ℕ) (rd : Reg) (code : Option ℕ) (mem : MemArg) → access_elements opcode rd code (resolved e mem) ≡ option_map (in_state e) (access_elements opcode rd code mem)
+elements_resolved : (e : Emission) (opcode : ℕ) (rd : Reg) (code : Option ℕ) (mem : MemArg) → access_elements opcode rd code (resolved_operand e mem) ≡ option_map (in_state e) (access_elements opcode rd code mem)
 elements_resolved e opcode rd None mem = refl
 elements_resolved e opcode rd (Some code) mem = refl
 
@@ -47,12 +47,12 @@ either_resolved : (e : Emission) (t : Bool) (x y a b : Option MemoryInstruction)
 either_resolved e true x y a b h k = h
 either_resolved e false x y a b h k = k
 
-lane_resolved : (e : Emission) (valid : Bool) (opcode : ℕ → ℕ) (register : ℕ) (code : Option ℕ) (size lane : ℕ) (mem : MemArg) → access_lane valid opcode register code size lane (resolved e mem) ≡ option_map (in_state e) (access_lane valid opcode register code size lane mem)
+lane_resolved : (e : Emission) (valid : Bool) (opcode : ℕ → ℕ) (register : ℕ) (code : Option ℕ) (size lane : ℕ) (mem : MemArg) → access_lane valid opcode register code size lane (resolved_operand e mem) ≡ option_map (in_state e) (access_lane valid opcode register code size lane mem)
 lane_resolved e valid opcode register None size lane mem = refl
 lane_resolved e valid opcode register (Some code) size lane mem = either_resolved e (is_lane size lane) _ _ _ _ refl refl
 
 left_resolved : (e : Emission) (t valid : Bool) (form : StorageForm) (opcode : ℕ → ℕ) (register : ℕ) (code : Option ℕ) (size lane : ℕ) (mem : MemArg) →
-    cond t (access_vector valid form (resolved e mem)) (access_lane valid opcode register code size lane (resolved e mem)) ≡ option_map (in_state e) (cond t (access_vector valid form mem) (access_lane valid opcode register code size lane mem))
+    cond t (access_vector valid form (resolved_operand e mem)) (access_lane valid opcode register code size lane (resolved_operand e mem)) ≡ option_map (in_state e) (cond t (access_vector valid form mem) (access_lane valid opcode register code size lane mem))
 left_resolved e t valid form opcode register code size lane mem = either_resolved e t _ _ _ _ refl (lane_resolved e valid opcode register code size lane mem)
 
 pub vector_memories : (e : Emission) (v : VecInst) → vector_memory (resolved_vector e v) ≡ option_map (in_state e) (vector_memory v)

@@ -34,8 +34,8 @@ abbrev pub choice_fragments : (mask taken not_taken : ℕ) → List Fragment
 choice_fragments mask taken not_taken = where_fragments mask taken ++ jump_fragments not_taken
 
 -- an address relative to the instruction, its distance still zero. The distance stands where a branch has it, and counts from the same place
-abbrev pub relative : (opcode register label : ℕ) → Fragment
-relative opcode register label = Link BranchRIL label (bytes_of (ril_b opcode register 0))
+abbrev pub relative_fragment : (opcode register label : ℕ) → Fragment
+relative_fragment opcode register label = Link BranchRIL label (bytes_of (ril_b opcode register 0))
 
 -- a word of a table, so far its distance from the table's beginning; the distance from the word to the label is added to it
 abbrev pub table_word : (before label : ℕ) → Fragment
@@ -47,8 +47,8 @@ part_fragment (Row m) = Put (bytes_of m)
 part_fragment (Trapping m byte code) = PutTrapping (bytes_of m) byte code
 part_fragment (Branch mask (ToBlock b)) = branch mask b
 part_fragment (Branch mask (ToStep k)) = branch mask k
-part_fragment (Relative opcode register (ToBlock b)) = relative opcode register b
-part_fragment (Relative opcode register (ToStep k)) = relative opcode register k
+part_fragment (Relative opcode register (ToBlock b)) = relative_fragment opcode register b
+part_fragment (Relative opcode register (ToStep k)) = relative_fragment opcode register k
 part_fragment (RelativeConstant opcode register c) = LinkConstant c (bytes_of (ril_b opcode register 0))
 part_fragment (RelativeSymbol opcode register name offset) = PutReloc (bytes_of (ril_b opcode register 0)) 2 S390xPCRel32Dbl name (offset +ℤ pos 2)
 part_fragment (SymbolValue name offset) = PutReloc (to_be_bytes w64 0) 0 Abs8 name offset
@@ -65,7 +65,7 @@ part_fragments (part ∷ parts) = part_fragment part ∷ part_fragments parts
 
 -- the machine instructions before a table with the label n
 abbrev pub table_rows : (n index mask other : ℕ) → List Fragment
-table_rows n index mask other = branch mask other ∷ relative opcodes.LARL 1 n ∷ Put (bytes_of (rxy opcodes.AGF 1 1 index 0)) ∷ Put (bytes_of (rr opcodes.BCR 15 1)) ∷ []
+table_rows n index mask other = branch mask other ∷ relative_fragment opcodes.LARL 1 n ∷ Put (bytes_of (rxy opcodes.AGF 1 1 index 0)) ∷ Put (bytes_of (rr opcodes.BCR 15 1)) ∷ []
 
 -- what stands before the words of a table: its label, the next to be drawn, is bound behind the machine instructions
 abbrev pub table_head : (n index mask other : ℕ) → List Fragment

@@ -17,7 +17,7 @@ use Rattle.s390x_machine.specs.Example as Loop
 use Rattle.s390x_machine.specs.RelativeExample as Relative
 use Rattle.s390x_emit_int.specs.CallExample as Call
 use Rattle.s390x_emit_int.specs.Function.{checked_cause, IsFinishedCode}
-use Rattle.s390x_emit_int.specs.Headline.{linked, linked_image}
+use Rattle.s390x_emit_int.specs.Headline.{linked_environment, linked_image}
 
 -- The function has no cause on any machine, this is its finished code, and linking has no cause; the linked code lies in memory, and this is a run of the machine from the
 -- first block.
@@ -28,7 +28,7 @@ pub record LinkedRun (symbols : Symbols) (ts : List Tree) (cs : List Constant) (
   pub finished : IsFinishedCode (folded_trees ts) cs code
   pub links : link_cause code 4096 symbols ≡ None
   pub lies : IsLoaded (linked_image code 4096 symbols) c.memory
-  pub run : Run (linked_image code 4096 symbols) (record { core = c; address = block_address (function_layout (linked symbols 4096 (folded_trees ts) cs) (folded_trees ts) (linked_image code 4096 symbols)) 0 }) trace
+  pub run : Run (linked_image code 4096 symbols) (record { core = c; address = block_address (function_layout (linked_environment symbols 4096 (folded_trees ts) cs) (folded_trees ts) (linked_image code 4096 symbols)) 0 }) trace
 
 -- a function of two blocks: a run goes round the first block, leaves it and returns
 abbrev pub LinkedLoopRuns : Type 0

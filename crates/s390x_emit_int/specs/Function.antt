@@ -13,7 +13,7 @@ use Rattle.s390x_buffer.specs.Finish.{entry_of}
 use Rattle.s390x_buffer.specs.declared.entries.MachBufferFinalized.{MachBufferFinalized}
 use Rattle.s390x_typed_steps.specs.Tree.{Tree}
 use Rattle.s390x_typed_steps.specs.Steps.{function_steps}
-use Rattle.s390x_typed_steps.specs.Image.{step_offset, unlinked, function_code, step_offsets, block_offsets}
+use Rattle.s390x_typed_steps.specs.Image.{step_offset, unlinked_environment, function_code, step_offsets, block_offsets}
 use Rattle.s390x_typed_steps.specs.Traps.{function_traps}
 use Rattle.s390x_typed_steps.specs.Relocs.{function_relocs}
 use Rattle.s390x_typed_steps.specs.Sites.{function_sites, call_offsets, patches, stack_maps, function_try_entries}
@@ -46,7 +46,7 @@ constants_of f = map constant_of f.constants.items
 -- The finished code and its tables: the bytes of the steps and then the constants, where each block, constant and step starts, and the steps' traps, relocations and sites.
 -- The blocks are those that their ends have folded.
 pub record IsFinishedCode (ts : List Tree) (cs : List Constant) (f : MachBufferFinalized) : Type 0 where
-  pub bytes : f.bytes.items ≡ function_code (unlinked ts cs) ts ++ constant_bytes (blocks_size ts) cs
+  pub bytes : f.bytes.items ≡ function_code (unlinked_environment ts cs) ts ++ constant_bytes (blocks_size ts) cs
   pub block_starts : f.block_starts.items ≡ block_offsets (step_offset (function_steps ts)) 0 ts
   pub constant_starts : f.constant_starts.items ≡ constant_starts (blocks_size ts) cs
   pub starts : f.starts.items ≡ step_offsets (step_offset (function_steps ts)) 0 (function_steps ts)

@@ -37,7 +37,7 @@ fn find_other_rows(inst: &Inst) -> Option<MemoryInst>
     ensures encodes { IfSome result (λ x. may_encode x ≡ true) }
 {
     match memory_rows(inst) {
-        Some(found) => found.loaded(),
+        Some(found) => found.with_loaded_address(),
         None => None,
     }
 }

@@ -18,7 +18,7 @@ ghost use Rattle.s390x_typed_steps.specs.Calls.{is_target, call_size, handler_of
 ghost use Rattle.s390x_typed_steps.specs.Causes.{labels_cause, call_cause, tail_cause};
 ghost use Rattle.s390x_typed_steps.specs.General.{is_general};
 ghost use Rattle.s390x_typed_steps.specs.Memory.{memory};
-ghost use Rattle.s390x_typed_steps.specs.Operands.{finalized, is_helped};
+ghost use Rattle.s390x_typed_steps.specs.Operands.{finalized_operand, is_helped};
 ghost use Rattle.s390x_typed_steps.specs.Parts.{CallSymbol, call_part, tail_part, site_parts, step_parts, step_size};
 ghost use Rattle.s390x_typed_steps.specs.Resolved.{resolved_instruction};
 ghost use Rattle.s390x_typed_steps.specs.Steps.{CallingStep};
@@ -527,7 +527,7 @@ pub fn emit_call(
 // Whether an offset from a register needs `%r1`, where the rows have these forms.
 fn is_offset_helped(mi: MemInstType, off: i64) -> bool
     ensures { (reg : Reg) (flags : AccessFlags)
-        → result ≡ is_helped (finalized mi (RegOffset reg off flags)).helpers }
+        → result ≡ is_helped (finalized_operand mi (RegOffset reg off flags)).helpers }
 {
     if 0 <= off && off <= 4095 {
         false
@@ -540,7 +540,7 @@ fn is_offset_helped(mi: MemInstType, off: i64) -> bool
 
 // Whether an operand needs `%r1`, where the rows have these forms.
 fn is_operand_helped(mi: MemInstType, operand: &MemArg) -> bool
-    ensures { result ≡ is_helped (finalized mi operand.now).helpers }
+    ensures { result ≡ is_helped (finalized_operand mi operand.now).helpers }
 {
     match operand {
         MemArg::RegOffset { off, .. } => is_offset_helped(mi, *off),

@@ -6,7 +6,7 @@ ghost use Rattle.s390x_base.specs.declared.error.EmitError.TheVariants.{NoMemory
 ghost use Rattle.s390x_buffer.specs.Extends.{Extends};
 ghost use Rattle.s390x_base.specs.declared.error.EmitError.{EmitError};
 ghost use Rattle.s390x_inst.specs.Emission.{Emission};
-ghost use Rattle.s390x_buffer.specs.State.{BufferState, FailsWith, poisoned, put_cause, limit};
+ghost use Rattle.s390x_buffer.specs.State.{BufferState, FailsWith, poisoned_buffer, put_cause, limit};
 ghost use Rattle.s390x_typed_steps.specs.Causes.{first_emit_cause, unless, declared_in, tree_cause};
 ghost use Rattle.s390x_typed_steps.specs.Sizes.{tree_size};
 ghost use Rattle.s390x_emit_int.specs.CodeSize.{IsCounted};
@@ -35,7 +35,8 @@ pub fn put(sink: &mut MachBuffer, enc: &[u8]) -> Result<(), EmitError>
     ensures answer { MatchResult result
         (λ _. (put_cause sink.old (length enc.now) ≡ None)
         × (sink.new ≡ apply sink.old (Put enc.now)))
-        (λ e. FailsWith (put_cause sink.old (length enc.now)) e × (sink.new ≡ poisoned sink.old)) }
+        (λ e. FailsWith (put_cause sink.old (length enc.now)) e
+        × (sink.new ≡ poisoned_buffer sink.old)) }
     ensures kept { Extends sink.old sink.new }
 {
     sink.put(enc)

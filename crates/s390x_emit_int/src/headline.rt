@@ -11,7 +11,7 @@ ghost use Rattle.s390x_typed_steps.specs.Ranges.{BlocksInRange};
 ghost use Rattle.s390x_inst.specs.declared.state.IsaFlags.{IsaFlags};
 ghost use Rattle.s390x_typed_steps.specs.Tree.{Tree};
 ghost use Rattle.s390x_emit_int.specs.Function.{checked_cause, IsFinishedCode};
-ghost use Rattle.s390x_emit_int.specs.Headline.{linked, linked_image, RunsAsTyped};
+ghost use Rattle.s390x_emit_int.specs.Headline.{linked_environment, linked_image, RunsAsTyped};
 ghost use Rattle.s390x_emit_int.specs.Example.{LinkedLoopRuns, LinkedTrapRuns, LinkedCallStands};
 
 /// Where emission finds no cause in the blocks as they are given, and linking none, the linked code at the base is that of the blocks as their ends have folded
@@ -22,7 +22,7 @@ pub fn linked_code_is_placed()
         (base : ℕ) (symbols : Symbols) → checked_cause flags ts cs ≡ None → BlocksInRange ts
         → IsFinishedCode (folded_trees ts) cs f → link_cause f base symbols ≡ None
         → AllCodeAt
-        (function_layout (linked symbols base (folded_trees ts) cs) (folded_trees ts)
+        (function_layout (linked_environment symbols base (folded_trees ts) cs) (folded_trees ts)
         (linked_image f base symbols)) }
 {}
 

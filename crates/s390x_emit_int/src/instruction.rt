@@ -23,7 +23,7 @@ ghost use Rattle.s390x_buffer.specs.declared.label_use.LabelUse.TheVariants.{Bra
 ghost use Rattle.s390x_typed_steps.specs.Ranges.{InRange, MaskInRange, OperandInRange, IsConditionMask};
 ghost use Rattle.s390x_typed_steps.specs.SingleCode.{code_where, single_code};
 ghost use Rattle.s390x_typed_steps.specs.SingleInstruction.{SingleInstruction, single_instruction};
-ghost use Rattle.s390x_typed_steps.specs.Operands.{resolved};
+ghost use Rattle.s390x_typed_steps.specs.Operands.{resolved_operand};
 ghost use Rattle.s390x_typed_steps.specs.Resolved.{resolved_instruction};
 ghost use Rattle.s390x_address.specs.Rows.{memory_instruction_of, in_state, may_encode};
 
@@ -311,7 +311,7 @@ fn emit_branch(sink: &mut MachBuffer, inst: &Inst, after: MachLabel) -> Result<(
 
 // A displacement lies in its range by its type; another form has none, once it is resolved.
 fn reveal_displacement_range(mem: &MemArg)
-    ensures { (e : Emission) → OperandInRange (resolved e mem.now) }
+    ensures { (e : Emission) → OperandInRange (resolved_operand e mem.now) }
 {
     match mem {
         MemArg::BXD12 { disp, .. } => {
@@ -372,7 +372,7 @@ pub fn emit_access(
         (parts_size (memory_parts (in_state state.now (memory_instruction_of found.now)))) ≡ None
         → memory_cause (declared_in sink.old) (in_state state.now (memory_instruction_of found.now))
         ≡ None → OnlyOutOfMemory result }
-    ensures range { OperandInRange (resolved state.now found.now.operand) }
+    ensures range { OperandInRange (resolved_operand state.now found.now.operand) }
     ensures kept { Extends sink.old sink.new }
 {
     reveal_displacement_range(&found.operand);

@@ -13,7 +13,7 @@ use Rattle.s390x_format.specs.Lookup.{row_for}
 use Rattle.s390x_format.specs.Reading.{be_bytes}
 use Rattle.s390x_format.proofs.Encoding.{listed}
 use Rattle.s390x_image.specs.Causes.{first_link_cause, symbol_cause}
-use Rattle.s390x_image.specs.Fields.{address_or_zero, fill, filled}
+use Rattle.s390x_image.specs.Fields.{address_or_zero, fill, with_fields_filled}
 use Rattle.s390x_image.specs.Symbols.{no_symbols, address_of, address_of-with_address}
 use Rattle.s390x_rows.specs.declared.opcodes.TheConstants as opcodes
 use Rattle.s390x_typed_steps.specs.Folding.{folded_trees}
@@ -79,7 +79,7 @@ finished = record {
 found : address_of symbols (record { 0 = 1 }) ≡ Some 8192
 found = address_of-with_address no_symbols (record { 0 = 1 }) 8192 (record { 0 = 1 })
 
-linked_bytes : filled 4096 symbols (to_callee 14 ∷ to_callee 20 ∷ []) unlinked_bytes ≡ image.bytes
+linked_bytes : with_fields_filled 4096 symbols (to_callee 14 ∷ to_callee 20 ∷ []) unlinked_bytes ≡ image.bytes
 unfolding be_bytes
 linked_bytes =
     ap (λ o. fill 4096 (address_or_zero (address_of symbols (record { 0 = 1 }))) (to_callee 20) (fill 4096 (address_or_zero o) (to_callee 14) unlinked_bytes)) found

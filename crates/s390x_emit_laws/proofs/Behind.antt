@@ -24,7 +24,7 @@ use Rattle.s390x_emit_int.proofs.Functions.{place_follows, place_zero}
 use Rattle.s390x_emit_int.proofs.Patching.{length-patch_all}
 use Rattle.s390x_emit_int.proofs.Recording.{function_recorded, recorded, traps_run}
 use Rattle.s390x_emit_int.proofs.Trees.{member_begins}
-use Rattle.s390x_emit_laws.specs.Alone.{IsAppended, alone, emitted, patched_bytes}
+use Rattle.s390x_emit_laws.specs.Alone.{IsAppended, alone, emitted_buffer, patched_bytes}
 use Rattle.s390x_emit_laws.specs.Behind.{StandsBehind, layout_behind, places}
 use Rattle.s390x_emit_laws.proofs.Alone.{follows_moved, place_of_block, place_within}
 use Rattle.s390x_emit_laws.proofs.Running.{bytes_behind, own_valid}
@@ -71,7 +71,7 @@ module _ (off : ℕ → ℕ) (flags : IsaFlags) (e : Emission) (s : BufferState)
   runs_behind k x at = step_holds_there L k x (step_there k x at)
 
 -- the buffer's table of traps has those of the layout behind its own
-pub traps_behind : (off : ℕ → ℕ) (flags : IsaFlags) (e : Emission) (s : BufferState) (i : Inst) (image : CodeImage) → (emitted flags e s i).traps ≡ s.traps ++ (layout_behind off flags e s i image).traps
+pub traps_behind : (off : ℕ → ℕ) (flags : IsaFlags) (e : Emission) (s : BufferState) (i : Inst) (image : CodeImage) → (emitted_buffer flags e s i).traps ≡ s.traps ++ (layout_behind off flags e s i image).traps
 traps_behind off flags e s i image =
     let t = member_of flags e i in
     let n = length s.labels in

@@ -16,7 +16,7 @@ use Rattle.s390x_format.specs.declared.kind.FormatKind.{FormatKind}
 use Rattle.s390x_format.specs.declared.kind.FormatKind.TheVariants.{E, Rr, RiB, RiC, RilC, VrrA, VrrC}
 use Rattle.s390x_typed_steps.specs.MachineInstruction.{MachineInstruction}
 use Rattle.s390x_typed_steps.specs.Memory.{StorageForm, RxForm, RsForm, SiForm, SilForm, VrxForm, FloatForm, MemoryInstruction, memory, loaded_memory, type_of, fault_code}
-use Rattle.s390x_typed_steps.specs.Operands.{finalized, is_relative}
+use Rattle.s390x_typed_steps.specs.Operands.{finalized_operand, is_relative}
 use Rattle.s390x_typed_steps.specs.Parts.{CodePart, parts_size, row_part, row_parts, access_parts, trap_here, relative_part, operand_parts, call_part, tail_part, site_parts, helpers_parts, memory_parts, memory_or, parts_or, branch_parts, step_size}
 use Rattle.s390x_typed_steps.specs.SingleInstruction.{SingleInstruction, single_instruction, stop_code}
 use Rattle.s390x_typed_steps.specs.StepBody.{AtCall, NothingLeft, BranchLeft}
@@ -100,7 +100,7 @@ operand_some form accesses code _ takes e = absurd takes
 memory_some : (L : Layout) (x : MemoryInstruction) → IsValidMemory L x → None_of (memory_parts x) → ⊥
 memory_some L x valid e =
     let type = type_of x.form x.accesses in
-    let f = finalized type x.operand in
+    let f = finalized_operand type x.operand in
     let takes = operand_taken type x.operand valid.form (and_parts x.operands_valid _ valid.registers).1 valid.offset valid.range in
     operand_some x.form x.accesses (fault_code x) f.operand takes.0 (behind (helpers_parts f.helpers) (operand_parts x.form (fault_code x) f.operand) e)
 

@@ -10,7 +10,7 @@ use Rattle.s390x_inst.specs.Emission.{Emission}
 use Rattle.s390x_inst.specs.declared.inst.Inst.TheVariants.{Jump}
 use Rattle.s390x_typed_steps.specs.Image.{step_offset}
 use Rattle.s390x_typed_steps.specs.Parts.{step_parts}
-use Rattle.s390x_emit_laws.specs.Alone.{IsAppended, StandAsBound, StandsAlone, alone, emitted, layout_alone}
+use Rattle.s390x_emit_laws.specs.Alone.{IsAppended, StandAsBound, StandsAlone, alone, emitted_buffer, layout_alone}
 use Rattle.s390x_emit_laws.specs.Behind.{StandsBehind, layout_behind, places}
 use Rattle.s390x_emit_laws.specs.Example.{AdditionStands, JumpIsAppended, LoadIsAppended, TableIsAppended, load, load_image, buffer_with_block, table_image, table_jump, table_labels, addition, addition_image, base_machine, used_buffer, JumpStands, jump, layout}
 
@@ -157,7 +157,7 @@ one_target : Vec MachLabel Global
 one_target = vec (record { 0 = 0 } ∷ []) (omega arith)
 
 module _ (e : Emission) where
-  table_labels_bound : StandAsBound table_labels 1 (emitted base_machine e buffer_with_block (table_jump one_target))
+  table_labels_bound : StandAsBound table_labels 1 (emitted_buffer base_machine e buffer_with_block (table_jump one_target))
   unfolding number bits layout_of length_of be_bytes vec one_target
   table_labels_bound zero above below = absurd (omega (arith, above))
   table_labels_bound (suc zero) above below = refl

@@ -17,7 +17,7 @@ use Rattle.s390x_operations.specs.State.{CodeImage}
 use Rattle.s390x_machine.specs.Functions.{function_layout}
 use Rattle.s390x_machine.proofs.Checked.{folded_steps}
 use Rattle.s390x_emit_int.specs.Function.{IsFinishedCode, checked_cause, code_length_cause}
-use Rattle.s390x_emit_int.specs.Headline.{linked, linked_image}
+use Rattle.s390x_emit_int.specs.Headline.{linked_environment, linked_image}
 use Rattle.s390x_emit_int.proofs.Linked.{is_placed}
 use Rattle.s390x_emit_laws.specs.Built.{IsBuilt}
 use Rattle.s390x_emit_laws.specs.Places.{StepLeads}
@@ -33,9 +33,9 @@ function_built flags ts cs environment image passes ranges same k s at =
     built (function_layout environment (folded_trees ts) image) s (folded_steps flags environment ts n image (ap (λ aligns. blocks_cause flags (record { blocks = length ts; aligns = aligns }) n ts) same ∙ checked) ranges k s at)
 
 pub linked_branches : (flags : IsaFlags) (ts : List Tree) (cs : List Constant) (f : MachBufferFinalized) (base : ℕ) (symbols : Symbols) → checked_cause flags ts cs ≡ None → BlocksInRange ts → IsFinishedCode (folded_trees ts) cs f → link_cause f base symbols ≡ None →
-    (k : ℕ) (s : Step) → slice_get (function_steps (folded_trees ts)) k ≡ Some s → StepLeads (function_layout (linked symbols base (folded_trees ts) cs) (folded_trees ts) (linked_image f base symbols)) k s
+    (k : ℕ) (s : Step) → slice_get (function_steps (folded_trees ts)) k ≡ Some s → StepLeads (function_layout (linked_environment symbols base (folded_trees ts) cs) (folded_trees ts) (linked_image f base symbols)) k s
 linked_branches flags ts cs f base symbols passes ranges image links k s at =
-    branches_lead (function_layout (linked symbols base (folded_trees ts) cs) (folded_trees ts) (linked_image f base symbols)) (is_placed flags ts cs f base symbols passes ranges image links) k s at
+    branches_lead (function_layout (linked_environment symbols base (folded_trees ts) cs) (folded_trees ts) (linked_image f base symbols)) (is_placed flags ts cs f base symbols passes ranges image links) k s at
 
 -- where a block starts, in the table of blocks
 start_in : (at : ℕ → ℕ) (k : ℕ) (ts : List Tree) (b : ℕ) → b < length ts → slice_get (block_offsets at k ts) b ≡ Some (at (k + first_step ts b))

@@ -8,7 +8,7 @@ use Rattle.s390x_inst.specs.declared.inst.Inst.{Inst}
 use Rattle.s390x_inst.specs.declared.inst.Inst.TheVariants.{Jump, CondBr, JTSequence}
 use Rattle.s390x_format.specs.Formats.{length_of}
 use Rattle.s390x_lanes.specs.declared.operators.Signedness.TheVariants.{Signed}
-use Rattle.s390x_operations.specs.Bits.{extended}
+use Rattle.s390x_operations.specs.Bits.{extended_bits}
 use Rattle.s390x_operations.specs.Effects.{is_selected}
 use Rattle.s390x_operations.specs.State.{CodeImage, IsLoaded, Memory, State, number_at, wrapping_add64}
 use Rattle.s390x_operations.specs.declared.size.Size.TheVariants.{Doubleword}
@@ -53,7 +53,7 @@ word_read image m offset w lt fits is_loaded s =
     omega (arith, b0, b1, b2, b3)
 
 -- a word with its sign
-extended_low : (w : ℕ) → w < 2 ^ 31 → extended Signed Bits32 Doubleword w ≡ w
+extended_low : (w : ℕ) → w < 2 ^ 31 → extended_bits Signed Bits32 Doubleword w ≡ w
 extended_low w lt =
     let e : w % 4294967296 ≡ w = omega arith in
     ap (λ b. cond b (w % 4294967296) (w % 4294967296 + 18446744069414584320)) (lt-ltb (w % 4294967296) 2147483648 (omega arith)) ∙ e
@@ -61,24 +61,24 @@ extended_low w lt =
 not_below : (x n : ℕ) → n ≤ x → nat_lt x n ≡ false
 not_below x n le = grind arith
 
-extended_high : (w : ℕ) → 2 ^ 31 ≤ w → w < 2 ^ 32 → extended Signed Bits32 Doubleword w ≡ w + 18446744069414584320
+extended_high : (w : ℕ) → 2 ^ 31 ≤ w → w < 2 ^ 32 → extended_bits Signed Bits32 Doubleword w ≡ w + 18446744069414584320
 extended_high w ge lt =
     let e : w % 4294967296 ≡ w = omega arith in
     ap (λ b. cond b (w % 4294967296) (w % 4294967296 + 18446744069414584320)) (not_below (w % 4294967296) 2147483648 (omega arith)) ∙ ap (λ n. n + 18446744069414584320) e
 
 -- the address of a table plus a word of it is the target's
-pub reaches : (base table j target : ℕ) → table + j < 2 ^ 31 → target < 2 ^ 31 → wrapping_add64 (wrapping_add64 base table) (extended Signed Bits32 Doubleword (table_distance (table + j) j target)) ≡ wrapping_add64 base target
+pub reaches : (base table j target : ℕ) → table + j < 2 ^ 31 → target < 2 ^ 31 → wrapping_add64 (wrapping_add64 base table) (extended_bits Signed Bits32 Doubleword (table_distance (table + j) j target)) ≡ wrapping_add64 base target
 reaches base table j target lt small =
     elim (Rattle.std.proofs.lemmas.Bool.cases_lt target table) [
       | inl less ↦
           let d : ℕ = table - target in
           let w : table_distance (table + j) j target ≡ 2 ^ 32 - d = omega arith in
-          let y : extended Signed Bits32 Doubleword (table_distance (table + j) j target) ≡ 2 ^ 64 - d = extended_high (table_distance (table + j) j target) (omega (arith, w)) (omega (arith, w)) ∙ omega (arith, w) in
+          let y : extended_bits Signed Bits32 Doubleword (table_distance (table + j) j target) ≡ 2 ^ 64 - d = extended_high (table_distance (table + j) j target) (omega (arith, w)) (omega (arith, w)) ∙ omega (arith, w) in
           ap (wrapping_add64 (wrapping_add64 base table)) y ∙ omega arith
       | inr more ↦
           let d : ℕ = target - table in
           let w : table_distance (table + j) j target ≡ d = omega arith in
-          let y : extended Signed Bits32 Doubleword (table_distance (table + j) j target) ≡ d = extended_low (table_distance (table + j) j target) (omega (arith, w)) ∙ w in
+          let y : extended_bits Signed Bits32 Doubleword (table_distance (table + j) j target) ≡ d = extended_low (table_distance (table + j) j target) (omega (arith, w)) ∙ w in
           ap (wrapping_add64 (wrapping_add64 base table)) y ∙ omega arith
     ]
 
@@ -120,7 +120,7 @@ module _ {L : Layout} {k : ℕ} {s : Step} (x : StepAt L k s) where
       let w1 : StandsAt L.image (o + 20 + 4 * j) (word_bytes (table_distance (o + 20 + 4 * j) (0 + 4 * j) (L.offsets.block l.0))) = subst (λ q. StandsAt L.image (q + 4 * j) (word_bytes (table_distance (q + 4 * j) (0 + 4 * j) (L.offsets.block l.0)))) z w in
       let w2 : StandsAt L.image (o + 20 + 4 * j) (word_bytes (table_distance (o + 20 + 4 * j) (4 * j) (L.offsets.block l.0))) = subst (λ b. StandsAt L.image (o + 20 + 4 * j) (word_bytes (table_distance (o + 20 + 4 * j) b (L.offsets.block l.0)))) n w1 in
       let block : IsBlock L l.0 = listed_block L targets are j l e in
-      ap (λ v. wrapping_add64 (wrapping_add64 L.image.base (o + 20)) (extended Signed Bits32 Doubleword v)) (word_read L.image m (o + 20 + 4 * j) (table_distance (o + 20 + 4 * j) (4 * j) (L.offsets.block l.0)) (omega arith) x.image.fits is_loaded w2)
+      ap (λ v. wrapping_add64 (wrapping_add64 L.image.base (o + 20)) (extended_bits Signed Bits32 Doubleword v)) (word_read L.image m (o + 20 + 4 * j) (table_distance (o + 20 + 4 * j) (4 * j) (L.offsets.block l.0)) (omega arith) x.image.fits is_loaded w2)
       ∙ reaches L.image.base (o + 20) (4 * j) (L.offsets.block l.0) (omega (arith, within_image L (o + 20 + 4 * j) _ w2, x.image.short)) (x.image.block_places l.0 block).1
 
 -- what is left of a step's branches leads to a block of the step's

@@ -4,7 +4,7 @@ use Rattle.std.proofs.lemmas.List.{append_cancel_left}
 use Rattle.s390x_base.specs.declared.error.EmitError.{EmitError}
 use Rattle.s390x_base.specs.declared.error.EmitError.TheVariants.{Failed}
 use Rattle.s390x_buffer.specs.Constants.{constant_bytes}
-use Rattle.s390x_buffer.specs.Finish.{unpatched}
+use Rattle.s390x_buffer.specs.Finish.{unpatched_bytes}
 use Rattle.s390x_buffer.specs.Patch.{patch_all}
 use Rattle.s390x_buffer.specs.State.{BufferState}
 use Rattle.s390x_inst.specs.Emission.{Emission}
@@ -27,7 +27,7 @@ use Rattle.s390x_emit_int.specs.Members.{member_of}
 use Rattle.s390x_emit_int.specs.Resolve.{UsesWithin}
 use Rattle.s390x_emit_int.proofs.Patching.{all_left}
 use Rattle.s390x_emit_int.proofs.Trees.{member_begins}
-use Rattle.s390x_emit_laws.specs.Alone.{IsAppended, StandsAlone, alone, emitted, layout_alone, outside, patched_bytes, placed_offsets, surroundings}
+use Rattle.s390x_emit_laws.specs.Alone.{IsAppended, StandsAlone, alone, emitted_buffer, layout_alone, outside, patched_bytes, placed_offsets, surroundings}
 use Rattle.s390x_emit_laws.specs.Behind.{places}
 use Rattle.s390x_emit_laws.proofs.Alone.{appended, appended_behind, own_code}
 
@@ -40,11 +40,11 @@ module _ (off : ℕ → ℕ) (flags : IsaFlags) (e : Emission) (s : BufferState)
   pub own_valid : tree_cause flags (declared_in s) (length s.labels) e.nominal 0 (member_of flags e i) ≡ None
   own_valid = first_left (tree_cause flags (declared_in s) (length s.labels) e.nominal 0 (member_of flags e i)) _ (unmarked s.is_poisoned _ is.valid)
 
-  pub placed_bytes : patched_bytes off (emitted flags e s i) ≡ patched_bytes off s ++ code (placed_offsets off s (alone flags e i)) 0 (function_steps (alone flags e i))
+  pub placed_bytes : patched_bytes off (emitted_buffer flags e s i) ≡ patched_bytes off s ++ code (placed_offsets off s (alone flags e i)) 0 (function_steps (alone flags e i))
   placed_bytes = appended flags e.nominal (member_of flags e i) s off (member_begins flags e i) own_valid is.within is.labels
 
   -- the same with the offsets of what stands behind
-  pub bytes_behind : patched_bytes off (emitted flags e s i) ≡ patched_bytes off s ++ code (record { step = places off (length s.bytes) (function_steps (alone flags e i)); block = off; environment = outside off s }) 0 (function_steps (alone flags e i))
+  pub bytes_behind : patched_bytes off (emitted_buffer flags e s i) ≡ patched_bytes off s ++ code (record { step = places off (length s.bytes) (function_steps (alone flags e i)); block = off; environment = outside off s }) 0 (function_steps (alone flags e i))
   bytes_behind = appended_behind flags e.nominal (member_of flags e i) s off (member_begins flags e i) own_valid is.within is.labels
 
   module _ (image : CodeImage) (there : StandsAlone off flags e s i image) where
@@ -52,7 +52,7 @@ module _ (off : ℕ → ℕ) (flags : IsaFlags) (e : Emission) (s : BufferState)
     image_bytes =
         let before = patched_bytes off s in
         let own = function_code (surroundings off s) (alone flags e i) in
-        let is_own : patched_bytes off (emitted flags e s i) ≡ before ++ own =
+        let is_own : patched_bytes off (emitted_buffer flags e s i) ≡ before ++ own =
         placed_bytes ∙ ap (λ l. before ++ l) (own_code flags e.nominal (member_of flags e i) s off (member_begins flags e i) own_valid is.within is.labels there.no_block there.constants) in
         append_cancel_left before image.bytes (own ++ there.later) (sym there.bytes ∙ ap (λ l. l ++ there.later) is_own ∙ append_assoc before own there.later)
 
@@ -77,5 +77,5 @@ pub one_runs : (environment : LinkEnvironment) (t : Tree) (image : CodeImage) �
 one_runs environment t image stands k x at = step_holds (function_layout environment (t ∷ []) image) (function_placed environment (t ∷ []) image stands) k x at
 
 -- the constants stand behind the patched bytes
-pub finished_bytes : (off : ℕ → ℕ) (s : BufferState) → UsesWithin (length s.bytes) s.uses → patch_all off s.uses (unpatched s) ≡ patched_bytes off s ++ constant_bytes (length s.bytes) s.constants
+pub finished_bytes : (off : ℕ → ℕ) (s : BufferState) → UsesWithin (length s.bytes) s.uses → patch_all off s.uses (unpatched_bytes s) ≡ patched_bytes off s ++ constant_bytes (length s.bytes) s.constants
 finished_bytes off s within = all_left off s.uses s.bytes (constant_bytes (length s.bytes) s.constants) within

@@ -28,7 +28,7 @@ use Rattle.s390x_typed_steps.specs.VectorInstruction.{is_vector, is_lane, reuses
 use Rattle.s390x_machine.specs.CodeAt.{IsValidInstruction, IsValidStep, ValidMemoryOr}
 use Rattle.s390x_machine.specs.Layout.{Layout}
 use Rattle.s390x_machine.specs.Storage.{OperandStep, operand_address, operand_step, loaded_step}
-use Rattle.s390x_machine.specs.StepKinds.{StepKind, Unsupported, Performed, performed, performed_at, performed_by, kind_or, branch_kind, instruction_kind, loaded_kind, step_kind}
+use Rattle.s390x_machine.specs.StepKinds.{StepKind, Unsupported, Performed, single_operation, performed_at, performed_by, kind_or, branch_kind, instruction_kind, loaded_kind, step_kind}
 
 -- ---- operands in memory
 
@@ -54,7 +54,7 @@ behind (Some x) others e = absurd (cc)
 access_told : (L : Layout) (i : Inst) (o : OperandStep) → operand_step i ≡ Some o → OperandInRange o.operand → instruction_kind L i ≡ Unsupported → ⊥
 access_told L i o is range e =
     address_told L o o.operand (branch_kind i) range
-    (subst (λ q. kind_or (performed_by L q) (branch_kind i) ≡ Unsupported) is (behind (performed L i) (kind_or (performed_by L (operand_step i)) (branch_kind i)) e))
+    (subst (λ q. kind_or (performed_by L q) (branch_kind i) ≡ Unsupported) is (behind (single_operation L i) (kind_or (performed_by L (operand_step i)) (branch_kind i)) e))
 
 loaded_told : (L : Layout) (i : Inst) (o : OperandStep) → operand_step i ≡ Some o → OperandInRange o.operand → loaded_kind L i ≡ Unsupported → ⊥
 loaded_told L i o is range e = address_told L (loaded_step o) o.operand Unsupported range (sym (ap (λ q. kind_or (performed_by L (option_map loaded_step q)) Unsupported) is) ∙ e)

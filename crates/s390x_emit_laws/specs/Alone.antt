@@ -40,8 +40,8 @@ abbrev pub alone : IsaFlags → Emission → Inst → List Tree
 alone flags e i = member_of flags e i ∷ []
 
 -- what `emit` leaves of a buffer
-abbrev pub emitted : IsaFlags → Emission → BufferState → Inst → BufferState
-emitted flags e s i = apply_all s (own_fragments (length s.labels) 0 (member_of flags e i))
+abbrev pub emitted_buffer : IsaFlags → Emission → BufferState → Inst → BufferState
+emitted_buffer flags e s i = apply_all s (own_fragments (length s.labels) 0 (member_of flags e i))
 
 -- what instructions refer to outside themselves before linking: the constants, where their labels stand behind those of the blocks
 abbrev pub outside : (off : ℕ → ℕ) → BufferState → LinkEnvironment
@@ -63,7 +63,7 @@ surroundings off s = record {
 -- `emit` has no cause to refuse an instruction. The labels that it draws stand where it binds them, and the uses of labels in the buffer before patch bytes of that alone
 pub record IsAppended (off : ℕ → ℕ) (flags : IsaFlags) (e : Emission) (s : BufferState) (i : Inst) : Type 0 where
   pub valid : emit_cause flags e.nominal s (member_of flags e i) ≡ None
-  pub labels : StandAsBound off (length s.labels) (emitted flags e s i)
+  pub labels : StandAsBound off (length s.labels) (emitted_buffer flags e s i)
   pub within : UsesWithin (length s.bytes) s.uses
 
 -- the layout of an instruction alone, in the image that begins with it
@@ -76,7 +76,7 @@ pub record StandsAlone (off : ℕ → ℕ) (flags : IsaFlags) (e : Emission) (s 
   pub no_block : TreeNames 0 (length (aligns_of s.constants)) (member_of flags e i)
   pub constants : ConstantsBehind off s
   pub later : List ℕ
-  pub bytes : patched_bytes off (emitted flags e s i) ++ later ≡ patched_bytes off s ++ image.bytes
+  pub bytes : patched_bytes off (emitted_buffer flags e s i) ++ later ≡ patched_bytes off s ++ image.bytes
   pub even : image.base % 2 ≡ 0
   pub fits : image.base + length image.bytes ≤ 2 ^ 64
   pub short : length image.bytes < 2 ^ 31

@@ -19,7 +19,7 @@ use Rattle.s390x_machine.specs.Machine.{Transition, Run}
 use Rattle.s390x_machine.specs.Match.{return_address}
 use Rattle.s390x_machine.specs.RelativeExample.{transition}
 use Rattle.s390x_emit_int.specs.Example.{LinkedRun, symbols}
-use Rattle.s390x_emit_int.specs.Headline.{linked, linked_image}
+use Rattle.s390x_emit_int.specs.Headline.{linked_environment, linked_image}
 
 -- larl %r1, its own first byte; lg %r2, 0(%r1); brasl %r14, 8192; jg 8192: as an assembler gives them
 abbrev pub image : CodeImage
@@ -78,4 +78,4 @@ pub record LoadsCallsAndLeaves : Type 0 where
   pub loads_first : slice_get (function_steps (folded_trees trees)) 0 ≡ Some (LoadedStep loads)
   pub calls : slice_get (function_steps (folded_trees trees)) 1 ≡ Some (CallingStep calling)
   pub leaves : slice_get (function_steps (folded_trees trees)) 3 ≡ Some (TailJumpStep target)
-  pub returns : Run (linked_image stands.code 4096 symbols) (record { core = core; address = return_address (function_layout (linked symbols 4096 (folded_trees trees) []) (folded_trees trees) (linked_image stands.code 4096 symbols)) 1 calling }) later
+  pub returns : Run (linked_image stands.code 4096 symbols) (record { core = core; address = return_address (function_layout (linked_environment symbols 4096 (folded_trees trees) []) (folded_trees trees) (linked_image stands.code 4096 symbols)) 1 calling }) later

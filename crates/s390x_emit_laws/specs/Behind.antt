@@ -12,7 +12,7 @@ use Rattle.s390x_typed_steps.specs.Traps.{traps_from}
 use Rattle.s390x_operations.specs.State.{CodeImage}
 use Rattle.s390x_machine.specs.CodeAt.{ConstantStands, IsPlace, NamesConstant, PartsReach}
 use Rattle.s390x_machine.specs.Layout.{Layout}
-use Rattle.s390x_emit_laws.specs.Alone.{alone, emitted, outside, patched_bytes}
+use Rattle.s390x_emit_laws.specs.Alone.{alone, emitted_buffer, outside, patched_bytes}
 
 -- the steps from an offset on, what stands behind them, and then each block where its label stands
 abbrev pub places : (block : ℕ → ℕ) → (offset : ℕ) → List Step → ℕ → ℕ
@@ -40,7 +40,7 @@ layout_behind off flags e s i image =
 pub record StandsBehind (off : ℕ → ℕ) (flags : IsaFlags) (e : Emission) (s : BufferState) (i : Inst) (image : CodeImage) : Type 0 where
   pub ranges : BlocksInRange (alone flags e i)
   pub later : List ℕ
-  pub bytes : image.bytes ≡ patched_bytes off (emitted flags e s i) ++ later
+  pub bytes : image.bytes ≡ patched_bytes off (emitted_buffer flags e s i) ++ later
   pub even : image.base % 2 ≡ 0
   pub fits : image.base + length image.bytes ≤ 2 ^ 64
   pub short : length image.bytes < 2 ^ 31

@@ -3,7 +3,7 @@ use Rattle.std.specs.Prelude.{◌≡◌, ℕ, ◌+◌, ◌*◌, Some, None, slic
 use Rattle.s390x_base.specs.declared.ir.MachLabel.{MachLabel}
 use Rattle.s390x_inst.specs.declared.inst.Inst.TheVariants.{Jump, CondBr, JTSequence}
 use Rattle.s390x_lanes.specs.declared.operators.Signedness.TheVariants.{Signed}
-use Rattle.s390x_operations.specs.Bits.{extended}
+use Rattle.s390x_operations.specs.Bits.{extended_bits}
 use Rattle.s390x_operations.specs.Effects.{is_selected}
 use Rattle.s390x_operations.specs.State.{CodeImage, IsLoaded, Memory, State, number_at, wrapping_add64}
 use Rattle.s390x_operations.specs.declared.size.Size.TheVariants.{Doubleword}
@@ -23,7 +23,7 @@ BranchesTo image offset mask target =
 -- Wherever the image lies in memory, word j of the table at an offset of it, with its sign, leads from the table's address to the target
 abbrev pub WordLeads : CodeImage → (table j target : ℕ) → Type 0
 WordLeads image table j target =
-    (m : Memory) → IsLoaded image m → wrapping_add64 (wrapping_add64 image.base table) (extended Signed Bits32 Doubleword (number_at m.get (wrapping_add64 image.base (table + 4 * j)) 4)) ≡ target
+    (m : Memory) → IsLoaded image m → wrapping_add64 (wrapping_add64 image.base table) (extended_bits Signed Bits32 Doubleword (number_at m.get (wrapping_add64 image.base (table + 4 * j)) 4)) ≡ target
 
 -- Where the branches of step k lead: those of a jump and of a choice to their blocks, what is left of them to its block, the back branch of a loop and a break to
 -- their steps. A jump by a table branches to its other block, and its table stands 20 bytes behind its beginning

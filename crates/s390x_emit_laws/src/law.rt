@@ -1,7 +1,7 @@
 //! The laws of what emission lets pass, of where branches lead, and of an instruction by itself.
 ghost use Rattle.std.specs.Prelude.{◌≡◌, ℕ, ◌<◌, List, [], ◌∷◌, ◌++◌, length, Some, None, slice_get};
 ghost use Rattle.s390x_buffer.specs.Constants.{constant_bytes};
-ghost use Rattle.s390x_buffer.specs.Finish.{unpatched};
+ghost use Rattle.s390x_buffer.specs.Finish.{unpatched_bytes};
 ghost use Rattle.s390x_buffer.specs.Patch.{patch_all};
 ghost use Rattle.s390x_buffer.specs.State.{BufferState, Constant};
 ghost use Rattle.s390x_buffer.specs.declared.entries.MachBufferFinalized.{MachBufferFinalized};
@@ -23,9 +23,9 @@ ghost use Rattle.s390x_machine.specs.Functions.{StandsAsCode, function_layout};
 ghost use Rattle.s390x_machine.specs.Layout.{Layout};
 ghost use Rattle.s390x_machine.specs.OneStep.{StepHolds};
 ghost use Rattle.s390x_emit_int.specs.Function.{IsFinishedCode, checked_cause};
-ghost use Rattle.s390x_emit_int.specs.Headline.{linked, linked_image};
+ghost use Rattle.s390x_emit_int.specs.Headline.{linked_environment, linked_image};
 ghost use Rattle.s390x_emit_int.specs.Resolve.{UsesWithin};
-ghost use Rattle.s390x_emit_laws.specs.Alone.{IsAppended, StandsAlone, alone, emitted, layout_alone, patched_bytes, placed_offsets};
+ghost use Rattle.s390x_emit_laws.specs.Alone.{IsAppended, StandsAlone, alone, emitted_buffer, layout_alone, patched_bytes, placed_offsets};
 ghost use Rattle.s390x_emit_laws.specs.Baseline.{LoadsCallsAndLeaves};
 ghost use Rattle.s390x_emit_laws.specs.Behind.{StandsBehind, layout_behind};
 ghost use Rattle.s390x_emit_laws.specs.Built.{IsBuilt};
@@ -60,7 +60,7 @@ pub fn linked_branches_lead()
         → link_cause f base symbols ≡ None → (k : ℕ) (s : Step)
         → slice_get (function_steps (folded_trees ts)) k ≡ Some s
         → StepLeads
-        (function_layout (linked symbols base (folded_trees ts) cs) (folded_trees ts)
+        (function_layout (linked_environment symbols base (folded_trees ts) cs) (folded_trees ts)
         (linked_image f base symbols)) k s }
     ensures starts { (ts : List Tree) (cs : List Constant) (f : MachBufferFinalized)
         (environment : LinkEnvironment) (image : CodeImage) → IsFinishedCode ts cs f → (b : ℕ)
@@ -79,14 +79,15 @@ pub fn a_jump_stands_anywhere()
 pub fn emitted_bytes_are_the_steps()
     ensures appended { (off : ℕ → ℕ) (flags : IsaFlags) (e : Emission) (s : BufferState) (i : Inst)
         → IsAppended off flags e s i
-        → patched_bytes off (emitted flags e s i)
+        → patched_bytes off (emitted_buffer flags e s i)
         ≡ patched_bytes off s
         ++ code (placed_offsets off s (alone flags e i)) 0 (function_steps (alone flags e i)) }
     ensures traps { (off : ℕ → ℕ) (flags : IsaFlags) (e : Emission) (s : BufferState) (i : Inst)
         (image : CodeImage)
-        → (emitted flags e s i).traps ≡ s.traps ++ (layout_behind off flags e s i image).traps }
+        → (emitted_buffer flags e s i).traps
+        ≡ s.traps ++ (layout_behind off flags e s i image).traps }
     ensures finished { (off : ℕ → ℕ) (s : BufferState) → UsesWithin (length s.bytes) s.uses
-        → patch_all off s.uses (unpatched s)
+        → patch_all off s.uses (unpatched_bytes s)
         ≡ patched_bytes off s ++ constant_bytes (length s.bytes) s.constants }
 {}
 

@@ -11,7 +11,8 @@ ghost use Rattle.s390x_typed_steps.specs.SingleInstruction.{single_with, two_ope
 ghost use Rattle.s390x_emit_rows.specs.SingleInstruction.{opcode_of, takes_general};
 
 use crate::codes::{
-    halfword, masked_code, short, short_where, three_operands, two_and_halfword, two_operands, word,
+    halfword, masked_code, short_opcode, short_where, three_operands, two_and_halfword,
+    two_operands, word,
 };
 use crate::encode::encode_rr_into;
 use crate::opcode::ShortOpcode;
@@ -248,11 +249,16 @@ pub fn encode_allocate(size: u32) -> Option<Result<Code, EmitError>>
     if size < 32768 {
         Some(halfword(
             true,
-            short(opcodes::AGHI),
+            short_opcode(opcodes::AGHI),
             gpr(15),
             bits_of_halfword(-(size as i16)),
         ))
     } else {
-        Some(word(true, short(opcodes::SLGFI), gpr(15), bits_of_unsigned(size)))
+        Some(word(
+            true,
+            short_opcode(opcodes::SLGFI),
+            gpr(15),
+            bits_of_unsigned(size),
+        ))
     }
 }

@@ -21,7 +21,7 @@ use s390x_enc::{
 use s390x_typed_steps::low_displacement;
 
 /// An opcode of at most three hex digits, as a value that is known to be one.
-pub fn short(value: u16) -> ShortOpcode
+pub fn short_opcode(value: u16) -> ShortOpcode
     requires { value < 4096 }
     ensures { opcode_of result ≡ value }
 {
@@ -35,7 +35,7 @@ pub fn short_where(value: Option<u16>) -> Option<ShortOpcode>
     ensures { option_map opcode_of result ≡ value }
 {
     match value {
-        Some(value) => Some(short(value)),
+        Some(value) => Some(short_opcode(value)),
         None => None,
     }
 }
@@ -45,7 +45,7 @@ pub fn always(value: u16) -> Option<ShortOpcode>
     requires { value < 4096 }
     ensures { option_map opcode_of result ≡ Some value }
 {
-    Some(short(value))
+    Some(short_opcode(value))
 }
 
 /// Two registers. Opcodes of two digits are RR, others RRE. `BadRegister` comes where a register may not stand there.

@@ -114,7 +114,7 @@ fn inserted_where(
 
 /// An immediate in one element, where the others may become any. None where there is no row; `BadRegister` comes
 /// where a register is not general, or an input that has to be the output isn't it.
-pub fn inserted(size: u32, v1: Reg, imm: i16, lane: u8) -> Option<Result<Code, EmitError>>
+pub fn insert_immediate(size: u32, v1: Reg, imm: i16, lane: u8) -> Option<Result<Code, EmitError>>
     ensures { result
         ≡ single_code
         (single_with (is_vector v1)

@@ -96,7 +96,7 @@ fn reversed_code(size: u32) -> Option<u8>
 }
 
 // An access by a row, where its register may stand there.
-fn accessed(valid: bool, rows: StorageRows, operand: &MemArg) -> Option<MemoryInst>
+fn access_by_rows(valid: bool, rows: StorageRows, operand: &MemArg) -> Option<MemoryInst>
     requires { (relative_encodes rows && (not valid || rows_encode rows)) ≡ true }
     ensures row { option_map memory_instruction_of result
         ≡ access_vector valid (storage_form_of rows) operand.now }
@@ -112,14 +112,20 @@ fn accessed(valid: bool, rows: StorageRows, operand: &MemArg) -> Option<MemoryIn
 }
 
 #[tactic(auto, using(crate::proofs::Accessing::masked_encodes))]
-fn masked(valid: bool, register: Reg, opcode: u16, mask: u8, operand: &MemArg) -> Option<MemoryInst>
+fn masked_access(
+    valid: bool,
+    register: Reg,
+    opcode: u16,
+    mask: u8,
+    operand: &MemArg,
+) -> Option<MemoryInst>
     requires valid { valid ≡ true → is_vector register ≡ true }
     requires mask { mask < 16 }
     ensures row { option_map memory_instruction_of result
         ≡ access_vector valid (VrxForm (number_of register) opcode mask) operand.now }
     ensures encodes { IfSome result (λ x. may_encode x ≡ true) }
 {
-    accessed(
+    access_by_rows(
         valid,
         StorageRows::Vector {
             register,
@@ -140,7 +146,7 @@ fn elements(opcode: u16, register: Reg, code: Option<u8>, operand: &MemArg) -> O
     match code {
         Some(code) => {
             let valid = vector(&register);
-            masked(valid, register, opcode, code, operand)
+            masked_access(valid, register, opcode, code, operand)
         }
         None => None,
     }
@@ -167,7 +173,7 @@ fn one_lane(
         Some(code) => {
             if is_lane(element.size, element.lane) {
                 let opcode = lane_opcode(access, code);
-                masked(valid, register, opcode, element.lane, operand)
+                masked_access(valid, register, opcode, element.lane, operand)
             } else {
                 None
             }
@@ -230,7 +236,7 @@ fn float(register: Reg, rx: u8, rxy: u16, operand: &MemArg) -> Option<MemoryInst
     ensures encodes { IfSome result (λ x. may_encode x ≡ true) }
 {
     let valid = vector(&register);
-    accessed(valid, StorageRows::Float { register, rx, rxy }, operand)
+    access_by_rows(valid, StorageRows::Float { register, rx, rxy }, operand)
 }
 
 fn load_left(size: u32, register: Reg, operand: &MemArg) -> Option<MemoryInst>

@@ -11,8 +11,8 @@ use crate::codes::{
     joined_registers, moved_left, shifted_vector, three_vectors, two_vectors,
 };
 use crate::lanes::{
-    element_code, inserted, inserted_into, lane_extracted, lane_inserted, lane_inserted_into,
-    replicated_lane_of,
+    element_code, insert_immediate, inserted_into, lane_extracted, lane_inserted,
+    lane_inserted_into, replicated_lane_of,
 };
 use crate::opcodes::{
     binary_row, comparison_row, element_comparison_row, is_division, shift_row, unary_row,
@@ -48,7 +48,7 @@ fn doublewords(v1: Reg, v2: Reg, v3: Reg, first: u8, second: u8) -> Option<Resul
 }
 
 // An immediate in each element.
-fn replicated(size: u32, v1: Reg, imm: i16) -> Option<Result<Code, EmitError>>
+fn replicate_immediate(size: u32, v1: Reg, imm: i16) -> Option<Result<Code, EmitError>>
     ensures { result
         ≡ single_code
         (single_with (is_vector v1)
@@ -176,7 +176,7 @@ fn encode_any(inst: &VecInst) -> Option<Result<Code, EmitError>>
             };
             Some(immediate_vector(row, rd.to_reg(), bits_of_unsigned_halfword(*mask)))
         }
-        VecInst::VecImmReplicate { size, rd, imm } => replicated(*size, rd.to_reg(), *imm),
+        VecInst::VecImmReplicate { size, rd, imm } => replicate_immediate(*size, rd.to_reg(), *imm),
         VecInst::VecImmBitMask {
             size,
             rd,
@@ -223,7 +223,7 @@ fn encode_any(inst: &VecInst) -> Option<Result<Code, EmitError>>
             rd,
             imm,
             lane_imm,
-        } => inserted(*size, rd.to_reg(), *imm, *lane_imm),
+        } => insert_immediate(*size, rd.to_reg(), *imm, *lane_imm),
         VecInst::FpuMove32 { rd, rn } => Some(moved_left(opcodes::LER, rd.to_reg(), *rn)),
         VecInst::FpuMove64 { rd, rn } => Some(moved_left(opcodes::LDR, rd.to_reg(), *rn)),
         _ => None,

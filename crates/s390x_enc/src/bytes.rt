@@ -16,14 +16,14 @@ pub fn nibbles(high: u8, low: u8) -> u8
 }
 
 /// The high byte.
-pub fn upper(n: u16) -> u8
+pub fn high_byte(n: u16) -> u8
     ensures { result ≡ n / 256 }
 {
     (n / 256) as u8
 }
 
 /// The low byte.
-pub fn lower(n: u16) -> u8
+pub fn low_byte(n: u16) -> u8
     ensures { result ≡ n % 256 }
 {
     (n % 256) as u8

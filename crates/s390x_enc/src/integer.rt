@@ -15,7 +15,9 @@ ghost use Rattle.s390x_format.specs.declared.kind.FormatKind.{FormatKind};
 ghost use Rattle.s390x_format.specs.Encoded.{slots, IsCode};
 ghost use Rattle.s390x_enc.specs.Operands.{is_general_class, may_stand_first, may_stand_second};
 
-use crate::bytes::{four, half16, half32, high_half, low_half, lower, nibbles, six, two, upper};
+use crate::bytes::{
+    four, half16, half32, high_byte, high_half, low_byte, low_half, nibbles, six, two,
+};
 use crate::operands::{first, general, second};
 use s390x_base::{Code, EmitError, Reg};
 
@@ -29,7 +31,7 @@ pub fn enc_e(opcode: u16) -> Result<Code, EmitError>
     ensures { MatchResult result (λ code. IsCode FormatKind.E (slots opcode [] [] 0 0) code)
         (λ _. ⊥) }
 {
-    Ok(two(upper(opcode), lower(opcode)))
+    Ok(two(high_byte(opcode), low_byte(opcode)))
 }
 
 /// The code of an instruction of format RI-A. `BadRegister` comes where a register is not of its operand's class.
@@ -50,8 +52,8 @@ pub fn enc_ri_a(opcode: u16, r1: Reg, i2: u16) -> Result<Code, EmitError>
     Ok(four(
         (opcode / 16) as u8,
         nibbles(n1, (opcode % 16) as u8),
-        upper(i2),
-        lower(i2),
+        high_byte(i2),
+        low_byte(i2),
     ))
 }
 
@@ -77,8 +79,8 @@ pub fn enc_ri_b(opcode: u16, r1: Reg, ri2: i32) -> Result<Code, EmitError>
     Ok(four(
         (opcode / 16) as u8,
         nibbles(n1, (opcode % 16) as u8),
-        upper(half),
-        lower(half),
+        high_byte(half),
+        low_byte(half),
     ))
 }
 
@@ -102,8 +104,8 @@ pub fn enc_ri_c(opcode: u16, m1: u8, ri2: i32) -> Result<Code, EmitError>
     Ok(four(
         (opcode / 16) as u8,
         nibbles(m1, (opcode % 16) as u8),
-        upper(half),
-        lower(half),
+        high_byte(half),
+        low_byte(half),
     ))
 }
 
@@ -123,12 +125,12 @@ pub fn enc_rie_a(opcode: u16, r1: Reg, i2: u16, m3: u8) -> Result<Code, EmitErro
 {
     let n1 = general(r1)?;
     Ok(six([
-        upper(opcode),
+        high_byte(opcode),
         nibbles(n1, 0),
-        upper(i2),
-        lower(i2),
+        high_byte(i2),
+        low_byte(i2),
         nibbles(m3, 0),
-        lower(opcode),
+        low_byte(opcode),
     ]))
 }
 
@@ -148,12 +150,12 @@ pub fn enc_rie_d(opcode: u16, r1: Reg, r3: Reg, i2: u16) -> Result<Code, EmitErr
     let n1 = general(r1)?;
     let n3 = general(r3)?;
     Ok(six([
-        upper(opcode),
+        high_byte(opcode),
         nibbles(n1, n3),
-        upper(i2),
-        lower(i2),
+        high_byte(i2),
+        low_byte(i2),
         0,
-        lower(opcode),
+        low_byte(opcode),
     ]))
 }
 
@@ -173,7 +175,14 @@ pub fn enc_rie_f(opcode: u16, r1: Reg, r2: Reg, i3: u8, i4: u8, i5: u8) -> Resul
 {
     let n1 = general(r1)?;
     let n2 = general(r2)?;
-    Ok(six([upper(opcode), nibbles(n1, n2), i3, i4, i5, lower(opcode)]))
+    Ok(six([
+        high_byte(opcode),
+        nibbles(n1, n2),
+        i3,
+        i4,
+        i5,
+        low_byte(opcode),
+    ]))
 }
 
 /// The code of an instruction of format RIE-G. `BadRegister` comes where a register is not of its operand's class.
@@ -192,12 +201,12 @@ pub fn enc_rie_g(opcode: u16, r1: Reg, i2: u16, m3: u8) -> Result<Code, EmitErro
 {
     let n1 = general(r1)?;
     Ok(six([
-        upper(opcode),
+        high_byte(opcode),
         nibbles(n1, m3),
-        upper(i2),
-        lower(i2),
+        high_byte(i2),
+        low_byte(i2),
         0,
-        lower(opcode),
+        low_byte(opcode),
     ]))
 }
 
@@ -219,10 +228,10 @@ pub fn enc_ril_a(opcode: u16, r1: Reg, i2: u32) -> Result<Code, EmitError>
     Ok(six([
         (opcode / 16) as u8,
         nibbles(n1, (opcode % 16) as u8),
-        upper(high_half(i2)),
-        lower(high_half(i2)),
-        upper(low_half(i2)),
-        lower(low_half(i2)),
+        high_byte(high_half(i2)),
+        low_byte(high_half(i2)),
+        high_byte(low_half(i2)),
+        low_byte(low_half(i2)),
     ]))
 }
 
@@ -246,10 +255,10 @@ pub fn enc_ril_b(opcode: u16, r1: Reg, ri2: u32) -> Result<Code, EmitError>
     Ok(six([
         (opcode / 16) as u8,
         nibbles(n1, (opcode % 16) as u8),
-        upper(high_half(half)),
-        lower(high_half(half)),
-        upper(low_half(half)),
-        lower(low_half(half)),
+        high_byte(high_half(half)),
+        low_byte(high_half(half)),
+        high_byte(low_half(half)),
+        low_byte(low_half(half)),
     ]))
 }
 
@@ -270,10 +279,10 @@ pub fn enc_ril_c(opcode: u16, m1: u8, ri2: u32) -> Result<Code, EmitError>
     Ok(six([
         (opcode / 16) as u8,
         nibbles(m1, (opcode % 16) as u8),
-        upper(high_half(half)),
-        lower(high_half(half)),
-        upper(low_half(half)),
-        lower(low_half(half)),
+        high_byte(high_half(half)),
+        low_byte(high_half(half)),
+        high_byte(low_half(half)),
+        low_byte(low_half(half)),
     ]))
 }
 
@@ -293,7 +302,7 @@ pub fn enc_rr(opcode: u16, r1: Reg, r2: Reg) -> Result<Code, EmitError>
 {
     let n1 = first(opcode, r1)?;
     let n2 = second(opcode, r2)?;
-    Ok(two(lower(opcode), nibbles(n1, n2)))
+    Ok(two(low_byte(opcode), nibbles(n1, n2)))
 }
 
 /// The code of an instruction of format RRE. `BadRegister` comes where a register is not of its operand's class.
@@ -311,7 +320,7 @@ pub fn enc_rre(opcode: u16, r1: Reg, r2: Reg) -> Result<Code, EmitError>
 {
     let n1 = first(opcode, r1)?;
     let n2 = second(opcode, r2)?;
-    Ok(four(upper(opcode), lower(opcode), 0, nibbles(n1, n2)))
+    Ok(four(high_byte(opcode), low_byte(opcode), 0, nibbles(n1, n2)))
 }
 
 /// The code of an instruction of format RRF-AB. `BadRegister` comes where a register is not of its operand's class.
@@ -333,8 +342,8 @@ pub fn enc_rrf_ab(opcode: u16, r1: Reg, r2: Reg, r3: Reg, m4: u8) -> Result<Code
     let n2 = general(r2)?;
     let n3 = general(r3)?;
     Ok(four(
-        upper(opcode),
-        lower(opcode),
+        high_byte(opcode),
+        low_byte(opcode),
         nibbles(n3, m4),
         nibbles(n1, n2),
     ))
@@ -359,8 +368,8 @@ pub fn enc_rrf_cde(opcode: u16, r1: Reg, r2: Reg, m3: u8, m4: u8) -> Result<Code
     let n1 = general(r1)?;
     let n2 = general(r2)?;
     Ok(four(
-        upper(opcode),
-        lower(opcode),
+        high_byte(opcode),
+        low_byte(opcode),
         nibbles(m3, m4),
         nibbles(n1, n2),
     ))

@@ -132,7 +132,7 @@ pub fn high_bits(n1: u8, n2: u8, n3: u8, n4: u8) -> u8
 }
 
 /// 1 where a register of 16 and above is given.
-fn high(r: Option<Reg>) -> u8
+fn high_bit_of(r: Option<Reg>) -> u8
     requires { is_vector_or_none r ≡ true }
     ensures value { result ≡ high_bit r }
     ensures bit { result < 2 }
@@ -157,5 +157,5 @@ pub fn rxb(v1: Option<Reg>, v2: Option<Reg>, v3: Option<Reg>, v4: Option<Reg>) -
     ensures value { result ≡ rxb_of v1 v2 v3 v4 }
     ensures below { result < 2 ^ 4 }
 {
-    8 * high(v1) + 4 * high(v2) + 2 * high(v3) + high(v4)
+    8 * high_bit_of(v1) + 4 * high_bit_of(v2) + 2 * high_bit_of(v3) + high_bit_of(v4)
 }

@@ -14,7 +14,7 @@ ghost use Rattle.s390x_format.specs.declared.kind.FormatKind.{FormatKind};
 ghost use Rattle.s390x_format.specs.Encoded.{slots, IsCode};
 ghost use Rattle.s390x_enc.specs.Operands.{is_general_class, may_stand_first};
 
-use crate::bytes::{four, lower, nibbles, six, upper};
+use crate::bytes::{four, high_byte, low_byte, nibbles, six};
 use crate::operands::{first, general};
 use s390x_base::{Code, EmitError, Reg};
 
@@ -38,7 +38,7 @@ pub fn enc_rs(opcode: u16, r1: Reg, r3: Reg, b2: Reg, d2: u32) -> Result<Code, E
     let n3 = general(r3)?;
     let base = general(b2)?;
     Ok(four(
-        lower(opcode),
+        low_byte(opcode),
         nibbles(n1, n3),
         nibbles(base, (d2 / 256) as u8),
         (d2 % 256) as u8,
@@ -64,12 +64,12 @@ pub fn enc_rsy(opcode: u16, r1: Reg, r3: Reg, b2: Reg, d2: u32) -> Result<Code, 
     let n3 = general(r3)?;
     let base = general(b2)?;
     Ok(six([
-        upper(opcode),
+        high_byte(opcode),
         nibbles(n1, n3),
         nibbles(base, (d2 % 4096 / 256) as u8),
         (d2 % 256) as u8,
         (d2 / 4096) as u8,
-        lower(opcode),
+        low_byte(opcode),
     ]))
 }
 
@@ -93,7 +93,7 @@ pub fn enc_rx(opcode: u16, r1: Reg, b2: Reg, x2: Reg, d2: u32) -> Result<Code, E
     let base = general(b2)?;
     let index = general(x2)?;
     Ok(four(
-        lower(opcode),
+        low_byte(opcode),
         nibbles(n1, index),
         nibbles(base, (d2 / 256) as u8),
         (d2 % 256) as u8,
@@ -119,12 +119,12 @@ pub fn enc_rxy(opcode: u16, r1: Reg, b2: Reg, x2: Reg, d2: u32) -> Result<Code, 
     let base = general(b2)?;
     let index = general(x2)?;
     Ok(six([
-        upper(opcode),
+        high_byte(opcode),
         nibbles(n1, index),
         nibbles(base, (d2 % 4096 / 256) as u8),
         (d2 % 256) as u8,
         (d2 / 4096) as u8,
-        lower(opcode),
+        low_byte(opcode),
     ]))
 }
 
@@ -145,7 +145,7 @@ pub fn enc_si(opcode: u16, b1: Reg, d1: u32, i2: u8) -> Result<Code, EmitError>
 {
     let base = general(b1)?;
     Ok(four(
-        lower(opcode),
+        low_byte(opcode),
         i2,
         nibbles(base, (d1 / 256) as u8),
         (d1 % 256) as u8,
@@ -169,12 +169,12 @@ pub fn enc_sil(opcode: u16, b1: Reg, d1: u32, i2: i16) -> Result<Code, EmitError
     let base = general(b1)?;
     let bits = i2.cast_unsigned();
     Ok(six([
-        upper(opcode),
-        lower(opcode),
+        high_byte(opcode),
+        low_byte(opcode),
         nibbles(base, (d1 / 256) as u8),
         (d1 % 256) as u8,
-        upper(bits),
-        lower(bits),
+        high_byte(bits),
+        low_byte(bits),
     ]))
 }
 
@@ -194,11 +194,11 @@ pub fn enc_siy(opcode: u16, b1: Reg, d1: u32, i2: u8) -> Result<Code, EmitError>
 {
     let base = general(b1)?;
     Ok(six([
-        upper(opcode),
+        high_byte(opcode),
         i2,
         nibbles(base, (d1 % 4096 / 256) as u8),
         (d1 % 256) as u8,
         (d1 / 4096) as u8,
-        lower(opcode),
+        low_byte(opcode),
     ]))
 }

@@ -12,7 +12,7 @@ ghost use Rattle.s390x_format.specs.declared.kind.FormatKind.{FormatKind};
 ghost use Rattle.s390x_format.specs.Encoded.{slots, IsCode};
 ghost use Rattle.s390x_enc.specs.Operands.{is_general_class, is_vector};
 
-use crate::bytes::{lower, nibbles, six, upper};
+use crate::bytes::{high_byte, low_byte, nibbles, six};
 use crate::operands::{general, high_bits, vector};
 use s390x_base::{Code, EmitError, Reg};
 
@@ -33,12 +33,12 @@ pub fn enc_vri_a(opcode: u16, v1: Reg, i2: u16, m3: u8) -> Result<Code, EmitErro
     let n1 = vector(v1)?;
     let x = high_bits(n1, 0, 0, 0);
     Ok(six([
-        upper(opcode),
+        high_byte(opcode),
         nibbles(n1 % 16, 0),
-        upper(i2),
-        lower(i2),
+        high_byte(i2),
+        low_byte(i2),
         nibbles(m3, x),
-        lower(opcode),
+        low_byte(opcode),
     ]))
 }
 
@@ -59,12 +59,12 @@ pub fn enc_vri_b(opcode: u16, v1: Reg, i2: u8, i3: u8, m4: u8) -> Result<Code, E
     let n1 = vector(v1)?;
     let x = high_bits(n1, 0, 0, 0);
     Ok(six([
-        upper(opcode),
+        high_byte(opcode),
         nibbles(n1 % 16, 0),
         i2,
         i3,
         nibbles(m4, x),
-        lower(opcode),
+        low_byte(opcode),
     ]))
 }
 
@@ -87,12 +87,12 @@ pub fn enc_vri_c(opcode: u16, v1: Reg, i2: u16, v3: Reg, m4: u8) -> Result<Code,
     let n3 = vector(v3)?;
     let x = high_bits(n1, n3, 0, 0);
     Ok(six([
-        upper(opcode),
+        high_byte(opcode),
         nibbles(n1 % 16, n3 % 16),
-        upper(i2),
-        lower(i2),
+        high_byte(i2),
+        low_byte(i2),
         nibbles(m4, x),
-        lower(opcode),
+        low_byte(opcode),
     ]))
 }
 
@@ -116,12 +116,12 @@ pub fn enc_vri_k(opcode: u16, i5: u8, v1: Reg, v2: Reg, v3: Reg, v4: Reg) -> Res
     let n4 = vector(v4)?;
     let x = high_bits(n1, n2, n3, n4);
     Ok(six([
-        upper(opcode),
+        high_byte(opcode),
         nibbles(n1 % 16, n2 % 16),
         nibbles(n3 % 16, 0),
         i5,
         nibbles(n4 % 16, x),
-        lower(opcode),
+        low_byte(opcode),
     ]))
 }
 
@@ -146,12 +146,12 @@ pub fn enc_vrr_a(opcode: u16, v1: Reg, v2: Reg, m3: u8, m4: u8, m5: u8) -> Resul
     let n2 = vector(v2)?;
     let x = high_bits(n1, n2, 0, 0);
     Ok(six([
-        upper(opcode),
+        high_byte(opcode),
         nibbles(n1 % 16, n2 % 16),
         0,
         nibbles(m5, m4),
         nibbles(m3, x),
-        lower(opcode),
+        low_byte(opcode),
     ]))
 }
 
@@ -176,12 +176,12 @@ pub fn enc_vrr_b(opcode: u16, v1: Reg, v2: Reg, v3: Reg, m4: u8, m5: u8) -> Resu
     let n3 = vector(v3)?;
     let x = high_bits(n1, n2, n3, 0);
     Ok(six([
-        upper(opcode),
+        high_byte(opcode),
         nibbles(n1 % 16, n2 % 16),
         nibbles(n3 % 16, 0),
         nibbles(m5, 0),
         nibbles(m4, x),
-        lower(opcode),
+        low_byte(opcode),
     ]))
 }
 
@@ -215,12 +215,12 @@ pub fn enc_vrr_c(
     let n3 = vector(v3)?;
     let x = high_bits(n1, n2, n3, 0);
     Ok(six([
-        upper(opcode),
+        high_byte(opcode),
         nibbles(n1 % 16, n2 % 16),
         nibbles(n3 % 16, 0),
         nibbles(m6, m5),
         nibbles(m4, x),
-        lower(opcode),
+        low_byte(opcode),
     ]))
 }
 
@@ -254,12 +254,12 @@ pub fn enc_vrr_d(
     let n4 = vector(v4)?;
     let x = high_bits(n1, n2, n3, n4);
     Ok(six([
-        upper(opcode),
+        high_byte(opcode),
         nibbles(n1 % 16, n2 % 16),
         nibbles(n3 % 16, m5),
         nibbles(m6, 0),
         nibbles(n4 % 16, x),
-        lower(opcode),
+        low_byte(opcode),
     ]))
 }
 
@@ -293,12 +293,12 @@ pub fn enc_vrr_e(
     let n4 = vector(v4)?;
     let x = high_bits(n1, n2, n3, n4);
     Ok(six([
-        upper(opcode),
+        high_byte(opcode),
         nibbles(n1 % 16, n2 % 16),
         nibbles(n3 % 16, m6),
         nibbles(0, m5),
         nibbles(n4 % 16, x),
-        lower(opcode),
+        low_byte(opcode),
     ]))
 }
 
@@ -321,12 +321,12 @@ pub fn enc_vrr_f(opcode: u16, v1: Reg, r2: Reg, r3: Reg) -> Result<Code, EmitErr
     let n3 = general(r3)?;
     let x = high_bits(n1, 0, 0, 0);
     Ok(six([
-        upper(opcode),
+        high_byte(opcode),
         nibbles(n1 % 16, n2),
         nibbles(n3, 0),
         0,
         nibbles(0, x),
-        lower(opcode),
+        low_byte(opcode),
     ]))
 }
 
@@ -351,12 +351,12 @@ pub fn enc_vrs_a(opcode: u16, v1: Reg, b2: Reg, d2: u32, v3: Reg, m4: u8) -> Res
     let n3 = vector(v3)?;
     let x = high_bits(n1, n3, 0, 0);
     Ok(six([
-        upper(opcode),
+        high_byte(opcode),
         nibbles(n1 % 16, n3 % 16),
         nibbles(base, (d2 / 256) as u8),
         (d2 % 256) as u8,
         nibbles(m4, x),
-        lower(opcode),
+        low_byte(opcode),
     ]))
 }
 
@@ -381,12 +381,12 @@ pub fn enc_vrs_b(opcode: u16, v1: Reg, b2: Reg, d2: u32, r3: Reg, m4: u8) -> Res
     let n3 = general(r3)?;
     let x = high_bits(n1, 0, 0, 0);
     Ok(six([
-        upper(opcode),
+        high_byte(opcode),
         nibbles(n1 % 16, n3),
         nibbles(base, (d2 / 256) as u8),
         (d2 % 256) as u8,
         nibbles(m4, x),
-        lower(opcode),
+        low_byte(opcode),
     ]))
 }
 
@@ -411,12 +411,12 @@ pub fn enc_vrs_c(opcode: u16, r1: Reg, b2: Reg, d2: u32, v3: Reg, m4: u8) -> Res
     let n3 = vector(v3)?;
     let x = high_bits(0, n3, 0, 0);
     Ok(six([
-        upper(opcode),
+        high_byte(opcode),
         nibbles(n1, n3 % 16),
         nibbles(base, (d2 / 256) as u8),
         (d2 % 256) as u8,
         nibbles(m4, x),
-        lower(opcode),
+        low_byte(opcode),
     ]))
 }
 
@@ -441,11 +441,11 @@ pub fn enc_vrx(opcode: u16, v1: Reg, b2: Reg, x2: Reg, d2: u32, m3: u8) -> Resul
     let index = general(x2)?;
     let x = high_bits(n1, 0, 0, 0);
     Ok(six([
-        upper(opcode),
+        high_byte(opcode),
         nibbles(n1 % 16, index),
         nibbles(base, (d2 / 256) as u8),
         (d2 % 256) as u8,
         nibbles(m3, x),
-        lower(opcode),
+        low_byte(opcode),
     ]))
 }

@@ -4,7 +4,7 @@ use Rattle.std.specs.Prelude.{◌==◌, nat_lt}
 use Rattle.std.proofs.lemmas.Bool.{ltb-false, or_parts}
 use Rattle.s390x_job_lines.specs.Line.{Line}
 use Rattle.s390x_job.specs.Items.{constant_line, symbol_line, memory_line, end_line}
-use Rattle.s390x_job.specs.Grammar.{Place, Header, Within, AtEnd, Head, Never, class, next, run, region_class}
+use Rattle.s390x_job.specs.Grammar.{Place, Header, Within, AtEnd, Head, Never, class, next_place, run, region_class}
 use Rattle.s390x_job.specs.Jobs.{IsJob, blocks_lines, flags_lines, frame_lines, registers_lines}
 use Rattle.s390x_job.specs.declared.job.Job.{Job}
 use Rattle.s390x_job.specs.declared.job.MemLine.{MemLine}
@@ -17,15 +17,15 @@ began None ls x h = absurd cc
 began (Some q) ls x h = (q, refl)
 
 -- nothing follows a line that never stands
-never_next : (q : Place) → next q Never ≡ None
+never_next : (q : Place) → next_place q Never ≡ None
 never_next (Header rank bound) = refl
 never_next (Within d) = refl
 never_next AtEnd = refl
 
 -- a region that may stand fits
-region_fits : (q : Place) (address size : ℕ) (beyond : Bool) → ((size == 0) || nat_lt (2 ^ 64) (address + size)) ≡ beyond → (x : Place) (ls : List Line) → run (next q (region_class address size)) ls ≡ Some x → address + size ≤ 2 ^ 64
+region_fits : (q : Place) (address size : ℕ) (beyond : Bool) → ((size == 0) || nat_lt (2 ^ 64) (address + size)) ≡ beyond → (x : Place) (ls : List Line) → run (next_place q (region_class address size)) ls ≡ Some x → address + size ≤ 2 ^ 64
 region_fits q address size true e x ls h =
-    let none : next q (region_class address size) ≡ None = ap (λ b. next q (if b then Never else Head 5 address (address + size))) e ∙ never_next q in
+    let none : next_place q (region_class address size) ≡ None = ap (λ b. next_place q (if b then Never else Head 5 address (address + size))) e ∙ never_next q in
     let stuck : None ≡ Some x = sym (ap (λ (o : Option Place). run o ls) none) ∙ h in
     absurd cc
 region_fits q address size false e x ls h = ltb-false (2 ^ 64) (address + size) (or_parts (size == 0) (nat_lt (2 ^ 64) (address + size)) e).1
@@ -35,7 +35,7 @@ regions_stand [] o x h = tt
 regions_stand (m ∷ ms) None x h = absurd cc
 regions_stand (m ∷ ms) (Some q) x h =
     let size = length m.bytes.items in
-    (region_fits q m.address size ((size == 0) || nat_lt (2 ^ 64) (m.address + size)) refl x (map memory_line ms) h, regions_stand ms (next q (class (memory_line m))) x h)
+    (region_fits q m.address size ((size == 0) || nat_lt (2 ^ 64) (m.address + size)) refl x (map memory_line ms) h, regions_stand ms (next_place q (class (memory_line m))) x h)
 
 -- the lines behind others
 behind : (a b : List Line) (o : Option Place) (x : Place) → run o (a ++ b) ≡ Some x → run (run o a) b ≡ Some x

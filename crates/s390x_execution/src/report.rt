@@ -55,14 +55,14 @@ pub fn run_text(
         base: image.base,
         code,
     };
-    match reported(alloc, located, &job.memory, &execution, &machine, &memory) {
+    match text_of_execution(alloc, located, &job.memory, &execution, &machine, &memory) {
         Ok(text) => Ok(text),
         Err(_) => Err(NoMemory),
     }
 }
 
 // The text of an execution that ended so.
-fn reported<M: Memory>(
+fn text_of_execution<M: Memory>(
     alloc: Global,
     located: Located,
     regions: &[MemLine],

@@ -16,7 +16,7 @@ use Rattle.s390x_inst.specs.declared.state.IsaFlags.{IsaFlags}
 use Rattle.s390x_rows.specs.declared.opcodes.TheConstants as opcodes
 use Rattle.s390x_typed_steps.specs.Causes.{Declared, first_emit_cause, instruction_cause, instruction_fresh_labels, target_label_cause, unless}
 use Rattle.s390x_typed_steps.specs.Memory.{StorageForm, RxForm, type_of}
-use Rattle.s390x_typed_steps.specs.Operands.{Finalized, addressed, fits_12, fits_20, fits_32, no_register, scratch, with_offset, with_widened}
+use Rattle.s390x_typed_steps.specs.Operands.{Finalized, with_address_loaded, fits_12, fits_20, fits_32, no_register, scratch, with_offset, with_widened}
 use Rattle.s390x_typed_steps.specs.Parts.{CodePart, finalized_parts, instruction_parts, parts_size}
 use Rattle.s390x_typed_steps.specs.Relocs.{parts_relocs}
 use Rattle.s390x_typed_steps.specs.Stack.{nominal_after}
@@ -61,7 +61,7 @@ unfit d = record { helpers = []; operand = RegOffset (register 15) (pos d) trust
 
 -- what holds of an access in each form holds of it
 abbrev parts_in : StorageForm → Finalized → List CodePart
-parts_in form f = finalized_parts form None (with_widened (type_of form true) (addressed (type_of form true) f))
+parts_in form f = finalized_parts form None (with_widened (type_of form true) (with_address_loaded (type_of form true) f))
 
 in_each_form : (P : List CodePart → Type 0) (form : StorageForm) (d : ℕ) → P (parts_in form (short d)) → P (parts_in form (long d)) → P (parts_in form (indexed d)) → P (parts_in form (unfit d))
     → P (parts_in form (with_offset (register 15) (pos d) trusted))

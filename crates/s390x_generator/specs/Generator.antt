@@ -52,12 +52,12 @@ generated_from n k zero x = []
 generated_from n k (suc count) x = generated_block n k (next_number x) ∷ generated_from n (k + 1) count (next_number x)
 
 -- the instructions of each of n blocks, drawn from a start on
-abbrev pub generated : (n start : ℕ) → List (List Inst)
-generated n start = generated_from n 0 n start
+abbrev pub generated_blocks : (n start : ℕ) → List (List Inst)
+generated_blocks n start = generated_from n 0 n start
 
 -- they as trees
 abbrev pub generated_trees : Emission → (n start : ℕ) → List Tree
-generated_trees e n start = map (block_tree e) (generated n start)
+generated_trees e n start = map (block_tree e) (generated_blocks n start)
 
 -- the instructions of a block
 abbrev pub insts_of : Block → List Inst
@@ -65,5 +65,5 @@ insts_of b = b.insts.items
 
 -- a function has these n blocks, and no constants
 pub record IsGenerated (n start : ℕ) (f : AllocatedFunction) : Type 0 where
-  pub blocks : map insts_of f.blocks.items ≡ generated n start
+  pub blocks : map insts_of f.blocks.items ≡ generated_blocks n start
   pub constants : f.constants.items ≡ []

@@ -7,14 +7,14 @@ use Rattle.s390x_base.specs.declared.ir.Reloc.{Reloc}
 use Rattle.s390x_base.specs.declared.ir.Reloc.TheVariants.{S390xPCRel32Dbl, S390xPLTRel32Dbl, Abs8}
 use Rattle.s390x_buffer.specs.declared.entries.RelocEntry.{RelocEntry}
 use Rattle.s390x_image.specs.Symbols.{Symbols, address_of}
-use Rattle.s390x_image.specs.Fields.{field_length, field_of, target_of, field_distance, field_bytes, address_or_zero, LiesIn, IsOutside, stored, fill, filled}
+use Rattle.s390x_image.specs.Fields.{field_length, field_of, target_of, field_distance, field_bytes, address_or_zero, LiesIn, IsOutside, with_bytes_at, fill, with_fields_filled}
 
 pub length-field : (kind : Reloc) (target distance : ℤ) → length (field_of kind target distance) ≡ field_length kind
 length-field S390xPCRel32Dbl target distance = refl
 length-field S390xPLTRel32Dbl target distance = refl
 length-field Abs8 target distance = refl
 
-pub length-stored : (bytes : List ℕ) (at : ℕ) (field_bytes : List ℕ) → at + length field_bytes ≤ length bytes → length (stored bytes at field_bytes) ≡ length bytes
+pub length-stored : (bytes : List ℕ) (at : ℕ) (field_bytes : List ℕ) → at + length field_bytes ≤ length bytes → length (with_bytes_at bytes at field_bytes) ≡ length bytes
 length-stored bytes at field_bytes h = omega (arith, length-append (take at bytes) (field_bytes ++ drop (at + length field_bytes) bytes), length-append field_bytes (drop (at + length field_bytes) bytes), length-take at bytes, length-drop (at + length field_bytes) bytes)
 
 before : (bytes : List ℕ) (at : ℕ) (rest : List ℕ) (k : ℕ) → at ≤ length bytes → k < at → get_or (take at bytes ++ rest) k 0 ≡ get_or bytes k 0
@@ -22,7 +22,7 @@ before bytes at rest k h lt =
     let in_front : k < length (take at bytes) = omega (arith, length-take at bytes) in
     get_or_append_left (take at bytes) rest 0 k in_front ∙ get_or-take at bytes k 0 lt
 
-behind : (bytes : List ℕ) (at : ℕ) (field_bytes : List ℕ) (k : ℕ) → at + length field_bytes ≤ length bytes → at + length field_bytes ≤ k → get_or (stored bytes at field_bytes) k 0 ≡ get_or bytes k 0
+behind : (bytes : List ℕ) (at : ℕ) (field_bytes : List ℕ) (k : ℕ) → at + length field_bytes ≤ length bytes → at + length field_bytes ≤ k → get_or (with_bytes_at bytes at field_bytes) k 0 ≡ get_or bytes k 0
 behind bytes at field_bytes k h le =
     let front : length (take at bytes) ≡ at = omega (arith, length-take at bytes) in
     let past : at ≤ k = omega arith in
@@ -34,11 +34,11 @@ behind bytes at field_bytes k h le =
     ∙ ap (λ (i : ℕ). get_or bytes i 0) place
 
 pub stored-outside : (bytes : List ℕ) (at : ℕ) (field_bytes : List ℕ) (k : ℕ) → at + length field_bytes ≤ length bytes → (k < at) ⊎ (at + length field_bytes ≤ k) →
-    get_or (stored bytes at field_bytes) k 0 ≡ get_or bytes k 0
+    get_or (with_bytes_at bytes at field_bytes) k 0 ≡ get_or bytes k 0
 stored-outside bytes at field_bytes k h (inl lt) = let le : at ≤ length bytes = omega arith in before bytes at (field_bytes ++ drop (at + length field_bytes) bytes) k le lt
 stored-outside bytes at field_bytes k h (inr le) = behind bytes at field_bytes k h le
 
-pub stored-inside : (bytes : List ℕ) (at : ℕ) (field_bytes : List ℕ) (j : ℕ) → at ≤ length bytes → j < length field_bytes → get_or (stored bytes at field_bytes) (at + j) 0 ≡ get_or field_bytes j 0
+pub stored-inside : (bytes : List ℕ) (at : ℕ) (field_bytes : List ℕ) (j : ℕ) → at ≤ length bytes → j < length field_bytes → get_or (with_bytes_at bytes at field_bytes) (at + j) 0 ≡ get_or field_bytes j 0
 stored-inside bytes at field_bytes j h lt =
     let front : length (take at bytes) ≡ at = omega (arith, length-take at bytes) in
     let past : at ≤ at + j = omega arith in
@@ -62,7 +62,7 @@ module _ (base : ℕ) (table : Symbols) where
       let size = length-field r.kind (target_of symbol r) (field_distance base symbol r) in
       stored-outside bytes r.offset (field_of r.kind (target_of symbol r) (field_distance base symbol r)) k (omega arith) (inr (omega arith))
 
-  pub length-filled : (rs : List RelocEntry) (bytes : List ℕ) → All (LiesIn (length bytes)) rs → length (filled base table rs bytes) ≡ length bytes
+  pub length-filled : (rs : List RelocEntry) (bytes : List ℕ) → All (LiesIn (length bytes)) rs → length (with_fields_filled base table rs bytes) ≡ length bytes
   length-filled [] bytes h = refl
   length-filled (r ∷ rs) bytes h =
       let symbol = address_or_zero (address_of table r.name) in
@@ -70,7 +70,7 @@ module _ (base : ℕ) (table : Symbols) where
       length-filled rs (fill base symbol r bytes) (rw e (All-tail (LiesIn (length bytes)) r rs h)) ∙ e
 
   pub filled-outside : (rs : List RelocEntry) (bytes : List ℕ) (k : ℕ) → All (LiesIn (length bytes)) rs → All (IsOutside k) rs →
-      get_or (filled base table rs bytes) k 0 ≡ get_or bytes k 0
+      get_or (with_fields_filled base table rs bytes) k 0 ≡ get_or bytes k 0
   filled-outside [] bytes k h out = refl
   filled-outside (r ∷ rs) bytes k h out =
       let symbol = address_or_zero (address_of table r.name) in
@@ -81,7 +81,7 @@ module _ (base : ℕ) (table : Symbols) where
 
   pub filled-field : (xs : List RelocEntry) (r : RelocEntry) (ys : List RelocEntry) (bytes : List ℕ) (j : ℕ) → All (LiesIn (length bytes)) (xs ++ r ∷ ys) →
       j < field_length r.kind → All (IsOutside (r.offset + j)) ys →
-      get_or (filled base table (xs ++ r ∷ ys) bytes) (r.offset + j) 0 ≡ get_or (field_bytes base table r) j 0
+      get_or (with_fields_filled base table (xs ++ r ∷ ys) bytes) (r.offset + j) 0 ≡ get_or (field_bytes base table r) j 0
   filled-field [] r ys bytes j h lt out =
       let symbol = address_or_zero (address_of table r.name) in
       let here = All-head (LiesIn (length bytes)) r ys h in

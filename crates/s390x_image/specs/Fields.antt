@@ -53,14 +53,14 @@ abbrev pub field_bytes : ℕ → Symbols → RelocEntry → List ℕ
 field_bytes base table r = let symbol = address_or_zero (address_of table r.name) in field_of r.kind (target_of symbol r) (field_distance base symbol r)
 
 -- bytes with others in their place from an index on
-abbrev pub stored : List ℕ → ℕ → List ℕ → List ℕ
-stored bytes at new = take at bytes ++ (new ++ drop (at + length new) bytes)
+abbrev pub with_bytes_at : List ℕ → ℕ → List ℕ → List ℕ
+with_bytes_at bytes at new = take at bytes ++ (new ++ drop (at + length new) bytes)
 
 -- bytes with a relocation's field filled
 abbrev pub fill : ℕ → ℕ → RelocEntry → List ℕ → List ℕ
-fill base symbol r bytes = stored bytes r.offset (field_of r.kind (target_of symbol r) (field_distance base symbol r))
+fill base symbol r bytes = with_bytes_at bytes r.offset (field_of r.kind (target_of symbol r) (field_distance base symbol r))
 
 -- bytes with the relocations' fields filled, one after another
-abbrev pub filled : ℕ → Symbols → List RelocEntry → List ℕ → List ℕ
-filled base table [] bytes = bytes
-filled base table (r ∷ rs) bytes = filled base table rs (fill base (address_or_zero (address_of table r.name)) r bytes)
+abbrev pub with_fields_filled : ℕ → Symbols → List RelocEntry → List ℕ → List ℕ
+with_fields_filled base table [] bytes = bytes
+with_fields_filled base table (r ∷ rs) bytes = with_fields_filled base table rs (fill base (address_or_zero (address_of table r.name)) r bytes)

@@ -2,7 +2,7 @@
 ghost use Rattle.std.specs.Prelude.{◌≡◌, ◌+◌, ◌≤◌, pos, ◌-ℤ◌, Some, None, MatchResult, length};
 ghost use Rattle.std.specs.List.{All};
 ghost use Rattle.std.specs.Int.RustNames.{int_div};
-ghost use Rattle.s390x_image.specs.Fields.{LiesIn, target_of, field_distance, stored, fill, filled, half_field, target_field, address_or_zero};
+ghost use Rattle.s390x_image.specs.Fields.{LiesIn, target_of, field_distance, with_bytes_at, fill, with_fields_filled, half_field, target_field, address_or_zero};
 ghost use Rattle.s390x_image.specs.Symbols.{address_of};
 ghost use Rattle.s390x_image.specs.Causes.{absolute_cause, half_cause, relative_cause, symbol_cause, reloc_cause, relocs_cause};
 
@@ -26,7 +26,7 @@ fn distance(base: u64, symbol: u64, reloc: RelocEntry) -> i128
 }
 
 /// A target as an address.
-fn absolute(target: i128) -> Result<u64, LinkError>
+fn absolute_address(target: i128) -> Result<u64, LinkError>
     ensures { MatchResult result (λ a. (absolute_cause target ≡ None) × (target ≡ pos a))
         (λ e. absolute_cause target ≡ Some e) }
 {
@@ -53,7 +53,7 @@ fn half(distance: i128) -> Result<i32, LinkError>
 
 /// Half of the distance to a target as a signed word; the address that it counts from is 2 below
 /// the field's.
-fn relative(target: i128, distance: i128) -> Result<i32, LinkError>
+fn relative_word(target: i128, distance: i128) -> Result<i32, LinkError>
     ensures { MatchResult result
         (λ h. (relative_cause target distance ≡ None) × (h ≡ int_div distance (pos 2)))
         (λ e. relative_cause target distance ≡ Some e) }
@@ -67,7 +67,7 @@ fn relative(target: i128, distance: i128) -> Result<i32, LinkError>
 /// Stores a field's bytes from an offset on.
 fn store(bytes: &mut [u8], offset: u32, field: &[u8])
     requires { offset + length field.now ≤ length bytes.old }
-    ensures { bytes.new ≡ stored bytes.old offset field.now }
+    ensures { bytes.new ≡ with_bytes_at bytes.old offset field.now }
 {
     let start = offset as usize;
     bytes[start..start + field.len()].copy_from_slice(field);
@@ -83,10 +83,10 @@ fn fill_relative(
     requires { offset + 4 ≤ length bytes.old }
     ensures { MatchResult result
         (λ _. (relative_cause target distance ≡ None)
-        × (bytes.new ≡ stored bytes.old offset (half_field distance)))
+        × (bytes.new ≡ with_bytes_at bytes.old offset (half_field distance)))
         (λ e. relative_cause target distance ≡ Some e) }
 {
-    let field = relative(target, distance)?.to_be_bytes();
+    let field = relative_word(target, distance)?.to_be_bytes();
     store(bytes, offset, &field);
     Ok(())
 }
@@ -96,10 +96,10 @@ fn fill_absolute(bytes: &mut [u8], offset: u32, target: i128) -> Result<(), Link
     requires { offset + 8 ≤ length bytes.old }
     ensures { MatchResult result
         (λ _. (absolute_cause target ≡ None)
-        × (bytes.new ≡ stored bytes.old offset (target_field target)))
+        × (bytes.new ≡ with_bytes_at bytes.old offset (target_field target)))
         (λ e. absolute_cause target ≡ Some e) }
 {
-    let field = absolute(target)?.to_be_bytes();
+    let field = absolute_address(target)?.to_be_bytes();
     store(bytes, offset, &field);
     Ok(())
 }
@@ -151,7 +151,7 @@ pub fn fill_all(
     requires { All (LiesIn (length bytes.old)) relocs.now }
     ensures { MatchResult result
         (λ _. (relocs_cause base symbols.now relocs.now ≡ None)
-        × (bytes.new ≡ filled base symbols.now relocs.now bytes.old))
+        × (bytes.new ≡ with_fields_filled base symbols.now relocs.now bytes.old))
         (λ e. relocs_cause base symbols.now relocs.now ≡ Some e) }
 {
     for reloc in relocs {

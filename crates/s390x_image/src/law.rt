@@ -4,7 +4,7 @@ ghost use Rattle.std.specs.List.{All};
 ghost use Rattle.std.specs.Int.{w32, w64, cast_signed, from_be_bytes};
 ghost use Rattle.s390x_buffer.specs.declared.entries.RelocEntry.{RelocEntry};
 ghost use Rattle.s390x_image.specs.Symbols.{Symbols};
-ghost use Rattle.s390x_image.specs.Fields.{LiesIn, IsOutside, field_length, field_bytes, half_field, target_field, filled};
+ghost use Rattle.s390x_image.specs.Fields.{LiesIn, IsOutside, field_length, field_bytes, half_field, target_field, with_fields_filled};
 ghost use Rattle.s390x_base.specs.declared.ir.ExternalName.{ExternalName};
 ghost use Rattle.s390x_base.specs.declared.ir.Reloc.TheVariants.{S390xPCRel32Dbl};
 ghost use Rattle.s390x_image.specs.Causes.{relative_cause, absolute_cause, reloc_cause};
@@ -17,7 +17,7 @@ pub fn fields_stand()
         (later : List RelocEntry) (bytes : List ℕ) (j : ℕ)
         → All (LiesIn (length bytes)) (earlier ++ r ∷ later) → j < field_length r.kind
         → All (IsOutside (r.offset + j)) later
-        → slice_index (filled base table (earlier ++ r ∷ later) bytes) (r.offset + j)
+        → slice_index (with_fields_filled base table (earlier ++ r ∷ later) bytes) (r.offset + j)
         ≡ slice_index (field_bytes base table r) j }
 {}
 

@@ -1,7 +1,7 @@
 //! Linking.
 ghost use Rattle.std.specs.Prelude.{◌≡◌, ℕ, ◌+◌, ◌-◌, ◌≤◌, ◌⊎◌, Some, None, IfOk, MatchResult, length, slice_index, []};
 ghost use Rattle.std.specs.List.{All};
-ghost use Rattle.s390x_image.specs.Fields.{LiesIn, IsOutside, filled};
+ghost use Rattle.s390x_image.specs.Fields.{LiesIn, IsOutside, with_fields_filled};
 ghost use Rattle.s390x_image.specs.Causes.{base_cause, link_cause};
 
 use crate::error::LinkError;
@@ -39,7 +39,7 @@ pub fn link(
     ensures answer { MatchResult result
         (λ image. (link_cause code.now base symbols.now ≡ None) × (image.base ≡ base)
         × (image.bytes.items
-        ≡ filled base symbols.now code.now.relocs.items code.now.bytes.items))
+        ≡ with_fields_filled base symbols.now code.now.relocs.items code.now.bytes.items))
         (λ e. (e ≡ LinkError.NoMemory) ⊎ (link_cause code.now base symbols.now ≡ Some e)) }
     ensures size { IfOk result (λ image. length image.bytes.items ≡ length code.now.bytes.items) }
     ensures others { IfOk result

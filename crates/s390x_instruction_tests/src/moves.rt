@@ -40,7 +40,7 @@ pub fn address() -> MemArg {
     MemArg::reg_plus_off(gpr(7), 40, MachMemFlags::trusted())
 }
 
-fn checked(rd: Reg, mem: &MemArg, moved: Moved) -> Moved {
+fn moved_if_expected(rd: Reg, mem: &MemArg, moved: Moved) -> Moved {
     if rd == gpr(2) && *mem == address() {
         moved
     } else {
@@ -48,12 +48,12 @@ fn checked(rd: Reg, mem: &MemArg, moved: Moved) -> Moved {
     }
 }
 
-fn loaded(inst: &Inst) -> Moved {
+fn moved_by_load(inst: &Inst) -> Moved {
     match inst {
-        Inst::Load64ZExt8 { rd, mem } => checked(rd.to_reg(), mem, Moved::Bits8),
-        Inst::Load64ZExt16 { rd, mem } => checked(rd.to_reg(), mem, Moved::Bits16),
-        Inst::Load64ZExt32 { rd, mem } => checked(rd.to_reg(), mem, Moved::Bits32),
-        Inst::Load64 { rd, mem } => checked(rd.to_reg(), mem, Moved::Bits64),
+        Inst::Load64ZExt8 { rd, mem } => moved_if_expected(rd.to_reg(), mem, Moved::Bits8),
+        Inst::Load64ZExt16 { rd, mem } => moved_if_expected(rd.to_reg(), mem, Moved::Bits16),
+        Inst::Load64ZExt32 { rd, mem } => moved_if_expected(rd.to_reg(), mem, Moved::Bits32),
+        Inst::Load64 { rd, mem } => moved_if_expected(rd.to_reg(), mem, Moved::Bits64),
         Inst::Vector(
             VecInst::VecLoadLaneUndef {
                 size,
@@ -61,18 +61,22 @@ fn loaded(inst: &Inst) -> Moved {
                 mem,
                 lane_imm: 0,
             },
-        ) => checked(rd.to_reg(), mem, Moved::Lane(*size)),
-        Inst::Vector(VecInst::VecLoad { rd, mem }) => checked(rd.to_reg(), mem, Moved::Whole),
+        ) => moved_if_expected(rd.to_reg(), mem, Moved::Lane(*size)),
+        Inst::Vector(VecInst::VecLoad { rd, mem }) => moved_if_expected(
+            rd.to_reg(),
+            mem,
+            Moved::Whole,
+        ),
         _ => Moved::Other,
     }
 }
 
-fn stored(inst: &Inst) -> Moved {
+fn moved_by_store(inst: &Inst) -> Moved {
     match inst {
-        Inst::Store8 { rd, mem } => checked(*rd, mem, Moved::Bits8),
-        Inst::Store16 { rd, mem } => checked(*rd, mem, Moved::Bits16),
-        Inst::Store32 { rd, mem } => checked(*rd, mem, Moved::Bits32),
-        Inst::Store64 { rd, mem } => checked(*rd, mem, Moved::Bits64),
+        Inst::Store8 { rd, mem } => moved_if_expected(*rd, mem, Moved::Bits8),
+        Inst::Store16 { rd, mem } => moved_if_expected(*rd, mem, Moved::Bits16),
+        Inst::Store32 { rd, mem } => moved_if_expected(*rd, mem, Moved::Bits32),
+        Inst::Store64 { rd, mem } => moved_if_expected(*rd, mem, Moved::Bits64),
         Inst::Vector(
             VecInst::VecStoreLane {
                 size,
@@ -80,8 +84,8 @@ fn stored(inst: &Inst) -> Moved {
                 mem,
                 lane_imm: 0,
             },
-        ) => checked(*rd, mem, Moved::Lane(*size)),
-        Inst::Vector(VecInst::VecStore { rd, mem }) => checked(*rd, mem, Moved::Whole),
+        ) => moved_if_expected(*rd, mem, Moved::Lane(*size)),
+        Inst::Vector(VecInst::VecStore { rd, mem }) => moved_if_expected(*rd, mem, Moved::Whole),
         _ => Moved::Other,
     }
 }
@@ -90,14 +94,14 @@ fn stored(inst: &Inst) -> Moved {
 fn loads_and_stores_go_by_the_type(rt: HostRuntime) -> Result<(), Fail> {
     for (ty, moved) in &TYPES {
         let load = Inst::gen_load(writable_gpr(2), address(), *ty);
-        assert_eq!(rt; load.as_ref().map(loaded), *moved);
+        assert_eq!(rt; load.as_ref().map(moved_by_load), *moved);
         let store = Inst::gen_store(address(), gpr(2), *ty);
-        assert_eq!(rt; store.as_ref().map(stored), *moved);
+        assert_eq!(rt; store.as_ref().map(moved_by_store), *moved);
     }
     Ok(())
 }
 
-fn copied(inst: &Inst) -> Moved {
+fn moved_by_copy(inst: &Inst) -> Moved {
     match inst {
         Inst::Mov32 { rd, rm } if rd.to_reg() == gpr(2) && *rm == gpr(3) => Moved::Bits32,
         Inst::Mov64 { rd, rm } if rd.to_reg() == gpr(2) && *rm == gpr(3) => Moved::Bits64,
@@ -118,21 +122,24 @@ fn vector_copied(inst: &VecInst) -> Moved {
 #[test]
 fn moves_go_by_the_class(rt: HostRuntime) -> Result<(), Fail> {
     assert_eq!(rt;
-        copied(&Inst::mov32(writable_gpr(2), gpr(3))),
+        moved_by_copy(&Inst::mov32(writable_gpr(2), gpr(3))),
         Moved::Bits32
     );
     assert_eq!(rt;
-        copied(&Inst::mov64(writable_gpr(2), gpr(3))),
+        moved_by_copy(&Inst::mov64(writable_gpr(2), gpr(3))),
         Moved::Bits64
     );
     assert_eq!(rt;
-        copied(&Inst::mov32(writable_vr(18), vr(3))),
+        moved_by_copy(&Inst::mov32(writable_vr(18), vr(3))),
         Moved::Lane(32)
     );
     assert_eq!(rt;
-        copied(&Inst::mov64(writable_vr(18), vr(3))),
+        moved_by_copy(&Inst::mov64(writable_vr(18), vr(3))),
         Moved::Lane(64)
     );
-    assert_eq!(rt; copied(&Inst::mov128(writable_vr(18), vr(3))), Moved::Whole);
+    assert_eq!(rt;
+        moved_by_copy(&Inst::mov128(writable_vr(18), vr(3))),
+        Moved::Whole
+    );
     Ok(())
 }

@@ -50,7 +50,7 @@ fn tail_call(alloc: Global) -> Inst {
 }
 
 /// The first vector register into the second one, of this type.
-fn moved(ty: ValueType) -> Inst {
+fn vector_move(ty: ValueType) -> Inst {
     <Inst as MachInst>::gen_move(writable_vr(1), vr(2), ty)
 }
 
@@ -104,17 +104,22 @@ fn moves_are_made_by_the_size_of_the_type(rt: HostRuntime) -> Result<(), Fail> {
     assert!(rt; matches!(wide, Inst::Mov64 { .. }));
     assert!(rt;
         matches!(
-            moved(ValueType::F32),
+            vector_move(ValueType::F32),
             Inst::Vector(VecInst::FpuMove32 { .. })
         )
     );
     assert!(rt;
         matches!(
-            moved(ValueType::F64),
+            vector_move(ValueType::F64),
             Inst::Vector(VecInst::FpuMove64 { .. })
         )
     );
-    assert!(rt; matches!(moved(ValueType::I128), Inst::Vector(VecInst::VecMov { .. })));
+    assert!(rt;
+        matches!(
+            vector_move(ValueType::I128),
+            Inst::Vector(VecInst::VecMov { .. })
+        )
+    );
     Ok(())
 }
 

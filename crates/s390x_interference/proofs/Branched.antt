@@ -3,7 +3,7 @@ use Rattle.std.proofs.Common.{◌≡◌, ℕ, suc, ◌+◌, ◌<◌, ◌≤◌, 
 use Rattle.s390x_format.specs.Formats.{length_of}
 use Rattle.s390x_typed_steps.specs.Parts.{ToStep, Branch as BranchPart, step_parts}
 use Rattle.s390x_typed_steps.specs.Steps.{Step}
-use Rattle.s390x_operations.specs.State.{Core, written, wrapping_add64, IsLoaded}
+use Rattle.s390x_operations.specs.State.{Core, core_after_writes, wrapping_add64, IsLoaded}
 use Rattle.s390x_operations.specs.Effects.{is_selected}
 use Rattle.s390x_machine.specs.declared.action_type.Action.TheVariants.{Branch}
 use Rattle.s390x_machine.specs.Layout.{Layout, step_address, InStep}
@@ -19,8 +19,8 @@ use Rattle.s390x_machine.proofs.Standing.{inside_first, next_place}
 -- nothing yet, or one transition that goes to the one step or the other
 pub data Branched (L : Layout) (k mask j : ℕ) (c : Core) (trace : List Transition) : Type 0 where
   none_yet : trace ≡ [] → Branched L k mask j c trace
-  one_transition : (t : Transition) (rest : List Transition) → trace ≡ t ∷ rest → t.event ≡ Executed None → t.after ≡ start L (if is_selected mask c.registers.code then j else suc k) (written (all_writes (t ∷ [])) c) → IsLoaded L.image (written (all_writes (t ∷ [])) c).memory →
-      TypedStep L k (written (all_writes (t ∷ [])) c) (if is_selected mask c.registers.code then At j else At (suc k)) (written (all_writes (t ∷ [])) c) → Branched L k mask j c trace
+  one_transition : (t : Transition) (rest : List Transition) → trace ≡ t ∷ rest → t.event ≡ Executed None → t.after ≡ start L (if is_selected mask c.registers.code then j else suc k) (core_after_writes (all_writes (t ∷ [])) c) → IsLoaded L.image (core_after_writes (all_writes (t ∷ [])) c).memory →
+      TypedStep L k (core_after_writes (all_writes (t ∷ [])) c) (if is_selected mask c.registers.code then At j else At (suc k)) (core_after_writes (all_writes (t ∷ [])) c) → Branched L k mask j c trace
 
 branch_address : (L : Layout) (k j size : ℕ) (taken : Bool) → wrapping_add64 (step_address L k) size ≡ step_address L (suc k) → cond taken (step_address L j) (wrapping_add64 (step_address L k) size) ≡ step_address L (cond taken j (suc k))
 branch_address L k j size true next = refl
@@ -31,7 +31,7 @@ branched L k mask j size is row next here c is_loaded [] run = none_yet refl
 branched L k mask j size is row next here c is_loaded (t ∷ rest) run =
     let p = step_address L k in
     let taken = is_selected mask c.registers.code in
-    let y = written (all_writes (t ∷ [])) c in
+    let y = core_after_writes (all_writes (t ∷ [])) c in
     let u = turned L k c [] c.registers p (λ r. Branch mask (step_address L j)) size t (at_start L k c here is_loaded) row run.0 in
     let m = branch_executes c c.registers (all_writes (t ∷ [])) p mask (step_address L j) size t.event t.after u.acts in
     one_transition t rest refl m.0 (m.1 ∙ ap (λ q. mid c c.registers (all_writes (t ∷ [])) q) (branch_address L k j size taken next)) u.is_loaded

@@ -2,7 +2,7 @@
 use Rattle.std.proofs.Common.{◌≡◌, ℕ, zero, suc, ◌+◌, ◌-◌, ◌<◌, ◌≤◌, List, [], ◌∷◌, ◌++◌, length, Option, Some, None, Bool, true, false, cond, ◌==◌, IsTrue, IsFalse, inl, inr, ◌⊎◌, refl, sym, ap, ◌∙◌, subst, arith, append_assoc, append-nil, length-append, true≢false, eqb-true}
 use Rattle.s390x_base.specs.Regs.{number_of}
 use Rattle.s390x_base.specs.declared.trap.TrapKind.{TrapKind}
-use Rattle.s390x_operations.specs.State.{Registers, Core, State, StoreEvent, written, IsLoaded, IsDisjoint, number_at, wrapping_add64}
+use Rattle.s390x_operations.specs.State.{Registers, Core, State, StoreEvent, core_after_writes, IsLoaded, IsDisjoint, number_at, wrapping_add64}
 use Rattle.s390x_operations.specs.Access.{store_event, store_event_at}
 use Rattle.s390x_operations.specs.Bits.{bytes}
 use Rattle.s390x_operations.specs.Effects.{access, is_selected, MayExecute}
@@ -12,7 +12,7 @@ use Rattle.s390x_operations.specs.declared.stop.StopKind.{StopKind}
 use Rattle.s390x_machine.specs.CodeAt.{AllCodeAt}
 use Rattle.s390x_machine.specs.Layout.{Layout, step_address, InStep}
 use Rattle.s390x_machine.specs.Machine.{Event, Executed, Interrupted, Transition, after_writes, Run, after_all, all_writes}
-use Rattle.s390x_machine.specs.Match.{concatenated, start, StoreNothing, HasNoBytes, IsGroup, TypedRun, NextStops, EndsMatch}
+use Rattle.s390x_machine.specs.Match.{concatenation, start, StoreNothing, HasNoBytes, IsGroup, TypedRun, NextStops, EndsMatch}
 use Rattle.s390x_machine.specs.OneStep.{Runs, waits, silent, goes, stops, ends, stuck, Loses}
 use Rattle.s390x_machine.specs.Operands.{value_in}
 use Rattle.s390x_machine.specs.StepKinds.{Leads, Unsupported}
@@ -69,8 +69,8 @@ top L R c = start L (suc R.opening) c
 record Progress (L : Layout) (R : Retry L) (first : Core) (groups : List (List Transition)) (k : ℕ) (c : Core) : Type 0 where
   pub run : TypedRun L (At (suc R.opening)) first groups (At k) c
   pub each : length groups + suc R.opening ≡ k
-  pub none : stores_of (concatenated groups) ≡ []
-  pub lands : after_all (top L R first) (concatenated groups) ≡ start L k c
+  pub none : stores_of (concatenation groups) ≡ []
+  pub lands : after_all (top L R first) (concatenation groups) ≡ start L k c
 
 -- what is shown of each later round
 abbrev Rounds : (L : Layout) → Retry L → ℕ → Type 0
@@ -79,7 +79,7 @@ Rounds L R n = (x : Core) → IsLoaded L.image x.memory → (rest : List Transit
 -- what is shown behind the member at which a round stands
 abbrev Onward : (L : Layout) → Retry L → Core → List (List Transition) → ℕ → List Transition → Type 0
 Onward L R first groups k trace =
-    (g rest : List Transition) (t : Core) → Progress L R first (groups ++ g ∷ []) (suc k) t → IsLoaded L.image t.memory → Given L R (start L (suc k) t) rest → length rest ≤ length trace → Result L R (top L R first) (concatenated (groups ++ g ∷ []) ++ rest)
+    (g rest : List Transition) (t : Core) → Progress L R first (groups ++ g ∷ []) (suc k) t → IsLoaded L.image t.memory → Given L R (start L (suc k) t) rest → length rest ≤ length trace → Result L R (top L R first) (concatenation (groups ++ g ∷ []) ++ rest)
 
 -- where a run stands that ends with a swap that succeeded
 abbrev SwapEnd : (L : Layout) → Retry L → State → Type 0
@@ -166,7 +166,7 @@ module _ (L : Layout) (all : AllCodeAt L) (R : Retry L) (some : L.offsets.step R
 
   lift_swapped : (s : State) (c : Core) (g rest : List Transition) (x : StoreEvent) → after_all s g ≡ top L R c → Swapped L R (top L R c) rest x → Swapped L R s (g ++ rest) x
   lift_swapped s c g rest x lands w =
-      let m = concatenated w.groups ++ w.helpers in
+      let m = concatenation w.groups ++ w.helpers in
       let state : after_all s ((g ++ w.earlier) ++ m) ≡ after_all (top L R c) (w.earlier ++ m) = ap (λ l. after_all s l) (append_assoc g w.earlier m) ∙ after_append s g (w.earlier ++ m) ∙ ap (λ y. after_all y (w.earlier ++ m)) lands in
       record {
         earlier = g ++ w.earlier;
@@ -195,25 +195,25 @@ module _ (L : Layout) (all : AllCodeAt L) (R : Retry L) (some : L.offsets.step R
 
   -- ---- one round
 
-  lands_after : (first : Core) (groups : List (List Transition)) (k : ℕ) (c : Core) → Progress L R first groups k c → (h : List Transition) → after_all (top L R first) (concatenated groups ++ h) ≡ after_all (start L k c) h
-  lands_after first groups k c p h = after_append (top L R first) (concatenated groups) h ∙ ap (λ y. after_all y h) p.lands
+  lands_after : (first : Core) (groups : List (List Transition)) (k : ℕ) (c : Core) → Progress L R first groups k c → (h : List Transition) → after_all (top L R first) (concatenation groups ++ h) ≡ after_all (start L k c) h
+  lands_after first groups k c p h = after_append (top L R first) (concatenation groups) h ∙ ap (λ y. after_all y h) p.lands
 
-  progress_step : (first : Core) (groups : List (List Transition)) (k : ℕ) (c : Core) → Progress L R first groups k c → (g : List Transition) → stores_of g ≡ [] → (t : Core) → TypedStep L k (written (all_writes g) c) (At (suc k)) t → IsGroup L k c g (At (suc k)) t → Progress L R first (groups ++ g ∷ []) (suc k) t
+  progress_step : (first : Core) (groups : List (List Transition)) (k : ℕ) (c : Core) → Progress L R first groups k c → (g : List Transition) → stores_of g ≡ [] → (t : Core) → TypedStep L k (core_after_writes (all_writes g) c) (At (suc k)) t → IsGroup L k c g (At (suc k)) t → Progress L R first (groups ++ g ∷ []) (suc k) t
   progress_step first groups k c p g none t step group = record {
     run = typed_snoc L groups (At (suc R.opening)) first k c p.run g (At (suc k)) t step group;
     each = omega (arith, length-append groups (g ∷ []), p.each);
-    none = ap stores_of (concatenated_snoc groups g) ∙ stores_none (concatenated groups) g p.none none;
+    none = ap stores_of (concatenated_snoc groups g) ∙ stores_none (concatenation groups) g p.none none;
     lands = ap (λ l. after_all (top L R first) l) (concatenated_snoc groups g) ∙ lands_after first groups k c p g ∙ group.2;
   }
 
-  regroup : (s : State) (groups : List (List Transition)) (g rest trace : List Transition) → trace ≡ g ++ rest → Result L R s (concatenated (groups ++ g ∷ []) ++ rest) → Result L R s (concatenated groups ++ trace)
+  regroup : (s : State) (groups : List (List Transition)) (g rest trace : List Transition) → trace ≡ g ++ rest → Result L R s (concatenation (groups ++ g ∷ []) ++ rest) → Result L R s (concatenation groups ++ trace)
   regroup s groups g rest trace split r =
-      subst (λ l. Result L R s l) (ap (λ l. l ++ rest) (concatenated_snoc groups g) ∙ append_assoc (concatenated groups) g rest ∙ ap (λ l. concatenated groups ++ l) (sym split)) r
+      subst (λ l. Result L R s l) (ap (λ l. l ++ rest) (concatenated_snoc groups g) ∙ append_assoc (concatenation groups) g rest ∙ ap (λ l. concatenation groups ++ l) (sym split)) r
 
   -- the schedule ends while the processor is in the loop
-  leaf : (first : Core) (groups : List (List Transition)) (k : ℕ) (c : Core) → Progress L R first groups k c → (trace : List Transition) → stores_of trace ≡ [] → (SwapEnd L R (after_all (start L k c) trace) → ⊥) → Result L R (top L R first) (concatenated groups ++ trace)
+  leaf : (first : Core) (groups : List (List Transition)) (k : ℕ) (c : Core) → Progress L R first groups k c → (trace : List Transition) → stores_of trace ≡ [] → (SwapEnd L R (after_all (start L k c) trace) → ⊥) → Result L R (top L R first) (concatenation groups ++ trace)
   leaf first groups k c p trace none ne =
-      never (stores_none (concatenated groups) trace p.none none) (λ h. ne (subst (SwapEnd L R) (lands_after first groups k c p trace) (swap_end (top L R first) (concatenated groups ++ trace) h)))
+      never (stores_none (concatenation groups) trace p.none none) (λ h. ne (subst (SwapEnd L R) (lands_after first groups k c p trace) (swap_end (top L R first) (concatenation groups ++ trace) h)))
 
   -- inside a member or the swap no run ends with a swap that succeeded
   no_end_inside : (k : ℕ) (s : State) → L.offsets.step (suc k) ≤ L.offsets.step (suc R.swap) → InStep L k s.address → SwapEnd L R s → ⊥
@@ -231,20 +231,20 @@ module _ (L : Layout) (all : AllCodeAt L) (R : Retry L) (some : L.offsets.step R
   no_end_behind t code (inr e) = let zero_code = e.1 in absurd (cc)
 
   -- the last transition isn't the back branch behind a swap that succeeded
-  leaf_last : (first : Core) (groups : List (List Transition)) (k : ℕ) (c : Core) → Progress L R first groups k c → (trace h : List Transition) (t : Transition) → trace ≡ h ++ t ∷ [] → stores_of trace ≡ [] → (EndsBySwap L R (after_all (start L k c) h) (t ∷ []) → ⊥) → Result L R (top L R first) (concatenated groups ++ trace)
+  leaf_last : (first : Core) (groups : List (List Transition)) (k : ℕ) (c : Core) → Progress L R first groups k c → (trace h : List Transition) (t : Transition) → trace ≡ h ++ t ∷ [] → stores_of trace ≡ [] → (EndsBySwap L R (after_all (start L k c) h) (t ∷ []) → ⊥) → Result L R (top L R first) (concatenation groups ++ trace)
   leaf_last first groups k c p trace h t split none never_so =
-      never (stores_none (concatenated groups) trace p.none none) (λ w.
-      never_so (subst (λ x. EndsBySwap L R x (t ∷ [])) (lands_after first groups k c p h) (swap_append (top L R first) (concatenated groups ++ h) t [] (subst (λ l. EndsBySwap L R (top L R first) l) (ap (λ l. concatenated groups ++ l) split ∙ sym (append_assoc (concatenated groups) h (t ∷ []))) w))))
+      never (stores_none (concatenation groups) trace p.none none) (λ w.
+      never_so (subst (λ x. EndsBySwap L R x (t ∷ [])) (lands_after first groups k c p h) (swap_append (top L R first) (concatenation groups ++ h) t [] (subst (λ l. EndsBySwap L R (top L R first) l) (ap (λ l. concatenation groups ++ l) split ∙ sym (append_assoc (concatenation groups) h (t ∷ []))) w))))
 
   -- register work: the next member, or the schedule ends
-  work : (first : Core) (groups : List (List Transition)) (k : ℕ) (c : Core) → Progress L R first groups k c → R.opening < k → k < R.swap → WorkStep L k → IsLoaded L.image c.memory → (trace : List Transition) → Given L R (start L k c) trace → Runs L k c trace → Onward L R first groups k trace → Result L R (top L R first) (concatenated groups ++ trace)
+  work : (first : Core) (groups : List (List Transition)) (k : ℕ) (c : Core) → Progress L R first groups k c → R.opening < k → k < R.swap → WorkStep L k → IsLoaded L.image c.memory → (trace : List Transition) → Given L R (start L k c) trace → Runs L k c trace → Onward L R first groups k trace → Result L R (top L R first) (concatenation groups ++ trace)
   work first groups k c p above below plain is_loaded trace given (waits few quiet at) next =
       leaf first groups k c p trace (quiet_stores trace quiet) (no_end_inside k (after_all (start L k c) trace) (omega (arith, member_below L all R some (suc k) (omega (arith, above)) below, some)) at)
   work first groups k c p above below plain is_loaded trace given (silent step within same) next =
       let q : start L k c ≡ start L (suc k) c = ap (λ n. record { core = c; address = wrapping_add64 L.image.base n }) (sym same) in
       regroup (top L R first) groups [] trace trace refl (next [] trace c (progress_step first groups k c p [] refl c step (omega arith, inl (same, refl), q)) is_loaded (subst (λ y. Given L R y trace) q given) (omega arith))
   work first groups k c p above below plain is_loaded trace given (goes h rest t split few long nothing j x step e memory lands l) next =
-      let y = written (all_writes (h ++ t ∷ [])) c in
+      let y = core_after_writes (all_writes (h ++ t ∷ [])) c in
       let none : typed_store_event L k y ≡ None = plain.none y in
       let stays : At j ≡ At (suc k) = plain.stays y (At j) x step in
       let same : j ≡ suc k = cc in
@@ -256,7 +256,7 @@ module _ (L : Layout) (all : AllCodeAt L) (R : Retry L) (some : L.offsets.step R
       regroup (top L R first) groups (h ++ t ∷ []) rest trace split' (next (h ++ t ∷ []) rest x (progress_step first groups k c p (h ++ t ∷ []) stores x step' group) (l (subst (λ o. IsDisjoint L.image o) (sym none) tt)) (given_after (start L k c) trace (h ++ t ∷ []) rest (start L (suc k) x) given split' state) (omega (arith, ap length split', length-append (h ++ t ∷ []) rest)))
   work first groups k c p above below plain is_loaded trace given (stops h rest t kind split quiet e wrong) next = absurd (plain.right c wrong)
   work first groups k c p above below plain is_loaded trace given (ends g rest split e x step group ends_match) next =
-      let stays : Ended e ≡ At (suc k) = plain.stays (written (all_writes g) c) (Ended e) x step in absurd (cc)
+      let stays : Ended e ≡ At (suc k) = plain.stays (core_after_writes (all_writes g) c) (Ended e) x step in absurd (cc)
   work first groups k c p above below plain is_loaded trace given (stuck wrong loses) next = absurd (plain.right c wrong)
 
   -- a break that leaves the loop is no swap
@@ -266,21 +266,21 @@ module _ (L : Layout) (all : AllCodeAt L) (R : Retry L) (some : L.offsets.step R
 
   -- a break: out of the loop, or the next member
   break_taken : (first : Core) (groups : List (List Transition)) (k mask : ℕ) (c : Core) → Progress L R first groups k c → R.opening < k → k < R.swap → kind_at L k ≡ Some (Leads mask (end_of L R)) → (HasNoBytes L k → ⊥) → (trace : List Transition) → Given L R (start L k c) trace → (t : Transition) (rest : List Transition) → trace ≡ t ∷ rest →
-      t.event ≡ Executed None → IsLoaded L.image (written (all_writes (t ∷ [])) c).memory →
-      (taken : Bool) → t.after ≡ start L (cond taken (end_of L R) (suc k)) (written (all_writes (t ∷ [])) c) → TypedStep L k (written (all_writes (t ∷ [])) c) (cond taken (At (end_of L R)) (At (suc k))) (written (all_writes (t ∷ [])) c) → Onward L R first groups k trace → Result L R (top L R first) (concatenated groups ++ trace)
+      t.event ≡ Executed None → IsLoaded L.image (core_after_writes (all_writes (t ∷ [])) c).memory →
+      (taken : Bool) → t.after ≡ start L (cond taken (end_of L R) (suc k)) (core_after_writes (all_writes (t ∷ [])) c) → TypedStep L k (core_after_writes (all_writes (t ∷ [])) c) (cond taken (At (end_of L R)) (At (suc k))) (core_after_writes (all_writes (t ∷ [])) c) → Onward L R first groups k trace → Result L R (top L R first) (concatenation groups ++ trace)
   break_taken first groups k mask c p above below is long trace given t rest split e is_loaded true lands step next =
       let given' = given_after (start L k c) trace (t ∷ []) rest t.after given split refl in
       let over : rest ≡ [] = stays_out t.after rest (ap (λ (y : State). y.address) lands) given'.stays in
       let split' : trace ≡ [] ++ t ∷ [] = split ∙ ap (λ l. t ∷ l) over in
-      leaf_last first groups k c p trace [] t split' (ap stores_of split' ∙ first_stores t (Executed None) [] e refl) (break_no_success k c t (written (all_writes (t ∷ [])) c) above (omega (arith, below)) lands)
+      leaf_last first groups k c p trace [] t split' (ap stores_of split' ∙ first_stores t (Executed None) [] e refl) (break_no_success k c t (core_after_writes (all_writes (t ∷ [])) c) above (omega (arith, below)) lands)
   break_taken first groups k mask c p above below is long trace given t rest split e is_loaded false lands step next =
-      let y = written (all_writes (t ∷ [])) c in
+      let y = core_after_writes (all_writes (t ∷ [])) c in
       let none : typed_store_event L k y ≡ None = ap (λ f. store_event_of_kind f y) is in
       let group : IsGroup L k c (t ∷ []) (At (suc k)) y = (omega arith, inr (long, record { before = []; last = t; is = refl; nothing = tt; stores = e ∙ ap Executed (sym none) }), lands) in
       regroup (top L R first) groups (t ∷ []) rest trace split (next (t ∷ []) rest y (progress_step first groups k c p (t ∷ []) (first_stores t (Executed None) [] e refl) y step group) is_loaded (given_after (start L k c) trace (t ∷ []) rest (start L (suc k) y) given split lands) (omega (arith, ap length split)))
 
   break_out : (first : Core) (groups : List (List Transition)) (k mask : ℕ) (c : Core) → Progress L R first groups k c → R.opening < k → k < R.swap → kind_at L k ≡ Some (Leads mask (end_of L R)) → (HasNoBytes L k → ⊥) → (trace : List Transition) → Given L R (start L k c) trace → Branched L k mask (end_of L R) c trace → Onward L R first groups k trace →
-      Result L R (top L R first) (concatenated groups ++ trace)
+      Result L R (top L R first) (concatenation groups ++ trace)
   break_out first groups k mask c p above below is long trace given (none_yet none) next =
       leaf first groups k c p trace (ap stores_of none) (λ h. no_end_at k c above (omega (arith, below)) (subst (λ l. SwapEnd L R (after_all (start L k c) l)) none h))
   break_out first groups k mask c p above below is long trace given (one_transition t rest split e lands is_loaded step) next =
@@ -315,14 +315,14 @@ module _ (L : Layout) (all : AllCodeAt L) (R : Retry L) (some : L.offsets.step R
       not_back L all R some b.0 b.1 (omega (arith, b.2)) (sym b.3)
 
   swap_won : (address : Registers → ℕ) → operand_address L R.operand ≡ Some address → (first : Core) (groups : List (List Transition)) (c : Core) → Progress L R first groups R.swap c → (trace h rest : List Transition) (t : Transition) → trace ≡ h ++ t ∷ rest → StoreNothing h → (x : Core) → t.after ≡ start L (suc R.swap) x → t.event ≡ Executed (Some (replacement L R address c.registers)) →
-      number_at (after_writes (after_all (start L R.swap c) h) t).core.memory.get (address c.registers) (bytes (width_of (swap_size R.wide))) ≡ value_in (swap_size R.wide) c.registers (number_of R.rd) → Leaving L R rest → Result L R (top L R first) (concatenated groups ++ trace)
+      number_at (after_writes (after_all (start L R.swap c) h) t).core.memory.get (address c.registers) (bytes (width_of (swap_size R.wide))) ≡ value_in (swap_size R.wide) c.registers (number_of R.rd) → Leaving L R rest → Result L R (top L R first) (concatenation groups ++ trace)
   swap_won address is first groups c p trace h rest t split quiet x lands e found leaving =
       let o = replacement L R address c.registers in
       let s = top L R first in
-      let g = concatenated groups ++ (h ++ t ∷ []) in
-      let stores : stores_of (concatenated groups ++ trace) ≡ o ∷ [] =
-      stores_append (concatenated groups) trace ∙ ap (λ l. l ++ stores_of trace) p.none ∙ ap stores_of split ∙ stores_append h (t ∷ rest) ∙ ap (λ l. l ++ stores_of (t ∷ rest)) (quiet_stores h quiet) ∙ first_stores t (Executed (Some o)) rest e (leaving_stores rest leaving) in
-      let parts : concatenated groups ++ trace ≡ g ++ rest = ap (λ l. concatenated groups ++ l) (split ∙ sym (append_assoc h (t ∷ []) rest)) ∙ sym (append_assoc (concatenated groups) (h ++ t ∷ []) rest) in
+      let g = concatenation groups ++ (h ++ t ∷ []) in
+      let stores : stores_of (concatenation groups ++ trace) ≡ o ∷ [] =
+      stores_append (concatenation groups) trace ∙ ap (λ l. l ++ stores_of trace) p.none ∙ ap stores_of split ∙ stores_append h (t ∷ rest) ∙ ap (λ l. l ++ stores_of (t ∷ rest)) (quiet_stores h quiet) ∙ first_stores t (Executed (Some o)) rest e (leaving_stores rest leaving) in
+      let parts : concatenation groups ++ trace ≡ g ++ rest = ap (λ l. concatenation groups ++ l) (split ∙ sym (append_assoc h (t ∷ []) rest)) ∙ sym (append_assoc (concatenation groups) (h ++ t ∷ []) rest) in
       let state : after_all s g ≡ start L (suc R.swap) x = lands_after first groups R.swap c p (h ++ t ∷ []) ∙ after_append (start L R.swap c) h (t ∷ []) ∙ lands in
       once o stores (record {
         earlier = [];
@@ -332,7 +332,7 @@ module _ (L : Layout) (all : AllCodeAt L) (R : Retry L) (some : L.offsets.step R
         later = rest;
         first = first;
         reached = c;
-        split = ap (λ l. concatenated groups ++ l) split ∙ sym (append_assoc (concatenated groups) h (t ∷ rest));
+        split = ap (λ l. concatenation groups ++ l) split ∙ sym (append_assoc (concatenation groups) h (t ∷ rest));
         begins = refl;
         run = p.run;
         each = p.each;
@@ -345,10 +345,10 @@ module _ (L : Layout) (all : AllCodeAt L) (R : Retry L) (some : L.offsets.step R
       }) (λ b. leaving_break s x g rest state leaving (subst (λ l. EndsByBreak L R s l) parts b))
 
   -- a round that stored nothing, and the next one
-  again : (first : Core) (groups : List (List Transition)) (c : Core) → Progress L R first groups R.swap c → (trace g rest : List Transition) → trace ≡ g ++ rest → stores_of g ≡ [] → (x : Core) → after_all (start L R.swap c) g ≡ top L R x → Result L R (top L R x) rest → Result L R (top L R first) (concatenated groups ++ trace)
+  again : (first : Core) (groups : List (List Transition)) (c : Core) → Progress L R first groups R.swap c → (trace g rest : List Transition) → trace ≡ g ++ rest → stores_of g ≡ [] → (x : Core) → after_all (start L R.swap c) g ≡ top L R x → Result L R (top L R x) rest → Result L R (top L R first) (concatenation groups ++ trace)
   again first groups c p trace g rest split none x lands r =
-      subst (λ l. Result L R (top L R first) l) (append_assoc (concatenated groups) g rest ∙ ap (λ l. concatenated groups ++ l) (sym split))
-      (lift (top L R first) x (concatenated groups ++ g) rest (lands_after first groups R.swap c p g ∙ lands) (stores_none (concatenated groups) g p.none none) r)
+      subst (λ l. Result L R (top L R first) l) (append_assoc (concatenation groups) g rest ∙ ap (λ l. concatenation groups ++ l) (sym split))
+      (lift (top L R first) x (concatenation groups ++ g) rest (lands_after first groups R.swap c p g ∙ lands) (stores_none (concatenation groups) g p.none none) r)
 
   -- nor does the back branch behind a swap that failed
   back_no_success : (s : State) (t : Core) (b : Transition) (x : Core) → s ≡ start L (suc R.swap) t → t.registers.code ≡ Code1 → b.after ≡ start L (end_of L R) x → IsSuccess L R s b → ⊥
@@ -356,7 +356,7 @@ module _ (L : Layout) (all : AllCodeAt L) (R : Retry L) (some : L.offsets.step R
   back_no_success s t b x lands code at (inr h) = let zero_code : t.registers.code ≡ Code0 = ap (λ (y : State). y.core.registers.code) (sym lands) ∙ h.2 in absurd (cc)
 
   lost_back : (first : Core) (groups : List (List Transition)) (c : Core) → Progress L R first groups R.swap c → (trace g rest : List Transition) (b : Transition) → trace ≡ g ++ b ∷ rest → stores_of g ≡ [] → (t : Core) → after_all (start L R.swap c) g ≡ start L (suc R.swap) t → t.registers.code ≡ Code1 → b.event ≡ Executed None → Given L R b.after rest → (x : Core) → IsLoaded L.image x.memory →
-      (taken : Bool) → b.after ≡ start L (cond taken (suc R.opening) (end_of L R)) x → Rounds L R (length trace) → Result L R (top L R first) (concatenated groups ++ trace)
+      (taken : Bool) → b.after ≡ start L (cond taken (suc R.opening) (end_of L R)) x → Rounds L R (length trace) → Result L R (top L R first) (concatenation groups ++ trace)
   lost_back first groups c p trace g rest b split none t lands code e given x is_loaded true at next =
       let split' : trace ≡ (g ++ b ∷ []) ++ rest = split ∙ sym (append_assoc g (b ∷ []) rest) in
       again first groups c p trace (g ++ b ∷ []) rest split' (stores_none g (b ∷ []) none (first_stores b (Executed None) [] e refl)) x (after_append (start L R.swap c) g (b ∷ []) ∙ at) (next x is_loaded rest (subst (λ y. Given L R y rest) at given) (omega (arith, ap length split', length-append (g ++ b ∷ []) rest, length-append g (b ∷ []))))
@@ -366,7 +366,7 @@ module _ (L : Layout) (all : AllCodeAt L) (R : Retry L) (some : L.offsets.step R
       leaf_last first groups R.swap c p trace g b split' (ap stores_of split' ∙ stores_none g (b ∷ []) none (first_stores b (Executed None) [] e refl)) (back_no_success (after_all (start L R.swap c) g) t b x lands code at)
 
   swap_lost : (first : Core) (groups : List (List Transition)) (c : Core) → Progress L R first groups R.swap c → (trace h rest : List Transition) (u : Transition) → Given L R (start L R.swap c) trace → trace ≡ h ++ u ∷ rest → StoreNothing h → (t : Core) → u.after ≡ start L (suc R.swap) t → t.registers.code ≡ Code1 → u.event ≡ Executed None →
-      Branched L (suc R.swap) R.mask (suc R.opening) t rest → Rounds L R (length trace) → Result L R (top L R first) (concatenated groups ++ trace)
+      Branched L (suc R.swap) R.mask (suc R.opening) t rest → Rounds L R (length trace) → Result L R (top L R first) (concatenation groups ++ trace)
   swap_lost first groups c p trace h rest u given split quiet t lands code e (none_yet none) next =
       let split' : trace ≡ h ++ u ∷ [] = split ∙ ap (λ l. h ++ u ∷ l) none in
       let state : after_all (start L R.swap c) trace ≡ start L (suc R.swap) t = ap (λ l. after_all (start L R.swap c) l) split' ∙ after_append (start L R.swap c) h (u ∷ []) ∙ lands in
@@ -377,7 +377,7 @@ module _ (L : Layout) (all : AllCodeAt L) (R : Retry L) (some : L.offsets.step R
       let none : stores_of g ≡ [] = stores_none h (u ∷ []) (quiet_stores h quiet) (first_stores u (Executed None) [] e refl) in
       let split' : trace ≡ g ++ b ∷ rest2 = split ∙ ap (λ l. h ++ u ∷ l) split2 ∙ sym (append_assoc h (u ∷ []) (b ∷ rest2)) in
       let given' : Given L R b.after rest2 = given_after (start L R.swap c) trace (g ++ b ∷ []) rest2 b.after given (split' ∙ sym (append_assoc g (b ∷ []) rest2)) (after_append (start L R.swap c) g (b ∷ [])) in
-      lost_back first groups c p trace g rest2 b split' none t state code e2 given' (written (all_writes (b ∷ [])) t) is_loaded (is_selected R.mask t.registers.code) at next
+      lost_back first groups c p trace g rest2 b split' none t state code e2 given' (core_after_writes (all_writes (b ∷ [])) t) is_loaded (is_selected R.mask t.registers.code) at next
 
   -- ---- the swap
 
@@ -386,20 +386,20 @@ module _ (L : Layout) (all : AllCodeAt L) (R : Retry L) (some : L.offsets.step R
   stop_no_success s t kind e (inr h) = stopped_waits t.event kind e h.0
 
   -- a stop ends the run of the loop
-  stopped_leaf : (first : Core) (groups : List (List Transition)) (k : ℕ) (c : Core) → Progress L R first groups k c → (trace h rest : List Transition) (t : Transition) (kind : StopKind) → Given L R (start L k c) trace → trace ≡ h ++ t ∷ rest → StoreNothing h → t.event ≡ Interrupted kind → Result L R (top L R first) (concatenated groups ++ trace)
+  stopped_leaf : (first : Core) (groups : List (List Transition)) (k : ℕ) (c : Core) → Progress L R first groups k c → (trace h rest : List Transition) (t : Transition) (kind : StopKind) → Given L R (start L k c) trace → trace ≡ h ++ t ∷ rest → StoreNothing h → t.event ≡ Interrupted kind → Result L R (top L R first) (concatenation groups ++ trace)
   stopped_leaf first groups k c p trace h rest t kind given split quiet e =
       let over : rest ≡ [] = stop_is_last h rest t (subst StopLast split given.stop) (stopped_stays t.event kind e) in
       let split' : trace ≡ h ++ t ∷ [] = split ∙ ap (λ l. h ++ t ∷ l) over in
       leaf_last first groups k c p trace h t split' (ap stores_of split' ∙ stores_none h (t ∷ []) (quiet_stores h quiet) (first_stores t (Interrupted kind) [] e refl)) (stop_no_success (after_all (start L k c) h) t kind e)
 
-  trapped_leaf : (first : Core) (groups : List (List Transition)) (k : ℕ) (c : Core) → Progress L R first groups k c → (trace g rest : List Transition) (n : TrapKind) → Given L R (start L k c) trace → trace ≡ g ++ rest → StoreNothing g → NextStops L n (after_all (start L k c) g) rest → Result L R (top L R first) (concatenated groups ++ trace)
+  trapped_leaf : (first : Core) (groups : List (List Transition)) (k : ℕ) (c : Core) → Progress L R first groups k c → (trace g rest : List Transition) (n : TrapKind) → Given L R (start L k c) trace → trace ≡ g ++ rest → StoreNothing g → NextStops L n (after_all (start L k c) g) rest → Result L R (top L R first) (concatenation groups ++ trace)
   trapped_leaf first groups k c p trace g [] n given split quiet h = absurd h
   trapped_leaf first groups k c p trace g (t ∷ rest) n given split quiet h = stopped_leaf first groups k c p trace g rest t h.0 given split quiet h.1
 
   swap_went : (address : Registers → ℕ) → operand_address L R.operand ≡ Some address → (first : Core) (groups : List (List Transition)) (c : Core) → Progress L R first groups R.swap c → (trace h rest : List Transition) (t : Transition) → Given L R (start L R.swap c) trace → trace ≡ h ++ t ∷ rest → StoreNothing h → (y x : Core) → y.registers ≡ c.registers →
       t.after ≡ start L (suc R.swap) x → (after_writes (after_all (start L R.swap c) h) t).core.memory ≡ y.memory → IsLoaded L.image x.memory → (needs : Bool) (v : ℕ) → MayExecute (swapping L R address c.registers) (loosen needs v y) x →
       (found : Bool) → (number_at y.memory.get (address c.registers) (bytes (width_of (swap_size R.wide))) == value_in (swap_size R.wide) c.registers (number_of R.rd)) ≡ found → t.event ≡ Executed (store_event_at (address c.registers) (bytes (width_of (swap_size R.wide))) (cond found (Some (value_in (swap_size R.wide) c.registers (number_of R.rn))) None)) →
-      Rounds L R (length trace) → Result L R (top L R first) (concatenated groups ++ trace)
+      Rounds L R (length trace) → Result L R (top L R first) (concatenation groups ++ trace)
   swap_went address is first groups c p trace h rest t given split quiet y x same lands memory is_loaded needs v did true eq e next =
       let split' : trace ≡ (h ++ t ∷ []) ++ rest = split ∙ sym (append_assoc h (t ∷ []) rest) in
       let given' : Given L R (start L (suc R.swap) x) rest = given_after (start L R.swap c) trace (h ++ t ∷ []) rest (start L (suc R.swap) x) given split' (after_append (start L R.swap c) h (t ∷ []) ∙ lands) in
@@ -411,19 +411,19 @@ module _ (L : Layout) (all : AllCodeAt L) (R : Retry L) (some : L.offsets.step R
       let code : x.registers.code ≡ Code1 = did.code ∙ ap (λ b. cond b Code0 Code1) eq in
       swap_lost first groups c p trace h rest t given split quiet x lands code e (back_branched x rest is_loaded given'.run) next
 
-  swap_step : (address : Registers → ℕ) → operand_address L R.operand ≡ Some address → SwapKind L R address → (first : Core) (groups : List (List Transition)) (c : Core) → Progress L R first groups R.swap c → (trace : List Transition) → Given L R (start L R.swap c) trace → Runs L R.swap c trace → Rounds L R (length trace) → Result L R (top L R first) (concatenated groups ++ trace)
+  swap_step : (address : Registers → ℕ) → operand_address L R.operand ≡ Some address → SwapKind L R address → (first : Core) (groups : List (List Transition)) (c : Core) → Progress L R first groups R.swap c → (trace : List Transition) → Given L R (start L R.swap c) trace → Runs L R.swap c trace → Rounds L R (length trace) → Result L R (top L R first) (concatenation groups ++ trace)
   swap_step address is s first groups c p trace given (waits few quiet at) next =
       leaf first groups R.swap c p trace (quiet_stores trace quiet) (no_end_inside R.swap (after_all (start L R.swap c) trace) (omega arith) at)
   swap_step address is s first groups c p trace given (silent step within same) next = absurd (omega (arith, same, some))
   swap_step address is s first groups c p trace given (stops h rest t kind split quiet e wrong) next = stopped_leaf first groups R.swap c p trace h rest t kind given split quiet e
   swap_step address is s first groups c p trace given (stuck wrong loses) next = absurd (subst Loses s.is loses)
   swap_step address is s first groups c p trace given (ends g rest split e x step group ends_match) next =
-      let y = written (all_writes g) c in
+      let y = core_after_writes (all_writes g) c in
       let n = operation_ends s.needs (s.operation y.registers) s.code R.swap y e x (subst (λ f. KindStep L f R.swap y (Ended e) x) s.is step) in
       let match' : EndsMatch L (Ended (Trapped n.0)) x (after_all (start L R.swap c) g) rest = subst (λ z. EndsMatch L (Ended z) x (after_all (start L R.swap c) g) rest) n.1 ends_match in
       trapped_leaf first groups R.swap c p trace g rest n.0 given split group.1 match'.1
   swap_step address is s first groups c p trace given (goes h rest t split few long nothing j x step e memory lands l) next =
-      let y = written (all_writes (h ++ t ∷ [])) c in
+      let y = core_after_writes (all_writes (h ++ t ∷ [])) c in
       let q = operation_goes s.needs (s.operation y.registers) s.code R.swap y j x (subst (λ f. KindStep L f R.swap y (At j) x) s.is step) in
       let did : MayExecute (swapping L R address c.registers) (loosen s.needs q.0 y) x = subst (λ op. MayExecute op (loosen s.needs q.0 y) x) (s.swaps c.registers) q.1 in
       let stored : typed_store_event L R.swap y ≡ store_event (access (swapping L R address c.registers).effect) y.memory = ap (λ f. store_event_of_kind f y) s.is ∙ ap (λ op. store_event (access op.effect) y.memory) (s.swaps c.registers) in
@@ -432,28 +432,28 @@ module _ (L : Layout) (all : AllCodeAt L) (R : Retry L) (some : L.offsets.step R
       swap_went address is first groups c p trace h rest t given split nothing y x refl (lands ∙ ap (λ i. start L i x) q.2) memory is_loaded s.needs q.0 did _ refl (e ∙ ap Executed stored) next
 
   -- an operand without an address: the step isn't built
-  no_swap_step : kind_at L R.swap ≡ Some Unsupported → (first : Core) (groups : List (List Transition)) (c : Core) → Progress L R first groups R.swap c → (trace : List Transition) → Runs L R.swap c trace → Result L R (top L R first) (concatenated groups ++ trace)
+  no_swap_step : kind_at L R.swap ≡ Some Unsupported → (first : Core) (groups : List (List Transition)) (c : Core) → Progress L R first groups R.swap c → (trace : List Transition) → Runs L R.swap c trace → Result L R (top L R first) (concatenation groups ++ trace)
   no_swap_step is first groups c p trace (waits few quiet at) = leaf first groups R.swap c p trace (quiet_stores trace quiet) (no_end_inside R.swap (after_all (start L R.swap c) trace) (omega arith) at)
   no_swap_step is first groups c p trace (silent step within same) = absurd (omega (arith, same, some))
   no_swap_step is first groups c p trace (stops h rest t kind split quiet e wrong) = absurd (subst (λ f. KindWrong L f c) is wrong)
   no_swap_step is first groups c p trace (stuck wrong loses) = absurd (subst Loses is loses)
-  no_swap_step is first groups c p trace (ends g rest split e x step group ends_match) = absurd (subst (λ f. KindStep L f R.swap (written (all_writes g) c) (Ended e) x) is step)
-  no_swap_step is first groups c p trace (goes h rest t split few long nothing j x step e memory lands l) = absurd (subst (λ f. KindStep L f R.swap (written (all_writes (h ++ t ∷ [])) c) (At j) x) is step)
+  no_swap_step is first groups c p trace (ends g rest split e x step group ends_match) = absurd (subst (λ f. KindStep L f R.swap (core_after_writes (all_writes g) c) (Ended e) x) is step)
+  no_swap_step is first groups c p trace (goes h rest t split few long nothing j x step e memory lands l) = absurd (subst (λ f. KindStep L f R.swap (core_after_writes (all_writes (h ++ t ∷ [])) c) (At j) x) is step)
 
-  any_swap_step : (first : Core) (groups : List (List Transition)) (c : Core) → Progress L R first groups R.swap c → (trace : List Transition) → Given L R (start L R.swap c) trace → Runs L R.swap c trace → Rounds L R (length trace) → (o : Option (Registers → ℕ)) → operand_address L R.operand ≡ o → Result L R (top L R first) (concatenated groups ++ trace)
+  any_swap_step : (first : Core) (groups : List (List Transition)) (c : Core) → Progress L R first groups R.swap c → (trace : List Transition) → Given L R (start L R.swap c) trace → Runs L R.swap c trace → Rounds L R (length trace) → (o : Option (Registers → ℕ)) → operand_address L R.operand ≡ o → Result L R (top L R first) (concatenation groups ++ trace)
   any_swap_step first groups c p trace given runs next None e = no_swap_step (unaddressed L R e) first groups c p trace runs
   any_swap_step first groups c p trace given runs next (Some address) e = swap_step address e (swap_kind L R address e) first groups c p trace given runs next
 
   -- ---- the induction
 
-  at_member : (first : Core) (groups : List (List Transition)) (k : ℕ) (c : Core) → Progress L R first groups k c → R.opening < k → k < R.swap → IsLoaded L.image c.memory → (trace : List Transition) → Given L R (start L k c) trace → MemberStep L k (end_of L R) → Runs L k c trace → Onward L R first groups k trace → Result L R (top L R first) (concatenated groups ++ trace)
+  at_member : (first : Core) (groups : List (List Transition)) (k : ℕ) (c : Core) → Progress L R first groups k c → R.opening < k → k < R.swap → IsLoaded L.image c.memory → (trace : List Transition) → Given L R (start L k c) trace → MemberStep L k (end_of L R) → Runs L k c trace → Onward L R first groups k trace → Result L R (top L R first) (concatenation groups ++ trace)
   at_member first groups k c p above below is_loaded trace given (works plain) runs next = work first groups k c p above below plain is_loaded trace given runs next
   at_member first groups k c p above below is_loaded trace given (breaks mask e) runs next =
       let x = step_at L all k _ e in
       let size : L.offsets.step (suc k) ≡ L.offsets.step k + 6 = x.code.size in
       break_out first groups k mask c p above below (ap (kind_of_step L) e) (λ none. absurd (omega (arith, none, size))) trace given (loop_branched x mask (end_of L R) refl refl (small_mask mask x.code.valid.0) x.code.valid.1 c is_loaded trace given.run) next
 
-  round : (n : ℕ) → Rounds L R n → (m : ℕ) (first : Core) (groups : List (List Transition)) (k : ℕ) (c : Core) → Progress L R first groups k c → R.opening < k → k + m ≡ R.swap → IsLoaded L.image c.memory → (trace : List Transition) → Given L R (start L k c) trace → length trace ≤ n → Result L R (top L R first) (concatenated groups ++ trace)
+  round : (n : ℕ) → Rounds L R n → (m : ℕ) (first : Core) (groups : List (List Transition)) (k : ℕ) (c : Core) → Progress L R first groups k c → R.opening < k → k + m ≡ R.swap → IsLoaded L.image c.memory → (trace : List Transition) → Given L R (start L k c) trace → length trace ≤ n → Result L R (top L R first) (concatenation groups ++ trace)
   round n shorter zero first groups k c p above e is_loaded trace given le =
       let same : k ≡ R.swap = omega (arith, e) in
       let given' = subst (λ i. Given L R (start L i c) trace) same given in

@@ -5,7 +5,7 @@ use Rattle.s390x_base.specs.declared.regs.Reg.{Reg}
 use Rattle.s390x_inst.specs.declared.args.MemArg.{MemArg}
 use Rattle.s390x_inst.specs.declared.inst.Inst.{Inst}
 use Rattle.s390x_inst.specs.declared.inst.Inst.TheVariants.{AtomicCas32, AtomicCas64, CondBreak}
-use Rattle.s390x_typed_steps.specs.Folding.{folded, folded_before, next_block, folded_from, folded_trees}
+use Rattle.s390x_typed_steps.specs.Folding.{folded_members, folded_before, next_block, folded_from, folded_trees}
 use Rattle.s390x_typed_steps.specs.Rows.{LinkEnvironment}
 use Rattle.s390x_typed_steps.specs.Steps.{Step, Plain, Opening, Back, step_count, step_of, steps_of, steps_from}
 use Rattle.s390x_typed_steps.specs.Tree.{Tree, empty, leaf, loop_node, Whole}
@@ -223,7 +223,7 @@ retry_in environment ts image n r =
 
 -- ---- the end of a block folds no loop, and moves none
 
-after_last : (n mask : ℕ) (members : Tree) (k next : ℕ) (t : Tree) → Opens n mask members k t → Opens n mask members k (folded next t)
+after_last : (n mask : ℕ) (members : Tree) (k next : ℕ) (t : Tree) → Opens n mask members k t → Opens n mask members k (folded_members next t)
 after_last n mask members k next empty h = h
 after_last n mask members k next (leaf b empty) h = h
 after_last n mask members k next (leaf b (leaf c rest)) h = after_last n mask members (k + 1) next (leaf c rest) h

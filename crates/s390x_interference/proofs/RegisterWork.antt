@@ -16,7 +16,7 @@ use Rattle.s390x_lanes.specs.declared.operators.VectorOperation.{VectorOperation
 use Rattle.s390x_lanes.specs.declared.operators.VectorOperation.TheVariants as O
 use Rattle.s390x_typed_steps.specs.VectorOpcodes.{is_division}
 use Rattle.s390x_operations.specs.Access.{Untouched}
-use Rattle.s390x_operations.specs.Effects.{access, refused, MayRefuse, is_selected}
+use Rattle.s390x_operations.specs.Effects.{access, stop_of_effect, MayRefuse, is_selected}
 use Rattle.s390x_operations.specs.declared.effect.Operation.{Operation}
 use Rattle.s390x_operations.specs.declared.stop.StopKind.{StopKind}
 use Rattle.s390x_operations.specs.State.{Registers}
@@ -40,7 +40,7 @@ use Rattle.s390x_interference.specs.Loops.{is_vector_work, is_register_work}
 
 -- ---- operations
 
-plain : (op : Operation) → access op.effect ≡ Untouched → refused op.effect ≡ None → ((kind : StopKind) → MayRefuse op.effect kind → ⊥) → StaysInRegisters op
+plain : (op : Operation) → access op.effect ≡ Untouched → stop_of_effect op.effect ≡ None → ((kind : StopKind) → MayRefuse op.effect kind → ⊥) → StaysInRegisters op
 plain op untouched allowed certain = record { untouched = untouched; allowed = allowed; certain = certain }
 
 where_stays : (selected : Bool) (op : Operation) → StaysInRegisters op → StaysInRegisters (performed_where selected op)

@@ -5,7 +5,7 @@ use Rattle.s390x_machine.specs.Layout.{Layout}
 use Rattle.s390x_machine.specs.Machine.{MachineStep, Transition, Run}
 use Rattle.s390x_machine.specs.Match.{start}
 use Rattle.s390x_machine.proofs.Frame.{lies_written}
-use Rattle.s390x_schedule.specs.Schedule.{World, view, Tick, Goes, Scheduled, after_tick, after_ticks, stored_writes, transitions_of, LeavesImage, OthersLeaveImage, EndsAs, taken}
+use Rattle.s390x_schedule.specs.Schedule.{World, view, Tick, Goes, Scheduled, after_tick, after_ticks, stored_writes, transitions_of, LeavesImage, OthersLeaveImage, EndsAs, steps_taken}
 use Rattle.s390x_schedule.specs.declared.schedule.ScheduleEnd.{ScheduleEnd}
 use Rattle.s390x_schedule.proofs.Going.{end_taken}
 use Rattle.s390x_schedule.proofs.Storing.{step_stores}
@@ -115,4 +115,4 @@ interference L all w ps ticks scheduled R is_loaded leaves earlier rest split p 
 pub guarded : (w v : World) (ps : List ℕ) (end : ScheduleEnd) → EndsAs w ps end v → Guarded w ps end v
 guarded w v ps end h =
     let t = end_taken w v ps end h in
-    record { ticks = t.ticks; scheduled = t.scheduled; is = t.is; guards = λ L all. interference L all w (taken ps end) t.ticks t.scheduled }
+    record { ticks = t.ticks; scheduled = t.scheduled; is = t.is; guards = λ L all. interference L all w (steps_taken ps end) t.ticks t.scheduled }

@@ -32,7 +32,7 @@ use Rattle.s390x_emit_int.specs.Function.{IsFinishedCode}
 use Rattle.s390x_interference.specs.Example.{adds, adding_members, adding_trees}
 use Rattle.s390x_interference.specs.Loops.{RetryAt}
 use Rattle.s390x_interference.specs.Retry.{Retry, IsMember}
-use Rattle.s390x_interference.specs.Shared.{image, memory, world, stored, ticks, layout, LoopIsShared}
+use Rattle.s390x_interference.specs.Shared.{image, memory, world, store_of_five, ticks, layout, LoopIsShared}
 use Rattle.s390x_interference.proofs.RegisterWork.{register_work}
 
 -- ---- the code
@@ -154,7 +154,7 @@ scheduled = (
             tt,
             (
               refl,
-              swap_step _ _ _ (loaded_after_store image (Some stored) memory lies refl) refl (record { reached = refl; allowed = refl; results = refl; code = refl; memory = refl }, refl, refl),
+              swap_step _ _ _ (loaded_after_store image (Some store_of_five) memory lies refl) refl (record { reached = refl; allowed = refl; results = refl; code = refl; memory = refl }, refl, refl),
               inr (tt, refl),
             ),
           ),

@@ -5,7 +5,7 @@ use Rattle.s390x_base.specs.declared.regs.Reg.{Reg}
 use Rattle.s390x_base.specs.declared.trap.TrapKind.{TrapKind}
 use Rattle.s390x_inst.specs.declared.args.MemArg.{MemArg}
 use Rattle.s390x_inst.specs.declared.inst.Inst.TheVariants.{AtomicCas32, AtomicCas64}
-use Rattle.s390x_operations.specs.State.{Registers, Memory, Core, IsLoaded, written}
+use Rattle.s390x_operations.specs.State.{Registers, Memory, Core, IsLoaded, core_after_writes}
 use Rattle.s390x_operations.specs.Effects.{MayExecute}
 use Rattle.s390x_operations.specs.declared.effect.Operation.{Operation}
 use Rattle.s390x_operations.specs.declared.size.Size.{Size}
@@ -110,7 +110,7 @@ addressed_bytes L R m address x (silent step below same) no_bytes =
 addressed_bytes L R m address x (goes h rest t split few some nothing j y step e memory lands l) no_bytes = some_transition h rest t split
 addressed_bytes L R m address x (stops h rest t kind split quiet e wrong) no_bytes = some_transition h rest t split
 addressed_bytes L R m address x (ends g rest split e y step group ends_match) no_bytes =
-    let c = written (all_writes g) (untouched_core m) in
+    let c = core_after_writes (all_writes g) (untouched_core m) in
     let n = operation_ends x.needs (x.operation c.registers) x.code R.swap c e y (subst (λ f. KindStep L f R.swap c (Ended e) y) x.is step) in
     some_bytes_in L R.swap (subst (λ z. EndsAt L R.swap z g (after_all (start L R.swap (untouched_core m)) g)) n.1 group.2) no_bytes
 addressed_bytes L R m address x (stuck wrong loses) no_bytes = subst Loses x.is loses
@@ -120,7 +120,7 @@ unaddressed_bytes L R m is (waits few quiet at) no_bytes = some_bytes_in L R.swa
 unaddressed_bytes L R m is (silent step below same) no_bytes = subst (λ f. KindStep L f R.swap (untouched_core m) (At (suc R.swap)) (untouched_core m)) is step
 unaddressed_bytes L R m is (goes h rest t split few some nothing j y step e memory lands l) no_bytes = some_transition h rest t split
 unaddressed_bytes L R m is (stops h rest t kind split quiet e wrong) no_bytes = some_transition h rest t split
-unaddressed_bytes L R m is (ends g rest split e y step group ends_match) no_bytes = subst (λ f. KindStep L f R.swap (written (all_writes g) (untouched_core m)) (Ended e) y) is step
+unaddressed_bytes L R m is (ends g rest split e y step group ends_match) no_bytes = subst (λ f. KindStep L f R.swap (core_after_writes (all_writes g) (untouched_core m)) (Ended e) y) is step
 unaddressed_bytes L R m is (stuck wrong loses) no_bytes = subst Loses is loses
 
 pub swap_has_bytes : (L : Layout) → AllCodeAt L → (R : Retry L) (m : Memory) → IsLoaded L.image m → HasNoBytes L R.swap → ⊥

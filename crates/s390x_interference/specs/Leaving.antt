@@ -11,7 +11,7 @@ use Rattle.s390x_machine.specs.Functions.{function_layout}
 use Rattle.s390x_machine.specs.Layout.{Layout, step_address}
 use Rattle.s390x_schedule.specs.Schedule.{World, view, Tick, Scheduled, transitions_of}
 use Rattle.s390x_emit_int.specs.Function.{checked_cause, IsFinishedCode}
-use Rattle.s390x_emit_int.specs.Headline.{linked, linked_image}
+use Rattle.s390x_emit_int.specs.Headline.{linked_environment, linked_image}
 use Rattle.s390x_interference.specs.Example.{leaving_trees}
 use Rattle.s390x_interference.specs.Loops.{RetryAt}
 use Rattle.s390x_interference.specs.Retry.{Retry, loop_run, stores_of, EndsByBreak}
@@ -36,7 +36,7 @@ ticks = tick 0 None (adder 5) memory 4112 ∷ []
 
 -- the layout of the function's finished code, linked at 4096
 abbrev pub layout : MachBufferFinalized → Layout
-layout code = function_layout (linked no_symbols 4096 (folded_trees leaving_trees) []) (folded_trees leaving_trees) (linked_image code 4096 no_symbols)
+layout code = function_layout (linked_environment no_symbols 4096 (folded_trees leaving_trees) []) (folded_trees leaving_trees) (linked_image code 4096 no_symbols)
 
 -- The function has no cause, this is its finished code, and linking has no cause; it has a retry loop; the linked code lies in memory, the processor stands at the
 -- loop, this is a schedule of it, and it doesn't store into the code. Its run ends by a break, and stores nothing

@@ -9,7 +9,7 @@ use Rattle.s390x_typed_steps.specs.Steps.{Step, Plain, Opening, Back, Break}
 use Rattle.s390x_operations.specs.State.{Registers, Core, State, StoreEvent, number_at}
 use Rattle.s390x_operations.specs.Access.{Untouched}
 use Rattle.s390x_operations.specs.Bits.{bytes}
-use Rattle.s390x_operations.specs.Effects.{access, refused, MayRefuse, is_selected}
+use Rattle.s390x_operations.specs.Effects.{access, stop_of_effect, MayRefuse, is_selected}
 use Rattle.s390x_operations.specs.Values.{width_of}
 use Rattle.s390x_operations.specs.declared.effect.Operation.{Operation}
 use Rattle.s390x_operations.specs.declared.size.Size.{Size}
@@ -18,7 +18,7 @@ use Rattle.s390x_operations.specs.declared.stop.ConditionCode.TheVariants.{Code0
 use Rattle.s390x_operations.specs.declared.stop.StopKind.{StopKind}
 use Rattle.s390x_machine.specs.Layout.{Layout, step_address}
 use Rattle.s390x_machine.specs.Machine.{Event, Executed, Interrupted, Transition, after_writes, after_all}
-use Rattle.s390x_machine.specs.Match.{concatenated, start, StoreNothing, TypedRun}
+use Rattle.s390x_machine.specs.Match.{concatenation, start, StoreNothing, TypedRun}
 use Rattle.s390x_machine.specs.Operands.{value_in}
 use Rattle.s390x_machine.specs.StepKinds.{StepKind, Performs, PerformsWhere, ComparesWide, Silent, instruction_kind}
 use Rattle.s390x_machine.specs.Storage.{operand_address}
@@ -29,7 +29,7 @@ use Rattle.s390x_machine.specs.Typed.{At}
 -- an operation that accesses no memory and that no values stop
 pub record StaysInRegisters (op : Operation) : Type 0 where
   pub untouched : access op.effect ≡ Untouched
-  pub allowed : refused op.effect ≡ None
+  pub allowed : stop_of_effect op.effect ≡ None
   pub certain : (kind : StopKind) → MayRefuse op.effect kind → ⊥
 
 -- register work is such an operation, also under a mask, or a comparison of vector registers as numbers of 128 bits, or nothing at all
@@ -94,14 +94,14 @@ abbrev pub stored_in : Event → Option StoreEvent
 stored_in (Executed x) = x
 stored_in (Interrupted kind) = None
 
-abbrev pub listed : Option StoreEvent → List StoreEvent
-listed None = []
-listed (Some x) = x ∷ []
+abbrev pub event_list : Option StoreEvent → List StoreEvent
+event_list None = []
+event_list (Some x) = x ∷ []
 
 -- what the transitions store, in order
 abbrev pub stores_of : List Transition → List StoreEvent
 stores_of [] = []
-stores_of (t ∷ trace) = listed (stored_in t.event) ++ stores_of trace
+stores_of (t ∷ trace) = event_list (stored_in t.event) ++ stores_of trace
 
 -- a transition executes
 abbrev pub IsExecuted : Event → Type 0
@@ -139,7 +139,7 @@ pub record Swapped (L : Layout) (R : Retry L) (s : State) (trace : List Transiti
   pub later : List Transition
   pub first : Core
   pub reached : Core
-  pub split : trace ≡ (earlier ++ (concatenated groups ++ helpers)) ++ transition ∷ later
+  pub split : trace ≡ (earlier ++ (concatenation groups ++ helpers)) ++ transition ∷ later
   pub begins : after_all s earlier ≡ start L (suc R.opening) first
   pub run : TypedRun L (At (suc R.opening)) first groups (At R.swap) reached
   pub each : length groups + suc R.opening ≡ R.swap
@@ -148,7 +148,7 @@ pub record Swapped (L : Layout) (R : Retry L) (s : State) (trace : List Transiti
   pub address : Registers → ℕ
   pub operand : operand_address L R.operand ≡ Some address
   pub puts : x ≡ record { address = address reached.registers; size = bytes (width_of (swap_size R.wide)); value = value_in (swap_size R.wide) reached.registers (number_of R.rn) }
-  pub found : number_at (after_writes (after_all s (earlier ++ (concatenated groups ++ helpers))) transition).core.memory.get (address reached.registers) (bytes (width_of (swap_size R.wide))) ≡ value_in (swap_size R.wide) reached.registers (number_of R.rd)
+  pub found : number_at (after_writes (after_all s (earlier ++ (concatenation groups ++ helpers))) transition).core.memory.get (address reached.registers) (bytes (width_of (swap_size R.wide))) ≡ value_in (swap_size R.wide) reached.registers (number_of R.rd)
 
 -- A run of the loop stores at most once, and then as the swap; exactly once where it ends with a swap that succeeded, and never where it ends by a break
 pub record StoresByItsSwap (L : Layout) (R : Retry L) (s : State) (trace : List Transition) : Type 0 where

@@ -3,7 +3,7 @@ use Rattle.std.specs.Prelude.{◌≡◌, ℕ, suc, List, [], ◌∷◌, ◌++◌
 use Rattle.s390x_operations.specs.State.{CodeImage, IsLoaded}
 use Rattle.s390x_machine.specs.CodeAt.{AllCodeAt}
 use Rattle.s390x_machine.specs.Layout.{Layout, step_address}
-use Rattle.s390x_schedule.specs.Schedule.{World, view, Tick, after_ticks, Scheduled, LeavesImage, transitions_of, taken}
+use Rattle.s390x_schedule.specs.Schedule.{World, view, Tick, after_ticks, Scheduled, LeavesImage, transitions_of, steps_taken}
 use Rattle.s390x_schedule.specs.declared.schedule.ScheduleEnd.{ScheduleEnd}
 use Rattle.s390x_interference.specs.Retry.{Retry, loop_run, StoresByItsSwap}
 
@@ -26,6 +26,6 @@ Interference L = AllCodeAt L → (w : World) (ps : List ℕ) (ticks : List Tick)
 -- the steps that `run_schedule` took are a schedule, in which each retry loop is guarded, of whatever code lies in memory
 pub record Guarded (w : World) (ps : List ℕ) (end : ScheduleEnd) (v : World) : Type 0 where
   pub ticks : List Tick
-  pub scheduled : Scheduled w (taken ps end) ticks
+  pub scheduled : Scheduled w (steps_taken ps end) ticks
   pub is : v ≡ after_ticks w ticks
   pub guards : (L : Layout) → AllCodeAt L → GuardsLoops L w ticks

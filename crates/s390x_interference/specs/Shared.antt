@@ -13,7 +13,7 @@ use Rattle.s390x_machine.specs.Layout.{Layout, step_address}
 use Rattle.s390x_machine.specs.Machine.{Executed}
 use Rattle.s390x_schedule.specs.Schedule.{World, view, Tick, Scheduled, transitions_of}
 use Rattle.s390x_emit_int.specs.Function.{checked_cause, IsFinishedCode}
-use Rattle.s390x_emit_int.specs.Headline.{linked, linked_image}
+use Rattle.s390x_emit_int.specs.Headline.{linked_environment, linked_image}
 use Rattle.s390x_interference.specs.Example.{adding_trees}
 use Rattle.s390x_interference.specs.Loops.{RetryAt}
 use Rattle.s390x_interference.specs.Retry.{Retry, loop_run, stores_of, EndsBySwap}
@@ -36,12 +36,12 @@ abbrev pub world : World
 world = record { processor = λ q. record { registers = adder (if q == 0 then 5 else 7); address = 4096 }; memory = memory }
 
 -- with the sum, which is above zero
-abbrev pub summed : (addend : ℕ) → Registers
-summed addend = with_code Code2 (set_general (adder addend) 4 addend)
+abbrev pub registers_after_sum : (addend : ℕ) → Registers
+registers_after_sum addend = with_code Code2 (set_general (adder addend) 4 addend)
 
 -- the word becomes 5
-abbrev pub stored : StoreEvent
-stored = record { address = 65536; size = 4; value = 5 }
+abbrev pub store_of_five : StoreEvent
+store_of_five = record { address = 65536; size = 4; value = 5 }
 
 abbrev pub tick : (p : ℕ) → Option StoreEvent → Registers → Memory → ℕ → Tick
 tick p x r m a = record { processor = p; event = Executed x; after = record { core = record { registers = r; memory = m }; address = a } }
@@ -49,14 +49,14 @@ tick p x r m a = record { processor = p; event = Executed x; after = record { co
 -- both add, the first one's swap succeeds, and the other one's finds 5
 abbrev pub ticks : List Tick
 ticks =
-    tick 0 None (summed 5) memory 4100
-    ∷ tick 1 None (summed 7) memory 4100
-    ∷ tick 0 (Some stored) (with_code Code0 (set_general (summed 5) 2 0)) (after_store (Some stored) memory) 4104
-    ∷ tick 1 None (with_code Code1 (set_general (summed 7) 2 5)) (after_store (Some stored) memory) 4104 ∷ []
+    tick 0 None (registers_after_sum 5) memory 4100
+    ∷ tick 1 None (registers_after_sum 7) memory 4100
+    ∷ tick 0 (Some store_of_five) (with_code Code0 (set_general (registers_after_sum 5) 2 0)) (after_store (Some store_of_five) memory) 4104
+    ∷ tick 1 None (with_code Code1 (set_general (registers_after_sum 7) 2 5)) (after_store (Some store_of_five) memory) 4104 ∷ []
 
 -- the layout of the function's finished code, linked at 4096
 abbrev pub layout : MachBufferFinalized → Layout
-layout code = function_layout (linked no_symbols 4096 (folded_trees adding_trees) []) (folded_trees adding_trees) (linked_image code 4096 no_symbols)
+layout code = function_layout (linked_environment no_symbols 4096 (folded_trees adding_trees) []) (folded_trees adding_trees) (linked_image code 4096 no_symbols)
 
 -- The function has no cause, this is its finished code, and linking has no cause; it has a retry loop; the linked code lies in memory, both processors
 -- stand at the loop, this is a schedule of them, and none stores into the code. The first one's run stores once and ends by its swap, the other one's
@@ -75,5 +75,5 @@ pub record LoopIsShared : Type 0 where
   pub leaves : AllLeaveImage (linked_image code 4096 no_symbols) ticks
   pub stand : (p : ℕ) → (view world p).address ≡ step_address (layout code) 1
   pub succeeds : EndsBySwap (layout code) loop (view world 0) (loop_run (layout code) loop (view world 0) (transitions_of 0 [] ticks))
-  pub once : stores_of (loop_run (layout code) loop (view world 0) (transitions_of 0 [] ticks)) ≡ stored ∷ []
+  pub once : stores_of (loop_run (layout code) loop (view world 0) (transitions_of 0 [] ticks)) ≡ store_of_five ∷ []
   pub never : stores_of (loop_run (layout code) loop (view world 1) (transitions_of 1 [] ticks)) ≡ []

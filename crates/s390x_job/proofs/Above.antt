@@ -3,9 +3,9 @@ use Rattle.std.proofs.Common.{◌≡◌, ℕ, zero, suc, ◌+◌, ◌<◌, List,
 use Rattle.std.specs.Prelude.{◌==◌, ◌-◌, codes}
 use Rattle.s390x_job_fields.specs.Marks.{upto, past}
 use Rattle.s390x_job_lines.specs.Line.{Line, line_text, IsLine}
-use Rattle.s390x_job.specs.Grammar.{Place, AtEnd, class, next}
+use Rattle.s390x_job.specs.Grammar.{Place, AtEnd, class, next_place}
 use Rattle.s390x_job.specs.Jobs.{lines_text, AllLines, text_of_job, IsJob}
-use Rattle.s390x_job.specs.Completions.{pieces_from, pieces, joined, closing, ending, completion, IsText}
+use Rattle.s390x_job.specs.Completions.{pieces_from, pieces, text_of_lines, closing, ending, completion, IsText}
 use Rattle.s390x_job.specs.declared.job.Job.{Job}
 use Rattle.s390x_job_lines.proofs.Frees.{Free, upto-free, line-free}
 use Rattle.s390x_job.specs.Errors.{IsStuckAt}
@@ -29,12 +29,12 @@ pieces_front (l ∷ ls) r h =
     ∙ pieces_line (line_text l) [] (lines_text ls ++ r) (line-free l h.0)
     ∙ ap (λ t. line_text l ∷ t) (pieces_front ls r h.1)
 
-joined_front : (ls : List Line) (ys : List (List ℕ)) (t : List ℕ) → joined (map line_text ls ++ ys) ++ t ≡ lines_text ls ++ (joined ys ++ t)
+joined_front : (ls : List Line) (ys : List (List ℕ)) (t : List ℕ) → text_of_lines (map line_text ls ++ ys) ++ t ≡ lines_text ls ++ (text_of_lines ys ++ t)
 joined_front [] ys t = refl
 joined_front (l ∷ ls) ys t =
-    append_assoc (line_text l) (10 ∷ joined (map line_text ls ++ ys)) t
+    append_assoc (line_text l) (10 ∷ text_of_lines (map line_text ls ++ ys)) t
     ∙ ap (λ u. line_text l ++ (10 ∷ u)) (joined_front ls ys t)
-    ∙ sym (append_assoc (line_text l) (10 ∷ lines_text ls) (joined ys ++ t))
+    ∙ sym (append_assoc (line_text l) (10 ∷ lines_text ls) (text_of_lines ys ++ t))
 
 record Taken (xs : List (List ℕ)) (y : List ℕ) (ys : List (List ℕ)) (m : ℕ) : Type 0 where
   zs : List (List ℕ)
@@ -62,14 +62,14 @@ above bytes ls p rest i n f m h t =
     let b = take_past (map line_text ls) w (pieces (past 10 rest)) m (omega (arith, h, length_texts ls)) in
     let ws = map line_text ls ++ w ∷ b.zs in
     let c : take m (pieces bytes) ≡ ws = ap (take m) a ∙ b.is in
-    let x = joined b.zs ++ ending ws in
-    let r = joined (w ∷ b.zs) ++ ending ws in
-    let e : r ≡ w ++ (10 ∷ x) = append_assoc w (10 ∷ joined b.zs) (ending ws) in
+    let x = text_of_lines b.zs ++ ending ws in
+    let r = text_of_lines (w ∷ b.zs) ++ ending ws in
+    let e : r ≡ w ++ (10 ∷ x) = append_assoc w (10 ∷ text_of_lines b.zs) (ending ws) in
     let u : upto 10 r ≡ w = ap (upto 10) e ∙ upto-free 10 w x (upto_lacks 10 rest) in
     let pos : 0 < length r = omega (arith, ap length e, length-append w (10 ∷ x)) in
     f (completion ws) r (record { text = joined_front ls (w ∷ b.zs) (ending ws); oks = i.oks; runs = i.runs }) pos u t.0 t.1 (t.2 ∙ ap completion c)
 
-pub above_text : (bytes : List ℕ) (ls : List Line) (p : Place) (rest : List ℕ) → Inv bytes ls p rest → (length (upto 10 rest) ≡ length rest → ⊥) → ((l : Line) → IsLine l → line_text l ≡ upto 10 rest → next p (class l) ≡ None) → (m : ℕ) → length ls < m → IsText (completion (take m (pieces bytes))) → ⊥
+pub above_text : (bytes : List ℕ) (ls : List Line) (p : Place) (rest : List ℕ) → Inv bytes ls p rest → (length (upto 10 rest) ≡ length rest → ⊥) → ((l : Line) → IsLine l → line_text l ≡ upto 10 rest → next_place p (class l) ≡ None) → (m : ℕ) → length ls < m → IsText (completion (take m (pieces bytes))) → ⊥
 above_text bytes ls p rest i n g =
     above bytes ls p rest i n (λ s r inv pos e j ok h. refuse_line s ls p r inv pos (λ l o q. refuse_place s ls p r inv pos l o q (g l o (q ∙ e)) j ok h) j ok h)
 
@@ -98,7 +98,7 @@ module _ (bytes : List ℕ) (ls : List Line) (p : Place) (rest : List ℕ) (i : 
       let q = ap length (pieces_none rest [] (ap (λ r. length (upto 10 r)) (nil rest n) ∙ sym n)) in
       record { small = omega (arith, k); none = λ t. refuse_end bytes ls p rest i n e t.0 t.1 t.2; above = λ m h s t. absurd (omega (arith, k, q, h, s)) }
 
-  pub stuck_text : 0 < length rest → (length (upto 10 rest) ≡ length rest → ⊥) → ((l : Line) → IsLine l → line_text l ≡ upto 10 rest → next p (class l) ≡ None) → IsStuckAt bytes (length ls)
+  pub stuck_text : 0 < length rest → (length (upto 10 rest) ≡ length rest → ⊥) → ((l : Line) → IsLine l → line_text l ≡ upto 10 rest → next_place p (class l) ≡ None) → IsStuckAt bytes (length ls)
   stuck_text n f g =
       let k = length_front bytes ls p rest i in
       record {

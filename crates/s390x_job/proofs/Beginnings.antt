@@ -12,9 +12,9 @@ use Rattle.s390x_inst.specs.declared.calls.CallConv.{CallConv}
 use Rattle.s390x_inst.specs.declared.calls.CallConv.TheVariants.{SystemV}
 use Rattle.s390x_inst.specs.declared.state.FrameLayout.{FrameLayout}
 use Rattle.s390x_inst.specs.declared.state.IsaFlags.{IsaFlags}
-use Rattle.s390x_job_lines.specs.Line.{spelled}
+use Rattle.s390x_job_lines.specs.Line.{fields_text}
 use Rattle.s390x_job.specs.Items.{flags_line, frame_line, constant_line, symbol_line, register_line, memory_line, block_line, end_line}
-use Rattle.s390x_job.specs.Grammar.{Place, may_follow, register_place, region_class, class, next, Header, Head}
+use Rattle.s390x_job.specs.Grammar.{Place, may_follow, register_place, region_class, class, next_place, Header, Head}
 use Rattle.s390x_job.specs.Jobs.{plain_layout, flags_lines, frame_lines, start_lines, registers_lines, head_lines}
 use Rattle.s390x_job.specs.Builds.{rank_of, IsZeroFrom, IsFull, IsBeginning, IsBegun, IsNext, beginning_lines}
 use Rattle.s390x_job.specs.declared.job.SymbolLine.{SymbolLine}
@@ -118,7 +118,7 @@ told_not b l n e = let k : l ∷ [] ≡ [] = ap (λ t. if t then [] else l ∷ [
 pub record IsHeadNext (ls : List Line) (p : Place) (l : Line) (b : Beginning) (stage : Stage) (bound : ℕ) : Type 0 where
   pub state : IsBeginning (rank_of stage) bound b
   pub lines : beginning_lines b ≡ ls ++ l ∷ []
-  pub place : next p (class l) ≡ Some (Header (rank_of stage) bound)
+  pub place : next_place p (class l) ≡ Some (Header (rank_of stage) bound)
 
 module _ (rank bound : ℕ) (b : Body) (h : IsBegun rank bound b) where
   pub begun : {ls : List Line} {p : Place} {l : Line} {a : Beginning} {stage : Stage} {n : ℕ} → IsHeadNext ls p l a stage n → IsNext ls p l (P.Head stage n) (record b { beginning = a })
@@ -177,7 +177,7 @@ module _ (rank bound : ℕ) (b : Beginning) (h : IsBeginning rank bound b) where
     lines = ap (λ ms. head_lines b.flags b.conv b.layout b.constants.items b.symbols.items b.registers ms) e
         ∙ ap (λ t. flags_lines b.flags ++ (frame_lines b.conv b.layout ++ (map constant_line b.constants.items ++ (map symbol_line b.symbols.items ++ (registers_lines b.registers ++ t))))) (map-append memory_line b.memory.items (m ∷ []))
         ∙ more6 (memory_line m) (flags_lines b.flags) (frame_lines b.conv b.layout) (map constant_line b.constants.items) (map symbol_line b.symbols.items) (registers_lines b.registers) (map memory_line b.memory.items);
-    place = ap (next (Header rank bound)) k ∙ rw f refl;
+    place = ap (next_place (Header rank bound)) k ∙ rw f refl;
   }
 
   pub symbol_next : (s : SymbolLine) (v : Vec SymbolLine Global) → may_follow rank bound 3 s.name.0 ≡ true → v.items ≡ b.symbols.items ++ s ∷ [] → IsHeadNext (beginning_lines b) (Header rank bound) (symbol_line s) (record b { symbols = v }) S.Symbols (s.name.0 + 1)
@@ -226,14 +226,14 @@ module _ (rank bound : ℕ) (b : Beginning) (h : IsBeginning rank bound b) where
   below_frame : may_follow rank bound 1 0 ≡ true → rank < 1
   below_frame f = elim (ranked rank bound 1 0 f) [ inl l ↦ l | inr l ↦ absurd (omega (arith, l.1, h.framed l.0)) ]
 
-  pub frame_next : (conv : CallConv) (layout : FrameLayout) → may_follow rank bound 1 0 ≡ true → bytes_eq (spelled (frame_line conv layout).fields) (codes " SystemV 0 0 0 0 0 0 - 0") ≡ false → IsHeadNext (beginning_lines b) (Header rank bound) (frame_line conv layout) (record b { conv = conv; layout = layout }) S.Frame 1
+  pub frame_next : (conv : CallConv) (layout : FrameLayout) → may_follow rank bound 1 0 ≡ true → bytes_eq (fields_text (frame_line conv layout).fields) (codes " SystemV 0 0 0 0 0 0 - 0") ≡ false → IsHeadNext (beginning_lines b) (Header rank bound) (frame_line conv layout) (record b { conv = conv; layout = layout }) S.Frame 1
   frame_next conv layout f n =
       let r = below_frame f in
       let tail = map constant_line b.constants.items ++ (map symbol_line b.symbols.items ++ (registers_lines b.registers ++ map memory_line b.memory.items)) in
       let fresh : frame_lines conv layout ≡ frame_lines b.conv b.layout ++ frame_line conv layout ∷ [] = rw (n, h.no_frame r) refl in
       record {
         state = record {
-          full = record { frame = λ e. absurd (told_not (bytes_eq (spelled (frame_line conv layout).fields) (codes " SystemV 0 0 0 0 0 0 - 0")) (frame_line conv layout) n e); general_count = h.full.general_count; vector_count = h.full.vector_count };
+          full = record { frame = λ e. absurd (told_not (bytes_eq (fields_text (frame_line conv layout).fields) (codes " SystemV 0 0 0 0 0 0 - 0")) (frame_line conv layout) n e); general_count = h.full.general_count; vector_count = h.full.vector_count };
           no_flags = λ p q. absurd (omega (arith, p));
           framed = λ p. omega arith;
           no_frame = λ p. absurd (omega (arith, p));
@@ -251,7 +251,7 @@ module _ (rank bound : ℕ) (b : Beginning) (h : IsBeginning rank bound b) where
   at_start : may_follow rank bound 0 0 ≡ true → (rank ≡ 0) × (bound ≡ 0)
   at_start f = elim (ranked rank bound 0 0 f) [ inl l ↦ absurd (omega (arith, l)) | inr l ↦ (l.0, omega (arith, l.1)) ]
 
-  pub flags_next : (flags : IsaFlags) → may_follow rank bound 0 0 ≡ true → bytes_eq (spelled (flags_line flags).fields) [] ≡ false → IsHeadNext (beginning_lines b) (Header rank bound) (flags_line flags) (record b { flags = flags }) S.Flags 1
+  pub flags_next : (flags : IsaFlags) → may_follow rank bound 0 0 ≡ true → bytes_eq (fields_text (flags_line flags).fields) [] ≡ false → IsHeadNext (beginning_lines b) (Header rank bound) (flags_line flags) (record b { flags = flags }) S.Flags 1
   flags_next flags f n =
       let r = at_start f in
       let tail = frame_lines b.conv b.layout ++ (map constant_line b.constants.items ++ (map symbol_line b.symbols.items ++ (registers_lines b.registers ++ map memory_line b.memory.items))) in

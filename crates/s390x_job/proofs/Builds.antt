@@ -4,7 +4,7 @@ use Rattle.std.specs.Prelude.{Some, nat_lt}
 use Rattle.std.proofs.lemmas.Bool.Decides.{nat_tests}
 use Rattle.s390x_job_lines.specs.Line.{Line}
 use Rattle.s390x_job_lines.specs.Instructions.{inst_line}
-use Rattle.s390x_job.specs.Grammar.{class, next, Within, AtEnd, OpenBlock, OpenLoop as OpenLoop', CloseLoop, CloseJob, Instruction}
+use Rattle.s390x_job.specs.Grammar.{class, next_place, Within, AtEnd, OpenBlock, OpenLoop as OpenLoop', CloseLoop, CloseJob, Instruction}
 use Rattle.s390x_job.specs.Items.{block_line, loop_line, close_line}
 use Rattle.s390x_job.specs.Jobs.{inst_lines, insts_lines, blocks_lines}
 use Rattle.s390x_job.specs.Builds.{open_lines}
@@ -76,17 +76,17 @@ pub none_open : (fs : List OpenLoop) (v n : Vec Inst Global) → fs ≡ [] → v
 none_open fs v n f e g = ap (λ t. open_lines t ++ insts_lines v.items) f ∙ ap (λ (t : Vec Inst Global). insts_lines t.items) e ∙ ap insts_lines g
 
 -- where a line leads within a block
-pub to_block : (fs : List OpenLoop) → fs ≡ [] → next (Within (length fs)) OpenBlock ≡ Some (Within (length fs))
+pub to_block : (fs : List OpenLoop) → fs ≡ [] → next_place (Within (length fs)) OpenBlock ≡ Some (Within (length fs))
 to_block fs f = rw f refl
 
-pub to_end : (fs : List OpenLoop) → fs ≡ [] → next (Within (length fs)) CloseJob ≡ Some AtEnd
+pub to_end : (fs : List OpenLoop) → fs ≡ [] → next_place (Within (length fs)) CloseJob ≡ Some AtEnd
 to_end fs f = rw f refl
 
 few : (d : ℕ) → d < 9 → nat_lt d 9 ≡ true
 few d h = grind (arith, nat_tests)
 
-pub to_open : (d e : ℕ) → d < 9 → e ≡ suc d → next (Within d) OpenLoop' ≡ Some (Within e)
+pub to_open : (d e : ℕ) → d < 9 → e ≡ suc d → next_place (Within d) OpenLoop' ≡ Some (Within e)
 to_open d e h k = rw (k, few d h) refl
 
-pub to_close : (d e : ℕ) → d ≡ suc e → next (Within d) CloseLoop ≡ Some (Within e)
+pub to_close : (d e : ℕ) → d ≡ suc e → next_place (Within d) CloseLoop ≡ Some (Within e)
 to_close d e k = rw k refl

@@ -9,7 +9,7 @@ use Rattle.s390x_job_lines.specs.declared.name.LineName.TheVariants as N
 use Rattle.s390x_job_lines.proofs.RoundTrip.{line-round_trip}
 use Rattle.s390x_job_exact.specs.Exact.{IsSingle, IsInstructionText}
 use Rattle.s390x_job_fields.specs.Fields.{Field}
-use Rattle.s390x_job.specs.Grammar.{Place, Within, Instruction, class, line_class, next}
+use Rattle.s390x_job.specs.Grammar.{Place, Within, Instruction, class, line_class, next_place}
 use Rattle.s390x_job.specs.Builds.{Follows, IsNext, Reads, beginning_lines, body_lines, open_lines}
 use Rattle.s390x_job.specs.Items.{block_line}
 use Rattle.s390x_job.specs.Jobs.{insts_lines, blocks_lines}
@@ -23,7 +23,7 @@ the_line : (l : Line) (w : List ℕ) → IsLine l → line_text l ≡ w → l �
 the_line l w ok e = sym (line-round_trip l ok) ∙ ap line_of e
 
 pub reads : (b : Body) (ls : List Line) (p : Place) (l : Line) (w : List ℕ) → IsLine l → line_text l ≡ w → (o : Option Progress) → Follows b ls p l o → Reads b ls p w o
-reads b ls p l w ok e None h = λ k a q. ap (λ m. next p (class m)) (one_line k l a ok (q ∙ sym e)) ∙ h
+reads b ls p l w ok e None h = λ k a q. ap (λ m. next_place p (class m)) (one_line k l a ok (q ∙ sym e)) ∙ h
 reads b ls p l w ok e (Some q) h =
     subst (λ m. IsLine m × (line_text m ≡ w) × IsNext ls p m q b) (the_line l w ok e) (ok, e, h)
 

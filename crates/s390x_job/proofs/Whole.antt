@@ -4,7 +4,7 @@ use Rattle.std.specs.Prelude.{◌==◌, Result, Ok, Err, IfOk}
 use Rattle.std.proofs.lemmas.Bool.Decides.{nat_tests}
 use Rattle.s390x_job_fields.specs.Marks.{upto, past}
 use Rattle.s390x_job_lines.specs.Line.{Line, line_text, IsLine, line_of}
-use Rattle.s390x_job.specs.Grammar.{Place, Header, AtEnd, class, next, run}
+use Rattle.s390x_job.specs.Grammar.{Place, Header, AtEnd, class, next_place, run}
 use Rattle.s390x_job.specs.Jobs.{lines_text, AllLines, job_lines, text_of_job, IsJob}
 use Rattle.s390x_job.specs.declared.job.Job.{Job}
 use Rattle.s390x_job.specs.Builds.{IsWhole}
@@ -18,7 +18,7 @@ one_line k l a b e = sym (line-round_trip k a) ∙ ap line_of e ∙ line-round_t
 pub run_append : (ls : List Line) (o : Option Place) (ms : List Line) → run o (ls ++ ms) ≡ run (run o ls) ms
 run_append ls None ms = refl
 run_append [] (Some p) ms = refl
-run_append (l ∷ ls) (Some p) ms = run_append ls (next p (class l)) ms
+run_append (l ∷ ls) (Some p) ms = run_append ls (next_place p (class l)) ms
 
 all_append : (a b : List Line) → AllLines a → AllLines b → AllLines (a ++ b)
 all_append [] b h k = k
@@ -104,15 +104,15 @@ refuse_line bytes ls p rest i n e j ok h =
     no_line g.left g.oks (subst (λ r. 0 < length r) (sym g.text) n) (subst (λ r. (l : Line) → IsLine l → line_text l ≡ upto 10 r → ⊥) (sym g.text) e)
 
 -- the next line may not stand here
-no_place : (p : Place) (k : Line) → IsLine k → next p (class k) ≡ None → (ls : List Line) → AllLines ls → 0 < length (lines_text ls) → line_text k ≡ upto 10 (lines_text ls) → run (Some p) ls ≡ Some AtEnd → ⊥
+no_place : (p : Place) (k : Line) → IsLine k → next_place p (class k) ≡ None → (ls : List Line) → AllLines ls → 0 < length (lines_text ls) → line_text k ≡ upto 10 (lines_text ls) → run (Some p) ls ≡ Some AtEnd → ⊥
 no_place p k a n [] h q e r = absurd (omega arith)
 no_place p k a n (l ∷ ls) h q e r =
     let s : k ≡ l = one_line k l a h.0 (e ∙ head_line l ls h.0) in
-    let t : next p (class l) ≡ None = ap (λ x. next p (class x)) (sym s) ∙ n in
+    let t : next_place p (class l) ≡ None = ap (λ x. next_place p (class x)) (sym s) ∙ n in
     let u : None ≡ Some AtEnd = ap (λ o. run o ls) (sym t) ∙ r in
     cc
 
-pub refuse_place : (bytes : List ℕ) (ls : List Line) (p : Place) (rest : List ℕ) → Inv bytes ls p rest → 0 < length rest → (k : Line) → IsLine k → line_text k ≡ upto 10 rest → next p (class k) ≡ None → (j : Job) → IsJob j → text_of_job j ≡ bytes → ⊥
+pub refuse_place : (bytes : List ℕ) (ls : List Line) (p : Place) (rest : List ℕ) → Inv bytes ls p rest → 0 < length rest → (k : Line) → IsLine k → line_text k ≡ upto 10 rest → next_place p (class k) ≡ None → (j : Job) → IsJob j → text_of_job j ≡ bytes → ⊥
 refuse_place bytes ls p rest i n k a e f j ok h =
     let g = goes bytes ls p rest i j ok h in
     no_place p k a f g.left g.oks (subst (λ r. 0 < length r) (sym g.text) n) (subst (λ r. line_text k ≡ upto 10 r) (sym g.text) e) g.runs
@@ -159,7 +159,7 @@ texts_append : (a b : List Line) → lines_text (a ++ b) ≡ lines_text a ++ lin
 texts_append [] b = refl
 texts_append (l ∷ a) b = ap (λ t. line_text l ++ (10 ∷ t)) (texts_append a b) ∙ sym (append_assoc (line_text l) (10 ∷ lines_text a) (lines_text b))
 
-pub one_more_line : (bytes : List ℕ) (ls ns : List Line) (p q : Place) (rest : List ℕ) (k : Line) → Inv bytes ls p rest → (length (upto 10 rest) ≡ length rest → ⊥) → IsLine k → line_text k ≡ upto 10 rest → ns ≡ ls ++ k ∷ [] → next p (class k) ≡ Some q → Inv bytes ns q (past 10 rest)
+pub one_more_line : (bytes : List ℕ) (ls ns : List Line) (p q : Place) (rest : List ℕ) (k : Line) → Inv bytes ls p rest → (length (upto 10 rest) ≡ length rest → ⊥) → IsLine k → line_text k ≡ upto 10 rest → ns ≡ ls ++ k ∷ [] → next_place p (class k) ≡ Some q → Inv bytes ns q (past 10 rest)
 one_more_line bytes ls ns p q rest k i n a e f g =
     let c : rest ≡ line_text k ++ (10 ∷ past 10 rest) = cut 10 rest n ∙ ap (λ t. t ++ (10 ∷ past 10 rest)) (sym e) in
     record {

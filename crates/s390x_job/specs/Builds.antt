@@ -3,7 +3,7 @@ use Rattle.std.specs.Prelude.{◌≡◌, ℕ, ◌+◌, ◌<◌, ◌≤◌, Optio
 use Rattle.s390x_job_lines.specs.Line.{Line, line_text, line_of, IsLine}
 use Rattle.s390x_job.specs.Items.{block_line, loop_line, end_line}
 use Rattle.s390x_job.specs.Jobs.{IsPlainWithoutLine, insts_lines, blocks_lines, flags_lines, frame_lines, head_lines}
-use Rattle.s390x_job.specs.Grammar.{Place, Header, Within, AtEnd, next, class}
+use Rattle.s390x_job.specs.Grammar.{Place, Header, Within, AtEnd, next_place, class}
 use Rattle.s390x_inst.specs.State.{fresh_emission}
 use Rattle.s390x_inst.specs.declared.calls.CallConv.{CallConv}
 use Rattle.s390x_inst.specs.declared.state.FrameLayout.{FrameLayout}
@@ -106,14 +106,14 @@ IsAt Done b = IsFullBody b
 pub record IsNext (ls : List Line) (p : Place) (l : Line) (q : Progress) (b : Body) : Type 0 where
   pub state : IsAt q b
   pub lines : lines_at q b ≡ ls ++ l ∷ []
-  pub place : next p (class l) ≡ Some (place_at q b)
+  pub place : next_place p (class l) ≡ Some (place_at q b)
 
 -- what is told after one more line; none where the line may not stand there
 abbrev pub Follows : Body → List Line → Place → Line → Option Progress → Type 0
-Follows b ls p l None = next p (class l) ≡ None
+Follows b ls p l None = next_place p (class l) ≡ None
 Follows b ls p l (Some q) = IsNext ls p l q b
 
 -- what is told after a line of this text, behind the lines so far; none where no line of this text may stand there
 abbrev pub Reads : Body → List Line → Place → List ℕ → Option Progress → Type 0
-Reads b ls p w None = (l : Line) → IsLine l → line_text l ≡ w → next p (class l) ≡ None
+Reads b ls p w None = (l : Line) → IsLine l → line_text l ≡ w → next_place p (class l) ≡ None
 Reads b ls p w (Some q) = IsLine (line_of w) × (line_text (line_of w) ≡ w) × IsNext ls p (line_of w) q b

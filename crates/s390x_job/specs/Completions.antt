@@ -14,9 +14,9 @@ abbrev pub pieces : List ℕ → List (List ℕ)
 pieces s = pieces_from [] s
 
 -- the text of lines, each with its line feed
-abbrev pub joined : List (List ℕ) → List ℕ
-joined [] = []
-joined (w ∷ ws) = w ++ (10 ∷ joined ws)
+abbrev pub text_of_lines : List (List ℕ) → List ℕ
+text_of_lines [] = []
+text_of_lines (w ∷ ws) = w ++ (10 ∷ text_of_lines ws)
 
 -- how many lines begin with `Loop `
 abbrev pub opens : List (List ℕ) → ℕ
@@ -44,7 +44,7 @@ ending ws = if ends_job false ws then [] else closing (opens ws - closes ws)
 
 -- the text of lines, completed
 abbrev pub completion : List (List ℕ) → List ℕ
-completion ws = joined ws ++ ending ws
+completion ws = text_of_lines ws ++ ending ws
 
 -- the bytes are the text of a job
 abbrev pub IsText : List ℕ → Type 0

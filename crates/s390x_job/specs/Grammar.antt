@@ -5,7 +5,7 @@ use Rattle.s390x_base.specs.Registers.{RealRegister}
 use Rattle.s390x_base.specs.declared.regs.RegClass.{RegClass}
 use Rattle.s390x_base.specs.declared.regs.RegClass.TheVariants.{Int, Float}
 use Rattle.s390x_job_fields.specs.Fields.{Field, FName, FNatural, FBytes, FStart}
-use Rattle.s390x_job_lines.specs.Line.{Line, spelled}
+use Rattle.s390x_job_lines.specs.Line.{Line, fields_text}
 use Rattle.s390x_job_lines.specs.declared.name.LineName.{LineName}
 use Rattle.s390x_job_lines.specs.declared.name.LineName.TheVariants as N
 
@@ -21,11 +21,11 @@ pub data Class : Type 0 where
 
 -- `flags`, where a facility is set
 abbrev pub flags_class : List Field → Class
-flags_class fs = if bytes_eq (spelled fs) [] then Never else Head 0 0 1
+flags_class fs = if bytes_eq (fields_text fs) [] then Never else Head 0 0 1
 
 -- `frame`, where it is not the one that is taken without it
 abbrev pub frame_class : List Field → Class
-frame_class fs = if bytes_eq (spelled fs) (codes " SystemV 0 0 0 0 0 0 - 0") then Never else Head 1 0 1
+frame_class fs = if bytes_eq (fields_text fs) (codes " SystemV 0 0 0 0 0 0 - 0") then Never else Head 1 0 1
 
 -- symbols: numbers rising
 abbrev pub symbol_class : List Field → Class
@@ -85,28 +85,28 @@ abbrev pub may_follow : ℕ → ℕ → ℕ → ℕ → Bool
 may_follow rank bound r first = nat_lt rank r || ((rank == r) && nat_le bound first)
 
 -- the place after one more line
-abbrev pub next : Place → Class → Option Place
-next (Header rank bound) (Head r first past) = if may_follow rank bound r first then Some (Header r past) else None
-next (Header rank bound) OpenBlock = Some (Within 0)
-next (Header rank bound) CloseJob = Some AtEnd
-next (Header rank bound) OpenLoop = None
-next (Header rank bound) CloseLoop = None
-next (Header rank bound) Instruction = None
-next (Header rank bound) Never = None
-next (Within d) (Head r first past) = None
-next (Within d) Never = None
-next (Within d) OpenLoop = if nat_lt d 9 then Some (Within (suc d)) else None
-next (Within d) Instruction = Some (Within d)
-next (Within zero) OpenBlock = Some (Within 0)
-next (Within zero) CloseJob = Some AtEnd
-next (Within zero) CloseLoop = None
-next (Within (suc d)) OpenBlock = None
-next (Within (suc d)) CloseJob = None
-next (Within (suc d)) CloseLoop = Some (Within d)
-next AtEnd c = None
+abbrev pub next_place : Place → Class → Option Place
+next_place (Header rank bound) (Head r first past) = if may_follow rank bound r first then Some (Header r past) else None
+next_place (Header rank bound) OpenBlock = Some (Within 0)
+next_place (Header rank bound) CloseJob = Some AtEnd
+next_place (Header rank bound) OpenLoop = None
+next_place (Header rank bound) CloseLoop = None
+next_place (Header rank bound) Instruction = None
+next_place (Header rank bound) Never = None
+next_place (Within d) (Head r first past) = None
+next_place (Within d) Never = None
+next_place (Within d) OpenLoop = if nat_lt d 9 then Some (Within (suc d)) else None
+next_place (Within d) Instruction = Some (Within d)
+next_place (Within zero) OpenBlock = Some (Within 0)
+next_place (Within zero) CloseJob = Some AtEnd
+next_place (Within zero) CloseLoop = None
+next_place (Within (suc d)) OpenBlock = None
+next_place (Within (suc d)) CloseJob = None
+next_place (Within (suc d)) CloseLoop = Some (Within d)
+next_place AtEnd c = None
 
 -- the place after these lines
 abbrev pub run : Option Place → List Line → Option Place
 run None ls = None
 run (Some p) [] = Some p
-run (Some p) (l ∷ ls) = run (next p (class l)) ls
+run (Some p) (l ∷ ls) = run (next_place p (class l)) ls

@@ -11,7 +11,7 @@ use Rattle.s390x_inst.specs.declared.state.IsaFlags.{IsaFlags}
 use Rattle.s390x_inst.specs.declared.function.Block.{Block}
 use Rattle.s390x_inst.specs.declared.inst.Inst.{Inst, Row_of-Inst, end_of-Inst, more_of-Inst}
 use Rattle.s390x_inst.specs.declared.inst.Inst.TheVariants.{Loop'}
-use Rattle.s390x_job_lines.specs.Line.{Line, line_text, spelled, IsLine}
+use Rattle.s390x_job_lines.specs.Line.{Line, line_text, fields_text, IsLine}
 use Rattle.s390x_job_lines.specs.Instructions.{inst_line}
 use Rattle.s390x_job.specs.Items.{flags_line, frame_line, constant_line, symbol_line, register_line, memory_line, block_line, loop_line, close_line, end_line}
 use Rattle.s390x_job.specs.Grammar.{run, Header, AtEnd}
@@ -43,12 +43,12 @@ blocks_lines (b ∷ bs) = block_line ∷ (insts_lines b.insts.items ++ blocks_li
 
 -- a line `flags` exactly where a facility is set
 abbrev pub flags_lines : IsaFlags → List Line
-flags_lines f = if bytes_eq (spelled (flags_line f).fields) [] then [] else flags_line f ∷ []
+flags_lines f = if bytes_eq (fields_text (flags_line f).fields) [] then [] else flags_line f ∷ []
 
 -- a line `frame` exactly where it says something else than its absence
 abbrev pub frame_lines : CallConv → FrameLayout → List Line
 frame_lines conv layout =
-    if bytes_eq (spelled (frame_line conv layout).fields) (codes " SystemV 0 0 0 0 0 0 - 0") then [] else frame_line conv layout ∷ []
+    if bytes_eq (fields_text (frame_line conv layout).fields) (codes " SystemV 0 0 0 0 0 0 - 0") then [] else frame_line conv layout ∷ []
 
 -- the frame of a job without a line `frame`: no sizes, and no saved registers
 abbrev pub plain_layout : FrameLayout

@@ -312,7 +312,7 @@ fn head(
 }
 
 /// The block ends.
-fn shut(alloc: Global, b: &mut Body) -> Result<(), AllocError>
+fn close_block(alloc: Global, b: &mut Body) -> Result<(), AllocError>
     requires none { b.old.loops.items ≡ [] }
     requires full { IsFullBody b.old }
     ensures more { OnOk result
@@ -404,7 +404,7 @@ fn inside(alloc: Global, b: &mut Body, i: Item) -> Result<Option<Progress>, Allo
     match i {
         Item::Block => {
             if b.loops.is_empty() {
-                shut(alloc, b)?;
+                close_block(alloc, b)?;
                 Ok(Some(Progress::Inside))
             } else {
                 Ok(None)
@@ -412,7 +412,7 @@ fn inside(alloc: Global, b: &mut Body, i: Item) -> Result<Option<Progress>, Allo
         }
         Item::End => {
             if b.loops.is_empty() {
-                shut(alloc, b)?;
+                close_block(alloc, b)?;
                 Ok(Some(Progress::Done))
             } else {
                 Ok(None)

@@ -1,7 +1,7 @@
 //! The lines of a text, and what completes them: shared by the readers of texts that hold jobs.
 ghost use Rattle.std.specs.Prelude.{◌≡◌, ℕ, ◌<◌, ◌≤◌, ◌++◌, List, IfOk, OnOk, Decides, length, map, take, codes};
 ghost use Rattle.std.specs.Str.{bytes_eq};
-ghost use Rattle.s390x_job.specs.Completions.{IsFirstWrongLine, IsStuck, pieces, joined, opens, closes, closing};
+ghost use Rattle.s390x_job.specs.Completions.{IsFirstWrongLine, IsStuck, pieces, text_of_lines, opens, closes, closing};
 
 use crate::split::before;
 use s390x_job_fields::number::tail;
@@ -74,7 +74,8 @@ pub fn count_closes(ws: &[&[u8]]) -> usize
 
 /// Appends lines, each with its line feed.
 pub fn put_joined(out: &mut Vec<u8>, ws: &[&[u8]]) -> Result<(), AllocError>
-    ensures { OnOk result (out.new.items ≡ out.old.items ++ joined (map (λ w. w.now) ws.now)) }
+    ensures { OnOk result
+        (out.new.items ≡ out.old.items ++ text_of_lines (map (λ w. w.now) ws.now)) }
 {
     for w in ws {
         put(out, w)?;
@@ -112,14 +113,14 @@ pub trait Completes {
 
     /// Whether the bytes, which are lines completed, are such a text.
     fn is_whole(alloc: Global, bytes: &[u8]) -> Result<bool, AllocError>
-        requires { (vs : List (List ℕ)) × (length (joined vs) < limit)
+        requires { (vs : List (List ℕ)) × (length (text_of_lines vs) < limit)
             × (bytes.now ≡ completed vs) }
         ensures { IfOk result (λ b. Decides b (IsWhole bytes.now)) };
 }
 
 /// Whether the lines can be completed to a text.
 fn can_be_completed<T: Completes>(alloc: Global, ws: &[&[u8]]) -> Result<bool, AllocError>
-    requires { length (joined (map (λ w. w.now) ws.now)) < T.limit }
+    requires { length (text_of_lines (map (λ w. w.now) ws.now)) < T.limit }
     ensures { IfOk result (λ b. Decides b (T.IsWhole (T.completed (map (λ w. w.now) ws.now)))) }
 {
     let text = T::complete(alloc, ws)?;
@@ -134,7 +135,7 @@ fn first_wrong_of_lines<T: Completes>(
     top: usize,
 ) -> Result<usize, AllocError>
     requires small { top ≤ length ws.now }
-    requires short { length (joined (map (λ w. w.now) ws.now)) < T.limit }
+    requires short { length (text_of_lines (map (λ w. w.now) ws.now)) < T.limit }
     requires above { (m : ℕ) → top < m → m ≤ length ws.now
         → T.IsWhole (T.completed (take m (map (λ w. w.now) ws.now))) → ⊥ }
     ensures { IfOk result

@@ -3,7 +3,7 @@ ghost use Rattle.std.specs.Prelude.{◌≡◌, ◌++◌, ◌∷◌, [], OnOk, If
 ghost use Rattle.std.specs.Str.{bytes_eq};
 ghost use Rattle.s390x_job_fields.specs.Numbers.{W8, W16, W32};
 ghost use Rattle.s390x_job_fields.specs.Fields.{FNatural, FOption};
-ghost use Rattle.s390x_job_lines.specs.Line.{spelled};
+ghost use Rattle.s390x_job_lines.specs.Line.{fields_text};
 ghost use Rattle.s390x_job.specs.Items.{flags_line, frame_line};
 
 use s390x_inst::{CallConv, FrameLayout, IsaFlags};
@@ -16,7 +16,7 @@ fn put_sizes(alloc: Global, out: &mut String, layout: &FrameLayout) -> Result<()
         OnOk result
         (string_bytes out.new
         ≡ string_bytes out.old
-        ++ spelled
+        ++ fields_text
         (FNatural W32 l.incoming_args_size ∷ FNatural W32 l.tail_args_size
         ∷ FNatural W32 l.clobber_size ∷ FNatural W32 l.fixed_frame_storage_size
         ∷ FNatural W32 l.stackslots_size ∷ FNatural W32 l.outgoing_args_size ∷ [])) }
@@ -35,7 +35,7 @@ fn put_saved(alloc: Global, out: &mut String, layout: &FrameLayout) -> Result<()
         OnOk result
         (string_bytes out.new
         ≡ string_bytes out.old
-        ++ spelled (FOption W8 l.first_saved_gpr ∷ FNatural W16 l.saved_fprs ∷ [])) }
+        ++ fields_text (FOption W8 l.first_saved_gpr ∷ FNatural W16 l.saved_fprs ∷ [])) }
 {
     layout.first_saved_gpr.put(alloc, out)?;
     layout.saved_fprs.put(alloc, out)
@@ -50,7 +50,7 @@ pub fn put_frame(
 ) -> Result<(), AllocError>
     ensures { OnOk result
         (string_bytes out.new
-        ≡ string_bytes out.old ++ spelled (frame_line conv layout.now).fields) }
+        ≡ string_bytes out.old ++ fields_text (frame_line conv layout.now).fields) }
 {
     conv.put(alloc, out)?;
     put_sizes(alloc, out, layout)?;
@@ -59,7 +59,7 @@ pub fn put_frame(
 
 /// Whether no facility is set.
 pub fn is_plain_flags(alloc: Global, flags: IsaFlags) -> Result<bool, AllocError>
-    ensures { IfOk result (λ b. b ≡ bytes_eq (spelled (flags_line flags).fields) []) }
+    ensures { IfOk result (λ b. b ≡ bytes_eq (fields_text (flags_line flags).fields) []) }
 {
     let mut text = String::new(alloc);
     flags.put(alloc, &mut text)?;
@@ -74,7 +74,7 @@ pub fn is_plain_frame(
 ) -> Result<bool, AllocError>
     ensures { IfOk result
         (λ b. b
-        ≡ bytes_eq (spelled (frame_line conv layout.now).fields)
+        ≡ bytes_eq (fields_text (frame_line conv layout.now).fields)
         (codes " SystemV 0 0 0 0 0 0 - 0")) }
 {
     let mut text = String::new(alloc);

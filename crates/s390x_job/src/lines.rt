@@ -34,7 +34,7 @@ fn is_end(w: &[u8]) -> bool
     w == b"end".as_slice()
 }
 
-fn ended(ws: &[&[u8]]) -> bool
+fn last_is_end(ws: &[&[u8]]) -> bool
     ensures { result ≡ ends_job false (map (λ w. w.now) ws.now) }
 {
     let mut b = false;
@@ -57,7 +57,7 @@ impl Completes for JobText {
     fn complete(alloc: Global, ws: &[&[u8]]) -> Result<Vec<u8>, AllocError> {
         let mut out = Vec::new(alloc);
         put_joined(&mut out, ws)?;
-        if ended(ws) {
+        if last_is_end(ws) {
             return Ok(out);
         }
         let n = count_opens(ws).saturating_sub(count_closes(ws));

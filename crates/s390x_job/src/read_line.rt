@@ -10,7 +10,7 @@ use s390x_inst::{FrameLayout, Inst};
 use s390x_job_fields::bytes::hex_number;
 use s390x_job_fields::number::natural;
 use s390x_job_fields::{Cursor, GeneralStart, VectorStart};
-use s390x_job_lines::{LineName, control, integer, load, memory, store, vector, whole};
+use s390x_job_lines::{LineName, control, integer, load, memory, store, vector, whole_register};
 use std::alloc::{AllocError, Global};
 
 fn frame(c: &mut Cursor) -> Frame
@@ -82,7 +82,7 @@ pub fn item(alloc: Global, n: LineName, c: &mut Cursor) -> Result<Item, AllocErr
         LineName::Memory(name) => Ok(Item::One(memory(name, c))),
         LineName::Control(name) => Ok(Item::One(control(alloc, name, c)?)),
         LineName::Vector(name) => Ok(Item::One(Inst::Vector(vector(name, c)))),
-        LineName::Whole(direction, layout) => Ok(Item::One(Inst::Vector(whole(
+        LineName::Whole(direction, layout) => Ok(Item::One(Inst::Vector(whole_register(
             direction, layout, c,
         )))),
     }

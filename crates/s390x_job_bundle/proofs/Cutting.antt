@@ -5,7 +5,7 @@ use Rattle.std.specs.Str.{bytes_eq}
 use Rattle.std.proofs.Math.Seq.{drop-append_seam, drop-length, take-append_seam, take-length}
 use Rattle.s390x_job_fields.specs.Marks.{upto, past}
 use Rattle.s390x_job_lines.proofs.Frees.{Free}
-use Rattle.s390x_job.specs.Completions.{joined, pieces}
+use Rattle.s390x_job.specs.Completions.{text_of_lines, pieces}
 use Rattle.s390x_job.proofs.Above.{pieces_none}
 use Rattle.s390x_job_bundle.specs.Cut.{HasNoEnd, IsCutAt}
 use Rattle.s390x_job_bundle.proofs.Lines.{AllFree, first_line, free_append, joined_append, pieces_free, pieces_joined, pieces_whole, text_cut}
@@ -24,17 +24,17 @@ pub record Scanned (bytes rest : List ℕ) : Type 0 where
   pub lines : List (List ℕ)
   pub free : HasNoEnd lines
   pub clean : AllFree lines
-  pub text : bytes ≡ joined lines ++ rest
+  pub text : bytes ≡ text_of_lines lines ++ rest
 
 pub scan_start : (bytes : List ℕ) → Scanned bytes bytes
 scan_start bytes = record { lines = []; free = tt; clean = tt; text = refl }
 
 -- the text up to and with a first line of the rest
-line_on : (bytes rest : List ℕ) (s : Scanned bytes rest) → (length (upto 10 rest) ≡ length rest → ⊥) → bytes ≡ joined (s.lines ++ upto 10 rest ∷ []) ++ past 10 rest
+line_on : (bytes rest : List ℕ) (s : Scanned bytes rest) → (length (upto 10 rest) ≡ length rest → ⊥) → bytes ≡ text_of_lines (s.lines ++ upto 10 rest ∷ []) ++ past 10 rest
 line_on bytes rest s n =
     s.text
-    ∙ ap (λ t. joined s.lines ++ t) (text_cut rest n ∙ sym (append_assoc (upto 10 rest) (10 ∷ []) (past 10 rest)))
-    ∙ sym (append_assoc (joined s.lines) (upto 10 rest ++ 10 ∷ []) (past 10 rest))
+    ∙ ap (λ t. text_of_lines s.lines ++ t) (text_cut rest n ∙ sym (append_assoc (upto 10 rest) (10 ∷ []) (past 10 rest)))
+    ∙ sym (append_assoc (text_of_lines s.lines) (upto 10 rest ++ 10 ∷ []) (past 10 rest))
     ∙ ap (λ t. t ++ past 10 rest) (sym (joined_append s.lines (upto 10 rest ∷ [])))
 
 first_free : (rest : List ℕ) → (length (upto 10 rest) ≡ length rest → ⊥) → Free 10 (upto 10 rest)
@@ -54,11 +54,11 @@ pub scan_end : (bytes rest : List ℕ) (size : ℕ) → Scanned bytes rest → (
 scan_end bytes rest size s n e c =
     let ws = s.lines ++ codes "end" ∷ [] in
     let behind = past 10 rest in
-    let text : bytes ≡ joined ws ++ behind = line_on bytes rest s n ∙ ap (λ w. joined (s.lines ++ w ∷ []) ++ behind) e in
+    let text : bytes ≡ text_of_lines ws ++ behind = line_on bytes rest s n ∙ ap (λ w. text_of_lines (s.lines ++ w ∷ []) ++ behind) e in
     let clean : AllFree ws = free_append s.lines (codes "end" ∷ []) s.clean (subst (Free 10) e (first_free rest n), tt) in
-    let sized : size ≡ length (joined ws) = omega (arith, c, ap length text, length-append (joined ws) behind) in
-    let part : take size bytes ≡ joined ws = ap (λ k. take k bytes) sized ∙ ap (take (length (joined ws))) text ∙ take-append_seam (joined ws) behind in
-    let left : drop size bytes ≡ behind = ap (λ k. drop k bytes) sized ∙ ap (drop (length (joined ws))) text ∙ drop-append_seam (joined ws) behind in
+    let sized : size ≡ length (text_of_lines ws) = omega (arith, c, ap length text, length-append (text_of_lines ws) behind) in
+    let part : take size bytes ≡ text_of_lines ws = ap (λ k. take k bytes) sized ∙ ap (take (length (text_of_lines ws))) text ∙ take-append_seam (text_of_lines ws) behind in
+    let left : drop size bytes ≡ behind = ap (λ k. drop k bytes) sized ∙ ap (drop (length (text_of_lines ws))) text ∙ drop-append_seam (text_of_lines ws) behind in
     inl (record {
       lines = s.lines;
       free = s.free;

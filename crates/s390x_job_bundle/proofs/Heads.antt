@@ -12,7 +12,7 @@ use Rattle.s390x_job_fields.proofs.AtomsRoundTrip.{name-one_word, name-round_tri
 use Rattle.s390x_job_fields.proofs.Members.{or-false}
 use Rattle.s390x_job_lines.proofs.Frees.{Free}
 use Rattle.s390x_job.specs.Jobs.{text_of_job}
-use Rattle.s390x_job.specs.Completions.{joined}
+use Rattle.s390x_job.specs.Completions.{text_of_lines}
 use Rattle.s390x_job.specs.declared.job.Job.{Job}
 use Rattle.s390x_job.proofs.Whole.{one_job}
 use Rattle.s390x_job_bundle.specs.Cut.{HasNoEnd}
@@ -31,7 +31,7 @@ abbrev pub bundle_words : List NamedJob → List (List ℕ)
 bundle_words [] = close_line ∷ []
 bundle_words (f ∷ fs) = head_line f.name ∷ (words_of f.job ++ bundle_words fs)
 
-pub bundle_joined : (fs : List NamedJob) → joined (bundle_words fs) ≡ text_of_functions fs
+pub bundle_joined : (fs : List NamedJob) → text_of_lines (bundle_words fs) ≡ text_of_functions fs
 bundle_joined [] = refl
 bundle_joined (f ∷ fs) =
     ap (λ t. head_line f.name ++ (10 ∷ t)) (joined_append (words_of f.job) (bundle_words fs) ∙ ap₂ (λ a b. a ++ b) (job_joined f.job) (bundle_joined fs))
@@ -137,7 +137,7 @@ strip (q ∷ qs) (p ∷ ps) ws a b e =
 -- ---- functions are told by their lines
 
 texts_of_words : (j k : Job) → words_of j ≡ words_of k → text_of_job j ≡ text_of_job k
-texts_of_words j k e = sym (job_joined j) ∙ ap joined e ∙ job_joined k
+texts_of_words j k e = sym (job_joined j) ∙ ap text_of_lines e ∙ job_joined k
 
 pub same_functions : (fs gs : List NamedJob) → AreFunctions fs → AreFunctions gs → bundle_words fs ≡ bundle_words gs → SameFunctions fs gs
 same_functions [] [] a b e = tt

@@ -5,9 +5,9 @@ use Rattle.std.specs.Str.{bytes_eq}
 use Rattle.std.proofs.lemmas.Slice.Eq.{bytes_eq-Decides}
 use Rattle.s390x_job_lines.specs.Line.{Line, line_text}
 use Rattle.s390x_job_lines.proofs.Frees.{line-free}
-use Rattle.s390x_job.specs.Grammar.{Place, Header, AtEnd, class, next, run}
+use Rattle.s390x_job.specs.Grammar.{Place, Header, AtEnd, class, next_place, run}
 use Rattle.s390x_job.specs.Jobs.{AllLines, IsJob, job_lines, lines_text, text_of_job}
-use Rattle.s390x_job.specs.Completions.{closes, joined, opens}
+use Rattle.s390x_job.specs.Completions.{closes, text_of_lines, opens}
 use Rattle.s390x_job.specs.declared.job.Job.{Job}
 use Rattle.s390x_job.proofs.Whole.{either}
 use Rattle.s390x_job_bundle.specs.Cut.{HasNoEnd}
@@ -18,11 +18,11 @@ use Rattle.s390x_job_bundle.proofs.Sorts.{Sort, Opening, Closing, Ending, Plain,
 abbrev pub words_of : Job → List (List ℕ)
 words_of j = map line_text (job_lines j)
 
-lines_joined : (ls : List Line) → joined (map line_text ls) ≡ lines_text ls
+lines_joined : (ls : List Line) → text_of_lines (map line_text ls) ≡ lines_text ls
 lines_joined [] = refl
 lines_joined (l ∷ ls) = ap (λ t. line_text l ++ (10 ∷ t)) (lines_joined ls)
 
-pub job_joined : (j : Job) → joined (words_of j) ≡ text_of_job j
+pub job_joined : (j : Job) → text_of_lines (words_of j) ≡ text_of_job j
 job_joined j = lines_joined (job_lines j)
 
 lines_free : (ls : List Line) → AllLines ls → AllFree (map line_text ls)
@@ -54,7 +54,7 @@ balance p [] h r =
     let e : p ≡ AtEnd = cc in
     rw e refl
 balance p (l ∷ ls) h r =
-    let g = going (next p (class l)) ls r in
+    let g = going (next_place p (class l)) ls r in
     let s = sort_of (class l) in
     let n = next_level p (class l) g.0 g.1 in
     let rest = balance g.0 ls h.1 (ap (λ o. run o ls) (sym g.1) ∙ r) in
@@ -79,7 +79,7 @@ none_behind (l ∷ ls) h = absurd cc
 ended : (p : Place) (ls : List Line) → (p ≡ AtEnd → ⊥) → AllLines ls → run (Some p) ls ≡ Some AtEnd → Ended (map line_text ls)
 ended p [] early h r = absurd (early cc)
 ended p (l ∷ ls) early h r =
-    let g = going (next p (class l)) ls r in
+    let g = going (next_place p (class l)) ls r in
     let goes : run (Some g.0) ls ≡ Some AtEnd = ap (λ o. run o ls) (sym g.1) ∙ r in
     elim (either (bytes_eq (line_text l) (codes "end"))) [
       | inl e ↦

@@ -2,7 +2,7 @@
 use Rattle.std.proofs.Common.{◌≡◌, ℕ, zero, suc, ◌+◌, false, List, [], ◌∷◌, ◌++◌, length, take, refl, sym, ap, ◌∙◌, inl, inr, append_assoc, append-nil}
 use Rattle.std.specs.Prelude.{◌==◌}
 use Rattle.s390x_job_fields.specs.Marks.{upto, past}
-use Rattle.s390x_job.specs.Completions.{pieces_from, pieces, joined}
+use Rattle.s390x_job.specs.Completions.{pieces_from, pieces, text_of_lines}
 use Rattle.s390x_job_lines.proofs.Frees.{Free}
 use Rattle.s390x_job.proofs.Above.{pieces_line, pieces_cut}
 use Rattle.s390x_job.proofs.Whole.{either, cut}
@@ -21,18 +21,18 @@ free_take zero a h = tt
 free_take (suc n) [] h = tt
 free_take (suc n) (w ∷ a) h = (h.0, free_take n a h.1)
 
-pub joined_append : (a b : List (List ℕ)) → joined (a ++ b) ≡ joined a ++ joined b
+pub joined_append : (a b : List (List ℕ)) → text_of_lines (a ++ b) ≡ text_of_lines a ++ text_of_lines b
 joined_append [] b = refl
-joined_append (w ∷ a) b = ap (λ t. w ++ (10 ∷ t)) (joined_append a b) ∙ sym (append_assoc w (10 ∷ joined a) (joined b))
+joined_append (w ∷ a) b = ap (λ t. w ++ (10 ∷ t)) (joined_append a b) ∙ sym (append_assoc w (10 ∷ text_of_lines a) (text_of_lines b))
 
 -- the lines of lines, and of what follows them
-pub pieces_joined : (ws : List (List ℕ)) (r : List ℕ) → AllFree ws → pieces (joined ws ++ r) ≡ ws ++ pieces r
+pub pieces_joined : (ws : List (List ℕ)) (r : List ℕ) → AllFree ws → pieces (text_of_lines ws ++ r) ≡ ws ++ pieces r
 pieces_joined [] r h = refl
 pieces_joined (w ∷ ws) r h =
-    ap (pieces_from []) (append_assoc w (10 ∷ joined ws) r) ∙ pieces_line w [] (joined ws ++ r) h.0 ∙ ap (λ t. w ∷ t) (pieces_joined ws r h.1)
+    ap (pieces_from []) (append_assoc w (10 ∷ text_of_lines ws) r) ∙ pieces_line w [] (text_of_lines ws ++ r) h.0 ∙ ap (λ t. w ∷ t) (pieces_joined ws r h.1)
 
-pub pieces_whole : (ws : List (List ℕ)) → AllFree ws → pieces (joined ws) ≡ ws
-pieces_whole ws h = ap pieces (sym (append-nil (joined ws))) ∙ pieces_joined ws [] h ∙ append-nil ws
+pub pieces_whole : (ws : List (List ℕ)) → AllFree ws → pieces (text_of_lines ws) ≡ ws
+pieces_whole ws h = ap pieces (sym (append-nil (text_of_lines ws))) ∙ pieces_joined ws [] h ∙ append-nil ws
 
 free_snoc : (acc : List ℕ) (x : ℕ) → Free 10 acc → (x == 10) ≡ false → Free 10 (acc ++ x ∷ [])
 free_snoc [] x h e = (e, tt)
@@ -46,7 +46,7 @@ pub pieces_free : (s : List ℕ) → AllFree (pieces s)
 pieces_free s = free_from [] s tt
 
 -- two texts of lines that are one have the same lines
-pub same_lines : (a b : List (List ℕ)) → AllFree a → AllFree b → joined a ≡ joined b → a ≡ b
+pub same_lines : (a b : List (List ℕ)) → AllFree a → AllFree b → text_of_lines a ≡ text_of_lines b → a ≡ b
 same_lines a b h k e = sym (pieces_whole a h) ∙ ap pieces e ∙ pieces_whole b k
 
 -- a rest whose first line ends with a line feed

@@ -2,7 +2,7 @@
 use Rattle.std.proofs.Common.{◌≡◌, ℕ, ◌+◌, ◌<◌, List, [], ◌∷◌, ◌++◌, drop, length, take, refl, sym, ap, ap₂, ◌∙◌, subst, arith, append_assoc, append-nil}
 use Rattle.std.proofs.lemmas.List.{take-append-drop}
 use Rattle.s390x_job.specs.Jobs.{IsJob, text_of_job}
-use Rattle.s390x_job.specs.Completions.{joined, pieces}
+use Rattle.s390x_job.specs.Completions.{text_of_lines, pieces}
 use Rattle.s390x_job_bundle.specs.Errors.{IsStuckAt}
 use Rattle.s390x_job_bundle.specs.Text.{AreFunctions, AreFunctionsOf, close_line, head_line, text_of_functions}
 use Rattle.s390x_job_bundle.specs.declared.named_job.NamedJob.{NamedJob}
@@ -20,15 +20,15 @@ nil (x ∷ s) h = absurd (omega (arith, h))
 pub at_more : (bytes : List ℕ) (fs gs : List NamedJob) (rest behind : List ℕ) (f : NamedJob) (size : ℕ) → At bytes fs rest → f.name.0 < 4294967296 → IsJob f.job
     → rest ≡ head_line f.name ++ 10 ∷ behind → text_of_job f.job ≡ take size behind → gs ≡ fs ++ f ∷ [] → At bytes gs (drop size behind)
 at_more bytes fs gs rest behind f size a name job text part e =
-    let words : joined (function_words gs) ≡ joined (function_words fs) ++ (head_line f.name ++ 10 ∷ take size behind) =
-    ap (λ t. joined (function_words t)) e
-    ∙ ap joined (words_append fs (f ∷ []))
+    let words : text_of_lines (function_words gs) ≡ text_of_lines (function_words fs) ++ (head_line f.name ++ 10 ∷ take size behind) =
+    ap (λ t. text_of_lines (function_words t)) e
+    ∙ ap text_of_lines (words_append fs (f ∷ []))
     ∙ joined_append (function_words fs) (head_line f.name ∷ (words_of f.job ++ []))
-    ∙ ap (λ t. joined (function_words fs) ++ (head_line f.name ++ 10 ∷ t)) (ap joined (append-nil (words_of f.job)) ∙ job_joined f.job ∙ part) in
+    ∙ ap (λ t. text_of_lines (function_words fs) ++ (head_line f.name ++ 10 ∷ t)) (ap text_of_lines (append-nil (words_of f.job)) ∙ job_joined f.job ∙ part) in
     record {
       text = a.text
-          ∙ ap (λ t. joined (function_words fs) ++ t) (text ∙ ap (λ t. head_line f.name ++ 10 ∷ t) (sym (take-append-drop size behind)) ∙ sym (append_assoc (head_line f.name) (10 ∷ take size behind) (drop size behind)))
-          ∙ sym (append_assoc (joined (function_words fs)) (head_line f.name ++ 10 ∷ take size behind) (drop size behind))
+          ∙ ap (λ t. text_of_lines (function_words fs) ++ t) (text ∙ ap (λ t. head_line f.name ++ 10 ∷ t) (sym (take-append-drop size behind)) ∙ sym (append_assoc (head_line f.name) (10 ∷ take size behind) (drop size behind)))
+          ∙ sym (append_assoc (text_of_lines (function_words fs)) (head_line f.name ++ 10 ∷ take size behind) (drop size behind))
           ∙ ap (λ t. t ++ drop size behind) (sym words);
       are = ap_are gs e (functions_append fs (f ∷ []) a.are (name, job, tt));
     }
@@ -41,10 +41,10 @@ pub at_close : (bytes : List ℕ) (fs : List NamedJob) (rest w behind : List ℕ
 at_close bytes fs rest w behind a e text none =
     let spelled : text_of_functions fs ≡ bytes =
     sym (bundle_joined fs)
-    ∙ ap joined (bundle_whole fs)
+    ∙ ap text_of_lines (bundle_whole fs)
     ∙ joined_append (function_words fs) (close_line ∷ [])
-    ∙ ap₂ (λ v r. joined (function_words fs) ++ (v ++ 10 ∷ r)) (sym e) (sym (nil behind none))
-    ∙ ap (λ t. joined (function_words fs) ++ t) (sym text)
+    ∙ ap₂ (λ v r. text_of_lines (function_words fs) ++ (v ++ 10 ∷ r)) (sym e) (sym (nil behind none))
+    ∙ ap (λ t. text_of_lines (function_words fs) ++ t) (sym text)
     ∙ sym a.text in
     record { are = a.are; spelled = spelled; one = λ gs h s. one_text fs gs a.are h (spelled ∙ sym s) }
 

@@ -4,7 +4,7 @@ use Rattle.std.specs.Prelude.{codes, nat_lt, if◌then◌else◌, ◌==◌, ◌|
 use Rattle.std.specs.Str.{bytes_eq}
 use Rattle.s390x_job_fields.specs.Fields.{Field, FName, FNatural, FBytes, FStart, FFlags}
 use Rattle.s390x_job_lines.specs.Kinds.{kinds}
-use Rattle.s390x_job_lines.specs.Line.{Line, IsLine, kinds_of, line_text, spelled}
+use Rattle.s390x_job_lines.specs.Line.{Line, IsLine, kinds_of, line_text, fields_text}
 use Rattle.s390x_job_lines.specs.Names.{control_text, integer_text, load_name_text, memory_name_text, name_text, store_name_text, vector_name_text, whole_name_text}
 use Rattle.s390x_inst.specs.declared.load.LoadOp.{LoadOp}
 use Rattle.s390x_inst.specs.declared.load.LoadOp.TheVariants as LoadOps
@@ -24,7 +24,7 @@ use Rattle.s390x_job_lines.specs.declared.inst_name.VectorName.{VectorName}
 use Rattle.s390x_job_lines.specs.declared.inst_name.VectorName.TheVariants as VectorIs
 use Rattle.s390x_job_lines.specs.declared.name.LineName.{LineName}
 use Rattle.s390x_job_lines.specs.declared.name.LineName.TheVariants as N
-use Rattle.s390x_job.specs.Grammar.{Class, Head, OpenBlock, OpenLoop, CloseLoop, CloseJob, Instruction, Never, Place, Header, Within, AtEnd, class, line_class, may_follow, memory_class, next, region_class, register_class, register_place, symbol_class}
+use Rattle.s390x_job.specs.Grammar.{Class, Head, OpenBlock, OpenLoop, CloseLoop, CloseJob, Instruction, Never, Place, Header, Within, AtEnd, class, line_class, may_follow, memory_class, next_place, region_class, register_class, register_place, symbol_class}
 
 pub data Sort : Type 0 where
   Opening : Sort
@@ -64,7 +64,7 @@ no_fields : (fs : List Field) → [] ≡ kinds_of fs → fs ≡ []
 no_fields [] h = refl
 no_fields (f ∷ fs) h = absurd cc
 
-loop_text : (fs : List Field) → kinds N.Loop ≡ kinds_of fs → bytes_eq (take 5 (name_text N.Loop ++ spelled fs)) (codes "Loop ") ≡ true
+loop_text : (fs : List Field) → kinds N.Loop ≡ kinds_of fs → bytes_eq (take 5 (name_text N.Loop ++ fields_text fs)) (codes "Loop ") ≡ true
 loop_text [] h = absurd cc
 loop_text (FFlags f ∷ fs) h = absurd cc
 loop_text (f ∷ fs) h = refl
@@ -72,7 +72,7 @@ loop_text (f ∷ fs) h = refl
 -- no line that begins with this word opens a loop, closes one or ends the job
 abbrev Other : List ℕ → Type 0
 Other w = (fs : List Field) →
-    (bytes_eq (take 5 (w ++ spelled fs)) (codes "Loop ") ≡ false) × (bytes_eq (w ++ spelled fs) (codes "endloop") ≡ false) × (bytes_eq (w ++ spelled fs) (codes "end") ≡ false)
+    (bytes_eq (take 5 (w ++ fields_text fs)) (codes "Loop ") ≡ false) × (bytes_eq (w ++ fields_text fs) (codes "endloop") ≡ false) × (bytes_eq (w ++ fields_text fs) (codes "end") ≡ false)
 
 integer_other : (n : IntegerName) → Other (integer_text n)
 integer_other IntegerIs.AluRRR = λ fs. (refl, refl, refl)
@@ -104,7 +104,7 @@ whole_other Directions.Load layout = λ fs. (refl, refl, refl)
 whole_other Directions.Store Layouts.Straight = λ fs. (refl, refl, refl)
 whole_other Directions.Store layout = λ fs. (refl, refl, refl)
 
-opens_named : (n : LineName) (fs : List Field) → kinds n ≡ kinds_of fs → bytes_eq (take 5 (name_text n ++ spelled fs)) (codes "Loop ") ≡ is_opening (named n)
+opens_named : (n : LineName) (fs : List Field) → kinds n ≡ kinds_of fs → bytes_eq (take 5 (name_text n ++ fields_text fs)) (codes "Loop ") ≡ is_opening (named n)
 opens_named N.Loop fs h = loop_text fs h
 opens_named (N.Integer n) fs h = (integer_other n fs).0
 opens_named (N.Load op) fs h = (load_other op fs).0
@@ -115,9 +115,9 @@ opens_named (N.Vector n) fs h = (vector_other n fs).0
 opens_named (N.Whole direction layout) fs h = (whole_other direction layout fs).0
 opens_named n fs h = refl
 
-closes_named : (n : LineName) (fs : List Field) → kinds n ≡ kinds_of fs → bytes_eq (name_text n ++ spelled fs) (codes "endloop") ≡ is_closing (named n)
-closes_named N.EndLoopLine fs h = ap (λ gs. bytes_eq (name_text N.EndLoopLine ++ spelled gs) (codes "endloop")) (no_fields fs h)
-closes_named N.EndLine fs h = ap (λ gs. bytes_eq (name_text N.EndLine ++ spelled gs) (codes "endloop")) (no_fields fs h)
+closes_named : (n : LineName) (fs : List Field) → kinds n ≡ kinds_of fs → bytes_eq (name_text n ++ fields_text fs) (codes "endloop") ≡ is_closing (named n)
+closes_named N.EndLoopLine fs h = ap (λ gs. bytes_eq (name_text N.EndLoopLine ++ fields_text gs) (codes "endloop")) (no_fields fs h)
+closes_named N.EndLine fs h = ap (λ gs. bytes_eq (name_text N.EndLine ++ fields_text gs) (codes "endloop")) (no_fields fs h)
 closes_named (N.Integer n) fs h = (integer_other n fs).1
 closes_named (N.Load op) fs h = (load_other op fs).1
 closes_named (N.Store op) fs h = (store_other op fs).1
@@ -127,8 +127,8 @@ closes_named (N.Vector n) fs h = (vector_other n fs).1
 closes_named (N.Whole direction layout) fs h = (whole_other direction layout fs).1
 closes_named n fs h = refl
 
-ends_named : (n : LineName) (fs : List Field) → kinds n ≡ kinds_of fs → bytes_eq (name_text n ++ spelled fs) (codes "end") ≡ is_ending (named n)
-ends_named N.EndLine fs h = ap (λ gs. bytes_eq (name_text N.EndLine ++ spelled gs) (codes "end")) (no_fields fs h)
+ends_named : (n : LineName) (fs : List Field) → kinds n ≡ kinds_of fs → bytes_eq (name_text n ++ fields_text fs) (codes "end") ≡ is_ending (named n)
+ends_named N.EndLine fs h = ap (λ gs. bytes_eq (name_text N.EndLine ++ fields_text gs) (codes "end")) (no_fields fs h)
 ends_named (N.Integer n) fs h = (integer_other n fs).2
 ends_named (N.Load op) fs h = (load_other op fs).2
 ends_named (N.Store op) fs h = (store_other op fs).2
@@ -169,8 +169,8 @@ sort_memory (FNatural w a ∷ f ∷ fs) = refl
 sort_memory (f ∷ g ∷ fs) = refl
 
 class_named : (n : LineName) (fs : List Field) → sort_of (line_class n fs) ≡ named n
-class_named N.FlagsLine fs = sort_if (bytes_eq (spelled fs) []) Never (Head 0 0 1) refl refl
-class_named N.FrameLine fs = sort_if (bytes_eq (spelled fs) (codes " SystemV 0 0 0 0 0 0 - 0")) Never (Head 1 0 1) refl refl
+class_named N.FlagsLine fs = sort_if (bytes_eq (fields_text fs) []) Never (Head 0 0 1) refl refl
+class_named N.FrameLine fs = sort_if (bytes_eq (fields_text fs) (codes " SystemV 0 0 0 0 0 0 - 0")) Never (Head 1 0 1) refl refl
 class_named N.SymbolLine fs = sort_symbol fs
 class_named N.RegisterLine fs = sort_register fs
 class_named N.MemoryLine fs = sort_memory fs
@@ -210,7 +210,7 @@ chosen false p q e = absurd cc
 only : (p q : Place) → Some p ≡ Some q → p ≡ q
 only p q e = cc
 
-pub next_level : (p : Place) (c : Class) (q : Place) → next p c ≡ Some q → level p + rise (sort_of c) ≡ level q + fall (sort_of c)
+pub next_level : (p : Place) (c : Class) (q : Place) → next_place p c ≡ Some q → level p + rise (sort_of c) ≡ level q + fall (sort_of c)
 next_level (Header rank bound) (Head r first past) q e = omega (arith, ap level (chosen (may_follow rank bound r first) (Header r past) q e))
 next_level (Header rank bound) OpenBlock q e = omega (arith, ap level (only (Within 0) q e))
 next_level (Header rank bound) CloseJob q e = omega (arith, ap level (only AtEnd q e))
@@ -231,7 +231,7 @@ next_level (Within (suc d)) CloseLoop q e = omega (arith, ap level (only (Within
 next_level AtEnd c q e = absurd cc
 
 -- only the last line leads to the end
-pub end_by : (p : Place) (c : Class) → next p c ≡ Some AtEnd → is_ending (sort_of c) ≡ true
+pub end_by : (p : Place) (c : Class) → next_place p c ≡ Some AtEnd → is_ending (sort_of c) ≡ true
 end_by (Header rank bound) (Head r first past) e = let f = chosen (may_follow rank bound r first) (Header r past) AtEnd e in absurd cc
 end_by (Header rank bound) OpenBlock e = absurd cc
 end_by (Header rank bound) CloseJob e = refl
@@ -252,7 +252,7 @@ end_by (Within (suc d)) CloseLoop e = absurd cc
 end_by AtEnd c e = absurd cc
 
 -- and it leads nowhere else
-pub end_to : (p : Place) (c : Class) (q : Place) → is_ending (sort_of c) ≡ true → next p c ≡ Some q → q ≡ AtEnd
+pub end_to : (p : Place) (c : Class) (q : Place) → is_ending (sort_of c) ≡ true → next_place p c ≡ Some q → q ≡ AtEnd
 end_to (Header rank bound) CloseJob q h e = cc
 end_to (Within zero) CloseJob q h e = cc
 end_to (Within (suc d)) CloseJob q h e = absurd cc

@@ -7,7 +7,7 @@ use Rattle.std.proofs.lemmas.List.{length-take-le, take-append-le}
 use Rattle.s390x_base.specs.declared.ir.ExternalName.{ExternalName}
 use Rattle.s390x_job_fields.proofs.Avoids.{Avoids-test}
 use Rattle.s390x_job.specs.Jobs.{IsJob}
-use Rattle.s390x_job.specs.Completions.{IsFirstWrong, IsText, closes, closing, completion, ending, ends_job, joined, opens, pieces}
+use Rattle.s390x_job.specs.Completions.{IsFirstWrong, IsText, closes, closing, completion, ending, ends_job, text_of_lines, opens, pieces}
 use Rattle.s390x_job.specs.declared.job.Job.{Job}
 use Rattle.s390x_job_bundle.specs.Completions.{IsBundleText, bundle_completion, ends, heads, is_closed}
 use Rattle.s390x_job_bundle.specs.Cut.{HasNoEnd, IsCutAt}
@@ -41,7 +41,7 @@ closers_split : (n : ℕ) → closers n ≡ loop_ends n ++ codes "end" ∷ []
 closers_split zero = refl
 closers_split (suc n) = ap (λ t. codes "endloop" ∷ t) (closers_split n)
 
-closers_joined : (n : ℕ) → joined (closers n) ≡ closing n
+closers_joined : (n : ℕ) → text_of_lines (closers n) ≡ closing n
 closers_joined zero = refl
 closers_joined (suc n) = ap (λ t. codes "endloop" ++ (10 ∷ t)) (closers_joined n)
 
@@ -62,11 +62,11 @@ close_tail d = if d then [] else close_line ∷ []
 abbrev tail_words : List (List ℕ) → List (List ℕ)
 tail_words ws = job_tail (nat_lt (ends ws) (heads ws)) (opens ws - closes ws) ++ close_tail (is_closed ws)
 
-job_tail_joined : (b : Bool) (n : ℕ) → joined (job_tail b n) ≡ (if b then closing n else [])
+job_tail_joined : (b : Bool) (n : ℕ) → text_of_lines (job_tail b n) ≡ (if b then closing n else [])
 job_tail_joined true n = closers_joined n
 job_tail_joined false n = refl
 
-close_tail_joined : (d : Bool) → joined (close_tail d) ≡ (if d then [] else close_line ++ 10 ∷ [])
+close_tail_joined : (d : Bool) → text_of_lines (close_tail d) ≡ (if d then [] else close_line ++ 10 ∷ [])
 close_tail_joined true = refl
 close_tail_joined false = refl
 
@@ -78,11 +78,11 @@ close_tail_free : (d : Bool) → AllFree (close_tail d)
 close_tail_free true = tt
 close_tail_free false = (close_free, tt)
 
-completion_words : (ws : List (List ℕ)) → bundle_completion ws ≡ joined (ws ++ tail_words ws)
+completion_words : (ws : List (List ℕ)) → bundle_completion ws ≡ text_of_lines (ws ++ tail_words ws)
 completion_words ws =
     let j = job_tail (nat_lt (ends ws) (heads ws)) (opens ws - closes ws) in
     let c = close_tail (is_closed ws) in
-    sym (joined_append ws (j ++ c) ∙ ap (λ t. joined ws ++ t) (joined_append j c ∙ ap₂ (λ a b. a ++ b) (job_tail_joined (nat_lt (ends ws) (heads ws)) (opens ws - closes ws)) (close_tail_joined (is_closed ws))))
+    sym (joined_append ws (j ++ c) ∙ ap (λ t. text_of_lines ws ++ t) (joined_append j c ∙ ap₂ (λ a b. a ++ b) (job_tail_joined (nat_lt (ends ws) (heads ws)) (opens ws - closes ws)) (close_tail_joined (is_closed ws))))
 
 tail_free : (ws : List (List ℕ)) → AllFree (tail_words ws)
 tail_free ws =
@@ -107,7 +107,7 @@ tail_form false false n = inl (refl, tt)
 -- ---- what stands behind the functions that were read
 
 pub record At (bytes : List ℕ) (fs : List NamedJob) (rest : List ℕ) : Type 0 where
-  pub text : bytes ≡ joined (function_words fs) ++ rest
+  pub text : bytes ≡ text_of_lines (function_words fs) ++ rest
   pub are : AreFunctions fs
 
 pub at_start : (bytes : List ℕ) → At bytes [] bytes
@@ -184,11 +184,11 @@ module _ (bytes : List ℕ) (fs : List NamedJob) (rest : List ℕ) (k : ℕ) (a 
 
       long : IsBundleText bytes → more ≡ [] → ⊥
       long t none =
-          let all : text_of_functions t.0 ≡ joined (function_words fs ++ close_line ∷ []) =
-          sym (bundle_joined t.0) ∙ ap joined (text_words bytes t ∙ whole_words ∙ ap₂ (λ v vs. function_words fs ++ v ∷ vs) e none) in
-          let short : bytes ≡ joined (function_words fs) ++ joined (close_line ∷ []) = sym t.2 ∙ all ∙ joined_append (function_words fs) (close_line ∷ []) in
-          let full : bytes ≡ joined (function_words fs) ++ (close_line ++ 10 ∷ behind) = a.text ∙ ap (λ r. joined (function_words fs) ++ r) (text ∙ ap (λ v. v ++ 10 ∷ behind) e) in
-          omega (arith, some, ap length short, ap length full, length-append (joined (function_words fs)) (joined (close_line ∷ [])), length-append (joined (function_words fs)) (close_line ++ 10 ∷ behind), length-append close_line (10 ∷ behind), length-append close_line (10 ∷ []))
+          let all : text_of_functions t.0 ≡ text_of_lines (function_words fs ++ close_line ∷ []) =
+          sym (bundle_joined t.0) ∙ ap text_of_lines (text_words bytes t ∙ whole_words ∙ ap₂ (λ v vs. function_words fs ++ v ∷ vs) e none) in
+          let short : bytes ≡ text_of_lines (function_words fs) ++ text_of_lines (close_line ∷ []) = sym t.2 ∙ all ∙ joined_append (function_words fs) (close_line ∷ []) in
+          let full : bytes ≡ text_of_lines (function_words fs) ++ (close_line ++ 10 ∷ behind) = a.text ∙ ap (λ r. text_of_lines (function_words fs) ++ r) (text ∙ ap (λ v. v ++ 10 ∷ behind) e) in
+          omega (arith, some, ap length short, ap length full, length-append (text_of_lines (function_words fs)) (text_of_lines (close_line ∷ [])), length-append (text_of_lines (function_words fs)) (close_line ++ 10 ∷ behind), length-append close_line (10 ∷ behind), length-append close_line (10 ∷ []))
 
 -- ---- where a job's text stops
 
@@ -213,11 +213,11 @@ begun_split ws b =
     b.whole ∙ ap (λ x. x ++ b.rest) u.whole ∙ append_assoc u.before (codes "end" ∷ []) b.rest
 
 -- lines up to an `end` are those of the job
-ended_text : (lines more : List (List ℕ)) (part : List ℕ) → HasNoEnd lines → part ≡ joined (lines ++ codes "end" ∷ []) → Begun (lines ++ codes "end" ∷ more) → IsText part
+ended_text : (lines more : List (List ℕ)) (part : List ℕ) → HasNoEnd lines → part ≡ text_of_lines (lines ++ codes "end" ∷ []) → Begun (lines ++ codes "end" ∷ more) → IsText part
 ended_text lines more part free is b =
     let u = job_ended b.job b.is in
     let c = cut_at lines u.before more b.rest free u.free (begun_split (lines ++ codes "end" ∷ more) b) in
-    (b.job, b.is, sym (job_joined b.job) ∙ ap joined (u.whole ∙ ap (λ x. x ++ codes "end" ∷ []) (sym c.0)) ∙ sym is)
+    (b.job, b.is, sym (job_joined b.job) ∙ ap text_of_lines (u.whole ∙ ap (λ x. x ++ codes "end" ∷ []) (sym c.0)) ∙ sym is)
 
 -- without an `end` there is no job
 lacking : (a b : List (List ℕ)) (ws : List (List ℕ)) → HasNoEnd ws → ws ≡ a ++ codes "end" ∷ b → ⊥
@@ -267,7 +267,7 @@ closed_text lines more n free b =
     let even : opens (lines ++ closers n) ≡ closes (lines ++ closers n) = ap opens (sym words) ∙ job_balance b.job b.is ∙ ap closes words in
     let lack : opens lines - closes lines ≡ n = omega (arith, even, opens_append lines (closers n), closes_append lines (closers n), opens_closers n, closes_closers n) in
     let ending_is : ending lines ≡ closing n = ap (λ t. if t then [] else closing (opens lines - closes lines)) (unended false lines refl free) ∙ ap closing lack in
-    (b.job, b.is, sym (job_joined b.job) ∙ ap joined words ∙ joined_append lines (closers n) ∙ ap (λ t. joined lines ++ t) (closers_joined n ∙ sym ending_is))
+    (b.job, b.is, sym (job_joined b.job) ∙ ap text_of_lines words ∙ joined_append lines (closers n) ∙ ap (λ t. text_of_lines lines ++ t) (closers_joined n ∙ sym ending_is))
 
 -- completed lines without an `end` that begin with a job are the text of a job, completed as such
 completed_text : (lines ws : List (List ℕ)) → HasNoEnd lines → Begun (lines ++ tail_words ws) → IsText (completion lines)

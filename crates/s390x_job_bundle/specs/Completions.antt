@@ -1,7 +1,7 @@
 -- The line that a syntax error names, by completions.
 use Rattle.std.specs.Prelude.{◌≡◌, ℕ, ◌+◌, ◌-◌, Bool, true, false, List, [], ◌∷◌, ◌++◌, take, codes, nat_lt, if◌then◌else◌}
 use Rattle.std.specs.Str.{bytes_eq}
-use Rattle.s390x_job.specs.Completions.{IsFirstWrongLine, closes, closing, joined, opens}
+use Rattle.s390x_job.specs.Completions.{IsFirstWrongLine, closes, closing, text_of_lines, opens}
 use Rattle.s390x_job_bundle.specs.Text.{AreFunctions, close_line, text_of_functions}
 use Rattle.s390x_job_bundle.specs.declared.named_job.NamedJob.{NamedJob}
 
@@ -30,7 +30,7 @@ close_ending ws = if is_closed ws then [] else close_line ++ 10 ∷ []
 
 -- the text of lines, completed
 abbrev pub bundle_completion : List (List ℕ) → List ℕ
-bundle_completion ws = joined ws ++ (job_ending ws ++ close_ending ws)
+bundle_completion ws = text_of_lines ws ++ (job_ending ws ++ close_ending ws)
 
 -- the bytes are the text of functions
 abbrev pub IsBundleText : List ℕ → Type 0

@@ -1,7 +1,7 @@
 -- The part of a text that is a job: up to and with its first line `end`.
 use Rattle.std.specs.Prelude.{◌≡◌, ℕ, ◌⊎◌, false, List, [], ◌∷◌, ◌++◌, codes, drop, take}
 use Rattle.std.specs.Str.{bytes_eq}
-use Rattle.s390x_job.specs.Completions.{joined, pieces}
+use Rattle.s390x_job.specs.Completions.{text_of_lines, pieces}
 
 -- none of the lines is `end`
 abbrev pub HasNoEnd : List (List ℕ) → Type 0
@@ -14,7 +14,7 @@ pub record IsEndedAt (bytes : List ℕ) (n : ℕ) : Type 0 where
   pub free : HasNoEnd lines
   pub pieces_are : pieces bytes ≡ lines ++ codes "end" ∷ pieces (drop n bytes)
   pub part_pieces : pieces (take n bytes) ≡ lines ++ codes "end" ∷ []
-  pub part : take n bytes ≡ joined (lines ++ codes "end" ∷ [])
+  pub part : take n bytes ≡ text_of_lines (lines ++ codes "end" ∷ [])
 
 -- there is no line `end`, and these are all bytes
 pub record IsUnended (bytes : List ℕ) (n : ℕ) : Type 0 where

@@ -12,7 +12,7 @@ use Rattle.s390x_inst.specs.Loads.{load_instruction}
 use Rattle.s390x_inst.specs.Stores.{store_instruction}
 use Rattle.s390x_inst.specs.Wholes.{whole_instruction}
 use Rattle.s390x_job_fields.specs.Fields.{Field, FMemory, FReg, spell}
-use Rattle.s390x_job_lines.specs.Line.{spelled, AllFields, kinds_of}
+use Rattle.s390x_job_lines.specs.Line.{fields_text, AllFields, kinds_of}
 use Rattle.s390x_job_lines.specs.Kinds.{kinds}
 use Rattle.s390x_job_lines.specs.Instructions.{inst_line, vector_line}
 use Rattle.s390x_job_lines.specs.declared.name.LineName.{LineName}
@@ -26,14 +26,14 @@ none s = record { in_range = tt; taken = refl }
 more : (f : Field) (fs : List Field) (s t u : List ℕ) → Takes f s t → TakesAll fs t u → TakesAll (f ∷ fs) s u
 more f fs s t u h k = record {
   in_range = (h.in_range, k.in_range);
-  taken = h.taken ∙ ap (λ x. spell f ++ x) k.taken ∙ sym (append_assoc (spell f) (spelled fs) u);
+  taken = h.taken ∙ ap (λ x. spell f ++ x) k.taken ∙ sym (append_assoc (spell f) (fields_text fs) u);
 }
 
 whole : (n : LineName) (fs : List Field) (s t : List ℕ) → kinds n ≡ kinds_of fs → TakesAll fs s t → t ≡ [] → AreFields n (record { name = n; fields = fs }) s
 whole n fs s t k h e = record {
   name = refl;
   line = record { kinds_fit = k; fields_fit = h.in_range };
-  text = h.taken ∙ ap (λ x. spelled fs ++ x) e ∙ append-nil (spelled fs);
+  text = h.taken ∙ ap (λ x. fields_text fs ++ x) e ∙ append-nil (fields_text fs);
 }
 
 pub zero : (n : LineName) (s : List ℕ) → kinds n ≡ kinds_of [] → s ≡ [] → AreFields n (record { name = n; fields = [] }) s
@@ -81,16 +81,16 @@ all_fields : (fs gs : List Field) → AllFields fs → AllFields gs → AllField
 all_fields [] gs h k = k
 all_fields (f ∷ fs) gs h k = (h.0, all_fields fs gs h.1 k)
 
-all_spelled : (fs gs : List Field) → spelled (fs ++ gs) ≡ spelled fs ++ spelled gs
+all_spelled : (fs gs : List Field) → fields_text (fs ++ gs) ≡ fields_text fs ++ fields_text gs
 all_spelled [] gs = refl
 all_spelled (f ∷ fs) gs =
-    ap (λ x. spell f ++ x) (all_spelled fs gs) ∙ sym (append_assoc (spell f) (spelled fs) (spelled gs))
+    ap (λ x. spell f ++ x) (all_spelled fs gs) ∙ sym (append_assoc (spell f) (fields_text fs) (fields_text gs))
 
 -- fields, and then others
 both : (n : LineName) (fs gs : List Field) (s t u : List ℕ) → kinds n ≡ kinds_of (fs ++ gs) → TakesAll fs s t → TakesAll gs t u → u ≡ [] → AreFields n (record { name = n; fields = fs ++ gs }) s
 both n fs gs s t u k h i end = whole n (fs ++ gs) s u k (record {
   in_range = all_fields fs gs h.in_range i.in_range;
-  taken = h.taken ∙ ap (λ x. spelled fs ++ x) i.taken ∙ sym (append_assoc (spelled fs) (spelled gs) u) ∙ ap (λ x. x ++ u) (sym (all_spelled fs gs));
+  taken = h.taken ∙ ap (λ x. fields_text fs ++ x) i.taken ∙ sym (append_assoc (fields_text fs) (fields_text gs) u) ∙ ap (λ x. x ++ u) (sym (all_spelled fs gs));
 }) end
 
 pub eleven : (n : LineName) (a b c d e f g h i j k : Field) (s t u : List ℕ) → kinds n ≡ kinds_of (a ∷ b ∷ c ∷ d ∷ e ∷ f ∷ g ∷ h ∷ i ∷ j ∷ k ∷ []) → TakesAll (a ∷ b ∷ c ∷ d ∷ e ∷ []) s t → TakesAll (f ∷ g ∷ h ∷ i ∷ j ∷ k ∷ []) t u → u ≡ [] → AreFields n (record { name = n; fields = a ∷ b ∷ c ∷ d ∷ e ∷ f ∷ g ∷ h ∷ i ∷ j ∷ k ∷ [] }) s

@@ -2,7 +2,7 @@
 use Rattle.std.specs.Prelude.{◌≡◌, ℕ, List, [], ◌∷◌, ◌++◌}
 use Rattle.s390x_job_fields.specs.Fields.{Field, spell, IsField}
 use Rattle.s390x_job_fields.specs.Lists.{AllItems, list_text, open_text}
-use Rattle.s390x_job_lines.specs.Line.{Line, spelled, line_text, AllFields, IsLine}
+use Rattle.s390x_job_lines.specs.Line.{Line, fields_text, line_text, AllFields, IsLine}
 use Rattle.s390x_job_lines.specs.declared.name.LineName.{LineName}
 use Rattle.s390x_job_lines.specs.declared.name.LineName.TheVariants as N
 
@@ -14,7 +14,7 @@ pub record Takes (f : Field) (s t : List ℕ) : Type 0 where
 -- s begins with these fields, which lie in their ranges, and t follows them
 pub record TakesAll (fs : List Field) (s t : List ℕ) : Type 0 where
   pub in_range : AllFields fs
-  pub taken : s ≡ spelled fs ++ t
+  pub taken : s ≡ fields_text fs ++ t
 
 -- s begins with one more element of a list, which lies in its range, and t follows it
 pub record TakesElement {A : Type 0} (spelling : A → List ℕ) (IsIn : A → Type 0) (before after : List A) (s t : List ℕ) : Type 0 where
@@ -37,7 +37,7 @@ pub record TakesList {A : Type 0} (spelling : A → List ℕ) (IsIn : A → Type
 pub record AreFields (n : LineName) (l : Line) (s : List ℕ) : Type 0 where
   pub name : l.name ≡ n
   pub line : IsLine l
-  pub text : s ≡ spelled l.fields
+  pub text : s ≡ fields_text l.fields
 
 -- the name of an instruction's line, which no other lines belong to
 abbrev pub IsSingle : LineName → Type 0

@@ -25,7 +25,7 @@ impl ExactElement for CallArgPair {
     ghost IsIn = { IsUse };
 
     fn take(cursor: &mut ExactCursor) -> Option<CallArgPair> {
-        let pair = cursor.placed()?;
+        let pair = cursor.register_and_place()?;
         Some(CallArgPair {
             vreg: pair.hi,
             preg: pair.lo,
@@ -50,7 +50,7 @@ impl ExactElement for CallRetPair {
 
 impl<'a> ExactCursor<'a> {
     /// Takes a value's register and the place that it has.
-    fn placed(&mut self) -> Option<RegPair>
+    fn register_and_place(&mut self) -> Option<RegPair>
         ensures text { IfSome result (λ p. self.old ≡ pair_text p.hi p.lo ++ self.new) }
         ensures value { IfSome result (λ p. IsReg p.hi) }
         ensures place { IfSome result (λ p. IsReg p.lo) }
@@ -151,7 +151,7 @@ impl<'a> ExactCursor<'a> {
         ensures { IfSome result (λ c. Takes (FConvention c) self.old self.new) }
     {
         match self.rest() {
-            [_, b'S', ..] => self.spelled(CallConv::SystemV),
+            [_, b'S', ..] => self.spelling_of(CallConv::SystemV),
             _ => self.operator(CONVENTION_NAMES, CallConv::Fast),
         }
     }

@@ -20,7 +20,7 @@ use std::alloc::Global;
 /// Takes the fields of an instruction of this name, where it has none.
 #[tactic(auto, using(crate::proofs::Lines::zero))]
 #[inline(never)]
-fn bare(name: ControlName, cursor: &mut ExactCursor) -> Option<Inst>
+fn without_fields(name: ControlName, cursor: &mut ExactCursor) -> Option<Inst>
     ensures { IfSome result (λ x. AreFields (LineName.Control name) (inst_line x) cursor.old) }
 {
     cursor.end()?;
@@ -74,7 +74,7 @@ fn branch(cursor: &mut ExactCursor) -> Option<Inst>
 fn address(name: ControlName, cursor: &mut ExactCursor) -> Option<Inst>
     ensures { IfSome result (λ x. AreFields (LineName.Control name) (inst_line x) cursor.old) }
 {
-    let reg = cursor.written()?;
+    let reg = cursor.written_reg()?;
     match name {
         ControlName::LoadSymbolReloc => {
             let symbol_reloc = cursor.reloc()?;
@@ -122,7 +122,7 @@ fn call_front(alloc: Global, cursor: &mut ExactCursor) -> Option<CallBeginning>
         (FReg c.link ∷ FTarget c.dest ∷ FUses c.uses.items ∷ FDefs c.defs.items
         ∷ FSet (members_of (has c.clobbers)) ∷ []) cursor.old cursor.new) }
 {
-    let link = cursor.written()?;
+    let link = cursor.written_reg()?;
     let dest = cursor.target()?;
     let uses = cursor.uses(alloc)?;
     let defs = cursor.defs(alloc)?;
@@ -218,8 +218,8 @@ pub fn control(alloc: Global, name: ControlName, cursor: &mut ExactCursor) -> Op
         ControlName::Call => call(alloc, cursor),
         ControlName::ReturnCall => return_call(alloc, cursor),
         ControlName::LoadSymbolReloc | ControlName::LabelAddress => address(name, cursor),
-        ControlName::Fence | ControlName::Nop0 | ControlName::Nop2 => bare(name, cursor),
-        ControlName::Debugtrap | ControlName::SequencePoint => bare(name, cursor),
+        ControlName::Fence | ControlName::Nop0 | ControlName::Nop2 => without_fields(name, cursor),
+        ControlName::Debugtrap | ControlName::SequencePoint => without_fields(name, cursor),
         _ => simple(name, cursor),
     }
 }

@@ -49,7 +49,7 @@ impl<'a> ExactCursor<'a> {
 
     /// Takes one byte.
     #[inline(always)]
-    pub fn next(&mut self) -> Option<u8>
+    pub fn next_byte(&mut self) -> Option<u8>
         ensures { IfSome result (λ x. self.old ≡ x ∷ self.new) }
     {
         match self.left {
@@ -94,7 +94,11 @@ impl<'a> ExactCursor<'a> {
     pub fn byte(&mut self, byte: u8) -> Option<()>
         ensures { IfSome result (λ _. self.old ≡ byte ∷ self.new) }
     {
-        if self.next()? == byte { Some(()) } else { None }
+        if self.next_byte()? == byte {
+            Some(())
+        } else {
+            None
+        }
     }
 
     /// Takes these bytes, which are a literal.

@@ -63,7 +63,7 @@ impl<'a> ExactCursor<'a> {
 
     /// Takes a register that is written.
     #[inline(always)]
-    pub fn written(&mut self) -> Option<Writable<Reg>>
+    pub fn written_reg(&mut self) -> Option<Writable<Reg>>
         ensures { IfSome result (λ r. Takes (FReg r) self.old self.new) }
     {
         let reg = self.reg()?;
@@ -173,7 +173,7 @@ impl<'a> ExactCursor<'a> {
 
     /// Takes a number with a sign, at least `-limit` and below `limit`.
     #[inline(always)]
-    fn signed(&mut self, limit: i64) -> Option<i64>
+    fn signed_number(&mut self, limit: i64) -> Option<i64>
         requires { pos 0 <ℤ limit }
         ensures text { IfSome result (λ z. self.old ≡ 32 ∷ (signed_decimal z ++ self.new)) }
         ensures least { IfSome result (λ z. neg_ℤ limit ≤ℤ z) }
@@ -192,7 +192,7 @@ impl<'a> ExactCursor<'a> {
     pub fn i16(&mut self) -> Option<i16>
         ensures { IfSome result (λ z. Takes (FInteger S16 z) self.old self.new) }
     {
-        let number = self.signed(1 << 15)?;
+        let number = self.signed_number(1 << 15)?;
         Some(number as i16)
     }
 
@@ -200,7 +200,7 @@ impl<'a> ExactCursor<'a> {
     pub fn i32(&mut self) -> Option<i32>
         ensures { IfSome result (λ z. Takes (FInteger S32 z) self.old self.new) }
     {
-        let number = self.signed(1 << 31)?;
+        let number = self.signed_number(1 << 31)?;
         Some(number as i32)
     }
 
@@ -225,7 +225,7 @@ impl<'a> ExactCursor<'a> {
 
     /// Takes the word that spells this value, behind a space.
     #[inline(always)]
-    pub fn spelled<T: Word>(&mut self, value: T) -> Option<T>
+    pub fn spelling_of<T: Word>(&mut self, value: T) -> Option<T>
         ensures { IfSome result (λ o. self.old ≡ 32 ∷ (T.spelling o ++ self.new)) }
     {
         self.byte(b' ')?;
@@ -238,10 +238,10 @@ impl<'a> ExactCursor<'a> {
         ensures { IfSome result (λ o. Takes (FAlu o) self.old self.new) }
     {
         match self.rest() {
-            [_, b'A', b'd', _, b'6', _, b' ', ..] => self.spelled(ALUOp::Add64),
-            [_, b'A', b'd', _, b'3', _, b' ', ..] => self.spelled(ALUOp::Add32),
-            [_, b'S', b'u', _, b'6', _, b' ', ..] => self.spelled(ALUOp::Sub64),
-            [_, b'S', b'u', _, b'3', _, b' ', ..] => self.spelled(ALUOp::Sub32),
+            [_, b'A', b'd', _, b'6', _, b' ', ..] => self.spelling_of(ALUOp::Add64),
+            [_, b'A', b'd', _, b'3', _, b' ', ..] => self.spelling_of(ALUOp::Add32),
+            [_, b'S', b'u', _, b'6', _, b' ', ..] => self.spelling_of(ALUOp::Sub64),
+            [_, b'S', b'u', _, b'3', _, b' ', ..] => self.spelling_of(ALUOp::Sub32),
             _ => self.operator(ALU_NAMES, ALUOp::Add32),
         }
     }
@@ -272,8 +272,8 @@ impl<'a> ExactCursor<'a> {
         ensures { IfSome result (λ o. Takes (FVecBinary o) self.old self.new) }
     {
         match self.rest() {
-            [_, b'A', _, _, b'6', ..] => self.spelled(VecBinaryOp::Add64x2),
-            [_, b'A', _, _, b'3', ..] => self.spelled(VecBinaryOp::Add32x4),
+            [_, b'A', _, _, b'6', ..] => self.spelling_of(VecBinaryOp::Add64x2),
+            [_, b'A', _, _, b'3', ..] => self.spelling_of(VecBinaryOp::Add32x4),
             _ => self.operator(VEC_BINARY_NAMES, VecBinaryOp::Add8x16),
         }
     }

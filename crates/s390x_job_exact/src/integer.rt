@@ -15,7 +15,7 @@ pub fn alu_three(cursor: &mut ExactCursor) -> Option<Inst>
     ensures { IfSome result
         (λ x. AreFields (LineName.Integer IntegerName.AluRRR) (inst_line x) cursor.old) }
 {
-    take_fields!(AluRRR, cursor, {}, alu_op: alu, rd: written, rn: reg, rm: reg)
+    take_fields!(AluRRR, cursor, {}, alu_op: alu, rd: written_reg, rn: reg, rm: reg)
 }
 
 /// Takes the fields of an operation on a register and a number with an output of its own.
@@ -25,7 +25,7 @@ fn alu_number(cursor: &mut ExactCursor) -> Option<Inst>
     ensures { IfSome result
         (λ x. AreFields (LineName.Integer IntegerName.AluRRSImm16) (inst_line x) cursor.old) }
 {
-    take_fields!(AluRRSImm16, cursor, {}, alu_op: alu, rd: written, rn: reg, imm: i16)
+    take_fields!(AluRRSImm16, cursor, {}, alu_op: alu, rd: written_reg, rn: reg, imm: i16)
 }
 
 /// Takes the fields of an operation whose output is its first input, with a register or memory.
@@ -35,7 +35,7 @@ fn alu_two(name: IntegerName, cursor: &mut ExactCursor) -> Option<Inst>
     ensures { IfSome result (λ x. AreFields (LineName.Integer name) (inst_line x) cursor.old) }
 {
     let alu_op = cursor.alu()?;
-    let rd = cursor.written()?;
+    let rd = cursor.written_reg()?;
     let ri = cursor.reg()?;
     take_rows!((IntegerName, name, cursor, { alu_op, rd, ri })
         AluRR { rm: reg }
@@ -50,7 +50,7 @@ fn alu_immediate(name: IntegerName, cursor: &mut ExactCursor) -> Option<Inst>
     ensures { IfSome result (λ x. AreFields (LineName.Integer name) (inst_line x) cursor.old) }
 {
     let alu_op = cursor.alu()?;
-    let rd = cursor.written()?;
+    let rd = cursor.written_reg()?;
     let ri = cursor.reg()?;
     take_rows!((IntegerName, name, cursor, { alu_op, rd, ri })
         AluRSImm16 { imm: i16 }
@@ -81,10 +81,10 @@ fn compare(name: IntegerName, cursor: &mut ExactCursor) -> Option<Inst>
 /// Takes the fields of an instruction of this name, where they are a register and one more field.
 #[tactic(auto, using(crate::proofs::Lines::two))]
 #[inline(never)]
-fn moved(name: IntegerName, cursor: &mut ExactCursor) -> Option<Inst>
+fn move_register(name: IntegerName, cursor: &mut ExactCursor) -> Option<Inst>
     ensures { IfSome result (λ x. AreFields (LineName.Integer name) (inst_line x) cursor.old) }
 {
-    let rd = cursor.written()?;
+    let rd = cursor.written_reg()?;
     take_rows!((IntegerName, name, cursor, { rd })
         Mov64 { rm: reg }
         Mov32 { rm: reg }
@@ -104,7 +104,7 @@ fn shift(cursor: &mut ExactCursor) -> Option<Inst>
     ensures { IfSome result
         (λ x. AreFields (LineName.Integer IntegerName.ShiftRR) (inst_line x) cursor.old) }
 {
-    take_fields!(ShiftRR, cursor, {}, shift_op: shift_op, rd: written, rn: reg, shift_imm: u8, shift_reg: reg)
+    take_fields!(ShiftRR, cursor, {}, shift_op: shift_op, rd: written_reg, rn: reg, shift_imm: u8, shift_reg: reg)
 }
 
 /// Takes the fields of an operation on one register.
@@ -114,16 +114,16 @@ fn unary(cursor: &mut ExactCursor) -> Option<Inst>
     ensures { IfSome result
         (λ x. AreFields (LineName.Integer IntegerName.UnaryRR) (inst_line x) cursor.old) }
 {
-    take_fields!(UnaryRR, cursor, {}, op: unary, rd: written, rn: reg)
+    take_fields!(UnaryRR, cursor, {}, op: unary, rd: written_reg, rn: reg)
 }
 
 /// Takes the fields of a conditional move.
 #[tactic(auto, using(crate::proofs::Lines::four))]
 #[inline(never)]
-fn conditional(name: IntegerName, cursor: &mut ExactCursor) -> Option<Inst>
+fn conditional_move(name: IntegerName, cursor: &mut ExactCursor) -> Option<Inst>
     ensures { IfSome result (λ x. AreFields (LineName.Integer name) (inst_line x) cursor.old) }
 {
-    let rd = cursor.written()?;
+    let rd = cursor.written_reg()?;
     let cond = cursor.cond()?;
     let ri = cursor.reg()?;
     take_rows!((IntegerName, name, cursor, { rd, cond, ri })
@@ -141,19 +141,19 @@ fn extend(cursor: &mut ExactCursor) -> Option<Inst>
     ensures { IfSome result
         (λ x. AreFields (LineName.Integer IntegerName.Extend) (inst_line x) cursor.old) }
 {
-    take_fields!(Extend, cursor, {}, rd: written, rn: reg, signed: truth, from_bits: u8, to_bits: u8)
+    take_fields!(Extend, cursor, {}, rd: written_reg, rn: reg, signed: truth, from_bits: u8, to_bits: u8)
 }
 
 /// Takes the fields of an instruction of this name, where it is a less frequent one.
 #[inline(always)]
-fn other(name: IntegerName, cursor: &mut ExactCursor) -> Option<Inst>
+fn other_integer(name: IntegerName, cursor: &mut ExactCursor) -> Option<Inst>
     ensures { IfSome result (λ x. AreFields (LineName.Integer name) (inst_line x) cursor.old) }
 {
     match name {
         IntegerName::Extend => extend(cursor),
-        IntegerName::CMov32 | IntegerName::CMov64 => conditional(name, cursor),
-        IntegerName::CMov32SImm16 | IntegerName::CMov64SImm16 => conditional(name, cursor),
-        _ => moved(name, cursor),
+        IntegerName::CMov32 | IntegerName::CMov64 => conditional_move(name, cursor),
+        IntegerName::CMov32SImm16 | IntegerName::CMov64SImm16 => conditional_move(name, cursor),
+        _ => move_register(name, cursor),
     }
 }
 
@@ -174,6 +174,6 @@ pub fn integer(name: IntegerName, cursor: &mut ExactCursor) -> Option<Inst>
         IntegerName::CmpRSImm32 | IntegerName::CmpRUImm32 => compare(name, cursor),
         IntegerName::ShiftRR => shift(cursor),
         IntegerName::UnaryRR => unary(cursor),
-        _ => other(name, cursor),
+        _ => other_integer(name, cursor),
     }
 }

@@ -7,7 +7,7 @@ ghost use Rattle.s390x_job_exact.specs.Exact.{AreFields, IsInstructionText, IsSi
 use crate::control::{call, control};
 use crate::cursor::ExactCursor;
 use crate::integer::{alu_three, integer};
-use crate::memory::{load, memory, store, whole};
+use crate::memory::{load, memory, store, whole_register};
 use crate::vector::vector;
 use s390x_inst::{Direction, Inst, LoadOp, StoreOp, WholeLayout};
 use s390x_job_fields::separators::before;
@@ -17,7 +17,7 @@ use std::alloc::Global;
 
 /// Takes this name, whose text is known.
 #[inline(always)]
-fn named(cursor: &mut ExactCursor, text: &[u8], name: LineName) -> Option<LineName>
+fn take_name(cursor: &mut ExactCursor, text: &[u8], name: LineName) -> Option<LineName>
     requires { text.now ≡ name_text name }
     ensures { IfSome result (λ n. cursor.old ≡ name_text n ++ cursor.new) }
 {
@@ -42,32 +42,32 @@ fn line_name(cursor: &mut ExactCursor) -> Option<LineName>
 {
     match cursor.rest() {
         [b'V', _, _, b'R', b'R', b'R', ..] => {
-            named(cursor, b"VecRRR", LineName::Vector(VectorName::VecRRR))
+            take_name(cursor, b"VecRRR", LineName::Vector(VectorName::VecRRR))
         }
-        [b'V', _, _, b'L', _, _, _, b' ', ..] => named(
+        [b'V', _, _, b'L', _, _, _, b' ', ..] => take_name(
             cursor,
             b"VecLoad",
             LineName::Whole(Direction::Load, WholeLayout::Straight),
         ),
-        [b'V', _, _, b'S', _, _, _, _, b' ', ..] => named(
+        [b'V', _, _, b'S', _, _, _, _, b' ', ..] => take_name(
             cursor,
             b"VecStore",
             LineName::Whole(Direction::Store, WholeLayout::Straight),
         ),
-        [b'C', b'a', ..] => named(cursor, b"Call", LineName::Control(ControlName::Call)),
+        [b'C', b'a', ..] => take_name(cursor, b"Call", LineName::Control(ControlName::Call)),
         [b'A', _, _, b'R', b'R', b'R', ..] => {
-            named(cursor, b"AluRRR", LineName::Integer(IntegerName::AluRRR))
+            take_name(cursor, b"AluRRR", LineName::Integer(IntegerName::AluRRR))
         }
         [b'L', _, _, _, b'6', _, b' ', ..] => {
-            named(cursor, b"Load64", LineName::Load(LoadOp::Load64))
+            take_name(cursor, b"Load64", LineName::Load(LoadOp::Load64))
         }
-        [b'L', _, _, _, b'S', ..] => named(
+        [b'L', _, _, _, b'S', ..] => take_name(
             cursor,
             b"LoadSymbolReloc",
             LineName::Control(ControlName::LoadSymbolReloc),
         ),
         [b'S', _, _, _, _, b'6', _, b' ', ..] => {
-            named(cursor, b"Store64", LineName::Store(StoreOp::Store64))
+            take_name(cursor, b"Store64", LineName::Store(StoreOp::Store64))
         }
         _ => found_name(cursor),
     }
@@ -88,7 +88,7 @@ fn fields(alloc: Global, name: LineName, cursor: &mut ExactCursor) -> Option<Ins
         LineName::Integer(name) => integer(name, cursor),
         LineName::Control(name) => control(alloc, name, cursor),
         LineName::Vector(name) => vector(name, cursor),
-        LineName::Whole(direction, layout) => whole(direction, layout, cursor),
+        LineName::Whole(direction, layout) => whole_register(direction, layout, cursor),
         _ => None,
     }
 }

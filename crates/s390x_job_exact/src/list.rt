@@ -34,7 +34,7 @@ fn element<T: ExactElement + Drop>(cursor: &mut ExactCursor, items: &mut Vec<T>)
 
 /// Takes a comma and an element behind at least one.
 #[tactic(auto, using(crate::proofs::Elements::following, crate::proofs::Elements::some, crate::proofs::Elements::shorter))]
-fn next<T: ExactElement + Drop>(cursor: &mut ExactCursor, items: &mut Vec<T>) -> Option<()>
+fn next_element<T: ExactElement + Drop>(cursor: &mut ExactCursor, items: &mut Vec<T>) -> Option<()>
     requires some { 0 < length items.old.items }
     requires range { AllItems T.IsIn items.old.items }
     ensures taken { IfSome result
@@ -64,7 +64,7 @@ fn more<T: ExactElement + Drop>(cursor: &mut ExactCursor, items: &mut Vec<T>) ->
         cursor.new) }
 {
     while is_comma(cursor) {
-        next(cursor, items)?;
+        next_element(cursor, items)?;
     }
     Some(())
 }
@@ -83,7 +83,7 @@ fn elements<T: ExactElement + Drop>(cursor: &mut ExactCursor, items: &mut Vec<T>
 /// Takes a list without elements.
 #[tactic(auto, using(crate::proofs::Elements::nothing))]
 #[inline(always)]
-fn empty<T: ExactElement + Drop>(cursor: &mut ExactCursor, alloc: Global) -> Option<Vec<T>>
+fn empty_list<T: ExactElement + Drop>(cursor: &mut ExactCursor, alloc: Global) -> Option<Vec<T>>
     ensures { IfSome result (λ v. TakesList T.spelling T.IsIn v.items cursor.old cursor.new) }
 {
     cursor.text(b" []")?;
@@ -93,7 +93,7 @@ fn empty<T: ExactElement + Drop>(cursor: &mut ExactCursor, alloc: Global) -> Opt
 /// Takes a list that isn't empty; none also where there is no memory.
 #[tactic(auto, using(crate::proofs::Elements::closed))]
 #[inline(never)]
-fn filled<T: ExactElement + Drop>(cursor: &mut ExactCursor, alloc: Global) -> Option<Vec<T>>
+fn filled_list<T: ExactElement + Drop>(cursor: &mut ExactCursor, alloc: Global) -> Option<Vec<T>>
     ensures { IfSome result (λ v. TakesList T.spelling T.IsIn v.items cursor.old cursor.new) }
 {
     let mut items = Vec::new(alloc);
@@ -109,7 +109,7 @@ pub fn list<T: ExactElement + Drop>(cursor: &mut ExactCursor, alloc: Global) -> 
     ensures { IfSome result (λ v. TakesList T.spelling T.IsIn v.items cursor.old cursor.new) }
 {
     match cursor.rest() {
-        [_, _, b']', ..] => empty(cursor, alloc),
-        _ => filled(cursor, alloc),
+        [_, _, b']', ..] => empty_list(cursor, alloc),
+        _ => filled_list(cursor, alloc),
     }
 }

@@ -15,7 +15,7 @@ fn address(cursor: &mut ExactCursor) -> Option<Inst>
     ensures { IfSome result
         (λ x. AreFields (LineName.Memory MemoryName.LoadAddr) (inst_line x) cursor.old) }
 {
-    take_fields!(LoadAddr, cursor, {}, rd: written, mem: memory)
+    take_fields!(LoadAddr, cursor, {}, rd: written_reg, mem: memory)
 }
 
 /// Takes the fields of a store of a number.
@@ -51,7 +51,7 @@ pub fn memory(name: MemoryName, cursor: &mut ExactCursor) -> Option<Inst>
 pub fn load(op: LoadOp, cursor: &mut ExactCursor) -> Option<Inst>
     ensures { IfSome result (λ x. AreFields (LineName.Load op) (inst_line x) cursor.old) }
 {
-    let rd = cursor.written()?;
+    let rd = cursor.written_reg()?;
     let mem = cursor.memory()?;
     cursor.end()?;
     Some(op.instruction(rd, mem))
@@ -70,7 +70,11 @@ pub fn store(op: StoreOp, cursor: &mut ExactCursor) -> Option<Inst>
 
 /// Takes the fields of a load or a store of a whole vector register.
 #[inline(never)]
-pub fn whole(direction: Direction, layout: WholeLayout, cursor: &mut ExactCursor) -> Option<Inst>
+pub fn whole_register(
+    direction: Direction,
+    layout: WholeLayout,
+    cursor: &mut ExactCursor,
+) -> Option<Inst>
     ensures { IfSome result
         (λ x. AreFields (LineName.Whole direction layout) (inst_line x) cursor.old) }
 {

@@ -78,10 +78,10 @@ impl<'a> ExactCursor<'a> {
 
     /// Takes whether an access is known to be aligned.
     #[inline(always)]
-    fn aligned(&mut self) -> Option<bool>
+    fn alignment_flag(&mut self) -> Option<bool>
         ensures { IfSome result (λ b. self.old ≡ aligned_text b ++ self.new) }
     {
-        match self.next()? {
+        match self.next_byte()? {
             b'a' => Some(true),
             b'u' => Some(false),
             _ => None,
@@ -94,7 +94,7 @@ impl<'a> ExactCursor<'a> {
         ensures text { IfSome result (λ f. self.old ≡ access_text f ++ self.new) }
         ensures range { IfSome result (λ f. IsSuffix f.trap) }
     {
-        let aligned = self.aligned()?;
+        let aligned = self.alignment_flag()?;
         let trap = self.suffix()?;
         Some(MachMemFlags { aligned, trap })
     }
@@ -145,7 +145,7 @@ impl<'a> ExactCursor<'a> {
         self.text(b" BXD12(")?;
         let at = self.base_index()?;
         let disp = self.displacement12()?;
-        let flags = self.last()?;
+        let flags = self.access_end()?;
         Some(MemArg::BXD12 {
             base: at.hi,
             index: at.lo,
@@ -170,7 +170,7 @@ impl<'a> ExactCursor<'a> {
         self.text(b" BXD20(")?;
         let at = self.base_index()?;
         let disp = self.displacement20()?;
-        let flags = self.last()?;
+        let flags = self.access_end()?;
         Some(MemArg::BXD20 {
             base: at.hi,
             index: at.lo,
@@ -181,7 +181,7 @@ impl<'a> ExactCursor<'a> {
 
     /// Takes a base, an index and a displacement.
     #[inline(never)]
-    fn indexed(&mut self) -> Option<MemArg>
+    fn indexed_operand(&mut self) -> Option<MemArg>
         ensures { IfSome result (λ m. Takes (FMemory m) self.old self.new) }
     {
         match self.rest() {
@@ -192,7 +192,7 @@ impl<'a> ExactCursor<'a> {
 
     /// Takes a comma, what is known of an access, and the closing parenthesis.
     #[inline(always)]
-    fn last(&mut self) -> Option<MachMemFlags>
+    fn access_end(&mut self) -> Option<MachMemFlags>
         ensures text { IfSome result (λ f. self.old ≡ 44 ∷ (access_text f ++ (41 ∷ self.new))) }
         ensures range { IfSome result (λ f. IsSuffix f.trap) }
     {
@@ -224,7 +224,7 @@ impl<'a> ExactCursor<'a> {
         let name = self.name()?;
         self.byte(b',')?;
         let offset = self.offset32()?;
-        let flags = self.last()?;
+        let flags = self.access_end()?;
         Some(MemArg::Symbol {
             name,
             offset,
@@ -247,7 +247,7 @@ impl<'a> ExactCursor<'a> {
 
     /// Takes a number in parentheses behind this text.
     #[inline(always)]
-    fn numbered(&mut self, form: &[u8]) -> Option<u32>
+    fn number_in_parentheses(&mut self, form: &[u8]) -> Option<u32>
         ensures text { IfSome result (λ n. self.old ≡ form.now ++ (decimal n ++ (41 ∷ self.new))) }
     {
         self.text(form)?;
@@ -264,17 +264,17 @@ impl<'a> ExactCursor<'a> {
     fn block(&mut self) -> Option<MemArg>
         ensures { IfSome result (λ m. Takes (FMemory m) self.old self.new) }
     {
-        let number = self.numbered(b" Label(")?;
+        let number = self.number_in_parentheses(b" Label(")?;
         Some(MemArg::Label {
             target: MachLabel(number),
         })
     }
 
     /// Takes a constant.
-    fn constant(&mut self) -> Option<MemArg>
+    fn constant_operand(&mut self) -> Option<MemArg>
         ensures { IfSome result (λ m. Takes (FMemory m) self.old self.new) }
     {
-        let number = self.numbered(b" Constant(")?;
+        let number = self.number_in_parentheses(b" Constant(")?;
         Some(MemArg::Constant {
             constant: VCodeConstant(number),
         })
@@ -319,12 +319,12 @@ impl<'a> ExactCursor<'a> {
 
     /// Takes a memory operand of one of the other forms.
     #[inline(never)]
-    fn other(&mut self) -> Option<MemArg>
+    fn other_operand(&mut self) -> Option<MemArg>
         ensures { IfSome result (λ m. Takes (FMemory m) self.old self.new) }
     {
         match self.rest() {
             [_, b'L', ..] => self.block(),
-            [_, b'C', ..] => self.constant(),
+            [_, b'C', ..] => self.constant_operand(),
             _ => self.argument_offset(),
         }
     }
@@ -335,10 +335,10 @@ impl<'a> ExactCursor<'a> {
     {
         match self.rest() {
             [_, b'R', ..] => self.reg_offset(),
-            [_, b'B', ..] => self.indexed(),
+            [_, b'B', ..] => self.indexed_operand(),
             [_, b'S', b'y', ..] => self.symbol(),
             [_, b'S', ..] => self.stack_offset(),
-            _ => self.other(),
+            _ => self.other_operand(),
         }
     }
 }

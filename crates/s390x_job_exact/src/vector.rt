@@ -15,7 +15,7 @@ fn binary(cursor: &mut ExactCursor) -> Option<Inst>
     ensures { IfSome result
         (λ x. AreFields (LineName.Vector VectorName.VecRRR) (inst_line x) cursor.old) }
 {
-    take_vector_fields!(VecRRR, cursor, op: vec_binary, rd: written, rn: reg, rm: reg)
+    take_vector_fields!(VecRRR, cursor, op: vec_binary, rd: written_reg, rn: reg, rm: reg)
 }
 
 /// Takes the fields of an operation on one vector.
@@ -25,7 +25,7 @@ fn unary(cursor: &mut ExactCursor) -> Option<Inst>
     ensures { IfSome result
         (λ x. AreFields (LineName.Vector VectorName.VecRR) (inst_line x) cursor.old) }
 {
-    take_vector_fields!(VecRR, cursor, op: vec_unary, rd: written, rn: reg)
+    take_vector_fields!(VecRR, cursor, op: vec_unary, rd: written_reg, rn: reg)
 }
 
 /// Takes the fields of a shift of a vector.
@@ -35,7 +35,7 @@ fn shift(cursor: &mut ExactCursor) -> Option<Inst>
     ensures { IfSome result
         (λ x. AreFields (LineName.Vector VectorName.VecShiftRR) (inst_line x) cursor.old) }
 {
-    take_vector_fields!(VecShiftRR, cursor, shift_op: vec_shift_op, rd: written, rn: reg, shift_imm: u8, shift_reg: reg)
+    take_vector_fields!(VecShiftRR, cursor, shift_op: vec_shift_op, rd: written_reg, rn: reg, shift_imm: u8, shift_reg: reg)
 }
 
 /// Takes the fields of a comparison of vectors.
@@ -45,7 +45,7 @@ fn compare(cursor: &mut ExactCursor) -> Option<Inst>
     ensures { IfSome result
         (λ x. AreFields (LineName.Vector VectorName.VecIntCmp) (inst_line x) cursor.old) }
 {
-    take_vector_fields!(VecIntCmp, cursor, op: vec_compare, rd: written, rn: reg, rm: reg)
+    take_vector_fields!(VecIntCmp, cursor, op: vec_compare, rd: written_reg, rn: reg, rm: reg)
 }
 
 /// Takes the fields of a comparison of vectors that sets the condition code.
@@ -55,7 +55,7 @@ fn compare_all(cursor: &mut ExactCursor) -> Option<Inst>
     ensures { IfSome result
         (λ x. AreFields (LineName.Vector VectorName.VecIntCmpS) (inst_line x) cursor.old) }
 {
-    take_vector_fields!(VecIntCmpS, cursor, op: vec_compare, rd: written, rn: reg, rm: reg)
+    take_vector_fields!(VecIntCmpS, cursor, op: vec_compare, rd: written_reg, rn: reg, rm: reg)
 }
 
 /// Takes the fields of a selection.
@@ -65,7 +65,7 @@ fn select(cursor: &mut ExactCursor) -> Option<Inst>
     ensures { IfSome result
         (λ x. AreFields (LineName.Vector VectorName.VecSelect) (inst_line x) cursor.old) }
 {
-    take_vector_fields!(VecSelect, cursor, rd: written, rn: reg, rm: reg, ra: reg)
+    take_vector_fields!(VecSelect, cursor, rd: written_reg, rn: reg, rm: reg, ra: reg)
 }
 
 /// Takes the fields of a move of a vector.
@@ -75,7 +75,7 @@ fn move_vector(cursor: &mut ExactCursor) -> Option<Inst>
     ensures { IfSome result
         (λ x. AreFields (LineName.Vector VectorName.VecMov) (inst_line x) cursor.old) }
 {
-    take_vector_fields!(VecMov, cursor, rd: written, rn: reg)
+    take_vector_fields!(VecMov, cursor, rd: written_reg, rn: reg)
 }
 
 /// Takes the fields of a move of 64 bits.
@@ -85,7 +85,7 @@ fn move64(cursor: &mut ExactCursor) -> Option<Inst>
     ensures { IfSome result
         (λ x. AreFields (LineName.Vector VectorName.FpuMove64) (inst_line x) cursor.old) }
 {
-    take_vector_fields!(FpuMove64, cursor, rd: written, rn: reg)
+    take_vector_fields!(FpuMove64, cursor, rd: written_reg, rn: reg)
 }
 
 /// Takes the fields of an instruction of this name, where it is a frequent one.

@@ -10,7 +10,7 @@ use Rattle.s390x_base.specs.declared.regs.RegClass.{RegClass}
 use Rattle.s390x_base.specs.declared.regs.RegClass.TheVariants.{Int, Float}
 use Rattle.s390x_inst.specs.declared.state.IsaFlags.{IsaFlags}
 use Rattle.s390x_job_fields.specs.Marks.{among, word, after_word}
-use Rattle.s390x_job_fields.specs.Bytes.{bytes_text, bytes_of_text, decoded, digits_text, vector_text, digit_of, hex_from, value_text, value_limit, value_of, facility_text, facilities_text, facilities_of}
+use Rattle.s390x_job_fields.specs.Bytes.{bytes_text, bytes_of_text, decoded_bytes, digits_text, vector_text, digit_of, hex_from, value_text, value_limit, value_of, facility_text, facilities_text, facilities_of}
 use Rattle.s390x_job_fields.proofs.Avoids.{Avoids, Avoids-test, Avoids-append, marks, IsOneWord}
 use Rattle.s390x_job_fields.proofs.Digits.{decimal-round_trip, decimal-one_word, small_mod}
 
@@ -92,7 +92,7 @@ no_dash b bs h =
 
 pub bytes-round_trip : (bs : List ℕ) → IsBytes bs → bytes_of_text (bytes_text bs) ≡ bs
 bytes-round_trip [] h = refl
-bytes-round_trip (b ∷ bs) h = rw (no_dash b bs h) (ap decoded (decode_of-encode_lower (b ∷ bs) h))
+bytes-round_trip (b ∷ bs) h = rw (no_dash b bs h) (ap decoded_bytes (decode_of-encode_lower (b ∷ bs) h))
 
 -- numbers in hex
 hex_from-append : (xs : List ℕ) (a : ℕ) (ys : List ℕ) → hex_from a (xs ++ ys) ≡ hex_from (hex_from a xs) ys

@@ -21,7 +21,7 @@ use Rattle.s390x_job_fields.specs.Lists.{AllItems, elements, list_of, begins_ele
 use Rattle.s390x_job_fields.specs.Marks.{upto}
 use Rattle.s390x_job_fields.specs.Sets.{is_in}
 use Rattle.s390x_job_fields.specs.Calls.{IsCallTarget, call_target_of, IsLocation, IsResult, location_of, call_result_of, IsHandler, handler_of, IsTry, try_of, arg_of, IsArg, ret_of, IsRet, use_of, IsUse, label_of, IsLabel}
-use Rattle.s390x_job_fields.specs.Bytes.{bytes_of_text, decoded, hex_from, digit_of, value_limit, value_of}
+use Rattle.s390x_job_fields.specs.Bytes.{bytes_of_text, decoded_bytes, hex_from, digit_of, value_limit, value_of}
 use Rattle.s390x_job_fields.specs.Fields.{IsOption, option_of, Kind, KAlu, KArgs, KBool, KBytes, KCmp, KCond, KConvention, KDefs, KFlags, KInteger, KLabels, KMemory, KName, KNatural, KOption, KPair, KReal, KReg, KReloc, KRets, KRxsbg, KSet, KShift, KShifted, KStart, KTarget, KTrap, KTry, KUnary, KUses, KVecBinary, KVecCompare, KVecElementCompare, KVecShift, KVecUnary, kind_of, IsField, value_as}
 use Rattle.s390x_job_fields.proofs.Members.{either}
 use Rattle.s390x_job_fields.proofs.Registers.{members-again}
@@ -169,7 +169,7 @@ value_small Float w = hex_small w 0 (omega arith)
 no_bytes : IsBytes []
 no_bytes i = omega arith
 
-decoded_ok : (s : List ℕ) (r : Result (List ℕ) FromHexError) → decode_of s ≡ r → IsBytes (decoded r)
+decoded_ok : (s : List ℕ) (r : Result (List ℕ) FromHexError) → decode_of s ≡ r → IsBytes (decoded_bytes r)
 decoded_ok s (Ok bs) h = (decode_of-ok s bs h).3
 decoded_ok s (Err e) h = no_bytes
 

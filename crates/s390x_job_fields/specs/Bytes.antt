@@ -16,13 +16,13 @@ bytes_text [] = codes "-"
 bytes_text (b ∷ bs) = encode_lower (b ∷ bs)
 
 -- the bytes that hex gave; none where it failed
-abbrev pub decoded : Result (List ℕ) FromHexError → List ℕ
-decoded (Ok bs) = bs
-decoded (Err e) = []
+abbrev pub decoded_bytes : Result (List ℕ) FromHexError → List ℕ
+decoded_bytes (Ok bs) = bs
+decoded_bytes (Err e) = []
 
 -- the bytes that a word spells; none for any other word
 abbrev pub bytes_of_text : List ℕ → List ℕ
-bytes_of_text w = if bytes_eq w (codes "-") then [] else decoded (decode_of w)
+bytes_of_text w = if bytes_eq w (codes "-") then [] else decoded_bytes (decode_of w)
 
 -- so many hex digits, the last one of the least weight
 abbrev pub digits_text : ℕ → ℕ → List ℕ

@@ -3,7 +3,7 @@ ghost use Rattle.std.specs.Prelude.{◌≡◌, ◌++◌, ◌∷◌, [], ◌<◌,
 ghost use Rattle.s390x_job_fields.specs.Atoms.{real_text, real_register_of, reg_text, reg_of, mask_of, trap_text, trap_of, user_number_of, access_text, access_of, aligned_text, trap_suffix, suffix_of, bool_text, bool_of, name_of};
 ghost use Rattle.std.specs.Fmt.{decimal};
 
-use crate::number::{first, natural, natural32, put, put_char, put_natural, second, tail};
+use crate::number::{first_byte, natural, natural32, put, put_char, put_natural, second, tail};
 use crate::separators::{rest_behind, word};
 use s390x_base::{
     Cond, ExternalName, MachMemFlags, PReg, Reg, RegClass, TrapCode, TrapKind, Writable, gpr_preg,
@@ -80,7 +80,7 @@ pub fn reg(w: &[u8]) -> Reg
 
 /// The register that a word writes, as one that is written.
 #[inline(always)]
-pub fn written(w: &[u8]) -> Writable<Reg>
+pub fn written_reg(w: &[u8]) -> Writable<Reg>
     ensures { result ≡ reg_of w.now }
 {
     Writable::from_reg(reg(w))
@@ -189,7 +189,7 @@ pub fn put_access(out: &mut String, flags: MachMemFlags) -> Result<(), AllocErro
 fn suffix(s: &[u8]) -> Option<TrapCode>
     ensures { result ≡ suffix_of s.now }
 {
-    if first(s) == b'!' {
+    if first_byte(s) == b'!' {
         Some(trap(word(s)))
     } else {
         None
@@ -202,7 +202,7 @@ pub fn access(s: &[u8]) -> MachMemFlags
 {
     let known = word(s);
     MachMemFlags {
-        aligned: first(known) == b'a',
+        aligned: first_byte(known) == b'a',
         trap: suffix(rest_behind(s, known)),
     }
 }

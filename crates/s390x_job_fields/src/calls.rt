@@ -4,9 +4,11 @@ ghost use Rattle.s390x_job_fields.specs.Calls.{arg_text, arg_of, ret_text, ret_o
 ghost use Rattle.s390x_job_fields.specs.Atoms.{real_text, real_register_of};
 ghost use Rattle.s390x_job_fields.specs.Marks.{word};
 
-use crate::atoms::{name, put_name, put_real, put_reg, real, reg, written};
+use crate::atoms::{name, put_name, put_real, put_reg, real, reg, written_reg};
 use crate::list::{Element, list, put_list};
-use crate::number::{first, integer64, natural32, put, put_integer, put_natural, second, tail};
+use crate::number::{
+    first_byte, integer64, natural32, put, put_integer, put_natural, second, tail,
+};
 use crate::operators::value_type;
 use crate::separators::{after_word, word};
 use crate::word::Word;
@@ -31,7 +33,7 @@ pub fn put_target(out: &mut String, target: CallInstDest) -> Result<(), AllocErr
 pub fn target(w: &[u8]) -> CallInstDest
     ensures { result ≡ call_target_of w.now }
 {
-    if first(w) == b'%' {
+    if first_byte(w) == b'%' {
         CallInstDest::Indirect { reg: reg(w) }
     } else {
         CallInstDest::Direct { name: name(w) }
@@ -83,7 +85,7 @@ impl Element for ArgPair {
 
     fn read(s: &[u8]) -> ArgPair {
         ArgPair {
-            vreg: written(word(s)),
+            vreg: written_reg(word(s)),
             preg: reg(word(after_word(s))),
         }
     }
@@ -193,7 +195,7 @@ impl Element for CallRetPair {
 
     fn read(s: &[u8]) -> CallRetPair {
         CallRetPair {
-            vreg: written(word(s)),
+            vreg: written_reg(word(s)),
             location: location(after_word(s)),
         }
     }

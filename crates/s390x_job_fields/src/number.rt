@@ -100,11 +100,11 @@ pub fn natural64(s: &[u8]) -> u64
 }
 
 /// A number with a sign, at least `-limit` and below `limit`.
-pub fn signed(s: &[u8], limit: u64) -> i64
+pub fn signed_number(s: &[u8], limit: u64) -> i64
     requires { limit ≤ 2 ^ 63 }
     ensures { result ≡ signed_below limit s.now }
 {
-    if first(s) == b'-' {
+    if first_byte(s) == b'-' {
         let m = natural(tail(s, 1));
         if 0 < m && m <= limit {
             -((m - 1) as i64) - 1
@@ -121,14 +121,14 @@ pub fn signed(s: &[u8], limit: u64) -> i64
 pub fn integer8(s: &[u8]) -> i8
     ensures { result ≡ integer_of S8 s.now }
 {
-    signed(s, 1 << 7) as i8
+    signed_number(s, 1 << 7) as i8
 }
 
 /// The number of 16 bits with a sign that a word writes; 0 where it writes none.
 pub fn integer16(s: &[u8]) -> i16
     ensures { result ≡ integer_of S16 s.now }
 {
-    signed(s, 1 << 15) as i16
+    signed_number(s, 1 << 15) as i16
 }
 
 /// The number of 20 bits with a sign that a word writes; 0 where it writes none.
@@ -137,26 +137,26 @@ pub fn integer20(s: &[u8]) -> i64
     ensures least { negsuc 524287 ≤ℤ result }
     ensures greatest { result ≤ℤ pos 524287 }
 {
-    signed(s, 1 << 19)
+    signed_number(s, 1 << 19)
 }
 
 /// The number of 32 bits with a sign that a word writes; 0 where it writes none.
 pub fn integer32(s: &[u8]) -> i32
     ensures { result ≡ integer_of S32 s.now }
 {
-    signed(s, 1 << 31) as i32
+    signed_number(s, 1 << 31) as i32
 }
 
 /// The number of 64 bits with a sign that a word writes; 0 where it writes none.
 pub fn integer64(s: &[u8]) -> i64
     ensures { result ≡ integer_of S64 s.now }
 {
-    signed(s, 1 << 63)
+    signed_number(s, 1 << 63)
 }
 
 /// The first byte, or 0.
 #[inline(always)]
-pub fn first(s: &[u8]) -> u8
+pub fn first_byte(s: &[u8]) -> u8
     ensures { result ≡ slice_index s.now 0 }
 {
     if s.is_empty() { 0 } else { s[0] }

@@ -13,7 +13,7 @@ ghost use Rattle.s390x_job_fields.specs.Calls.{call_target_of, reloc_of, call_re
 ghost use Rattle.s390x_job_fields.specs.Bytes.{bytes_of_text, value_of, facilities_of};
 ghost use Rattle.s390x_job_fields.specs.Fields.{option_of};
 
-use crate::atoms::{cond, name, real, reg, trap, truth, written};
+use crate::atoms::{cond, name, real, reg, trap, truth, written_reg};
 use crate::bytes::{bytes, facilities};
 use crate::calls::{handlers, reloc, target};
 use crate::cursor::Cursor;
@@ -49,11 +49,11 @@ impl<'a> Cursor<'a> {
 
     /// The register of the next word, as one that is written.
     #[inline(always)]
-    pub fn written(&mut self) -> Writable<Reg>
+    pub fn written_reg(&mut self) -> Writable<Reg>
         ensures value { result ≡ reg_of (word self.old) }
         ensures after { self.new ≡ after_word self.old }
     {
-        written(self.word())
+        written_reg(self.word())
     }
 
     /// The real register of the next word.
@@ -306,8 +306,8 @@ impl<'a> Cursor<'a> {
             ≡ record { hi = reg_of (word self.old); lo = reg_of (word (after_word self.old)) } }
         ensures after { self.new ≡ after_word (after_word self.old) }
     {
-        let hi = self.written();
-        let lo = self.written();
+        let hi = self.written_reg();
+        let lo = self.written_reg();
         WritableRegPair { hi, lo }
     }
 

@@ -7,7 +7,7 @@ use Rattle.s390x_inst.specs.declared.state.IsaFlags.{IsaFlags}
 use Rattle.s390x_job_fields.specs.Bytes.{facility_text, facilities_text}
 use Rattle.s390x_job_lines.specs.Kinds.{integer_kinds, memory_kinds, control_kinds, vector_kinds, kinds}
 use Rattle.s390x_job_fields.specs.Fields.{Field, Kind, KFlags, FFlags, kind_of, spell, value_as, after_as}
-use Rattle.s390x_job_lines.specs.Line.{Line, spelled, line_text, AllFields, kinds_of, IsLine, line_fields_of, line_with, line_of}
+use Rattle.s390x_job_lines.specs.Line.{Line, fields_text, line_text, AllFields, kinds_of, IsLine, line_fields_of, line_with, line_of}
 use Rattle.s390x_job_lines.specs.declared.inst_name.IntegerName.{IntegerName}
 use Rattle.s390x_job_lines.specs.declared.inst_name.IntegerName.TheVariants as IntegerIs
 use Rattle.s390x_inst.specs.declared.load.LoadOp.{LoadOp}
@@ -121,29 +121,29 @@ spell_ends : (f : Field) (r : List ℕ) → Ends r → Ends (spell f ++ r)
 spell_ends (FFlags f) r h = flags_ends f r h
 spell_ends f r h = refl
 
-spelled_ends : (fs : List Field) → Ends (spelled fs)
+spelled_ends : (fs : List Field) → Ends (fields_text fs)
 spelled_ends [] = tt
-spelled_ends (f ∷ fs) = spell_ends f (spelled fs) (spelled_ends fs)
+spelled_ends (f ∷ fs) = spell_ends f (fields_text fs) (spelled_ends fs)
 
 rest_of : (f : Field) (r : List ℕ) → Ends r → (b : Bool) → (if is_facilities (kind_of f) then false else b) ≡ true → Rest f r × (b ≡ true)
 rest_of (FFlags f) r e b h = absurd cc
 rest_of f r e b h = (e, h)
 
-proper_rest : (f g : Field) (fs : List Field) → proper (kinds_of (f ∷ g ∷ fs)) ≡ true → Rest f (spelled (g ∷ fs)) × (proper (kinds_of (g ∷ fs)) ≡ true)
-proper_rest f g fs h = rest_of f (spelled (g ∷ fs)) (spelled_ends (g ∷ fs)) (proper (kinds_of (g ∷ fs))) h
+proper_rest : (f g : Field) (fs : List Field) → proper (kinds_of (f ∷ g ∷ fs)) ≡ true → Rest f (fields_text (g ∷ fs)) × (proper (kinds_of (g ∷ fs)) ≡ true)
+proper_rest f g fs h = rest_of f (fields_text (g ∷ fs)) (spelled_ends (g ∷ fs)) (proper (kinds_of (g ∷ fs))) h
 
 last_rest : (f : Field) → Rest f []
 last_rest (FFlags f) = refl
 last_rest f = tt
 
-fields_round_trip : (fs : List Field) → AllFields fs → proper (kinds_of fs) ≡ true → line_fields_of (kinds_of fs) (spelled fs) ≡ fs
+fields_round_trip : (fs : List Field) → AllFields fs → proper (kinds_of fs) ≡ true → line_fields_of (kinds_of fs) (fields_text fs) ≡ fs
 fields_round_trip [] h p = refl
 fields_round_trip (f ∷ []) h p = ap (λ x. x ∷ []) (field-round_trip f h.0 [] (last_rest f))
 fields_round_trip (f ∷ g ∷ fs) h p =
     let q = proper_rest f g fs p in
-    let v = field-round_trip f h.0 (spelled (g ∷ fs)) q.0 in
-    let a = field-after f h.0 (spelled (g ∷ fs)) q.0 in
-    ap (λ x. x ∷ line_fields_of (kinds_of (g ∷ fs)) (after_as (kind_of f) (spelled (f ∷ g ∷ fs)))) v
+    let v = field-round_trip f h.0 (fields_text (g ∷ fs)) q.0 in
+    let a = field-after f h.0 (fields_text (g ∷ fs)) q.0 in
+    ap (λ x. x ∷ line_fields_of (kinds_of (g ∷ fs)) (after_as (kind_of f) (fields_text (f ∷ g ∷ fs)))) v
     ∙ ap (λ t. f ∷ line_fields_of (kinds_of (g ∷ fs)) t) a
     ∙ ap (λ x. f ∷ x) (fields_round_trip (g ∷ fs) h.1 q.1)
 
@@ -154,22 +154,22 @@ pub line-round_trip : (l : Line) → IsLine l → line_of (line_text l) ≡ l
 unfolding line_make
 line-round_trip l h =
     let s = name-one_word l.name in
-    let f = front-is (name_text l.name) (spelled l.fields) s (spelled_ends l.fields) in
-    let b = back-is (name_text l.name) (spelled l.fields) s (spelled_ends l.fields) in
+    let f = front-is (name_text l.name) (fields_text l.fields) s (spelled_ends l.fields) in
+    let b = back-is (name_text l.name) (fields_text l.fields) s (spelled_ends l.fields) in
     let n = ap line_name_of f ∙ name-round_trip l.name in
     ap (λ m. line_with m (from_mark (line_text l))) n
     ∙ ap (λ t. line_with l.name t) b
-    ∙ ap (λ ks. line_make l.name (line_fields_of ks (spelled l.fields))) h.kinds_fit
+    ∙ ap (λ ks. line_make l.name (line_fields_of ks (fields_text l.fields))) h.kinds_fit
     ∙ ap (line_make l.name) (fields_round_trip l.fields h.fields_fit (subst (λ ks. proper ks ≡ true) h.kinds_fit (kinds_proper l.name)))
 
-fields_feed : (fs : List Field) → AllFields fs → Avoids (10 ∷ []) (spelled fs)
+fields_feed : (fs : List Field) → AllFields fs → Avoids (10 ∷ []) (fields_text fs)
 fields_feed [] h = tt
-fields_feed (f ∷ fs) h = Avoids-append (10 ∷ []) (spell f) (spelled fs) (field-feed f h.0) (fields_feed fs h.1)
+fields_feed (f ∷ fs) h = Avoids-append (10 ∷ []) (spell f) (fields_text fs) (field-feed f h.0) (fields_feed fs h.1)
 
 -- no line feed stands in a line
 pub line-feed : (l : Line) → IsLine l → Avoids (10 ∷ []) (line_text l)
 line-feed l h =
-    Avoids-append (10 ∷ []) (name_text l.name) (spelled l.fields) (Avoids-fewer marks (10 ∷ []) refl (name_text l.name) (name-one_word l.name)) (fields_feed l.fields h.fields_fit)
+    Avoids-append (10 ∷ []) (name_text l.name) (fields_text l.fields) (Avoids-fewer marks (10 ∷ []) refl (name_text l.name) (name-one_word l.name)) (fields_feed l.fields h.fields_fit)
 
 -- whatever is read is in its ranges
 read_fields : (ks : List Kind) (s : List ℕ) → AllFields (line_fields_of ks s)

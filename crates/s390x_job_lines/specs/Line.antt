@@ -12,13 +12,13 @@ pub record Line : Type 0 where
   pub fields : List Field
 
 -- the text of fields, one after another
-abbrev pub spelled : List Field → List ℕ
-spelled [] = []
-spelled (f ∷ fs) = spell f ++ spelled fs
+abbrev pub fields_text : List Field → List ℕ
+fields_text [] = []
+fields_text (f ∷ fs) = spell f ++ fields_text fs
 
 -- the text of a line, without a line feed
 abbrev pub line_text : Line → List ℕ
-line_text l = name_text l.name ++ spelled l.fields
+line_text l = name_text l.name ++ fields_text l.fields
 
 -- each field lies in its range
 abbrev pub AllFields : List Field → Type 0

@@ -25,4 +25,4 @@ pub use put_line::{line0, line1, line2};
 pub use read_control::control;
 pub use read_integer::integer;
 pub use read_memory::{load, memory, store};
-pub use read_vector::{vector, whole};
+pub use read_vector::{vector, whole_register};

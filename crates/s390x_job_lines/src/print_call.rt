@@ -3,7 +3,7 @@ ghost use Rattle.std.specs.Prelude.{◌≡◌, ◌++◌, ◌∷◌, [], OnOk, st
 ghost use Rattle.s390x_job_fields.specs.Numbers.{W32};
 ghost use Rattle.s390x_job_fields.specs.Calls.{try_part};
 ghost use Rattle.s390x_job_fields.specs.Fields.{FNatural, FConvention, FTry, FBool, FOption};
-ghost use Rattle.s390x_job_lines.specs.Line.{line_text, spelled};
+ghost use Rattle.s390x_job_lines.specs.Line.{line_text, fields_text};
 ghost use Rattle.s390x_job_lines.specs.Instructions.{inst_line};
 
 use crate::inst_name::ControlName;
@@ -39,7 +39,7 @@ fn put_conventions(alloc: Global, out: &mut String, info: &CallInfo) -> Result<(
     ensures { OnOk result
         (string_bytes out.new
         ≡ string_bytes out.old
-        ++ spelled
+        ++ fields_text
         (FNatural W32 info.now.callee_pop_size ∷ FConvention info.now.caller_conv
         ∷ FConvention info.now.callee_conv ∷ FTry (try_part info.now.try_call_info)
         ∷ FBool info.now.patchable ∷ FOption W32 info.now.stack_map ∷ [])) }

@@ -13,7 +13,7 @@ use std::alloc::{AllocError, Global};
 fn call(alloc: Global, c: &mut Cursor) -> Result<Inst, AllocError>
     ensures { IfOk result (λ i. inst_line i ≡ line_with (LineName.Control ControlName.Call) c.old) }
 {
-    let link = c.written();
+    let link = c.written_reg();
     let dest = c.target();
     let uses = c.uses(alloc)?;
     let defs = c.defs(alloc)?;

@@ -21,7 +21,7 @@ pub fn memory(name: MemoryName, c: &mut Cursor) -> Inst
 pub fn load(op: LoadOp, c: &mut Cursor) -> Inst
     ensures { inst_line result ≡ line_with (LineName.Load op) c.old }
 {
-    let rd = c.written();
+    let rd = c.written_reg();
     let mem = c.memory();
     op.instruction(rd, mem)
 }

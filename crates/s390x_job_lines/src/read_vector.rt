@@ -18,7 +18,7 @@ pub fn vector(name: VectorName, c: &mut Cursor) -> VecInst
 
 /// The load or the store of a whole vector register, whose fields come next.
 #[tactic(auto, using(crate::proofs::AccessLines::is_whole_line))]
-pub fn whole(direction: Direction, layout: WholeLayout, c: &mut Cursor) -> VecInst
+pub fn whole_register(direction: Direction, layout: WholeLayout, c: &mut Cursor) -> VecInst
     ensures { vector_line result ≡ line_with (LineName.Whole direction layout) c.old }
 {
     let rd = c.reg();

@@ -5,15 +5,15 @@
 macro_rules! integer_table {
     ($walk:ident, $($with:tt)*) => {
         $walk! { ($($with)*)
-            AluRRR { alu_op: alu, rd: written, rn: reg, rm: reg }
-            AluRRSImm16 { alu_op: alu, rd: written, rn: reg, imm: i16 }
-            AluRR { alu_op: alu, rd: written, ri: reg, rm: reg }
-            AluRX { alu_op: alu, rd: written, ri: reg, mem: memory }
-            AluRSImm16 { alu_op: alu, rd: written, ri: reg, imm: i16 }
-            AluRSImm32 { alu_op: alu, rd: written, ri: reg, imm: i32 }
-            AluRUImm32 { alu_op: alu, rd: written, ri: reg, imm: u32 }
-            AluRUImm16Shifted { alu_op: alu, rd: written, ri: reg, imm: shifted16 }
-            AluRUImm32Shifted { alu_op: alu, rd: written, ri: reg, imm: shifted32 }
+            AluRRR { alu_op: alu, rd: written_reg, rn: reg, rm: reg }
+            AluRRSImm16 { alu_op: alu, rd: written_reg, rn: reg, imm: i16 }
+            AluRR { alu_op: alu, rd: written_reg, ri: reg, rm: reg }
+            AluRX { alu_op: alu, rd: written_reg, ri: reg, mem: memory }
+            AluRSImm16 { alu_op: alu, rd: written_reg, ri: reg, imm: i16 }
+            AluRSImm32 { alu_op: alu, rd: written_reg, ri: reg, imm: i32 }
+            AluRUImm32 { alu_op: alu, rd: written_reg, ri: reg, imm: u32 }
+            AluRUImm16Shifted { alu_op: alu, rd: written_reg, ri: reg, imm: shifted16 }
+            AluRUImm32Shifted { alu_op: alu, rd: written_reg, ri: reg, imm: shifted32 }
             SMulWide { rd: written_pair, rn: reg, rm: reg }
             UMulWide { rd: written_pair, ri: reg, rn: reg }
             SDivMod32 { rd: written_pair, ri: reg, rn: reg }
@@ -21,10 +21,10 @@ macro_rules! integer_table {
             UDivMod32 { rd: written_pair, ri: pair, rn: reg }
             UDivMod64 { rd: written_pair, ri: pair, rn: reg }
             Flogr { rd: written_pair, rn: reg }
-            ShiftRR { shift_op: shift_op, rd: written, rn: reg, shift_imm: u8, shift_reg: reg }
-            RxSBG { op: rxsbg, rd: written, ri: reg, rn: reg, start_bit: u8, end_bit: u8, rotate_amt: i8 }
+            ShiftRR { shift_op: shift_op, rd: written_reg, rn: reg, shift_imm: u8, shift_reg: reg }
+            RxSBG { op: rxsbg, rd: written_reg, ri: reg, rn: reg, start_bit: u8, end_bit: u8, rotate_amt: i8 }
             RxSBGTest { op: rxsbg, rd: reg, rn: reg, start_bit: u8, end_bit: u8, rotate_amt: i8 }
-            UnaryRR { op: unary, rd: written, rn: reg }
+            UnaryRR { op: unary, rd: written_reg, rn: reg }
             CmpRR { op: cmp, rn: reg, rm: reg }
             CmpRX { op: cmp, rn: reg, mem: memory }
             CmpRSImm16 { op: cmp, rn: reg, imm: i16 }
@@ -33,24 +33,24 @@ macro_rules! integer_table {
             CmpTrapRR { op: cmp, rn: reg, rm: reg, cond: cond, trap_code: trap }
             CmpTrapRSImm16 { op: cmp, rn: reg, imm: i16, cond: cond, trap_code: trap }
             CmpTrapRUImm16 { op: cmp, rn: reg, imm: u16, cond: cond, trap_code: trap }
-            Mov64 { rd: written, rm: reg }
-            MovPReg { rd: written, rm: real }
-            Mov32 { rd: written, rm: reg }
-            Mov32Imm { rd: written, imm: u32 }
-            Mov32SImm16 { rd: written, imm: i16 }
-            Mov64SImm16 { rd: written, imm: i16 }
-            Mov64SImm32 { rd: written, imm: i32 }
-            Mov64UImm16Shifted { rd: written, imm: shifted16 }
-            Mov64UImm32Shifted { rd: written, imm: shifted32 }
-            Insert64UImm16Shifted { rd: written, ri: reg, imm: shifted16 }
-            Insert64UImm32Shifted { rd: written, ri: reg, imm: shifted32 }
-            CMov32 { rd: written, cond: cond, ri: reg, rm: reg }
-            CMov64 { rd: written, cond: cond, ri: reg, rm: reg }
-            CMov32SImm16 { rd: written, cond: cond, ri: reg, imm: i16 }
-            CMov64SImm16 { rd: written, cond: cond, ri: reg, imm: i16 }
-            Extend { rd: written, rn: reg, signed: truth, from_bits: u8, to_bits: u8 }
-            LoadAR { rd: written, ar: u8 }
-            InsertAR { rd: written, ri: reg, ar: u8 }
+            Mov64 { rd: written_reg, rm: reg }
+            MovPReg { rd: written_reg, rm: real }
+            Mov32 { rd: written_reg, rm: reg }
+            Mov32Imm { rd: written_reg, imm: u32 }
+            Mov32SImm16 { rd: written_reg, imm: i16 }
+            Mov64SImm16 { rd: written_reg, imm: i16 }
+            Mov64SImm32 { rd: written_reg, imm: i32 }
+            Mov64UImm16Shifted { rd: written_reg, imm: shifted16 }
+            Mov64UImm32Shifted { rd: written_reg, imm: shifted32 }
+            Insert64UImm16Shifted { rd: written_reg, ri: reg, imm: shifted16 }
+            Insert64UImm32Shifted { rd: written_reg, ri: reg, imm: shifted32 }
+            CMov32 { rd: written_reg, cond: cond, ri: reg, rm: reg }
+            CMov64 { rd: written_reg, cond: cond, ri: reg, rm: reg }
+            CMov32SImm16 { rd: written_reg, cond: cond, ri: reg, imm: i16 }
+            CMov64SImm16 { rd: written_reg, cond: cond, ri: reg, imm: i16 }
+            Extend { rd: written_reg, rn: reg, signed: truth, from_bits: u8, to_bits: u8 }
+            LoadAR { rd: written_reg, ar: u8 }
+            InsertAR { rd: written_reg, ri: reg, ar: u8 }
         }
     };
 }
@@ -63,14 +63,14 @@ macro_rules! memory_table {
             StoreImm16 { imm: i16, mem: memory }
             StoreImm32SExt16 { imm: i16, mem: memory }
             StoreImm64SExt16 { imm: i16, mem: memory }
-            LoadMultiple64 { rt: written, rt2: written, mem: memory }
+            LoadMultiple64 { rt: written_reg, rt2: written_reg, mem: memory }
             StoreMultiple64 { rt: reg, rt2: reg, mem: memory }
-            LoadAddr { rd: written, mem: memory }
-            LoadIndexedAddr { rd: written, base: reg, index: reg, offset: displacement, size: u8 }
-            LoadLogicalIndexedAddr { rd: written, base: reg, index: reg, offset: displacement, size: u8 }
-            AtomicRmw { alu_op: alu, rd: written, rn: reg, mem: memory }
-            AtomicCas32 { rd: written, ri: reg, rn: reg, mem: memory }
-            AtomicCas64 { rd: written, ri: reg, rn: reg, mem: memory }
+            LoadAddr { rd: written_reg, mem: memory }
+            LoadIndexedAddr { rd: written_reg, base: reg, index: reg, offset: displacement, size: u8 }
+            LoadLogicalIndexedAddr { rd: written_reg, base: reg, index: reg, offset: displacement, size: u8 }
+            AtomicRmw { alu_op: alu, rd: written_reg, rn: reg, mem: memory }
+            AtomicCas32 { rd: written_reg, ri: reg, rn: reg, mem: memory }
+            AtomicCas64 { rd: written_reg, ri: reg, rn: reg, mem: memory }
         }
     };
 }
@@ -86,8 +86,8 @@ macro_rules! control_table {
             Ret { link: reg }
             CondBreak { cond: cond }
             AllocateArgs { size: u32 }
-            LoadSymbolReloc { rd: written, symbol_reloc: reloc }
-            LabelAddress { dst: written, label: label }
+            LoadSymbolReloc { rd: written_reg, symbol_reloc: reloc }
+            LabelAddress { dst: written_reg, label: label }
             DummyUse { reg: reg }
         }
     };
@@ -97,44 +97,44 @@ macro_rules! control_table {
 macro_rules! vector_table {
     ($walk:ident, $($with:tt)*) => {
         $walk! { ($($with)*)
-            VecRRR { op: vec_binary, rd: written, rn: reg, rm: reg }
-            VecRR { op: vec_unary, rd: written, rn: reg }
-            VecShiftRR { shift_op: vec_shift_op, rd: written, rn: reg, shift_imm: u8, shift_reg: reg }
-            VecSelect { rd: written, rn: reg, rm: reg, ra: reg }
-            VecPermute { rd: written, rn: reg, rm: reg, ra: reg }
-            VecBlend { rd: written, rn: reg, rm: reg, ra: reg }
-            VecEvaluate { imm: u8, rd: written, rn: reg, rm: reg, ra: reg }
-            VecPermuteDWImm { rd: written, rn: reg, rm: reg, idx1: u8, idx2: u8 }
-            VecIntCmp { op: vec_compare, rd: written, rn: reg, rm: reg }
-            VecIntCmpS { op: vec_compare, rd: written, rn: reg, rm: reg }
+            VecRRR { op: vec_binary, rd: written_reg, rn: reg, rm: reg }
+            VecRR { op: vec_unary, rd: written_reg, rn: reg }
+            VecShiftRR { shift_op: vec_shift_op, rd: written_reg, rn: reg, shift_imm: u8, shift_reg: reg }
+            VecSelect { rd: written_reg, rn: reg, rm: reg, ra: reg }
+            VecPermute { rd: written_reg, rn: reg, rm: reg, ra: reg }
+            VecBlend { rd: written_reg, rn: reg, rm: reg, ra: reg }
+            VecEvaluate { imm: u8, rd: written_reg, rn: reg, rm: reg, ra: reg }
+            VecPermuteDWImm { rd: written_reg, rn: reg, rm: reg, idx1: u8, idx2: u8 }
+            VecIntCmp { op: vec_compare, rd: written_reg, rn: reg, rm: reg }
+            VecIntCmpS { op: vec_compare, rd: written_reg, rn: reg, rm: reg }
             VecIntEltCmp { op: vec_element_compare, rn: reg, rm: reg }
-            VecInt128SCmpHi { tmp: written, rn: reg, rm: reg }
-            VecInt128UCmpHi { tmp: written, rn: reg, rm: reg }
-            VecLoadReplicate { size: u32, rd: written, mem: memory }
-            VecLoadReplicateRev { size: u32, rd: written, mem: memory }
-            VecLoadLane { size: u32, rd: written, ri: reg, mem: memory, lane_imm: u8 }
-            VecLoadLaneRev { size: u32, rd: written, ri: reg, mem: memory, lane_imm: u8 }
-            VecLoadLaneUndef { size: u32, rd: written, mem: memory, lane_imm: u8 }
-            VecLoadLaneRevUndef { size: u32, rd: written, mem: memory, lane_imm: u8 }
+            VecInt128SCmpHi { tmp: written_reg, rn: reg, rm: reg }
+            VecInt128UCmpHi { tmp: written_reg, rn: reg, rm: reg }
+            VecLoadReplicate { size: u32, rd: written_reg, mem: memory }
+            VecLoadReplicateRev { size: u32, rd: written_reg, mem: memory }
+            VecLoadLane { size: u32, rd: written_reg, ri: reg, mem: memory, lane_imm: u8 }
+            VecLoadLaneRev { size: u32, rd: written_reg, ri: reg, mem: memory, lane_imm: u8 }
+            VecLoadLaneUndef { size: u32, rd: written_reg, mem: memory, lane_imm: u8 }
+            VecLoadLaneRevUndef { size: u32, rd: written_reg, mem: memory, lane_imm: u8 }
             VecStoreLane { size: u32, rd: reg, mem: memory, lane_imm: u8 }
             VecStoreLaneRev { size: u32, rd: reg, mem: memory, lane_imm: u8 }
-            VecMov { rd: written, rn: reg }
-            FpuMove32 { rd: written, rn: reg }
-            FpuMove64 { rd: written, rn: reg }
-            FpuCMov32 { rd: written, cond: cond, ri: reg, rm: reg }
-            FpuCMov64 { rd: written, cond: cond, ri: reg, rm: reg }
-            VecCMov { rd: written, cond: cond, ri: reg, rm: reg }
-            MovToVec128 { rd: written, rn: reg, rm: reg }
-            VecImmByteMask { rd: written, mask: u16 }
-            VecImmBitMask { size: u32, rd: written, start_bit: u8, end_bit: u8 }
-            VecImmReplicate { size: u32, rd: written, imm: i16 }
-            VecInsertLane { size: u32, rd: written, ri: reg, rn: reg, lane_imm: u8, lane_reg: reg }
-            VecInsertLaneUndef { size: u32, rd: written, rn: reg, lane_imm: u8, lane_reg: reg }
-            VecExtractLane { size: u32, rd: written, rn: reg, lane_imm: u8, lane_reg: reg }
-            VecInsertLaneImm { size: u32, rd: written, ri: reg, imm: i16, lane_imm: u8 }
-            VecInsertLaneImmUndef { size: u32, rd: written, imm: i16, lane_imm: u8 }
-            VecReplicateLane { size: u32, rd: written, rn: reg, lane_imm: u8 }
-            VecEltRev { lane_count: u64, rd: written, rn: reg }
+            VecMov { rd: written_reg, rn: reg }
+            FpuMove32 { rd: written_reg, rn: reg }
+            FpuMove64 { rd: written_reg, rn: reg }
+            FpuCMov32 { rd: written_reg, cond: cond, ri: reg, rm: reg }
+            FpuCMov64 { rd: written_reg, cond: cond, ri: reg, rm: reg }
+            VecCMov { rd: written_reg, cond: cond, ri: reg, rm: reg }
+            MovToVec128 { rd: written_reg, rn: reg, rm: reg }
+            VecImmByteMask { rd: written_reg, mask: u16 }
+            VecImmBitMask { size: u32, rd: written_reg, start_bit: u8, end_bit: u8 }
+            VecImmReplicate { size: u32, rd: written_reg, imm: i16 }
+            VecInsertLane { size: u32, rd: written_reg, ri: reg, rn: reg, lane_imm: u8, lane_reg: reg }
+            VecInsertLaneUndef { size: u32, rd: written_reg, rn: reg, lane_imm: u8, lane_reg: reg }
+            VecExtractLane { size: u32, rd: written_reg, rn: reg, lane_imm: u8, lane_reg: reg }
+            VecInsertLaneImm { size: u32, rd: written_reg, ri: reg, imm: i16, lane_imm: u8 }
+            VecInsertLaneImmUndef { size: u32, rd: written_reg, imm: i16, lane_imm: u8 }
+            VecReplicateLane { size: u32, rd: written_reg, rn: reg, lane_imm: u8 }
+            VecEltRev { lane_count: u64, rd: written_reg, rn: reg }
         }
     };
 }

@@ -15,12 +15,12 @@ use Rattle.s390x_job_fields.specs.Numbers.{W32}
 use Rattle.s390x_job_fields.specs.Fields.{FBytes, FNatural}
 use Rattle.s390x_job_lines.specs.Line.{Line}
 use Rattle.s390x_job_lines.specs.declared.name.LineName.TheVariants as N
-use Rattle.s390x_job.specs.Grammar.{AtEnd, Header, Place, Within, class, next, run}
+use Rattle.s390x_job.specs.Grammar.{AtEnd, Header, Place, Within, class, next_place, run}
 use Rattle.s390x_job.specs.Items.{block_line, constant_line, end_line, memory_line, symbol_line}
 use Rattle.s390x_job.specs.Jobs.{AllLines, IsJob, blocks_lines, flags_lines, frame_lines, head_lines, inst_lines, insts_lines, job_lines, registers_lines}
 use Rattle.s390x_job.specs.declared.job.Job.{Job}
 use Rattle.s390x_job.proofs.Whole.{run_append}
-use Rattle.s390x_assign.specs.Assignments.{assigned}
+use Rattle.s390x_assign.specs.Assignments.{assigned_portions}
 use Rattle.s390x_alloc.specs.Answered.{IsAnswered, constant_value}
 use Rattle.s390x_alloc.specs.Answers.{blocks_answer, edits_portions}
 use Rattle.s390x_alloc.specs.Moves.{copy_of, load_of, move_portions, store_of}
@@ -91,10 +91,10 @@ move_run (Slot n) (Slot m) = refl
 given_lines : (i : Inst) (ps : List Portion) → portions i ≡ ps → inst_lines i ≡ map portion_line ps
 given_lines i ps e = tree_lines i ∙ ap (map portion_line) e
 
-step_all : (i : Inst) (regs : List Reg) → AllLines (inst_lines i) → AllItems IsReg regs → AllLines (map portion_line (assigned (portions i) regs).0)
-step_all i regs h k = from_portions (assigned (portions i) regs).0 (assigned_lines (portions i) regs (to_portions (portions i) (subst AllLines (tree_lines i) h)) k)
+step_all : (i : Inst) (regs : List Reg) → AllLines (inst_lines i) → AllItems IsReg regs → AllLines (map portion_line (assigned_portions (portions i) regs).0)
+step_all i regs h k = from_portions (assigned_portions (portions i) regs).0 (assigned_lines (portions i) regs (to_portions (portions i) (subst AllLines (tree_lines i) h)) k)
 
-step_run : (i : Inst) (regs : List Reg) (o : Option Place) → run o (map portion_line (assigned (portions i) regs).0) ≡ run o (inst_lines i)
+step_run : (i : Inst) (regs : List Reg) (o : Option Place) → run o (map portion_line (assigned_portions (portions i) regs).0) ≡ run o (inst_lines i)
 step_run i regs o = assigned_run (portions i) regs o ∙ ap (run o) (sym (tree_lines i))
 
 head_is : {A : Type 0} {x y : A} {xs ys : List A} → x ∷ xs ≡ y ∷ ys → x ≡ y
@@ -112,7 +112,7 @@ edits_all (Move to from ∷ es) is (a ∷ ys) e h k =
 edits_all (Step regs ∷ es) [] (a ∷ ys) e h k =
     lines_append (inst_lines a) (insts_lines ys) (subst AllLines (sym (given_lines a [] (head_is e))) tt) (edits_all es [] ys (tail_is e) h.1 k)
 edits_all (Step regs ∷ es) (i ∷ is) (a ∷ ys) e h k =
-    lines_append (inst_lines a) (insts_lines ys) (subst AllLines (sym (given_lines a (assigned (portions i) regs.items).0 (head_is e))) (step_all i regs.items (lines_front (inst_lines i) (insts_lines is) k) h.0))
+    lines_append (inst_lines a) (insts_lines ys) (subst AllLines (sym (given_lines a (assigned_portions (portions i) regs.items).0 (head_is e))) (step_all i regs.items (lines_front (inst_lines i) (insts_lines is) k) h.0))
     (edits_all es is ys (tail_is e) h.1 (lines_back (inst_lines i) (insts_lines is) k))
 
 -- one instruction, and the rest
@@ -133,7 +133,7 @@ edits_run (Move to from ∷ es) is (a ∷ ys) e k =
     then_run a ys (ap (run (Some (Within 0))) (given_lines a (move_portions to from) (head_is e)) ∙ move_run to from) (edits_run es is ys (tail_is e) k)
 edits_run (Step regs ∷ es) [] (a ∷ ys) e k = then_run a ys (ap (run (Some (Within 0))) (given_lines a [] (head_is e))) (edits_run es [] ys (tail_is e) k)
 edits_run (Step regs ∷ es) (i ∷ is) (a ∷ ys) e k =
-    then_run a ys (ap (run (Some (Within 0))) (given_lines a (assigned (portions i) regs.items).0 (head_is e)) ∙ step_run i regs.items (Some (Within 0)) ∙ first_run i is k) (edits_run es is ys (tail_is e) (rest_run i is k))
+    then_run a ys (ap (run (Some (Within 0))) (given_lines a (assigned_portions (portions i) regs.items).0 (head_is e)) ∙ step_run i regs.items (Some (Within 0)) ∙ first_run i is k) (edits_run es is ys (tail_is e) (rest_run i is k))
 
 -- ---- blocks
 
@@ -168,7 +168,7 @@ ends_at (Within zero) h = refl
 ends_at (Within (suc d)) h = absurd h
 ends_at AtEnd h = absurd h
 
-begins_at : (p : Place) → IsOpen p → next p (class block_line) ≡ Some (Within 0)
+begins_at : (p : Place) → IsOpen p → next_place p (class block_line) ≡ Some (Within 0)
 begins_at (Header rank bound) h = refl
 begins_at (Within zero) h = refl
 begins_at (Within (suc d)) h = absurd h

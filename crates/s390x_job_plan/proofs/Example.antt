@@ -4,7 +4,7 @@ use Rattle.std.proofs.lemmas.Fmt.{decimal_digit}
 use Rattle.s390x_base.specs.Registers.{general}
 use Rattle.s390x_base.specs.declared.regs.Reg.TheVariants.{Real, Virtual}
 use Rattle.s390x_base.specs.declared.regs.RegClass.TheVariants.{Int}
-use Rattle.s390x_job.specs.Completions.{joined}
+use Rattle.s390x_job.specs.Completions.{text_of_lines}
 use Rattle.s390x_job.specs.Items.{end_line}
 use Rattle.s390x_job.specs.Jobs.{IsJob, blocks_lines, job_lines, lines_text, text_of_job}
 use Rattle.s390x_job.specs.declared.job.Job.{Job}
@@ -48,7 +48,7 @@ pub some_lines_are_text : SomeLinesAreText
 unfolding vec plan
 some_lines_are_text =
     let job_text : text_of_job empty_job ≡ lines_text (end_line ∷ []) = ap lines_text empty_lines in
-    (record { job = empty_job; plan = plan }, (is_job, (tt, (tt, ((omega arith, omega arith), ((omega arith, omega arith), ((omega arith, (omega arith, tt)), (tt, tt))))))), ap₂ (λ a b. a ++ b) job_text (ap joined plan_text))
+    (record { job = empty_job; plan = plan }, (is_job, (tt, (tt, ((omega arith, omega arith), ((omega arith, omega arith), ((omega arith, (omega arith, tt)), (tt, tt))))))), ap₂ (λ a b. a ++ b) job_text (ap text_of_lines plan_text))
 
 -- ---- no blocks
 
@@ -59,9 +59,9 @@ none_is : IsPlanned none
 unfolding vec none
 none_is = (is_job, (tt, (tt, tt)))
 
-none_spelled : text_of_planned none ≡ joined no_blocks
+none_spelled : text_of_planned none ≡ text_of_lines no_blocks
 unfolding vec none
-none_spelled = let job_text : text_of_job empty_job ≡ lines_text (end_line ∷ []) = ap lines_text empty_lines in ap (λ t. t ++ joined (drop 1 no_blocks)) job_text
+none_spelled = let job_text : text_of_job empty_job ≡ lines_text (end_line ∷ []) = ap lines_text empty_lines in ap (λ t. t ++ text_of_lines (drop 1 no_blocks)) job_text
 
 no_block : (head : List Line) (bs : List Block) → head ++ (blocks_lines bs ++ end_line ∷ []) ≡ end_line ∷ [] → bs ≡ []
 no_block head [] e = refl
@@ -72,7 +72,7 @@ no_plan : (bs : List BlockPlan) → plan_lines bs ≡ plan_lines [] → bs ≡ [
 no_plan [] e = refl
 no_plan (b ∷ bs) e = absurd (omega (arith, ap length e, length-append (plan_blocks_lines (b ∷ bs)) (Closing ∷ [])))
 
-same_none : (p : PlannedJob) → IsPlanned p → text_of_planned p ≡ joined no_blocks → SamePlanned p none
+same_none : (p : PlannedJob) → IsPlanned p → text_of_planned p ≡ text_of_lines no_blocks → SamePlanned p none
 same_none p is e = one_planned p none is none_is (e ∙ sym none_spelled)
 
 pub no_blocks_are_text : NoBlocksAreText

@@ -13,7 +13,7 @@ use Rattle.s390x_job_fields.specs.Lists.{AllItems}
 use Rattle.s390x_job_fields.specs.Memory.{IsMemory}
 use Rattle.s390x_job_lines.specs.Instructions.{inst_line}
 use Rattle.s390x_job_lines.specs.Line.{AllFields}
-use Rattle.s390x_described.specs.Instructions.{described}
+use Rattle.s390x_described.specs.Instructions.{description_of}
 use Rattle.s390x_described.specs.Roles.{Role, Written, Tied, Read, WrittenPair, LowRead, ReadPair, InMemory, Described, each_role}
 use Rattle.s390x_assign.specs.Assignments.{after, assigned_by, assigned_operator, assigned_role, dividend_at, memory_at, operand_at, pair_at, register_at}
 use Rattle.s390x_job_plan.specs.Registers.{register_fields, written_fields, paired_fields, read_fields, described_fields, other_fields}
@@ -180,9 +180,9 @@ described_given (Some d) s h k =
 
 pub operator_fields : (i : Inst) (s : List Reg) → AllFields (inst_line i).fields → Regs s → AllFields (inst_line (assigned_operator i s).0).fields × Regs (assigned_operator i s).1
 operator_fields i s h k =
-    let registers : AllFields (other_fields i ++ described_fields (described i)) = subst (λ fs. AllFields fs) (each_register i) (named (inst_line i).fields h) in
-    let q : AllFields (given_fields (described i) s) × Regs (left_by (described i) s) = described_given (described i) s (all_behind (other_fields i) (described_fields (described i)) registers) k in
-    let again : AllFields (other_fields i ++ given_fields (described i) s) = all_append (other_fields i) (given_fields (described i) s) (all_before (other_fields i) (described_fields (described i)) registers) q.0 in (
+    let registers : AllFields (other_fields i ++ described_fields (description_of i)) = subst (λ fs. AllFields fs) (each_register i) (named (inst_line i).fields h) in
+    let q : AllFields (given_fields (description_of i) s) × Regs (left_by (description_of i) s) = described_given (description_of i) s (all_behind (other_fields i) (described_fields (description_of i)) registers) k in
+    let again : AllFields (other_fields i ++ given_fields (description_of i) s) = all_append (other_fields i) (given_fields (description_of i) s) (all_before (other_fields i) (described_fields (description_of i)) registers) q.0 in (
       joined (inst_line (assigned_operator i s).0).fields (subst (λ fs. AllFields fs) (sym (given_registers i s)) again) (subst (λ fs. AllFields fs) (sym (plain_kept i s)) (plain (inst_line i).fields h)),
-      subst (λ t. Regs t) (sym (left_is (described i) i s)) q.1,
+      subst (λ t. Regs t) (sym (left_is (description_of i) i s)) q.1,
     )

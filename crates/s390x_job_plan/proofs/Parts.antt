@@ -1,7 +1,7 @@
 -- The lines of a planned job: those of the job up to its only `end`, and those of the plan.
 use Rattle.std.proofs.Common.{◌≡◌, ℕ, List, [], ◌∷◌, ◌++◌, map, sym, ap, ◌∙◌, append_assoc}
 use Rattle.std.specs.Prelude.{codes}
-use Rattle.s390x_job.specs.Completions.{joined, pieces}
+use Rattle.s390x_job.specs.Completions.{text_of_lines, pieces}
 use Rattle.s390x_job.specs.Jobs.{IsJob, text_of_job}
 use Rattle.s390x_job.specs.declared.job.Job.{Job}
 use Rattle.s390x_job.proofs.Whole.{one_job}
@@ -21,8 +21,8 @@ plan_words p = map line_text (plan_lines p.plan.blocks.items)
 abbrev pub planned_words : PlannedJob → List (List ℕ)
 planned_words p = words_of p.job ++ plan_words p
 
-pub planned_joined : (p : PlannedJob) → joined (planned_words p) ≡ text_of_planned p
-planned_joined p = joined_append (words_of p.job) (plan_words p) ∙ ap (λ t. t ++ joined (plan_words p)) (job_joined p.job)
+pub planned_joined : (p : PlannedJob) → text_of_lines (planned_words p) ≡ text_of_planned p
+planned_joined p = joined_append (words_of p.job) (plan_words p) ∙ ap (λ t. t ++ text_of_lines (plan_words p)) (job_joined p.job)
 
 pub planned_free : (p : PlannedJob) → IsPlanned p → AllFree (planned_words p)
 planned_free p h = free_append (words_of p.job) (plan_words p) (job_free p.job h.0) (lines_free (plan_lines p.plan.blocks.items) h.1)
@@ -56,5 +56,5 @@ pub one_planned : (p q : PlannedJob) → IsPlanned p → IsPlanned q → text_of
 one_planned p q a b e =
     let w = same_lines (planned_words p) (planned_words q) (planned_free p a) (planned_free q b) (planned_joined p ∙ e ∙ sym (planned_joined q)) in
     let c = parts_same p.job q.job (plan_words p) (plan_words q) a.0 b.0 w in
-    let texts : text_of_job p.job ≡ text_of_job q.job = sym (job_joined p.job) ∙ ap joined c.0 ∙ job_joined q.job in
+    let texts : text_of_job p.job ≡ text_of_job q.job = sym (job_joined p.job) ∙ ap text_of_lines c.0 ∙ job_joined q.job in
     (one_job p.job q.job a.0 b.0 texts, sym (lines_round_trip (plan_lines p.plan.blocks.items) a.1) ∙ ap (map line_of) c.1 ∙ lines_round_trip (plan_lines q.plan.blocks.items) b.1)

@@ -7,7 +7,7 @@ use Rattle.s390x_alloc.specs.declared.plan.Edit.TheVariants.{Move, Step}
 use Rattle.s390x_alloc.specs.declared.plan.EntryPair.{EntryPair}
 use Rattle.s390x_job_plan.specs.Errors.{FitsPlan, Follows, IsPlanStuckAt, IsRead, told_lines, stage_of, line_value}
 use Rattle.s390x_job_plan.specs.Lines.{Closing, Heading, IsLine, Opening, PlanLine, line_of, line_text}
-use Rattle.s390x_job_plan.specs.Order.{Stage, AtStart, Ahead, InEntry, InEdits, AtEnd, next, run}
+use Rattle.s390x_job_plan.specs.Order.{Stage, AtStart, Ahead, InEntry, InEdits, AtEnd, next_stage, run}
 use Rattle.s390x_job_plan.specs.Text.{AllLines, block_lines, blocks_lines, edit_line, pair_line, plan_lines}
 use Rattle.s390x_job_plan.specs.declared.progress.Progress.{Progress}
 use Rattle.s390x_job_plan.specs.declared.progress.Progress.TheVariants.{Start, Between, Entering, Editing, Done}
@@ -74,7 +74,7 @@ plan_run bs = blocks_run bs Ahead tt
 run_append : (o : Option Stage) (a b : List PlanLine) → run o (a ++ b) ≡ run (run o a) b
 run_append None a b = refl
 run_append (Some s) [] b = refl
-run_append (Some s) (l ∷ a) b = run_append (next s l) a b
+run_append (Some s) (l ∷ a) b = run_append (next_stage s l) a b
 
 -- ---- one block more
 
@@ -88,7 +88,7 @@ more_blocks bs cs b l e = ap (λ t. Heading ∷ (t ++ l ∷ [])) (ap blocks_line
 
 -- ---- a block with no edits
 
-same_next : (l : Line) → ((p : EntryPair) → l ≡ L.Entry p → ⊥) → next InEdits (line_value l) ≡ next InEntry (line_value l)
+same_next : (l : Line) → ((p : EntryPair) → l ≡ L.Entry p → ⊥) → next_stage InEdits (line_value l) ≡ next_stage InEntry (line_value l)
 same_next L.Plan h = refl
 same_next L.Block h = refl
 same_next (L.Entry p) h = absurd (h p refl)
@@ -145,7 +145,7 @@ read_value w l h = let r = lines_round_trip (line_value l ∷ []) (h.0, tt) in a
 
 pub no_place : (front : List (List ℕ)) (d : Progress) (w : List ℕ) (l : Line) → Told front d → IsRead w (Some l) → Follows d l None → (more : List (List ℕ)) → FitsPlan (front ++ w ∷ more) → ⊥
 no_place front d w l t read none more f =
-    let e : run None (map line_of more) ≡ Some AtEnd = ap (λ o. run o (map line_of more)) (sym none) ∙ ap (λ k. run (next (stage_of d) k) (map line_of more)) (sym (read_value w l read)) ∙ told_run front (w ∷ more) d t f in
+    let e : run None (map line_of more) ≡ Some AtEnd = ap (λ o. run o (map line_of more)) (sym none) ∙ ap (λ k. run (next_stage (stage_of d) k) (map line_of more)) (sym (read_value w l read)) ∙ told_run front (w ∷ more) d t f in
     absurd cc
 
 -- the first m lines, where one more than those in front is among them

@@ -28,7 +28,7 @@ use Rattle.s390x_job_lines.specs.Kinds.{kinds}
 use Rattle.s390x_job_lines.specs.Line.{AllFields, IsLine, Line, kinds_of}
 use Rattle.s390x_job_lines.specs.declared.inst_name.ControlName.TheVariants as ControlIs
 use Rattle.s390x_job_lines.specs.declared.name.LineName.TheVariants as N
-use Rattle.s390x_assign.specs.Assignments.{after_placed, argument_at, assigned, call_result_at, destination_at, each_at, incoming_at, outgoing_at, placed_at, portion_at, result_at}
+use Rattle.s390x_assign.specs.Assignments.{after_placed, argument_at, assigned_portions, call_result_at, destination_at, each_at, incoming_at, outgoing_at, placed_at, portion_at, result_at}
 use Rattle.s390x_job_plan.proofs.Fields.{Regs, at, dropped, given, left, operator_fields}
 
 -- where a call goes on, from its terms
@@ -162,7 +162,7 @@ portion_is_line : (p : Portion) → AllFields (portion_line p).fields → IsLine
 portion_is_line p h = record { kinds_fit = kinds_fit p; fields_fit = h }
 
 -- with registers in their ranges they stay lines
-pub assigned_lines : (ps : List Portion) (s : List Reg) → PortionLines ps → Regs s → PortionLines (assigned ps s).0
+pub assigned_lines : (ps : List Portion) (s : List Reg) → PortionLines ps → Regs s → PortionLines (assigned_portions ps s).0
 assigned_lines [] s h k = tt
 assigned_lines (p ∷ ps) s h k =
     let here = portion_fields p s h.0.fields_fit k in

@@ -5,7 +5,7 @@ use Rattle.s390x_inst.specs.declared.inst.Inst.{Inst}
 use Rattle.s390x_inst.specs.declared.inst.Inst.TheVariants as I
 use Rattle.s390x_inst.specs.declared.vec_inst.VecInst.{VecInst}
 use Rattle.s390x_inst.specs.declared.vec_inst.VecInst.TheVariants as V
-use Rattle.s390x_described.specs.Instructions.{described, described_vector}
+use Rattle.s390x_described.specs.Instructions.{description_of, described_vector}
 use Rattle.s390x_described.specs.Roles.{Described, each_role}
 use Rattle.s390x_job_fields.specs.Fields.{Field, FReg, FPair, FMemory}
 use Rattle.s390x_job_lines.specs.Instructions.{inst_line, vector_line}
@@ -17,7 +17,7 @@ vectors : (v : VecInst) → register_fields (vector_line v).fields ≡ role_fiel
 vectors (V.VecMov rd rn) = refl
 vectors v = refl
 
-pub each_register : (i : Inst) → register_fields (inst_line i).fields ≡ other_fields i ++ described_fields (described i)
+pub each_register : (i : Inst) → register_fields (inst_line i).fields ≡ other_fields i ++ described_fields (description_of i)
 each_register (I.Vector v) = vectors v
 each_register I.Fence = refl
 each_register i = refl
@@ -31,7 +31,7 @@ given_vectors : (v : VecInst) (s : List Reg) → register_fields (vector_line (a
 given_vectors (V.VecMov rd rn) s = refl
 given_vectors v s = refl
 
-pub given_registers : (i : Inst) (s : List Reg) → register_fields (inst_line (assigned_operator i s).0).fields ≡ other_fields i ++ given_fields (described i) s
+pub given_registers : (i : Inst) (s : List Reg) → register_fields (inst_line (assigned_operator i s).0).fields ≡ other_fields i ++ given_fields (description_of i) s
 given_registers (I.Vector v) s = given_vectors v s
 given_registers I.Fence s = refl
 given_registers i s = refl

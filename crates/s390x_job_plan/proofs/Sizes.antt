@@ -1,7 +1,7 @@
 -- How long a completion is.
 use Rattle.std.proofs.Common.{ℕ, ◌+◌, ◌*◌, ◌<◌, ◌≤◌, Bool, true, false, List, [], ◌∷◌, ◌++◌, length, arith, length-append}
 use Rattle.std.specs.Prelude.{codes, ◌-◌, if◌then◌else◌}
-use Rattle.s390x_job.specs.Completions.{closes, closing, joined, opens}
+use Rattle.s390x_job.specs.Completions.{closes, closing, text_of_lines, opens}
 use Rattle.s390x_job.proofs.Sizes.{closing_size, opens_few}
 use Rattle.s390x_job_plan.specs.Completions.{has_line, job_ending, line_ending, plan_completion}
 
@@ -19,7 +19,7 @@ line_ending_size l ws = one (has_line l ws)
     one true = omega arith
     one false = omega (arith, length-append l (10 ∷ []))
 
-pub completion_size : (ws : List (List ℕ)) → length (joined ws) < 268435456 → length (plan_completion ws) < 4294967295
+pub completion_size : (ws : List (List ℕ)) → length (text_of_lines ws) < 268435456 → length (plan_completion ws) < 4294967295
 completion_size ws h =
     let last = line_ending (codes "plan") ws ++ line_ending (codes "close") ws in
-    omega (arith, h, opens_few ws, job_ending_size ws, line_ending_size (codes "plan") ws, line_ending_size (codes "close") ws, length-append (joined ws) (job_ending ws ++ last), length-append (job_ending ws) last, length-append (line_ending (codes "plan") ws) (line_ending (codes "close") ws))
+    omega (arith, h, opens_few ws, job_ending_size ws, line_ending_size (codes "plan") ws, line_ending_size (codes "close") ws, length-append (text_of_lines ws) (job_ending ws ++ last), length-append (job_ending ws) last, length-append (line_ending (codes "plan") ws) (line_ending (codes "close") ws))

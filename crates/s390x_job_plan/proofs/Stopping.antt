@@ -5,7 +5,7 @@ use Rattle.std.specs.Str.{bytes_eq}
 use Rattle.std.proofs.lemmas.Bool.{cases_lt}
 use Rattle.std.proofs.lemmas.List.{append_cancel_left, take-append-drop, take-append-le}
 use Rattle.s390x_job_fields.proofs.Avoids.{Avoids-test}
-use Rattle.s390x_job.specs.Completions.{IsText, closes, closing, completion, ending, ends_job, joined, opens, pieces}
+use Rattle.s390x_job.specs.Completions.{IsText, closes, closing, completion, ending, ends_job, text_of_lines, opens, pieces}
 use Rattle.s390x_job.specs.Jobs.{IsJob, text_of_job}
 use Rattle.s390x_job.specs.declared.job.Job.{Job}
 use Rattle.s390x_alloc.specs.declared.plan.Plan.{Plan}
@@ -33,7 +33,7 @@ loop_ends (suc n) = codes "endloop" ∷ loop_ends n
 abbrev closers : ℕ → List (List ℕ)
 closers n = loop_ends n ++ codes "end" ∷ []
 
-closers_joined : (n : ℕ) → joined (closers n) ≡ closing n
+closers_joined : (n : ℕ) → text_of_lines (closers n) ≡ closing n
 closers_joined zero = refl
 closers_joined (suc n) = ap (λ t. codes "endloop" ++ (10 ∷ t)) (closers_joined n)
 
@@ -72,11 +72,11 @@ last_tail ws = line_tail (codes "plan") (has_line (codes "plan") ws) ++ line_tai
 abbrev tail_words : List (List ℕ) → List (List ℕ)
 tail_words ws = job_tail (has_line (codes "end") ws) (opens ws - closes ws) ++ last_tail ws
 
-job_tail_joined : (b : Bool) (n : ℕ) → joined (job_tail b n) ≡ (if b then [] else closing n)
+job_tail_joined : (b : Bool) (n : ℕ) → text_of_lines (job_tail b n) ≡ (if b then [] else closing n)
 job_tail_joined true n = refl
 job_tail_joined false n = closers_joined n
 
-line_tail_joined : (w : List ℕ) (b : Bool) → joined (line_tail w b) ≡ (if b then [] else w ++ 10 ∷ [])
+line_tail_joined : (w : List ℕ) (b : Bool) → text_of_lines (line_tail w b) ≡ (if b then [] else w ++ 10 ∷ [])
 line_tail_joined w true = refl
 line_tail_joined w false = refl
 
@@ -88,14 +88,14 @@ line_tail_free : (w : List ℕ) (b : Bool) → Free 10 w → AllFree (line_tail 
 line_tail_free w true h = tt
 line_tail_free w false h = (h, tt)
 
-completion_words : (ws : List (List ℕ)) → plan_completion ws ≡ joined (ws ++ tail_words ws)
+completion_words : (ws : List (List ℕ)) → plan_completion ws ≡ text_of_lines (ws ++ tail_words ws)
 completion_words ws =
     let j = job_tail (has_line (codes "end") ws) (opens ws - closes ws) in
     let p = line_tail (codes "plan") (has_line (codes "plan") ws) in
     let c = line_tail (codes "close") (has_line (codes "close") ws) in
-    let last : joined (p ++ c) ≡ line_ending (codes "plan") ws ++ line_ending (codes "close") ws =
+    let last : text_of_lines (p ++ c) ≡ line_ending (codes "plan") ws ++ line_ending (codes "close") ws =
     joined_append p c ∙ ap₂ (λ a b. a ++ b) (line_tail_joined (codes "plan") (has_line (codes "plan") ws)) (line_tail_joined (codes "close") (has_line (codes "close") ws)) in
-    sym (joined_append ws (j ++ (p ++ c)) ∙ ap (λ t. joined ws ++ t) (joined_append j (p ++ c) ∙ ap₂ (λ a b. a ++ b) (job_tail_joined (has_line (codes "end") ws) (opens ws - closes ws)) last))
+    sym (joined_append ws (j ++ (p ++ c)) ∙ ap (λ t. text_of_lines ws ++ t) (joined_append j (p ++ c) ∙ ap₂ (λ a b. a ++ b) (job_tail_joined (has_line (codes "end") ws) (opens ws - closes ws)) last))
 
 tail_free : (ws : List (List ℕ)) → AllFree (tail_words ws)
 tail_free ws =
@@ -120,11 +120,11 @@ fits_split ws f =
     sym f.2 ∙ ap (λ x. x ++ plan_words f.0) u.whole ∙ append_assoc u.before (codes "end" ∷ []) (plan_words f.0)
 
 -- lines up to an `end` are those of the job
-ended_text : (lines more : List (List ℕ)) (part : List ℕ) → HasNoEnd lines → part ≡ joined (lines ++ codes "end" ∷ []) → Fits (lines ++ codes "end" ∷ more) → IsText part
+ended_text : (lines more : List (List ℕ)) (part : List ℕ) → HasNoEnd lines → part ≡ text_of_lines (lines ++ codes "end" ∷ []) → Fits (lines ++ codes "end" ∷ more) → IsText part
 ended_text lines more part free is f =
     let u = job_ended f.0.job f.1.0 in
     let c = cut_at lines u.before more (plan_words f.0) free u.free (fits_split (lines ++ codes "end" ∷ more) f) in
-    (f.0.job, f.1.0, sym (job_joined f.0.job) ∙ ap joined (u.whole ∙ ap (λ x. x ++ codes "end" ∷ []) (sym c.0)) ∙ sym is)
+    (f.0.job, f.1.0, sym (job_joined f.0.job) ∙ ap text_of_lines (u.whole ∙ ap (λ x. x ++ codes "end" ∷ []) (sym c.0)) ∙ sym is)
 
 -- without an `end` there is no job
 lacking : (a b ws : List (List ℕ)) → HasNoEnd ws → ws ≡ a ++ codes "end" ∷ b → ⊥
@@ -156,7 +156,7 @@ closed_text ws free f =
     let c = cut_at front u.before (last_tail ws) (plan_words f.0) (no_end_append ws (loop_ends n) free (loop_ends_lack n)) u.free (sym l ∙ fits_split (ws ++ tail_words ws) f) in
     let words : words_of f.0.job ≡ ws ++ closers n = u.whole ∙ ap (λ x. x ++ codes "end" ∷ []) (sym c.0) ∙ append_assoc ws (loop_ends n) (codes "end" ∷ []) in
     let ending_is : ending ws ≡ closing n = ap (λ t. if t then [] else closing n) (unended false ws refl free) in
-    (f.0.job, f.1.0, sym (job_joined f.0.job) ∙ ap joined words ∙ joined_append ws (closers n) ∙ ap (λ t. joined ws ++ t) (closers_joined n ∙ sym ending_is))
+    (f.0.job, f.1.0, sym (job_joined f.0.job) ∙ ap text_of_lines words ∙ joined_append ws (closers n) ∙ ap (λ t. text_of_lines ws ++ t) (closers_joined n ∙ sym ending_is))
 
 -- a beginning of a text that is no job's
 module _ (bytes : List ℕ) (size line : ℕ) (none : HasNoJob (take size bytes) line) where
@@ -207,7 +207,7 @@ module _ (bytes : List ℕ) (size : ℕ) (job : Job) (is : IsJob job) (part : te
   rest : List ℕ
   rest = drop size bytes
 
-  all_text : bytes ≡ joined (words_of job) ++ drop size bytes
+  all_text : bytes ≡ text_of_lines (words_of job) ++ drop size bytes
   all_text = sym (take-append-drop size bytes) ∙ ap (λ t. t ++ drop size bytes) (sym part ∙ sym (job_joined job))
 
   all_pieces : pieces bytes ≡ words_of job ++ pieces (drop size bytes)
@@ -232,20 +232,20 @@ module _ (bytes : List ℕ) (size : ℕ) (job : Job) (is : IsJob job) (part : te
             s.above k tail (omega (arith, h, ap length part_pieces)) (omega (arith, q, counted, ap length part_pieces)) (behind_job job (take k (pieces (drop size bytes)) ++ tail) is (subst Fits f (taken_fits bytes m t)));
       }
 
-  pub whole_plan : (plan : Plan) → IsPlanOutcome (pieces (drop size bytes)) (Whole plan) → joined (pieces (drop size bytes)) ≡ drop size bytes → IsPlannedOf bytes (record { job = job; plan = plan })
+  pub whole_plan : (plan : Plan) → IsPlanOutcome (pieces (drop size bytes)) (Whole plan) → text_of_lines (pieces (drop size bytes)) ≡ drop size bytes → IsPlannedOf bytes (record { job = job; plan = plan })
   whole_plan plan found all =
       let p : PlannedJob = record { job = job; plan = plan } in
-      let spelled : text_of_planned p ≡ bytes = ap₂ (λ a b. a ++ b) part (ap joined found.1 ∙ all) ∙ take-append-drop size bytes in
+      let spelled : text_of_planned p ≡ bytes = ap₂ (λ a b. a ++ b) part (ap text_of_lines found.1 ∙ all) ∙ take-append-drop size bytes in
       record { is = (is, found.0); spelled = spelled; one = λ q h e. one_planned p q (is, found.0) h (spelled ∙ sym e) }
 
-  pub stuck_rest : (joined (pieces (drop size bytes)) ≡ drop size bytes → ⊥) → IsStuckAt bytes (length (pieces (take size bytes)) + length (pieces (drop size bytes)))
+  pub stuck_rest : (text_of_lines (pieces (drop size bytes)) ≡ drop size bytes → ⊥) → IsStuckAt bytes (length (pieces (take size bytes)) + length (pieces (drop size bytes)))
   stuck_rest more =
       record {
         small = omega (arith, counted);
         none = λ t.
-            let whole : joined (pieces bytes) ≡ bytes = ap joined (sym (text_words bytes t)) ∙ planned_joined t.0 ∙ t.2 in
-            let split : joined (words_of job) ++ joined (pieces (drop size bytes)) ≡ joined (words_of job) ++ drop size bytes =
-            sym (joined_append (words_of job) (pieces (drop size bytes))) ∙ ap joined (sym all_pieces) ∙ whole ∙ all_text in
-            more (append_cancel_left (joined (words_of job)) (joined (pieces (drop size bytes))) (drop size bytes) split);
+            let whole : text_of_lines (pieces bytes) ≡ bytes = ap text_of_lines (sym (text_words bytes t)) ∙ planned_joined t.0 ∙ t.2 in
+            let split : text_of_lines (words_of job) ++ text_of_lines (pieces (drop size bytes)) ≡ text_of_lines (words_of job) ++ drop size bytes =
+            sym (joined_append (words_of job) (pieces (drop size bytes))) ∙ ap text_of_lines (sym all_pieces) ∙ whole ∙ all_text in
+            more (append_cancel_left (text_of_lines (words_of job)) (text_of_lines (pieces (drop size bytes))) (drop size bytes) split);
         above = λ m h q t. absurd (omega (arith, h, q, counted));
       }

@@ -10,11 +10,11 @@ use Rattle.s390x_inst.specs.declared.vec_inst.VecInst.{VecInst}
 use Rattle.s390x_inst.specs.declared.vec_inst.VecInst.TheVariants as V
 use Rattle.s390x_job_lines.specs.Instructions.{inst_line, vector_line}
 use Rattle.s390x_job_lines.specs.Line.{Line}
-use Rattle.s390x_job.specs.Grammar.{Instruction, Place, Within, class, next, run}
+use Rattle.s390x_job.specs.Grammar.{Instruction, Place, Within, class, next_place, run}
 use Rattle.s390x_job.specs.Items.{close_line, loop_line}
 use Rattle.s390x_job.specs.Jobs.{AllLines, inst_lines, insts_lines, row_lines}
 use Rattle.s390x_job.proofs.Whole.{either, run_append}
-use Rattle.s390x_assign.specs.Assignments.{assigned, assigned_operator, assigned_vector, portion_at}
+use Rattle.s390x_assign.specs.Assignments.{assigned_portions, assigned_operator, assigned_vector, portion_at}
 use Rattle.s390x_job_plan.proofs.PortionLines.{PortionLines, first_line, portion_line}
 
 mutual
@@ -82,13 +82,13 @@ vector_class (V.VecRR op rd rn) = refl
 vector_class v = refl
 
 one_stays : (d : ℕ) (l : Line) → class l ≡ Instruction → Stays (Within d) (run (Some (Within d)) (l ∷ []))
-one_stays d l e = inr (ap (λ c. run (next (Within d) c) []) e)
+one_stays d l e = inr (ap (λ c. run (next_place (Within d) c) []) e)
 
 mutual
   pub tree_stays : (i : Inst) (d : ℕ) → Stays (Within d) (run (Some (Within d)) (inst_lines i))
   tree_stays (I.Loop' mask body members) d =
-      subst (Stays (Within d)) (sym (run_append (row_lines members) (next (Within d) (class (loop_line mask))) (close_line ∷ [])))
-      (opened d (row_lines members) (next (Within d) (class (loop_line mask))) refl (row_stays members (suc d)))
+      subst (Stays (Within d)) (sym (run_append (row_lines members) (next_place (Within d) (class (loop_line mask))) (close_line ∷ [])))
+      (opened d (row_lines members) (next_place (Within d) (class (loop_line mask))) refl (row_stays members (suc d)))
   tree_stays (I.Vector v) d = one_stays d (vector_line v) (vector_class v)
   tree_stays i d = inr refl
 
@@ -120,8 +120,8 @@ portion_class : (p : Portion) (s : List Reg) → class (portion_line (portion_at
 portion_class (plain i) s = operator_class i s
 portion_class p s = refl
 
-pub assigned_run : (ps : List Portion) (s : List Reg) (o : Option Place) → run o (map portion_line (assigned ps s).0) ≡ run o (map portion_line ps)
+pub assigned_run : (ps : List Portion) (s : List Reg) (o : Option Place) → run o (map portion_line (assigned_portions ps s).0) ≡ run o (map portion_line ps)
 assigned_run [] s o = refl
 assigned_run (p ∷ ps) s None = refl
 assigned_run (p ∷ ps) s (Some q) =
-    ap (λ c. run (next q c) (map portion_line (assigned ps (portion_at p s).1).0)) (portion_class p s) ∙ assigned_run ps (portion_at p s).1 (next q (class (portion_line p)))
+    ap (λ c. run (next_place q c) (map portion_line (assigned_portions ps (portion_at p s).1).0)) (portion_class p s) ∙ assigned_run ps (portion_at p s).1 (next_place q (class (portion_line p)))

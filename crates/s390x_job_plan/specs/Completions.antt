@@ -1,7 +1,7 @@
 -- The line that a syntax error names, by completions.
 use Rattle.std.specs.Prelude.{◌≡◌, ℕ, ◌-◌, Bool, true, false, List, [], ◌∷◌, ◌++◌, codes, if◌then◌else◌}
 use Rattle.std.specs.Str.{bytes_eq}
-use Rattle.s390x_job.specs.Completions.{IsFirstWrongLine, closes, closing, joined, opens}
+use Rattle.s390x_job.specs.Completions.{IsFirstWrongLine, closes, closing, text_of_lines, opens}
 use Rattle.s390x_job_plan.specs.Text.{IsPlanned, text_of_planned}
 use Rattle.s390x_job_plan.specs.declared.planned_job.PlannedJob.{PlannedJob}
 
@@ -20,7 +20,7 @@ line_ending l ws = if has_line l ws then [] else l ++ 10 ∷ []
 
 -- the text of lines, completed: by the end of the job, then a line `plan`, then a line `close`, each where none of the lines is one
 abbrev pub plan_completion : List (List ℕ) → List ℕ
-plan_completion ws = joined ws ++ (job_ending ws ++ (line_ending (codes "plan") ws ++ line_ending (codes "close") ws))
+plan_completion ws = text_of_lines ws ++ (job_ending ws ++ (line_ending (codes "plan") ws ++ line_ending (codes "close") ws))
 
 -- the bytes are the text of a planned job
 abbrev pub IsPlannedText : List ℕ → Type 0

@@ -15,7 +15,7 @@ use Rattle.s390x_job_plan.specs.declared.find.PlanOutcome.{PlanOutcome}
 use Rattle.s390x_job_plan.specs.declared.find.PlanOutcome.TheVariants as P
 use Rattle.s390x_job_plan.specs.declared.line.Line.{Line}
 use Rattle.s390x_job_plan.specs.declared.line.Line.TheVariants as L
-use Rattle.s390x_job_plan.specs.Order.{Stage, AtStart, Ahead, InEntry, InEdits, AtEnd, next}
+use Rattle.s390x_job_plan.specs.Order.{Stage, AtStart, Ahead, InEntry, InEdits, AtEnd, next_stage}
 
 -- what a line says
 abbrev pub line_value : Line → PlanLine
@@ -48,8 +48,8 @@ stage_of (Done blocks) = AtEnd
 
 -- what is told after one more line; none where the line may not stand there
 abbrev pub Follows : Progress → Line → Option Progress → Type 0
-Follows d l None = next (stage_of d) (line_value l) ≡ None
-Follows d l (Some e) = (next (stage_of d) (line_value l) ≡ Some (stage_of e)) × (told_lines e ≡ told_lines d ++ line_value l ∷ [])
+Follows d l None = next_stage (stage_of d) (line_value l) ≡ None
+Follows d l (Some e) = (next_stage (stage_of d) (line_value l) ≡ Some (stage_of e)) × (told_lines e ≡ told_lines d ++ line_value l ∷ [])
 
 -- the lines are those of a plan
 abbrev pub FitsPlan : List (List ℕ) → Type 0

@@ -11,27 +11,27 @@ pub data Stage : Type 0 where
   AtEnd : Stage
 
 -- the place after one more line
-abbrev pub next : Stage → PlanLine → Option Stage
-next AtStart Heading = Some Ahead
-next AtStart l = None
-next Ahead Opening = Some InEntry
-next Ahead Closing = Some AtEnd
-next Ahead l = None
-next InEntry Heading = None
-next InEntry Opening = Some InEntry
-next InEntry (Held place vreg) = Some InEntry
-next InEntry (Moving to from) = Some InEdits
-next InEntry (Stepping regs) = Some InEdits
-next InEntry Closing = Some AtEnd
-next InEdits Opening = Some InEntry
-next InEdits (Moving to from) = Some InEdits
-next InEdits (Stepping regs) = Some InEdits
-next InEdits Closing = Some AtEnd
-next InEdits l = None
-next AtEnd l = None
+abbrev pub next_stage : Stage → PlanLine → Option Stage
+next_stage AtStart Heading = Some Ahead
+next_stage AtStart l = None
+next_stage Ahead Opening = Some InEntry
+next_stage Ahead Closing = Some AtEnd
+next_stage Ahead l = None
+next_stage InEntry Heading = None
+next_stage InEntry Opening = Some InEntry
+next_stage InEntry (Held place vreg) = Some InEntry
+next_stage InEntry (Moving to from) = Some InEdits
+next_stage InEntry (Stepping regs) = Some InEdits
+next_stage InEntry Closing = Some AtEnd
+next_stage InEdits Opening = Some InEntry
+next_stage InEdits (Moving to from) = Some InEdits
+next_stage InEdits (Stepping regs) = Some InEdits
+next_stage InEdits Closing = Some AtEnd
+next_stage InEdits l = None
+next_stage AtEnd l = None
 
 -- the place after these lines
 abbrev pub run : Option Stage → List PlanLine → Option Stage
 run None ls = None
 run (Some s) [] = Some s
-run (Some s) (l ∷ ls) = run (next s l) ls
+run (Some s) (l ∷ ls) = run (next_stage s l) ls

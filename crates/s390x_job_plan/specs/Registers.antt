@@ -2,7 +2,7 @@
 use Rattle.std.specs.Prelude.{◌≡◌, List, [], ◌∷◌, ◌++◌, Option, Some, None}
 use Rattle.s390x_inst.specs.declared.inst.Inst.{Inst}
 use Rattle.s390x_inst.specs.declared.inst.Inst.TheVariants as I
-use Rattle.s390x_described.specs.Instructions.{described}
+use Rattle.s390x_described.specs.Instructions.{description_of}
 use Rattle.s390x_described.specs.Roles.{Role, Written, Tied, Read, WrittenPair, LowRead, ReadPair, InMemory, Described}
 use Rattle.s390x_job_fields.specs.Fields.{Field, FReg, FPair, FMemory}
 use Rattle.s390x_job_lines.specs.Instructions.{inst_line}
@@ -57,4 +57,4 @@ other_fields _ = []
 
 -- an instruction's line names the registers of its description, in the order of the fields, and no others but these
 abbrev pub DescriptionsNameEachRegister : Type 0
-DescriptionsNameEachRegister = (i : Inst) → register_fields (inst_line i).fields ≡ other_fields i ++ described_fields (described i)
+DescriptionsNameEachRegister = (i : Inst) → register_fields (inst_line i).fields ≡ other_fields i ++ described_fields (description_of i)

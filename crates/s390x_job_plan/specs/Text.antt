@@ -1,6 +1,6 @@
 -- The text of a planned job: a job, a line `plan`, the lines of each block's plan, and a line `close`.
 use Rattle.std.specs.Prelude.{◌≡◌, ℕ, List, [], ◌∷◌, ◌++◌, map}
-use Rattle.s390x_job.specs.Completions.{joined}
+use Rattle.s390x_job.specs.Completions.{text_of_lines}
 use Rattle.s390x_job.specs.Jobs.{IsJob, text_of_job}
 use Rattle.s390x_job.specs.Same.{SameJob}
 use Rattle.s390x_alloc.specs.declared.plan.BlockPlan.{BlockPlan}
@@ -34,7 +34,7 @@ AllLines [] = Unit {0}
 AllLines (l ∷ ls) = IsLine l × AllLines ls
 
 abbrev pub text_of_planned : PlannedJob → List ℕ
-text_of_planned p = text_of_job p.job ++ joined (map line_text (plan_lines p.plan.blocks.items))
+text_of_planned p = text_of_job p.job ++ text_of_lines (map line_text (plan_lines p.plan.blocks.items))
 
 -- the job keeps the order and the limits of jobs, and each place and register of the plan lies in its range
 abbrev pub IsPlanned : PlannedJob → Type 0

@@ -1,6 +1,6 @@
 //! Lines of a text, completed to the text of a planned job.
 ghost use Rattle.std.specs.Prelude.{◌≡◌, ◌++◌, IfOk, OnOk, map};
-ghost use Rattle.s390x_job.specs.Completions.{joined};
+ghost use Rattle.s390x_job.specs.Completions.{text_of_lines};
 ghost use Rattle.s390x_job_plan.specs.Completions.{has_line, job_ending, line_ending, plan_completion};
 
 use s390x_job::{count_closes, count_opens, put, put_closing, put_joined};
@@ -19,7 +19,7 @@ fn has_line(line: &[u8], ws: &[&[u8]]) -> bool
 
 /// The text of lines, each with its line feed.
 pub fn join(alloc: Global, ws: &[&[u8]]) -> Result<Vec<u8>, AllocError>
-    ensures { IfOk result (λ v. v.items ≡ joined (map (λ w. w.now) ws.now)) }
+    ensures { IfOk result (λ v. v.items ≡ text_of_lines (map (λ w. w.now) ws.now)) }
 {
     let mut out = Vec::new(alloc);
     put_joined(&mut out, ws)?;

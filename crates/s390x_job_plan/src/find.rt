@@ -1,6 +1,6 @@
 //! The planned job of a text.
 ghost use Rattle.std.specs.Prelude.{◌≡◌, ◌<◌, Decides, IfOk, length, map};
-ghost use Rattle.s390x_job.specs.Completions.{joined};
+ghost use Rattle.s390x_job.specs.Completions.{text_of_lines};
 ghost use Rattle.s390x_job_plan.specs.Errors.{IsParseOutcome, IsPlanOutcome};
 
 use crate::completeness::join;
@@ -49,7 +49,8 @@ pub fn find_plan(alloc: Global, lines: &[&[u8]]) -> Result<PlanOutcome, AllocErr
 
 // Whether the text ends with its last line.
 fn is_all(alloc: Global, lines: &[&[u8]], bytes: &[u8]) -> Result<bool, AllocError>
-    ensures { IfOk result (λ b. Decides b (joined (map (λ w. w.now) lines.now) ≡ bytes.now)) }
+    ensures { IfOk result
+        (λ b. Decides b (text_of_lines (map (λ w. w.now) lines.now) ≡ bytes.now)) }
 {
     let text = join(alloc, lines)?;
     Ok(text.as_slice() == bytes)

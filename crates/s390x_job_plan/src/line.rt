@@ -9,7 +9,7 @@ ghost use Rattle.s390x_job_plan.specs.Lines.{Stepping, line_of, line_text, place
 use s390x_alloc::{Edit, EntryPair, Place};
 use s390x_base::Reg;
 use s390x_job_fields::atoms::{put_real, put_reg, real, reg};
-use s390x_job_fields::number::{first, natural16, put, put_char, put_natural, tail};
+use s390x_job_fields::number::{first_byte, natural16, put, put_char, put_natural, tail};
 use s390x_job_fields::separators::{after_word, before, word};
 use std::alloc::{AllocError, Global};
 
@@ -121,7 +121,7 @@ pub fn put_line(out: &mut String, line: &Line) -> Result<(), AllocError>
 fn place(w: &[u8]) -> Place
     ensures { result ≡ place_of w.now }
 {
-    if first(w) == b's' {
+    if first_byte(w) == b's' {
         Place::Slot(u32::from(natural16(tail(w, 1))))
     } else {
         Place::Reg(real(w))
@@ -190,7 +190,7 @@ fn movement(w: &[u8]) -> Edit
 fn parse(alloc: Global, w: &[u8]) -> Result<Line, AllocError>
     ensures { IfOk result (λ l. line_value l ≡ line_of w.now) }
 {
-    match first(w) {
+    match first_byte(w) {
         b'p' => Ok(Line::Plan),
         b'b' => Ok(Line::Block),
         b'e' => Ok(Line::Entry(pair(w))),

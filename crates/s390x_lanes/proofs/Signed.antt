@@ -13,13 +13,13 @@ use Rattle.std.proofs.lemmas.Bool.Decides.{nat_tests}
 use Rattle.s390x_lanes.specs.declared.operators.Signedness.TheVariants.{Unsigned, Signed}
 use Rattle.s390x_lanes.specs.declared.operators.ShiftOperator.TheVariants.{ShiftRightArithmetic}
 use Rattle.s390x_lanes.specs.declared.operators.Division.TheVariants.{Quotient, Remainder}
-use Rattle.s390x_lanes.specs.Numbers.{element_number, wrapped, saturated}
-use Rattle.s390x_lanes.specs.Encoding.{biased, sign_extended, negated, magnitude, rounded_mean, shifted_right, saturated_bits, quotient_bits, remainder_bits}
-use Rattle.s390x_lanes.specs.Elements.{is_lower, average, element_shifted, divided, immediate}
+use Rattle.s390x_lanes.specs.Numbers.{element_number, wrapped_element, saturated_value}
+use Rattle.s390x_lanes.specs.Encoding.{biased_element, sign_extended, negation, magnitude, rounded_mean, shifted_right, saturated_bits, quotient_bits, remainder_bits}
+use Rattle.s390x_lanes.specs.Elements.{is_lower, average, element_shifted, division_result, immediate}
 use Rattle.s390x_lanes.proofs.Powers.{pow_step, pow_le}
 
 -- ---- order
-pub is_lower-biased : (w x y : ℕ) → 0 < w → x < 2 ^ w → y < 2 ^ w → nat_lt (biased w x) (biased w y) ≡ is_lower Signed w x y
+pub is_lower-biased : (w x y : ℕ) → 0 < w → x < 2 ^ w → y < 2 ^ w → nat_lt (biased_element w x) (biased_element w y) ≡ is_lower Signed w x y
 is_lower-biased w x y p hx hy = let e = pow_step w p in grind (arith, nat_tests)
 
 -- ---- an element and its number
@@ -30,11 +30,11 @@ high_number : (w x a : ℕ) → 2 ^ (w - 1) ≤ x → suc a + x ≡ 2 ^ w → el
 high_number w x a h e = grind (arith, nat_tests)
 
 -- the element that holds an element's number is that element
-pub wrapped-number : (w x : ℕ) → 0 < w → x < 2 ^ w → wrapped w (element_number Signed w x) ≡ x
+pub wrapped-number : (w x : ℕ) → 0 < w → x < 2 ^ w → wrapped_element w (element_number Signed w x) ≡ x
 wrapped-number w x p hx = let e = pow_step w p in grind (arith, nat_tests)
 
 -- a number k * 2 ^ v below m
-pub wrapped_below : (v k m : ℕ) (z : ℤ) → z +ℤ pos (k * 2 ^ v) ≡ pos m → wrapped v z ≡ m % 2 ^ v
+pub wrapped_below : (v k m : ℕ) (z : ℤ) → z +ℤ pos (k * 2 ^ v) ≡ pos m → wrapped_element v z ≡ m % 2 ^ v
 wrapped_below v k m z e = ap unsigned_abs (int_rem_euclid_is z (pos (2 ^ v)) (2 ^ v) k m (pow_pos v) refl e)
 
 -- ---- sign extension
@@ -46,16 +46,16 @@ number-sign_extended w v x p h hx =
 sign_extended_lt : (w v x : ℕ) → 0 < w → w ≤ v → x < 2 ^ w → sign_extended w v x < 2 ^ v
 sign_extended_lt w v x p h hx = let g = pow_le w v h in grind (arith, nat_tests)
 
-pub widened-signed : (w v x : ℕ) → 0 < w → w ≤ v → x < 2 ^ w → sign_extended w v x ≡ wrapped v (element_number Signed w x)
+pub widened-signed : (w v x : ℕ) → 0 < w → w ≤ v → x < 2 ^ w → sign_extended w v x ≡ wrapped_element v (element_number Signed w x)
 widened-signed w v x p h hx =
-    sym (wrapped-number v (sign_extended w v x) (omega arith) (sign_extended_lt w v x p h hx)) ∙ ap (wrapped v) (number-sign_extended w v x p h hx)
+    sym (wrapped-number v (sign_extended w v x) (omega arith) (sign_extended_lt w v x p h hx)) ∙ ap (wrapped_element v) (number-sign_extended w v x p h hx)
 
 -- ---- 0 - x
-pub wrapped-neg : (w q : ℕ) → q < 2 ^ w → negated w q ≡ wrapped w (neg_ℤ (pos q))
+pub wrapped-neg : (w q : ℕ) → q < 2 ^ w → negation w q ≡ wrapped_element w (neg_ℤ (pos q))
 wrapped-neg w zero h = let e = pow_pos w in let m : 0 % 2 ^ w ≡ 0 = mod-eq_of_lt e in grind (arith, nat_tests)
 wrapped-neg w (suc q) h = let m : q % 2 ^ w ≡ q = mod-eq_of_lt (omega arith) in grind (arith, nat_tests)
 
-neg_signed : (w q : ℕ) → q < 2 ^ w → wrapped w (neg_ℤ (pos q)) ≡ negated w q
+neg_signed : (w q : ℕ) → q < 2 ^ w → wrapped_element w (neg_ℤ (pos q)) ≡ negation w q
 neg_signed w q h = sym (wrapped-neg w q h)
 
 -- ---- absolute value
@@ -65,7 +65,7 @@ unsigned_abs-number w x p hx = let e = pow_step w p in grind (arith, nat_tests)
 magnitude_lt : (w x : ℕ) → x < 2 ^ w → magnitude w x < 2 ^ w
 magnitude_lt w x hx = let e = pow_pos (w - 1) in grind (arith, nat_tests)
 
-pub magnitude_is : (w x : ℕ) → 0 < w → x < 2 ^ w → magnitude w x ≡ wrapped w (pos (unsigned_abs (element_number Signed w x)))
+pub magnitude_is : (w x : ℕ) → 0 < w → x < 2 ^ w → magnitude w x ≡ wrapped_element w (pos (unsigned_abs (element_number Signed w x)))
 magnitude_is w x p hx = sym (mod-eq_of_lt (magnitude_lt w x hx)) ∙ ap (λ (n : ℕ). n % 2 ^ w) (sym (unsigned_abs-number w x p hx))
 
 -- ---- averages
@@ -80,34 +80,34 @@ half_of r s h k = by_sign r (s +ℤ pos 1) h (omega (arith, ints))
     by_sign (negsuc r) (negsuc t) h k = ap negsuc (omega (arith, ints))
 
 mean_above : (w x y : ℕ) → 0 < w → x < 2 ^ w → y < 2 ^ w →
-    let r = biased w (rounded_mean (biased w x) (biased w y)) in
+    let r = biased_element w (rounded_mean (biased_element w x) (biased_element w y)) in
     (element_number Signed w r +ℤ element_number Signed w r) ≤ℤ ((element_number Signed w x +ℤ element_number Signed w y) +ℤ pos 1)
 mean_above w x y p hx hy = let e = pow_step w p in grind (arith, ints, nat_tests)
 
 mean_below : (w x y : ℕ) → 0 < w → x < 2 ^ w → y < 2 ^ w →
-    let r = biased w (rounded_mean (biased w x) (biased w y)) in
+    let r = biased_element w (rounded_mean (biased_element w x) (biased_element w y)) in
     (element_number Signed w x +ℤ element_number Signed w y) ≤ℤ (element_number Signed w r +ℤ element_number Signed w r)
 mean_below w x y p hx hy = let e = pow_step w p in grind (arith, ints, nat_tests)
 
-biased_lt : (w x : ℕ) → 0 < w → x < 2 ^ w → biased w x < 2 ^ w
+biased_lt : (w x : ℕ) → 0 < w → x < 2 ^ w → biased_element w x < 2 ^ w
 biased_lt w x p hx = let e = pow_step w p in grind (arith, nat_tests)
 
 mean_lt : (n x y : ℕ) → x < n → y < n → rounded_mean x y < n
 mean_lt n x y h k = omega arith
 
-pub biased-mean : (w x y : ℕ) → 0 < w → x < 2 ^ w → y < 2 ^ w → biased w (rounded_mean (biased w x) (biased w y)) ≡ average Signed w x y
+pub biased-mean : (w x y : ℕ) → 0 < w → x < 2 ^ w → y < 2 ^ w → biased_element w (rounded_mean (biased_element w x) (biased_element w y)) ≡ average Signed w x y
 biased-mean w x y p hx hy =
-    let r : ℕ = biased w (rounded_mean (biased w x) (biased w y)) in
-    let b : r < 2 ^ w = biased_lt w (rounded_mean (biased w x) (biased w y)) p (mean_lt (2 ^ w) (biased w x) (biased w y) (biased_lt w x p hx) (biased_lt w y p hy)) in
-    sym (ap (wrapped w) (half_of (element_number Signed w r) (element_number Signed w x +ℤ element_number Signed w y) (mean_above w x y p hx hy) (mean_below w x y p hx hy)) ∙ wrapped-number w r p b)
+    let r : ℕ = biased_element w (rounded_mean (biased_element w x) (biased_element w y)) in
+    let b : r < 2 ^ w = biased_lt w (rounded_mean (biased_element w x) (biased_element w y)) p (mean_lt (2 ^ w) (biased_element w x) (biased_element w y) (biased_lt w x p hx) (biased_lt w y p hy)) in
+    sym (ap (wrapped_element w) (half_of (element_number Signed w r) (element_number Signed w x +ℤ element_number Signed w y) (mean_above w x y p hx hy) (mean_below w x y p hx hy)) ∙ wrapped-number w r p b)
 
 -- ---- shifts
-shifted_low : (w x k : ℕ) → x < 2 ^ (w - 1) → x < 2 ^ w → shifted_right w x k ≡ wrapped w (int_div_euclid (element_number Signed w x) (pos (2 ^ k)))
+shifted_low : (w x k : ℕ) → x < 2 ^ (w - 1) → x < 2 ^ w → shifted_right w x k ≡ wrapped_element w (int_div_euclid (element_number Signed w x) (pos (2 ^ k)))
 shifted_low w x k h hx =
     let b : x / 2 ^ k < 2 ^ w = omega (arith, shr_le x k) in
     rw (low_number w x h) (let s : shifted_right w x k ≡ x / 2 ^ k = grind (arith, nat_tests) in s ∙ sym (mod-eq_of_lt b))
 
-shifted_high : (w x k a : ℕ) → 2 ^ (w - 1) ≤ x → suc a + x ≡ 2 ^ w → shifted_right w x k ≡ wrapped w (int_div_euclid (element_number Signed w x) (pos (2 ^ k)))
+shifted_high : (w x k a : ℕ) → 2 ^ (w - 1) ≤ x → suc a + x ≡ 2 ^ w → shifted_right w x k ≡ wrapped_element w (int_div_euclid (element_number Signed w x) (pos (2 ^ k)))
 shifted_high w x k a h e =
     let b : a / 2 ^ k < 2 ^ w = omega (arith, shr_le a k) in
     let c : 2 ^ w - 1 - x ≡ a = omega arith in
@@ -121,7 +121,7 @@ shifted_right_is w x k hx = elim (cases_lt x (2 ^ (w - 1))) [
 ]
 
 -- ---- saturation
-saturated_number : (w x : ℕ) → 0 < w → x < 2 ^ (2 * w) → element_number Signed w (saturated_bits w x) ≡ saturated Signed w (element_number Signed (2 * w) x)
+saturated_number : (w x : ℕ) → 0 < w → x < 2 ^ (2 * w) → element_number Signed w (saturated_bits w x) ≡ saturated_value Signed w (element_number Signed (2 * w) x)
 saturated_number w x p hx =
     let e = pow_step w p in let f = pow_step (2 * w) (omega arith) in let g = pow_le w (2 * w) (omega arith) in let k = pow_le w (2 * w - 1) (omega arith) in let j = pow_pos (w - 1) in
     grind (arith, nat_tests)
@@ -129,11 +129,11 @@ saturated_number w x p hx =
 saturated_lt : (w x : ℕ) → 0 < w → x < 2 ^ (2 * w) → saturated_bits w x < 2 ^ w
 saturated_lt w x p hx = let e = pow_step w p in let j = pow_pos (w - 1) in grind (arith, nat_tests)
 
-pub saturated_bits_is : (w x : ℕ) → 0 < w → x < 2 ^ (2 * w) → saturated_bits w x ≡ wrapped w (saturated Signed w (element_number Signed (2 * w) x))
-saturated_bits_is w x p hx = sym (wrapped-number w (saturated_bits w x) p (saturated_lt w x p hx)) ∙ ap (wrapped w) (saturated_number w x p hx)
+pub saturated_bits_is : (w x : ℕ) → 0 < w → x < 2 ^ (2 * w) → saturated_bits w x ≡ wrapped_element w (saturated_value Signed w (element_number Signed (2 * w) x))
+saturated_bits_is w x p hx = sym (wrapped-number w (saturated_bits w x) p (saturated_lt w x p hx)) ∙ ap (wrapped_element w) (saturated_number w x p hx)
 
 -- ---- products
-wrapped_neg : (v m k r : ℕ) → r + m ≡ k * 2 ^ v → wrapped v (neg_ℤ (pos m)) ≡ r % 2 ^ v
+wrapped_neg : (v m k r : ℕ) → r + m ≡ k * 2 ^ v → wrapped_element v (neg_ℤ (pos m)) ≡ r % 2 ^ v
 wrapped_neg v m k r e = wrapped_below v k r (neg_ℤ (pos m)) (omega (arith, ints))
 
 both_negative : (A B p q : ℕ) → A * B + p * (B + q) + q * (A + p) ≡ p * q + (A + p) * (B + q)
@@ -150,14 +150,14 @@ low_extended w v x h = grind (arith, nat_tests)
 high_extended : (w v x : ℕ) → 2 ^ (w - 1) ≤ x → sign_extended w v x ≡ x + (2 ^ v - 2 ^ w)
 high_extended w v x h = grind (arith, nat_tests)
 
-one_negative : (w v x y b : ℕ) → w ≤ v → suc b + y ≡ 2 ^ w → x * (y + (2 ^ v - 2 ^ w)) % 2 ^ v ≡ wrapped v (neg_ℤ (pos (x * suc b)))
+one_negative : (w v x y b : ℕ) → w ≤ v → suc b + y ≡ 2 ^ w → x * (y + (2 ^ v - 2 ^ w)) % 2 ^ v ≡ wrapped_element v (neg_ℤ (pos (x * suc b)))
 one_negative w v x y b h e =
     let g = pow_le w v h in
     let i : (y + (2 ^ v - 2 ^ w)) + suc b ≡ 2 ^ v = omega arith in
     sym (wrapped_neg v (x * suc b) x (x * (y + (2 ^ v - 2 ^ w))) (sym (mul-add x (y + (2 ^ v - 2 ^ w)) (suc b)) ∙ ap (λ (k : ℕ). x * k) i))
 
 -- a product of extended elements is that of the numbers
-pub product_is : (w v x y : ℕ) → w ≤ v → x < 2 ^ w → y < 2 ^ w → sign_extended w v x * sign_extended w v y % 2 ^ v ≡ wrapped v (element_number Signed w x *ℤ element_number Signed w y)
+pub product_is : (w v x y : ℕ) → w ≤ v → x < 2 ^ w → y < 2 ^ w → sign_extended w v x * sign_extended w v y % 2 ^ v ≡ wrapped_element v (element_number Signed w x *ℤ element_number Signed w y)
 product_is w v x y h hx hy =
     let ea : suc (2 ^ w - 1 - x) + x ≡ 2 ^ w = omega arith in
     let eb : suc (2 ^ w - 1 - y) + y ≡ 2 ^ w = omega arith in
@@ -184,13 +184,13 @@ quotient_lt w x d h = omega (arith, div-le_self x d)
 remainder_lt : (w x d : ℕ) → x < 2 ^ w → x % d < 2 ^ w
 remainder_lt w x d h = omega (arith, mod-le x d)
 
-pub unsigned_quotient : (w x y : ℕ) → x < 2 ^ w → 0 < y → x / y ≡ divided Quotient Unsigned w x y
+pub unsigned_quotient : (w x y : ℕ) → x < 2 ^ w → 0 < y → x / y ≡ division_result Quotient Unsigned w x y
 unsigned_quotient w x y h p = let m : x / y % 2 ^ w ≡ x / y = mod-eq_of_lt (quotient_lt w x y h) in grind (arith, nat_tests)
 
-pub unsigned_remainder : (w x y : ℕ) → x < 2 ^ w → 0 < y → x % y ≡ divided Remainder Unsigned w x y
+pub unsigned_remainder : (w x y : ℕ) → x < 2 ^ w → 0 < y → x % y ≡ division_result Remainder Unsigned w x y
 unsigned_remainder w x y h p = let m : x % y % 2 ^ w ≡ x % y = mod-eq_of_lt (remainder_lt w x y h) in grind (arith, nat_tests)
 
-quotient_is : (w x y : ℕ) → 0 < w → x < 2 ^ w → y < 2 ^ w → quotient_bits w x y ≡ wrapped w (int_div (element_number Signed w x) (element_number Signed w y))
+quotient_is : (w x y : ℕ) → 0 < w → x < 2 ^ w → y < 2 ^ w → quotient_bits w x y ≡ wrapped_element w (int_div (element_number Signed w x) (element_number Signed w y))
 quotient_is w x y p hx hy =
     let ea : suc (2 ^ w - 1 - x) + x ≡ 2 ^ w = omega arith in
     let eb : suc (2 ^ w - 1 - y) + y ≡ 2 ^ w = omega arith in
@@ -207,31 +207,31 @@ quotient_is w x y p hx hy =
       ]
     ]
   where
-    low_low : (w x y : ℕ) → x < 2 ^ (w - 1) → y < 2 ^ (w - 1) → x / y < 2 ^ w → quotient_bits w x y ≡ wrapped w (int_div (element_number Signed w x) (element_number Signed w y))
+    low_low : (w x y : ℕ) → x < 2 ^ (w - 1) → y < 2 ^ (w - 1) → x / y < 2 ^ w → quotient_bits w x y ≡ wrapped_element w (int_div (element_number Signed w x) (element_number Signed w y))
     low_low w x y h k b =
         let s : quotient_bits w x y ≡ x / y = grind (arith, nat_tests) in
         s ∙ rw (low_number w x h, low_number w y k) (sym (mod-eq_of_lt b))
 
-    low_high : (w x y b : ℕ) → x < 2 ^ (w - 1) → 2 ^ (w - 1) ≤ y → suc b + y ≡ 2 ^ w → x / suc b < 2 ^ w → quotient_bits w x y ≡ wrapped w (int_div (element_number Signed w x) (element_number Signed w y))
+    low_high : (w x y b : ℕ) → x < 2 ^ (w - 1) → 2 ^ (w - 1) ≤ y → suc b + y ≡ 2 ^ w → x / suc b < 2 ^ w → quotient_bits w x y ≡ wrapped_element w (int_div (element_number Signed w x) (element_number Signed w y))
     low_high w x y b h k e l =
         let m : 2 ^ w - y ≡ suc b = omega arith in
-        let s : quotient_bits w x y ≡ negated w (x / (2 ^ w - y)) = grind (arith, nat_tests) in
+        let s : quotient_bits w x y ≡ negation w (x / (2 ^ w - y)) = grind (arith, nat_tests) in
         s ∙ rw (m, low_number w x h, high_number w y b k e) (wrapped-neg w (x / suc b) l)
 
-    high_low : (w x y a : ℕ) → 2 ^ (w - 1) ≤ x → y < 2 ^ (w - 1) → suc a + x ≡ 2 ^ w → suc a / y < 2 ^ w → quotient_bits w x y ≡ wrapped w (int_div (element_number Signed w x) (element_number Signed w y))
+    high_low : (w x y a : ℕ) → 2 ^ (w - 1) ≤ x → y < 2 ^ (w - 1) → suc a + x ≡ 2 ^ w → suc a / y < 2 ^ w → quotient_bits w x y ≡ wrapped_element w (int_div (element_number Signed w x) (element_number Signed w y))
     high_low w x y a h k e l =
         let m : 2 ^ w - x ≡ suc a = omega arith in
-        let s : quotient_bits w x y ≡ negated w ((2 ^ w - x) / y) = grind (arith, nat_tests) in
+        let s : quotient_bits w x y ≡ negation w ((2 ^ w - x) / y) = grind (arith, nat_tests) in
         s ∙ rw (m, high_number w x a h e, low_number w y k) (wrapped-neg w (suc a / y) l)
 
-    high_high : (w x y a b : ℕ) → 2 ^ (w - 1) ≤ x → 2 ^ (w - 1) ≤ y → suc a + x ≡ 2 ^ w → suc b + y ≡ 2 ^ w → suc a / suc b < 2 ^ w → quotient_bits w x y ≡ wrapped w (int_div (element_number Signed w x) (element_number Signed w y))
+    high_high : (w x y a b : ℕ) → 2 ^ (w - 1) ≤ x → 2 ^ (w - 1) ≤ y → suc a + x ≡ 2 ^ w → suc b + y ≡ 2 ^ w → suc a / suc b < 2 ^ w → quotient_bits w x y ≡ wrapped_element w (int_div (element_number Signed w x) (element_number Signed w y))
     high_high w x y a b h k e f l =
         let m : 2 ^ w - x ≡ suc a = omega arith in
         let n : 2 ^ w - y ≡ suc b = omega arith in
         let s : quotient_bits w x y ≡ (2 ^ w - x) / (2 ^ w - y) = grind (arith, nat_tests) in
         s ∙ rw (m, n, high_number w x a h e, high_number w y b k f) (sym (mod-eq_of_lt l))
 
-remainder_is : (w x y : ℕ) → 0 < w → x < 2 ^ w → y < 2 ^ w → remainder_bits w x y ≡ wrapped w (int_rem (element_number Signed w x) (element_number Signed w y))
+remainder_is : (w x y : ℕ) → 0 < w → x < 2 ^ w → y < 2 ^ w → remainder_bits w x y ≡ wrapped_element w (int_rem (element_number Signed w x) (element_number Signed w y))
 remainder_is w x y p hx hy =
     let ea : suc (2 ^ w - 1 - x) + x ≡ 2 ^ w = omega arith in
     let g = pow_step w p in
@@ -241,25 +241,25 @@ remainder_is w x y p hx hy =
       | inr h ↦ high w x y (2 ^ w - 1 - x) h ea (unsigned_abs-number w y p hy) (remainder_lt w (suc (2 ^ w - 1 - x)) (magnitude w y) (omega arith))
     ]
   where
-    low : (w x y : ℕ) → x < 2 ^ (w - 1) → unsigned_abs (element_number Signed w y) ≡ magnitude w y → x % magnitude w y < 2 ^ w → remainder_bits w x y ≡ wrapped w (int_rem (element_number Signed w x) (element_number Signed w y))
+    low : (w x y : ℕ) → x < 2 ^ (w - 1) → unsigned_abs (element_number Signed w y) ≡ magnitude w y → x % magnitude w y < 2 ^ w → remainder_bits w x y ≡ wrapped_element w (int_rem (element_number Signed w x) (element_number Signed w y))
     low w x y h d b =
         let s : remainder_bits w x y ≡ x % magnitude w y = grind (arith, nat_tests) in
         s ∙ rw (low_number w x h, d) (sym (mod-eq_of_lt b))
 
-    high : (w x y a : ℕ) → 2 ^ (w - 1) ≤ x → suc a + x ≡ 2 ^ w → unsigned_abs (element_number Signed w y) ≡ magnitude w y → suc a % magnitude w y < 2 ^ w → remainder_bits w x y ≡ wrapped w (int_rem (element_number Signed w x) (element_number Signed w y))
+    high : (w x y a : ℕ) → 2 ^ (w - 1) ≤ x → suc a + x ≡ 2 ^ w → unsigned_abs (element_number Signed w y) ≡ magnitude w y → suc a % magnitude w y < 2 ^ w → remainder_bits w x y ≡ wrapped_element w (int_rem (element_number Signed w x) (element_number Signed w y))
     high w x y a h e d b =
         let m : 2 ^ w - x ≡ suc a = omega arith in
-        let s : remainder_bits w x y ≡ negated w ((2 ^ w - x) % magnitude w y) = grind (arith, nat_tests) in
+        let s : remainder_bits w x y ≡ negation w ((2 ^ w - x) % magnitude w y) = grind (arith, nat_tests) in
         s ∙ rw (m, high_number w x a h e, d) (wrapped-neg w (suc a % magnitude w y) b)
 
-pub signed_quotient : (w x y : ℕ) → 0 < w → x < 2 ^ w → y < 2 ^ w → 0 < y → quotient_bits w x y ≡ divided Quotient Signed w x y
-signed_quotient w x y p hx hy h = quotient_is w x y p hx hy ∙ nonzero w (wrapped w (int_div (element_number Signed w x) (element_number Signed w y))) y h
+pub signed_quotient : (w x y : ℕ) → 0 < w → x < 2 ^ w → y < 2 ^ w → 0 < y → quotient_bits w x y ≡ division_result Quotient Signed w x y
+signed_quotient w x y p hx hy h = quotient_is w x y p hx hy ∙ nonzero w (wrapped_element w (int_div (element_number Signed w x) (element_number Signed w y))) y h
   where
     nonzero : (w n y : ℕ) → 0 < y → n ≡ (if y == 0 then 0 else n)
     nonzero w n y h = grind (arith, nat_tests)
 
-pub signed_remainder : (w x y : ℕ) → 0 < w → x < 2 ^ w → y < 2 ^ w → 0 < y → remainder_bits w x y ≡ divided Remainder Signed w x y
-signed_remainder w x y p hx hy h = remainder_is w x y p hx hy ∙ nonzero w (wrapped w (int_rem (element_number Signed w x) (element_number Signed w y))) y h
+pub signed_remainder : (w x y : ℕ) → 0 < w → x < 2 ^ w → y < 2 ^ w → 0 < y → remainder_bits w x y ≡ division_result Remainder Signed w x y
+signed_remainder w x y p hx hy h = remainder_is w x y p hx hy ∙ nonzero w (wrapped_element w (int_rem (element_number Signed w x) (element_number Signed w y))) y h
   where
     nonzero : (w n y : ℕ) → 0 < y → n ≡ (if y == 0 then 0 else n)
     nonzero w n y h = grind (arith, nat_tests)

@@ -3,16 +3,16 @@
 use Rattle.std.specs.Prelude.{ℕ, ◌+◌, ◌-◌, ◌*◌, ◌/◌, ◌%◌, ◌^◌, nat_lt, nat_le, min, ◌==◌, if◌then◌else◌}
 
 -- with the sign bit inverted: signed order becomes unsigned order
-abbrev pub biased : ℕ → ℕ → ℕ
-biased w x = if nat_lt x (2 ^ (w - 1)) then x + 2 ^ (w - 1) else x - 2 ^ (w - 1)
+abbrev pub biased_element : ℕ → ℕ → ℕ
+biased_element w x = if nat_lt x (2 ^ (w - 1)) then x + 2 ^ (w - 1) else x - 2 ^ (w - 1)
 
 -- sign-extended to v bits
 abbrev pub sign_extended : ℕ → ℕ → ℕ → ℕ
 sign_extended w v x = if nat_lt x (2 ^ (w - 1)) then x else x + (2 ^ v - 2 ^ w)
 
 -- the two's complement
-abbrev pub negated : ℕ → ℕ → ℕ
-negated w x = if x == 0 then 0 else 2 ^ w - x
+abbrev pub negation : ℕ → ℕ → ℕ
+negation w x = if x == 0 then 0 else 2 ^ w - x
 
 -- how far the signed number is from 0
 abbrev pub magnitude : ℕ → ℕ → ℕ
@@ -35,9 +35,9 @@ saturated_bits w x =
 -- a signed quotient, rounded towards zero
 abbrev pub quotient_bits : ℕ → ℕ → ℕ → ℕ
 quotient_bits w x y =
-    if nat_lt x (2 ^ (w - 1)) then (if nat_lt y (2 ^ (w - 1)) then magnitude w x / magnitude w y else negated w (magnitude w x / magnitude w y))
-    else (if nat_lt y (2 ^ (w - 1)) then negated w (magnitude w x / magnitude w y) else magnitude w x / magnitude w y)
+    if nat_lt x (2 ^ (w - 1)) then (if nat_lt y (2 ^ (w - 1)) then magnitude w x / magnitude w y else negation w (magnitude w x / magnitude w y))
+    else (if nat_lt y (2 ^ (w - 1)) then negation w (magnitude w x / magnitude w y) else magnitude w x / magnitude w y)
 
 -- its remainder
 abbrev pub remainder_bits : ℕ → ℕ → ℕ → ℕ
-remainder_bits w x y = if nat_lt x (2 ^ (w - 1)) then magnitude w x % magnitude w y else negated w (magnitude w x % magnitude w y)
+remainder_bits w x y = if nat_lt x (2 ^ (w - 1)) then magnitude w x % magnitude w y else negation w (magnitude w x % magnitude w y)

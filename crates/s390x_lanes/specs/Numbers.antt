@@ -12,8 +12,8 @@ element_number Unsigned w x = pos x
 element_number Signed w x = if nat_lt x (2 ^ (w - 1)) then pos x else negsuc (2 ^ w - 1 - x)
 
 -- the element of w bits that holds a number modulo 2 ^ w
-abbrev pub wrapped : ℕ → ℤ → ℕ
-wrapped w z = unsigned_abs (int_rem_euclid z (pos (2 ^ w)))
+abbrev pub wrapped_element : ℕ → ℤ → ℕ
+wrapped_element w z = unsigned_abs (int_rem_euclid z (pos (2 ^ w)))
 
 -- the least number that an element of w bits can hold
 abbrev pub least : Signedness → ℕ → ℤ
@@ -26,5 +26,5 @@ greatest Unsigned w = pos (2 ^ w - 1)
 greatest Signed w = pos (2 ^ (w - 1) - 1)
 
 -- the nearest number that an element of w bits can hold
-abbrev pub saturated : Signedness → ℕ → ℤ → ℤ
-saturated sign w z = int_max (least sign w) (int_min z (greatest sign w))
+abbrev pub saturated_value : Signedness → ℕ → ℤ → ℤ
+saturated_value sign w z = int_max (least sign w) (int_min z (greatest sign w))

@@ -2,7 +2,7 @@
 -- Source: z/Architecture Principles of Operation, vector support instructions.
 use Rattle.std.specs.Prelude.{ℕ, ◌+◌, ◌-◌, ◌*◌, ◌/◌, ◌%◌, ◌^◌, nat_lt, nat_le, ◌==◌, bit_and, bit_or, if◌then◌else◌}
 use Rattle.s390x_lanes.specs.Lanes.{lane, from_lanes}
-use Rattle.s390x_lanes.specs.Elements.{product, narrowed, element_widened, element_shifted, element_complement}
+use Rattle.s390x_lanes.specs.Elements.{product, narrowed_element, element_widened, element_shifted, element_complement}
 use Rattle.s390x_lanes.specs.declared.operators.Signedness.{Signedness}
 use Rattle.s390x_lanes.specs.declared.operators.ShiftOperator.{ShiftOperator}
 use Rattle.s390x_lanes.specs.declared.operators.Narrowing.{Narrowing}
@@ -27,7 +27,7 @@ pair_product sign parity w x y i = product sign w (lane w x (lane_of_pair parity
 
 -- the n lanes of 2 * w bits of x, then those of y, each in w bits
 abbrev pub packed_lane : Narrowing → ℕ → ℕ → ℕ → ℕ → ℕ → ℕ
-packed_lane narrowing w n x y i = narrowed narrowing w (if nat_lt i n then lane (2 * w) x i else lane (2 * w) y (i - n))
+packed_lane narrowing w n x y i = narrowed_element narrowing w (if nat_lt i n then lane (2 * w) x i else lane (2 * w) y (i - n))
 
 -- the left or the right half of 2 * n lanes, alternating x and y
 abbrev pub merged_lane : Half → ℕ → ℕ → ℕ → ℕ → ℕ → ℕ
@@ -48,8 +48,8 @@ bit_mask w a b =
     else (2 ^ w - 2 ^ (w - b - 1)) + (2 ^ (w - a) - 1)
 
 -- the bits of x where z has ones, those of y elsewhere
-abbrev pub selected : ℕ → ℕ → ℕ → ℕ
-selected x y z = bit_or (bit_and x z) (bit_and y (element_complement 128 z))
+abbrev pub selected_bits : ℕ → ℕ → ℕ → ℕ
+selected_bits x y z = bit_or (bit_and x z) (bit_and y (element_complement 128 z))
 
 -- byte k of x followed by y
 abbrev pub byte_of_both : ℕ → ℕ → ℕ → ℕ

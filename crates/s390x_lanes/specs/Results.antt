@@ -3,8 +3,8 @@
 use Rattle.std.specs.Prelude.{ℕ, ◌-◌, ◌*◌, ◌%◌, ◌^◌, ◌==◌, if◌then◌else◌}
 use Rattle.s390x_lanes.specs.Size.{element_bits, lane_count, wider}
 use Rattle.s390x_lanes.specs.Lanes.{lane, from_lanes}
-use Rattle.s390x_lanes.specs.Elements.{binary_result, unary_result, element_shifted, elements_compare, high_product, divided, immediate}
-use Rattle.s390x_lanes.specs.Places.{pair_product, packed_lane, merged_lane, unpacked_lane, byte_of_mask, bit_mask, selected, permuted_byte, chosen_doubleword, shifted_lane, shift_byte_count, chosen_bits}
+use Rattle.s390x_lanes.specs.Elements.{binary_result, unary_result, element_shifted, elements_compare, high_product, division_result, immediate}
+use Rattle.s390x_lanes.specs.Places.{pair_product, packed_lane, merged_lane, unpacked_lane, byte_of_mask, bit_mask, selected_bits, permuted_byte, chosen_doubleword, shifted_lane, shift_byte_count, chosen_bits}
 use Rattle.s390x_lanes.specs.declared.size.ElementSize.{ElementSize}
 use Rattle.s390x_lanes.specs.declared.size.ElementSize.TheVariants.{Byte, Doubleword, Quadword}
 use Rattle.s390x_lanes.specs.declared.operators.VectorOperation.{VectorOperation}
@@ -45,7 +45,7 @@ result_lane (Compare comparison size sets_code) first second third fourth i =
     if elements_compare comparison (element_bits size) (lane (element_bits size) second i) (lane (element_bits size) third i) then 2 ^ element_bits size - 1 else 0
 result_lane (MultiplyHigh sign size) first second third fourth i = high_product sign (element_bits size) (lane (element_bits size) second i) (lane (element_bits size) third i)
 result_lane (MultiplyPairs sign parity size) first second third fourth i = pair_product sign parity (element_bits size) second third i
-result_lane (Divide division sign size) first second third fourth i = divided division sign (element_bits size) (lane (element_bits size) second i) (lane (element_bits size) third i)
+result_lane (Divide division sign size) first second third fourth i = division_result division sign (element_bits size) (lane (element_bits size) second i) (lane (element_bits size) third i)
 result_lane (Unary operator size) first second third fourth i = unary_result operator (element_bits size) (lane (element_bits size) second i)
 result_lane (ShiftElements operator size amount) first second third fourth i = shifted_lane operator (element_bits size) amount second i
 result_lane (Pack narrowing size) first second third fourth i = packed_lane narrowing (element_bits size) (lane_count (wider size)) second third i
@@ -54,7 +54,7 @@ result_lane (Unpack sign half size) first second third fourth i = unpacked_lane 
 result_lane (Replicate size index) first second third fourth i = lane (element_bits size) second index
 result_lane (ByteMask mask) first second third fourth i = byte_of_mask mask i
 result_lane (BitMask size start end) first second third fourth i = bit_mask (element_bits size) start end
-result_lane Select first second third fourth i = selected second third fourth
+result_lane Select first second third fourth i = selected_bits second third fourth
 result_lane Permute first second third fourth i = permuted_byte second third fourth i
 result_lane (PermuteDoublewords a b) first second third fourth i = chosen_doubleword a b second third i
 result_lane (ShiftByBits operator) first second third fourth i = element_shifted operator 128 second (third % 8)

@@ -2,12 +2,12 @@
 #![tactic(auto)]
 
 ghost use Rattle.std.specs.Prelude.{◌≡◌, ℕ, ◌+◌, ◌-◌, ◌*◌, ◌/◌, ◌%◌, ◌^◌, ◌<◌, ◌≤◌, pos, ◌-ℤ◌};
-ghost use Rattle.s390x_lanes.specs.Numbers.{wrapped};
+ghost use Rattle.s390x_lanes.specs.Numbers.{wrapped_element};
 ghost use Rattle.s390x_lanes.specs.Encoding.{rounded_mean};
 ghost use Rattle.s390x_lanes.specs.Elements.{binary_result, average as average_of, elements_compare};
 
 use crate::lane::ones;
-use crate::number::{bias, lower};
+use crate::number::{bias, is_below};
 use crate::operators::{BinaryOperator, Comparison, Signedness};
 
 /// `x - y`, wrapping.
@@ -16,7 +16,7 @@ pub(crate) fn subtract(w: u32, x: u128, y: u128) -> u128
     requires high { w ≤ 128 }
     requires x_fits { x < 2 ^ w }
     requires y_fits { y < 2 ^ w }
-    ensures value { result ≡ wrapped w (pos x -ℤ pos y) }
+    ensures value { result ≡ wrapped_element w (pos x -ℤ pos y) }
     ensures fits { result < 2 ^ w }
 {
     if y <= x { x - y } else { x + (ones(w) - y) + 1 }
@@ -76,8 +76,8 @@ pub(crate) fn binary(operator: BinaryOperator, w: u32, x: u128, y: u128) -> u128
         BinaryOperator::Mul => x.wrapping_mul(y) & all,
         BinaryOperator::AddCarryOut => carry(w, x, y),
         BinaryOperator::SubBorrowOut => if x < y { 0 } else { 1 },
-        BinaryOperator::Max(sign) => if lower(sign, w, x, y) { y } else { x },
-        BinaryOperator::Min(sign) => if lower(sign, w, x, y) { x } else { y },
+        BinaryOperator::Max(sign) => if is_below(sign, w, x, y) { y } else { x },
+        BinaryOperator::Min(sign) => if is_below(sign, w, x, y) { x } else { y },
         BinaryOperator::Average(sign) => average(sign, w, x, y),
         BinaryOperator::And => x & y,
         BinaryOperator::Or => x | y,
@@ -100,6 +100,6 @@ pub(crate) fn compare(comparison: Comparison, w: u32, x: u128, y: u128) -> bool
 {
     match comparison {
         Comparison::Equal => x == y,
-        Comparison::High(sign) => lower(sign, w, y, x),
+        Comparison::High(sign) => is_below(sign, w, y, x),
     }
 }

@@ -8,7 +8,7 @@ ghost use Rattle.s390x_lanes.specs.Relation.{lane_compares, lanes_code as lanes_
 
 use crate::binary::compare;
 use crate::lane::element;
-use crate::number::lower;
+use crate::number::is_below;
 use crate::operators::{Comparison, Signedness, VectorOperation};
 use crate::products::overflows;
 use crate::size::ElementSize;
@@ -72,7 +72,7 @@ pub(crate) fn order_code(sign: Signedness, size: ElementSize, x: u128, y: u128) 
     let b = element(size, y, 0);
     if a == b {
         0
-    } else if lower(sign, size.bits(), a, b) {
+    } else if is_below(sign, size.bits(), a, b) {
         1
     } else {
         2

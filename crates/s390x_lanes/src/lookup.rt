@@ -92,7 +92,7 @@ fn has_operation(operation: VectorOperation) -> bool
 }
 
 /// The operation where it is one.
-fn checked(operation: VectorOperation) -> Option<VectorOperation>
+fn valid_operation(operation: VectorOperation) -> Option<VectorOperation>
     ensures value { result ≡ where_operation operation }
     ensures is_operation { MatchOption result (Unit {0}) (λ o. IsTrue (is_operation o)) }
 {
@@ -132,7 +132,7 @@ fn operation_at(row: VectorRow, masks: [u8; 3], imm: u16) -> Option<VectorOperat
     ensures is_operation { MatchOption result (Unit {0}) (λ o. IsTrue (is_operation o)) }
 {
     if allows(row, masks[0], masks[1], masks[2], imm) {
-        checked(operation_with(row.kind, masks[0], masks[1], masks[2], imm))
+        valid_operation(operation_with(row.kind, masks[0], masks[1], masks[2], imm))
     } else {
         None
     }

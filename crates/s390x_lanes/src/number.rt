@@ -2,8 +2,8 @@
 #![tactic(auto)]
 
 ghost use Rattle.std.specs.Prelude.{◌≡◌, ℕ, ◌+◌, ◌-◌, ◌*◌, ◌^◌, ◌<◌, ◌≤◌};
-ghost use Rattle.s390x_lanes.specs.Numbers.{element_number, wrapped};
-ghost use Rattle.s390x_lanes.specs.Encoding.{biased, sign_extended, negated, magnitude};
+ghost use Rattle.s390x_lanes.specs.Numbers.{element_number, wrapped_element};
+ghost use Rattle.s390x_lanes.specs.Encoding.{biased_element, sign_extended, negation, magnitude};
 ghost use Rattle.s390x_lanes.specs.Elements.{is_lower};
 
 use crate::lane::ones;
@@ -23,7 +23,7 @@ pub(crate) fn bias(w: u32, x: u128) -> u128
     requires low { 0 < w }
     requires high { w ≤ 128 }
     requires fits { x < 2 ^ w }
-    ensures value { result ≡ biased w x }
+    ensures value { result ≡ biased_element w x }
     ensures fits { result < 2 ^ w }
 {
     let sign = sign_bit(w);
@@ -31,7 +31,7 @@ pub(crate) fn bias(w: u32, x: u128) -> u128
 }
 
 /// Whether `x` holds a lower number than `y`.
-pub(crate) fn lower(sign: Signedness, w: u32, x: u128, y: u128) -> bool
+pub(crate) fn is_below(sign: Signedness, w: u32, x: u128, y: u128) -> bool
     requires low { 0 < w }
     requires high { w ≤ 128 }
     requires x_fits { x < 2 ^ w }
@@ -65,14 +65,14 @@ pub(crate) fn negate(w: u32, x: u128) -> u128
     requires low { 0 < w }
     requires high { w ≤ 128 }
     requires fits { x < 2 ^ w }
-    ensures value { result ≡ negated w x }
+    ensures value { result ≡ negation w x }
     ensures fits { result < 2 ^ w }
 {
     if x == 0 { 0 } else { ones(w) - x + 1 }
 }
 
 /// How far the signed number is from 0.
-pub(crate) fn absolute(w: u32, x: u128) -> u128
+pub(crate) fn absolute_value(w: u32, x: u128) -> u128
     requires low { 0 < w }
     requires high { w ≤ 128 }
     requires fits { x < 2 ^ w }

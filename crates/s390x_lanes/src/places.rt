@@ -3,7 +3,7 @@
 
 ghost use Rattle.std.specs.Prelude.{◌≡◌, ℕ, ◌+◌, ◌-◌, ◌*◌, ◌/◌, ◌%◌, ◌^◌, ◌<◌, ◌≤◌};
 ghost use Rattle.s390x_lanes.specs.Size.{element_bits, lane_count, wider};
-ghost use Rattle.s390x_lanes.specs.Places.{lane_of_pair, first_of_half, pair_product, packed_lane, merged_lane, unpacked_lane, byte_of_mask, bit_mask, selected, permuted_byte, chosen_doubleword, shifted_lane, shift_byte_count, chosen_bit, chosen_bits};
+ghost use Rattle.s390x_lanes.specs.Places.{lane_of_pair, first_of_half, pair_product, packed_lane, merged_lane, unpacked_lane, byte_of_mask, bit_mask, selected_bits, permuted_byte, chosen_doubleword, shifted_lane, shift_byte_count, chosen_bit, chosen_bits};
 
 use crate::lane::{append, element, lane, ones};
 use crate::number::sign_bit;
@@ -124,7 +124,7 @@ pub(crate) fn mask_bits(w: u32, start: u32, end: u32) -> u128
 
 /// `x` where `z` has ones, else `y`.
 pub(crate) fn select(x: u128, y: u128, z: u128) -> u128
-    ensures { result ≡ selected x y z }
+    ensures { result ≡ selected_bits x y z }
 {
     (x & z) | (y & (u128::MAX - z))
 }

@@ -3,10 +3,10 @@
 
 ghost use Rattle.std.specs.Prelude.{◌≡◌, ℕ, ◌+◌, ◌-◌, ◌*◌, ◌/◌, ◌%◌, ◌^◌, ◌<◌, ◌≤◌};
 ghost use Rattle.s390x_lanes.specs.Encoding.{quotient_bits, remainder_bits};
-ghost use Rattle.s390x_lanes.specs.Elements.{product, high_product, divided, quotient_overflows};
+ghost use Rattle.s390x_lanes.specs.Elements.{product, high_product, division_result, quotient_overflows};
 
 use crate::lane::ones;
-use crate::number::{absolute, negate, sign_bit, sign_extend};
+use crate::number::{absolute_value, negate, sign_bit, sign_extend};
 use crate::operators::{Division, Signedness};
 
 /// The whole product, of `2 * w` bits.
@@ -48,7 +48,7 @@ pub(crate) fn quotient_signed(w: u32, x: u128, y: u128) -> u128
     ensures value { result ≡ quotient_bits w x y }
     ensures fits { result < 2 ^ w }
 {
-    let quotient = absolute(w, x) / absolute(w, y);
+    let quotient = absolute_value(w, x) / absolute_value(w, y);
     if x < sign_bit(w) {
         if y < sign_bit(w) {
             quotient
@@ -74,7 +74,7 @@ pub(crate) fn remainder_signed(w: u32, x: u128, y: u128) -> u128
     ensures value { result ≡ remainder_bits w x y }
     ensures fits { result < 2 ^ w }
 {
-    let remainder = absolute(w, x) % absolute(w, y);
+    let remainder = absolute_value(w, x) % absolute_value(w, y);
     if x < sign_bit(w) {
         remainder
     } else {
@@ -88,7 +88,7 @@ pub(crate) fn divide(division: Division, sign: Signedness, w: u32, x: u128, y: u
     requires high { w ≤ 128 }
     requires x_fits { x < 2 ^ w }
     requires y_fits { y < 2 ^ w }
-    ensures value { result ≡ divided division sign w x y }
+    ensures value { result ≡ division_result division sign w x y }
     ensures fits { result < 2 ^ w }
 {
     if y == 0 {

@@ -3,12 +3,12 @@
 
 ghost use Rattle.std.specs.Prelude.{◌≡◌, ℕ, ◌+◌, ◌-◌, ◌*◌, ◌/◌, ◌%◌, ◌^◌, ◌<◌, ◌≤◌, bit_or};
 ghost use lib.Count.{count_leading_zeros, count_trailing_zeros};
-ghost use Rattle.s390x_lanes.specs.Numbers.{element_number, wrapped, saturated};
+ghost use Rattle.s390x_lanes.specs.Numbers.{element_number, wrapped_element, saturated_value};
 ghost use Rattle.s390x_lanes.specs.Encoding.{shifted_right, saturated_bits};
-ghost use Rattle.s390x_lanes.specs.Elements.{unary_result, element_shifted, narrowed, element_widened, immediate as immediate_of};
+ghost use Rattle.s390x_lanes.specs.Elements.{unary_result, element_shifted, narrowed_element, element_widened, immediate as immediate_of};
 
 use crate::lane::ones;
-use crate::number::{absolute, negate, sign_bit, sign_extend};
+use crate::number::{absolute_value, negate, sign_bit, sign_extend};
 use crate::operators::{Narrowing, ShiftOperator, Signedness, UnaryOperator};
 
 /// The zeros at the left.
@@ -44,7 +44,7 @@ pub(crate) fn unary(operator: UnaryOperator, w: u32, x: u128) -> u128
     ensures fits { result < 2 ^ w }
 {
     match operator {
-        UnaryOperator::Abs => absolute(w, x),
+        UnaryOperator::Abs => absolute_value(w, x),
         UnaryOperator::Neg => negate(w, x),
         UnaryOperator::LeadingZeros => leading_zeros(w, x),
         UnaryOperator::TrailingZeros => trailing_zeros(w, x),
@@ -112,7 +112,7 @@ pub(crate) fn narrow(narrowing: Narrowing, w: u32, x: u128) -> u128
     requires low { 0 < w }
     requires high { w ≤ 64 }
     requires fits { x < 2 ^ (2 * w) }
-    ensures value { result ≡ narrowed narrowing w x }
+    ensures value { result ≡ narrowed_element narrowing w x }
     ensures fits { result < 2 ^ w }
 {
     match narrowing {
@@ -126,7 +126,8 @@ pub(crate) fn saturate(sign: Signedness, w: u32, x: u128) -> u128
     requires low { 0 < w }
     requires high { w ≤ 64 }
     requires fits { x < 2 ^ (2 * w) }
-    ensures value { result ≡ wrapped w (saturated sign w (element_number sign (2 * w) x)) }
+    ensures value { result
+        ≡ wrapped_element w (saturated_value sign w (element_number sign (2 * w) x)) }
     ensures fits { result < 2 ^ w }
 {
     match sign {

@@ -4,7 +4,7 @@ use Rattle.std.proofs.lemmas.List.{drop_more}
 use Rattle.std.specs.Prelude.{Option, None, Result, Ok, Err, MatchResult, IsErrAnd}
 use Rattle.s390x_operands.specs.declared.constraint.OperandError.{OperandError}
 use Rattle.s390x_operands.specs.Requests.{first_operand_cause}
-use Rattle.s390x_listing.specs.Listings.{Listing, Appends, both, each, fixed, IsCause}
+use Rattle.s390x_listing.specs.Listings.{Listing, Appends, both, each, fixed_listing, IsCause}
 
 -- the text of the element at an index stands before those behind it
 at_index : {A : Type 0} (f : ℕ → A → Listing) (xs : List A) (i : ℕ) (z d : A) → i < length xs → d ≡ get_or xs i z → each f i (drop i xs) ≡ both (f i d) (each f (i + 1) (drop (i + 1) xs))
@@ -38,6 +38,6 @@ again P Q (Ok x) e a q = absurd a
 again P Q (Err y) e a q = subst Q (sym a) q
 
 -- a text behind a head that is never refused
-pub behind_head : {T : Type 0} (r : Result T OperandError) (old head mid new : List ℕ) (t : Listing) → mid ≡ old ++ head → Appends r mid new t → Appends r old new (both (fixed head) t)
+pub behind_head : {T : Type 0} (r : Result T OperandError) (old head mid new : List ℕ) (t : Listing) → mid ≡ old ++ head → Appends r mid new t → Appends r old new (both (fixed_listing head) t)
 behind_head (Ok x) old head mid new t h a = (a.0, a.1 ∙ ap (λ m. m ++ t.bytes) h ∙ append_assoc old head t.bytes)
 behind_head (Err e) old head mid new t h a = a

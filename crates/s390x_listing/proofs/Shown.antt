@@ -6,7 +6,7 @@ use Rattle.s390x_inst.specs.Emission.{Emission}
 use Rattle.s390x_inst.specs.declared.inst.Inst.{Inst}
 use Rattle.s390x_inst.specs.declared.state.IsaFlags.{IsaFlags}
 use Rattle.s390x_inst.specs.declared.function.Block.{Block}
-use Rattle.s390x_text_rows.specs.Texts.{Text, RefusedBy, Prints, both, first, fixed}
+use Rattle.s390x_text_rows.specs.Texts.{Text, RefusedBy, Prints, both, first_cause, fixed_text}
 use Rattle.s390x_text.specs.Instructions.{after}
 use Rattle.s390x_text_rows.specs.declared.error.TextError.{TextError}
 use Rattle.s390x_text.proofs.Loops.{refused_first}
@@ -22,7 +22,7 @@ went left t rest old out new s n inv =
     ap (λ x. x ++ rest.bytes) n ∙ append_assoc out t.bytes rest.bytes ∙ ap (λ x. out ++ x.bytes) (sym s) ∙ inv
 
 clear : (left t rest : Text) (c : Option TextError) → left ≡ both t rest → t.cause ≡ None → left.cause ≡ c → rest.cause ≡ c
-clear left t rest c s n inv = sym (ap (λ p. first p rest.cause) n) ∙ ap (λ x. x.cause) (sym s) ∙ inv
+clear left t rest c s n inv = sym (ap (λ p. first_cause p rest.cause) n) ∙ ap (λ x. x.cause) (sym s) ∙ inv
 
 blamed : (left t rest : Text) (c : Option TextError) (error : TextError) → left ≡ both t rest → RefusedBy t.cause error → left.cause ≡ c → RefusedBy c error
 blamed left t rest c error s b inv =
@@ -68,6 +68,6 @@ insts_blamed flags e is i z d c error h q b inv = blamed _ (text_line flags e d)
 -- ---- heads
 
 -- a text behind a head that is never refused
-pub behind_head : {T : Type 0} (r : Result T TextError) (old head mid new : List ℕ) (t : Text) → mid ≡ old ++ head → Prints r mid new t → Prints r old new (both (fixed head) t)
+pub behind_head : {T : Type 0} (r : Result T TextError) (old head mid new : List ℕ) (t : Text) → mid ≡ old ++ head → Prints r mid new t → Prints r old new (both (fixed_text head) t)
 behind_head (Ok x) old head mid new t h a = (a.0, a.1 ∙ ap (λ m. m ++ t.bytes) h ∙ append_assoc old head t.bytes)
 behind_head (Err e) old head mid new t h a = a

@@ -11,8 +11,8 @@ pub record Listing : Type 0 where
   pub bytes : List ℕ
 
 -- a text that is never refused
-abbrev pub fixed : List ℕ → Listing
-fixed s = record { cause = None; bytes = s }
+abbrev pub fixed_listing : List ℕ → Listing
+fixed_listing s = record { cause = None; bytes = s }
 
 -- two texts, one behind the other; the first cause decides
 abbrev pub both : Listing → Listing → Listing
@@ -20,7 +20,7 @@ both t u = record { cause = first_operand_cause t.cause u.cause; bytes = t.bytes
 
 -- the texts of all elements, which are counted from a number on
 abbrev pub each : {A : Type 0} → (ℕ → A → Listing) → ℕ → List A → Listing
-each text k [] = fixed []
+each text k [] = fixed_listing []
 each text k (x ∷ xs) = both (text k x) (each text (k + 1) xs)
 
 -- `block K` and a line feed

@@ -15,7 +15,7 @@ use Rattle.s390x_operands.specs.Operands.{operands, operands_cause}
 use Rattle.s390x_job_fields.specs.Atoms.{reg_text, real_text}
 use Rattle.s390x_job_fields.specs.Lists.{list_text}
 use Rattle.s390x_job_fields.specs.Sets.{members_of}
-use Rattle.s390x_listing.specs.Listings.{Listing, fixed, both, each, block_head}
+use Rattle.s390x_listing.specs.Listings.{Listing, fixed_listing, both, each, block_head}
 
 -- whether it is read or written
 abbrev pub kind_text : OperandKind → List ℕ
@@ -32,7 +32,7 @@ operand_text (Reuse k) kind r = codes "reuse(" ++ (decimal k ++ (codes ") " ++ r
 -- an operand, `fixed P`, or `clobber [P,P]`
 abbrev pub item_text : Reported → List ℕ
 item_text (Operand r constraint kind pos) = operand_text constraint kind r
-item_text (Fixed p) = codes "fixed " ++ real_text p
+item_text (Fixed p) = codes "fixed_listing " ++ real_text p
 item_text (Clobbers s) = codes "clobber " ++ list_text real_text (members_of (has s))
 
 -- items, each behind a comma and a space
@@ -51,7 +51,7 @@ operands_line i = record { cause = operands_cause false i; bytes = items_text (o
 
 -- a block: its line, and those of its instructions
 abbrev pub block_operands : ℕ → Block → Listing
-block_operands k b = both (fixed (block_head k)) (each (λ n i. operands_line i) 0 b.insts.items)
+block_operands k b = both (fixed_listing (block_head k)) (each (λ n i. operands_line i) 0 b.insts.items)
 
 -- the blocks of a function
 abbrev pub operands_listing : List Block → Listing

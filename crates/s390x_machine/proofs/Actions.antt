@@ -11,7 +11,7 @@ use Rattle.s390x_operations.specs.State.{Registers, State, set_general, wrapping
 use Rattle.s390x_operations.specs.Access.{store_event}
 use Rattle.s390x_operations.specs.Effects.{access, is_selected}
 use Rattle.s390x_operations.specs.declared.effect.Operation.{Operation}
-use Rattle.s390x_machine.specs.Operands.{based, performed_where}
+use Rattle.s390x_machine.specs.Operands.{address_by_base, performed_where}
 use Rattle.s390x_machine.specs.Semantics.{register_field, mask_field, vector_field, element_size, all_bits, left_bits, action, on_elements}
 use Rattle.s390x_format.specs.declared.semantics.RowSemantics.{RowSemantics}
 use Rattle.s390x_format.specs.declared.semantics.RowSemantics.TheVariants.{Compute, Compare, MoveWhere, CountOnes, RotateThen, MultiplySigned, MultiplyLogical, DivideSigned, DivideLogical, CompareAndTrap, CompareImmediateAndTrap, FindLeftmostOne, Havoc}
@@ -58,15 +58,15 @@ pub row_has : (semantics : RowSemantics) (f : Fields) (r : Registers) (address :
 row_has (Elements row) f r address h =
     elements_have (operation_of row f.masks f.imm) (register_field f 0) (vector_field f r 0) (vector_field f r 1) (vector_field f r 2) (vector_field f r 3) (operation_allowed row f.masks f.imm) (h 0) (h 1) (h 2)
 row_has (ShiftElements row) f r address h =
-    let amount = pos (based r (register_field f 1) f.disp % 64) in
+    let amount = pos (address_by_base r (register_field f 1) f.disp % 64) in
     elements_have (operation_of row f.masks amount) (register_field f 0) (vector_field f r 0) (vector_field f r 2) 0 0 (operation_allowed row f.masks amount) (h 0) (h 2) (pow_pos 128)
 row_has (LoadVector storage) f r address h = all_lt
 row_has (LoadLeft size) f r address h = left_lt size
 row_has (MoveLeft size) f r address h = left_lt size
 row_has RegisterToLeft f r address h = left_lt LongElement
 row_has JoinRegisters f r address h = all_lt
-row_has InsertElement f r address h = either_has (nat_lt (based r (register_field f 1) f.disp) (lane_count (element_size f))) _ _ all_lt (pow_pos 128)
-row_has ExtractElement f r address h = either_has (nat_lt (based r (register_field f 1) f.disp) (lane_count (element_size f))) _ _ tt tt
+row_has InsertElement f r address h = either_has (nat_lt (address_by_base r (register_field f 1) f.disp) (lane_count (element_size f))) _ _ all_lt (pow_pos 128)
+row_has ExtractElement f r address h = either_has (nat_lt (address_by_base r (register_field f 1) f.disp) (lane_count (element_size f))) _ _ tt tt
 row_has (MoveWhere size s) f r address h = where_has (is_selected (mask_field f 0) r.code) _ tt
 row_has (RotateThen op rule) f r address h = either_has (nat_lt (mask_field f 0) 64) _ _ tt tt
 row_has BranchToRegister f r address h = either_has (register_field f 1 == 0) _ _ tt tt

@@ -16,7 +16,7 @@ use Rattle.s390x_inst.specs.declared.vec_inst.VecInst.{VecInst}
 use Rattle.s390x_inst.specs.declared.vec_inst.VecInst.TheVariants.{VecLoadReplicate, VecLoadReplicateRev, VecLoadLane, VecLoadLaneRev, VecLoadLaneUndef, VecLoadLaneRevUndef, VecStoreLane, VecStoreLaneRev}
 use Rattle.s390x_typed_steps.specs.SingleInstruction.{SingleInstruction, single_instruction, stop_code}
 use Rattle.s390x_typed_steps.specs.Memory.{MemoryInstruction, StorageForm, memory, loaded_memory, type_of, fault_code}
-use Rattle.s390x_typed_steps.specs.Operands.{no_register, scratch, with_widened, finalized, operand_general, loses_base}
+use Rattle.s390x_typed_steps.specs.Operands.{no_register, scratch, with_widened, finalized_operand, operand_general, loses_base}
 use Rattle.s390x_typed_steps.specs.Causes.{is_helped}
 use Rattle.s390x_typed_steps.specs.Parts.{finalized_parts, memory_or, memory_parts, branch_parts, parts_or, step_parts}
 use Rattle.s390x_typed_steps.specs.Steps.{Plain, LoadedStep}
@@ -64,7 +64,7 @@ symbol_below L p form accesses code name offset flags true h r =
     subst (λ n. n < 2 ^ 64) r.0.1 (low_below (pos (wrapping_add64 L.image.base p) +ℤ pos 2 *ℤ cast_signed w32 (L.offsets.environment.symbol_distance p name offset)))
 symbol_below L p form accesses code name offset flags false h r = absurd (cc)
 
-has_address : (L : Layout) (p : ℕ) (form : StorageForm) (accesses : Bool) (code : Option TrapKind) (m : MemArg) → PartsReach L p (finalized_parts form code (finalized (type_of form accesses) m)) → HasAddress L (type_of form accesses) m
+has_address : (L : Layout) (p : ℕ) (form : StorageForm) (accesses : Bool) (code : Option TrapKind) (m : MemArg) → PartsReach L p (finalized_parts form code (finalized_operand (type_of form accesses) m)) → HasAddress L (type_of form accesses) m
 has_address L p form accesses code (Symbol name offset flags) r = λ h. symbol_below L p form accesses code name offset flags _ h r
 has_address L p form accesses code m r = tt
 
@@ -74,7 +74,7 @@ of_access L p x valid reached =
     record {
       general = (and_parts x.operands_valid (operand_general x.operand) valid.registers).1;
       fits = valid.offset;
-      kept = not_lost (loses_base x.operand) (x.reads_scratch && is_helped (finalized (type_of x.form x.accesses) x.operand).helpers) valid.kept;
+      kept = not_lost (loses_base x.operand) (x.reads_scratch && is_helped (finalized_operand (type_of x.form x.accesses) x.operand).helpers) valid.kept;
       range = valid.range;
       address = has_address L p x.form x.accesses (fault_code x) x.operand reached;
     }

@@ -35,7 +35,7 @@ use Rattle.s390x_operations.specs.declared.stop.StopKind.TheVariants.{Access, Sp
 use Rattle.s390x_machine.specs.Aligned.{IsOwn, OwnOperand, IsOnBoundary, relative_row_of, StepAccesses, NeverMisaligned}
 use Rattle.s390x_machine.specs.Computations.{comparison}
 use Rattle.s390x_machine.specs.StepKinds.{performed_at, performed_by, performed_in_memory}
-use Rattle.s390x_machine.specs.Layout.{Layout, declared, constant_address}
+use Rattle.s390x_machine.specs.Layout.{Layout, declarations, constant_address}
 use Rattle.s390x_machine.specs.CodeAt.{AllCodeAt, IsValidMemory, ValidMemoryOr}
 use Rattle.s390x_machine.specs.Storage.{OperandStep, load_step, loaded_value, store_step, stored_value, operand_address, operand_step, rest_operand_step, cmp_forms, loads_at, stores_at, compares_at, aligned_effect, aligned_where}
 use Rattle.s390x_machine.proofs.Relative.{first_none, unless_none, label_known, constant_known}
@@ -120,7 +120,7 @@ sum_even : (base o : ℕ) → base % 2 ≡ 0 → o % 2 ≡ 0 → wrapping_add64 
 sum_even base o eb eo = omega (arith, eb, eo)
 
 -- blocks stand at even places, constants on their boundaries
-own_on_boundary : (L : Layout) → AllCodeAt L → (m : MemArg) (b : ℕ) → IsOwn m → IsPower b → bound_cause (declared L) m ≡ None → alignment_cause (declared L) b m ≡ None → IsOnBoundary (operand_address L m) b
+own_on_boundary : (L : Layout) → AllCodeAt L → (m : MemArg) (b : ℕ) → IsOwn m → IsPower b → bound_cause (declarations L) m ≡ None → alignment_cause (declarations L) b m ≡ None → IsOnBoundary (operand_address L m) b
 own_on_boundary L all (Label target) b own power bound aligned =
     λ r. on_2 (wrapping_add64 L.image.base (L.offsets.block target.0)) b power (leb-true b 2 (unless_none (nat_le b 2) BadAlignment aligned)) (sum_even L.image.base (L.offsets.block target.0) all.even ((image_at L all).block_places target.0 (label_known L target bound)).0)
 own_on_boundary L all (Constant c) b own power bound aligned =
@@ -131,7 +131,7 @@ own_on_boundary L all m b own power bound aligned = absurd own
 
 pub on_boundary : (L : Layout) → AllCodeAt L → (x : MemoryInstruction) → IsValidMemory L x → IsOwn x.operand → IsOnBoundary (operand_address L x.operand) (boundary x)
 on_boundary L all x operands_valid own =
-    let checked = first_none (bound_cause (declared L) x.operand) (alignment_cause (declared L) (boundary x) x.operand) operands_valid.target in
+    let checked = first_none (bound_cause (declarations L) x.operand) (alignment_cause (declarations L) (boundary x) x.operand) operands_valid.target in
     own_on_boundary L all x.operand (boundary x) own (boundary_power x.form (type_of x.form x.accesses) x.accesses x.operand) checked.0 checked.1
 
 -- ---- bytes

@@ -1,7 +1,7 @@
 -- Steps that are branches.
 use Rattle.std.proofs.Common.{◌≡◌, ℕ, zero, suc, ◌+◌, inl, inr, ◌⊎◌, List, [], ◌∷◌, ◌++◌, Some, None, Bool, true, false, cond, ◌==◌, refl, sym, ap, ◌∙◌, subst, arith, slice_get, eqb-true}
 use Rattle.s390x_base.specs.declared.ir.MachLabel.{MachLabel}
-use Rattle.s390x_operations.specs.State.{Registers, Core, written, wrapping_add64}
+use Rattle.s390x_operations.specs.State.{Registers, Core, core_after_writes, wrapping_add64}
 use Rattle.s390x_operations.specs.Effects.{is_selected}
 use Rattle.s390x_operations.specs.declared.stop.ConditionCode.{ConditionCode}
 use Rattle.s390x_operations.specs.declared.stop.ConditionCode.TheVariants.{Code0, Code1, Code2, Code3}
@@ -29,7 +29,7 @@ stores_none L k f none is y = ap (λ o. store_event_of_kind o y) is ∙ none y
 
 -- a branch that is always taken, at the end of a step
 pub jumps : (L : Layout) (k : ℕ) (c : Core) (g : List Transition) (r : Registers) (p j : ℕ) (act : Registers → Action) (size target : ℕ) → Inside L k c g r p → RowAt L p act size → act r ≡ Branch 15 target → target ≡ step_address L j → ((y : Core) → typed_store_event L k y ≡ None) →
-    ((h : List Transition) → TypedStep L k (written (all_writes h) c) (At j) (mid c r (all_writes h) 0).core) → Simulates L k c g r p
+    ((h : List Transition) → TypedStep L k (core_after_writes (all_writes h) c) (At j) (mid c r (all_writes h) 0).core) → Simulates L k c g r p
 jumps L k c g r p j act size target i row does there none step =
     branch L k c g r p act size 15 target i row does (λ t rest u e lands run.
     let x = (mid c r (all_writes (g ++ t ∷ [])) 0).core in
@@ -39,14 +39,14 @@ jumps L k c g r p j act size target i row does there none step =
 pub jump_runs : (L : Layout) (k b : ℕ) (act : Registers → Action) (size target : ℕ) → kind_at L k ≡ Some (GoesTo b) → RowAt L (step_address L k) act size → ((r : Registers) → act r ≡ Branch 15 target) → target ≡ step_address L (L.first_step b) → InStep L k (step_address L k) → StepRuns L k
 jump_runs L k b act size target is row does there here c is_loaded =
     jumps L k c [] c.registers (step_address L k) (L.first_step b) act size target (at_start L k c here is_loaded) row (does c.registers) there (stores_none L k (GoesTo b) (λ y. refl) is) (λ h.
-    subst (λ f. KindStep L f k (written (all_writes h) c) (At (L.first_step b)) (written (all_writes h) c)) (sym is) (refl, refl))
+    subst (λ f. KindStep L f k (core_after_writes (all_writes h) c) (At (L.first_step b)) (core_after_writes (all_writes h) c)) (sym is) (refl, refl))
 
 -- ---- one branch, or else the other
 
 choose_step : (L : Layout) (k mask a b : ℕ) → kind_at L k ≡ Some (Chooses mask a b) → (c : Core) (taken : Bool) → is_selected mask c.registers.code ≡ taken → (h : List Transition) →
-    TypedStep L k (written (all_writes h) c) (At (cond taken (L.first_step a) (L.first_step b))) (written (all_writes h) c)
+    TypedStep L k (core_after_writes (all_writes h) c) (At (cond taken (L.first_step a) (L.first_step b))) (core_after_writes (all_writes h) c)
 choose_step L k mask a b is c taken e h =
-    subst (λ f. KindStep L f k (written (all_writes h) c) (At (cond taken (L.first_step a) (L.first_step b))) (written (all_writes h) c)) (sym is) (ap (λ t. At (cond t (L.first_step a) (L.first_step b))) (sym e), refl)
+    subst (λ f. KindStep L f k (core_after_writes (all_writes h) c) (At (cond taken (L.first_step a) (L.first_step b))) (core_after_writes (all_writes h) c)) (sym is) (ap (λ t. At (cond t (L.first_step a) (L.first_step b))) (sym e), refl)
 
 -- the two rows of such a step
 pub record TwoBranches (L : Layout) (k mask a b : ℕ) : Type 0 where
@@ -62,7 +62,7 @@ pub record TwoBranches (L : Layout) (k mask a b : ℕ) : Type 0 where
 chosen : (L : Layout) (k mask a b : ℕ) → kind_at L k ≡ Some (Chooses mask a b) → (two : TwoBranches L k mask a b) → (c : Core) (t : Transition) (rest : List Transition) → Inside L k c [] c.registers (step_address L k) → Turned L c [] c.registers (step_address L k) (λ r. Branch mask (block_address L a)) two.size t →
     t.event ≡ Executed None → (taken : Bool) → is_selected mask c.registers.code ≡ taken → t.after ≡ mid c c.registers (all_writes (t ∷ [])) (cond taken (block_address L a) (wrapping_add64 (step_address L k) two.size)) → Run L.image t.after rest → Runs L k c (t ∷ rest)
 chosen L k mask a b is two c t rest i u e true sel lands run =
-    let y = written (all_writes (t ∷ [])) c in
+    let y = core_after_writes (all_writes (t ∷ [])) c in
     let at : t.after ≡ start L (L.first_step a) y = lands ∙ ap (λ q. mid c c.registers (all_writes (t ∷ [])) q) two.first_target in
     done L k c [] c.registers (step_address L k) _ two.size t rest (L.first_step a) y i u (e ∙ ap Executed (sym (stores_none L k (Chooses mask a b) (λ z. refl) is y))) at (λ out. u.is_loaded) (choose_step L k mask a b is c true sel (t ∷ []))
 chosen L k mask a b is two c t rest i u e false sel lands run =
@@ -86,10 +86,10 @@ leads_step L k mask j is c taken e x same =
 led : (L : Layout) (k mask j target size : ℕ) (act : Registers → Action) → kind_at L k ≡ Some (Leads mask j) → target ≡ step_address L j → wrapping_add64 (step_address L k) size ≡ step_address L (suc k) → (c : Core) (t : Transition) (rest : List Transition) → Inside L k c [] c.registers (step_address L k) →
     Turned L c [] c.registers (step_address L k) act size t → t.event ≡ Executed None → (taken : Bool) → is_selected mask c.registers.code ≡ taken → t.after ≡ mid c c.registers (all_writes (t ∷ [])) (cond taken target (wrapping_add64 (step_address L k) size)) → Runs L k c (t ∷ rest)
 led L k mask j target size act is there next c t rest i u e true sel at =
-    let y = written (all_writes (t ∷ [])) c in
+    let y = core_after_writes (all_writes (t ∷ [])) c in
     done L k c [] c.registers (step_address L k) act size t rest j y i u (e ∙ ap Executed (sym (stores_none L k (Leads mask j) (λ z. refl) is y))) (at ∙ ap (λ q. mid c c.registers (all_writes (t ∷ [])) q) there) (λ out. u.is_loaded) (leads_step L k mask j is c true sel y refl)
 led L k mask j target size act is there next c t rest i u e false sel at =
-    let y = written (all_writes (t ∷ [])) c in
+    let y = core_after_writes (all_writes (t ∷ [])) c in
     done L k c [] c.registers (step_address L k) act size t rest (suc k) y i u (e ∙ ap Executed (sym (stores_none L k (Leads mask j) (λ z. refl) is y))) (at ∙ ap (λ q. mid c c.registers (all_writes (t ∷ [])) q) next) (λ out. u.is_loaded) (leads_step L k mask j is c false sel y refl)
 
 pub leads_runs : (L : Layout) (k mask j size : ℕ) → kind_at L k ≡ Some (Leads mask j) → RowAt L (step_address L k) (λ r. Branch mask (step_address L j)) size → wrapping_add64 (step_address L k) size ≡ step_address L (suc k) → InStep L k (step_address L k) → StepRuns L k
@@ -103,7 +103,7 @@ leads_runs L k mask j size is row next here c is_loaded =
 pub returns_runs : (L : Layout) (k n size : ℕ) → kind_at L k ≡ Some (Returns n) → RowAt L (step_address L k) (λ r. Branch 15 (r.general n)) size → InStep L k (step_address L k) → StepRuns L k
 returns_runs L k n size is row here c is_loaded =
     branch L k c [] c.registers (step_address L k) (λ r. Branch 15 (r.general n)) size 15 (c.registers.general n) (at_start L k c here is_loaded) row refl (λ t rest u e lands run.
-    let x = written (all_writes (t ∷ [])) c in
+    let x = core_after_writes (all_writes (t ∷ [])) c in
     let target = c.registers.general n in
     ended L k c (t ∷ []) rest (Returned target) x (omega arith) (e, tt) (omega arith) (subst (λ f. KindStep L f k x (Ended (Returned target)) x) (sym is) (refl, refl))
     (lands ∙ ap (λ b. mid c c.registers (all_writes (t ∷ [])) (cond b target (wrapping_add64 (step_address L k) size))) (selected_always c.registers.code)))
@@ -112,7 +112,7 @@ pub tail_runs : (L : Layout) (k size : ℕ) (target : Registers → ℕ) → kin
 tail_runs L k size target is row here c is_loaded =
     let to = target c.registers in
     branch L k c [] c.registers (step_address L k) (λ r. Branch 15 (target r)) size 15 to (at_start L k c here is_loaded) row refl (λ t rest u e lands run.
-    let x = written (all_writes (t ∷ [])) c in
+    let x = core_after_writes (all_writes (t ∷ [])) c in
     ended L k c (t ∷ []) rest (TailCalled to) x (omega arith) (e, tt) (omega arith) (subst (λ f. KindStep L f k x (Ended (TailCalled to)) x) (sym is) (refl, refl))
     (lands ∙ ap (λ b. mid c c.registers (all_writes (t ∷ [])) (cond b to (wrapping_add64 (step_address L k) size))) (selected_always c.registers.code)))
 
@@ -157,5 +157,5 @@ address_runs L image k n size targets is are row here c is_loaded = go (search_t
     go : Search L targets (c.registers.general n) → (trace : List Transition) → Run L.image (start L k c) trace → Runs L k c trace
     go (inl (b, t, known)) =
         jumps L k c [] c.registers (step_address L k) (L.first_step b) (λ r. Branch 15 (r.general n)) size (c.registers.general n) (at_start L k c here is_loaded) row refl (t.address ∙ block_begins L image b known) (stores_none L k (GoesByAddress n targets) (λ y. refl) is) (λ h.
-        subst (λ f. KindStep L f k (written (all_writes h) c) (At (L.first_step b)) (written (all_writes h) c)) (sym is) (b, t, refl, refl))
+        subst (λ f. KindStep L f k (core_after_writes (all_writes h) c) (At (L.first_step b)) (core_after_writes (all_writes h) c)) (sym is) (b, t, refl, refl))
     go (inr none) = λ trace run. stuck (subst (λ f. KindWrong L f c) (sym is) none) (subst Loses (sym is) tt)

@@ -17,7 +17,7 @@ use Rattle.s390x_typed_steps.specs.Steps.{Step}
 use Rattle.s390x_typed_steps.specs.Parts.{CodePart, Row, Trapping, parts_size, parts_or, step_parts, stopping}
 use Rattle.s390x_typed_steps.specs.Traps.{parts_traps, first_code}
 use Rattle.s390x_operations.specs.State.{Registers}
-use Rattle.s390x_operations.specs.Effects.{Refines, refused, MayRefuse}
+use Rattle.s390x_operations.specs.Effects.{Refines, stop_of_effect, MayRefuse}
 use Rattle.s390x_operations.specs.declared.effect.Operation.{Operation}
 use Rattle.s390x_operations.specs.declared.effect.CodeRule.{CodeRule}
 use Rattle.s390x_operations.specs.declared.stop.StopKind.{StopKind}
@@ -73,7 +73,7 @@ compares_always c n m r = never_by_values (compares c n m r) no_code refl (λ ki
 pub compares_immediate_always : (c : Comparison) (n bits : ℕ) → NeverStops (compares_immediate c n bits)
 compares_immediate_always c n bits r = never_by_values (compares_immediate c n bits r) no_code refl (λ kind h. h)
 
-pub where_never : (selected : Bool) (op : Operation) (code : StopKind → Option TrapKind) → refused op.effect ≡ None → ((kind : StopKind) → MayRefuse op.effect kind → ⊥) → ValuesCoded (performed_where selected op) code
+pub where_never : (selected : Bool) (op : Operation) (code : StopKind → Option TrapKind) → stop_of_effect op.effect ≡ None → ((kind : StopKind) → MayRefuse op.effect kind → ⊥) → ValuesCoded (performed_where selected op) code
 where_never true op code none free = never_by_values op code none free
 where_never false op code none free = never_by_values (performed_where false op) code refl (λ kind h. h)
 

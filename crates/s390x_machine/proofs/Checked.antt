@@ -24,13 +24,13 @@ use Rattle.s390x_typed_steps.specs.Steps.{Step, Opening, Back, step_count, step_
 use Rattle.s390x_typed_steps.specs.VectorComposite.{composite_cause}
 use Rattle.s390x_operations.specs.State.{CodeImage}
 use Rattle.s390x_machine.specs.Functions.{function_layout}
-use Rattle.s390x_machine.specs.Layout.{Layout, declared}
+use Rattle.s390x_machine.specs.Layout.{Layout, declarations}
 use Rattle.s390x_machine.specs.CodeAt.{IsBlock, AreBlocks, OperandsValidOr, ValidMemoryOr, IsValidStep}
 use Rattle.s390x_machine.proofs.Functions.{count_of}
 use Rattle.s390x_machine.proofs.Relative.{first_none, unless_none}
 
 module _ (L : Layout) where
-  valid_other : (o : Option SingleInstruction) (m : Option MemoryInstruction) (others : Option EmitError) → cause_or o (memory_cause_or (declared L) m others) ≡ None → MemoryInRange m → OperandsValidOr o (ValidMemoryOr L m (others ≡ None))
+  valid_other : (o : Option SingleInstruction) (m : Option MemoryInstruction) (others : Option EmitError) → cause_or o (memory_cause_or (declarations L) m others) ≡ None → MemoryInRange m → OperandsValidOr o (ValidMemoryOr L m (others ≡ None))
   valid_other None None others e range = e
   valid_other None (Some x) others e range =
       let form = has_form (type_of x.form x.accesses) x.operand in
@@ -38,7 +38,7 @@ module _ (L : Layout) where
       let scratch = unless (not (loses_scratch x)) ScratchConflict in
       let fits = offset_fits x.operand && addend_fits x.operand in
       let offset = unless fits OffsetOutOfRange in
-      let place = target_cause (declared L) x in
+      let place = target_cause (declarations L) x in
       let a = first_none (unless form BadOperator) (first_emit_cause (unless registers BadRegister) (first_emit_cause (first_emit_cause scratch offset) place)) e in
       let b = first_none (unless registers BadRegister) (first_emit_cause (first_emit_cause scratch offset) place) a.1 in
       let c = first_none (first_emit_cause scratch offset) place b.1 in
@@ -53,7 +53,7 @@ module _ (L : Layout) where
       }
   valid_other (Some x) m others e range = unless_none x.operands_valid BadRegister e
 
-  valid_single : (o : Option SingleInstruction) (m : Option MemoryInstruction) → cause_or o (memory_cause_or (declared L) m (Some BadOperator)) ≡ None → MemoryInRange m → OperandsValidOr o (ValidMemoryOr L m ⊥)
+  valid_single : (o : Option SingleInstruction) (m : Option MemoryInstruction) → cause_or o (memory_cause_or (declarations L) m (Some BadOperator)) ≡ None → MemoryInRange m → OperandsValidOr o (ValidMemoryOr L m ⊥)
   valid_single None None e range = absurd (cc)
   valid_single None (Some x) e range = valid_other None (Some x) (Some BadOperator) e range
   valid_single (Some x) m e range = unless_none x.operands_valid BadRegister e
@@ -66,7 +66,7 @@ module _ (L : Layout) where
   blocks_of (l ∷ ls) e = let parts = first_none (target_label_cause L.block_count l) (labels_cause L.block_count ls) e in (block_of l parts.0, blocks_of ls parts.1)
 
   -- an instruction, in so many loops, the innermost of which ends at a step
-  valid_step : (flags : IsaFlags) (nominal depth after : ℕ) (i : Inst) → instruction_cause flags (declared L) nominal depth i ≡ None → InRange i → (0 < depth → after ≤ length L.steps) → IsValidStep L (step_of after (Whole i))
+  valid_step : (flags : IsaFlags) (nominal depth after : ℕ) (i : Inst) → instruction_cause flags (declarations L) nominal depth i ≡ None → InRange i → (0 < depth → after ≤ length L.steps) → IsValidStep L (step_of after (Whole i))
   valid_step flags nominal depth after (Jump dest) e range le = block_of dest e
   valid_step flags nominal depth after (CondBr taken not_taken mask) e range le = let parts = first_none (target_label_cause L.block_count taken) (target_label_cause L.block_count not_taken) e in (block_of taken parts.0, block_of not_taken parts.1, range.0)
   valid_step flags nominal depth after (IndirectBr rn targets) e range le =
@@ -94,8 +94,8 @@ module _ (L : Layout) where
   valid_step flags nominal depth after (Trap code) e range le = tt
   valid_step flags nominal depth after (TrapIf mask code) e range le = range.0
   valid_step flags nominal depth after Debugtrap e range le = tt
-  valid_step flags nominal depth after (Vector v) e range le = valid_other (single_instruction (Vector v)) (memory (Vector v)) (composite_cause v) (first_none (facility_cause flags (Vector v)) (cause_or (single_instruction (Vector v)) (memory_cause_or (declared L) (memory (Vector v)) (composite_cause v))) e).1 range.1
-  valid_step flags nominal depth after i e range le = valid_single (single_instruction i) (memory i) (first_none (facility_cause flags i) (cause_or (single_instruction i) (memory_cause_or (declared L) (memory i) (Some BadOperator))) e).1 range.1
+  valid_step flags nominal depth after (Vector v) e range le = valid_other (single_instruction (Vector v)) (memory (Vector v)) (composite_cause v) (first_none (facility_cause flags (Vector v)) (cause_or (single_instruction (Vector v)) (memory_cause_or (declarations L) (memory (Vector v)) (composite_cause v))) e).1 range.1
+  valid_step flags nominal depth after i e range le = valid_single (single_instruction i) (memory i) (first_none (facility_cause flags i) (cause_or (single_instruction i) (memory_cause_or (declarations L) (memory i) (Some BadOperator))) e).1 range.1
 
   -- the operand is the same in other rows
   range_kept : (o : Option MemoryInstruction) → MemoryInRange o → MemoryInRange (without_relative o)
@@ -107,21 +107,21 @@ module _ (L : Layout) where
       go (Some form) = range
 
   -- the body of a step
-  valid_body : (flags : IsaFlags) (n nominal depth after : ℕ) (b : StepBody) → body_cause flags (declared L) n nominal depth b ≡ None → BodyMasked b → (0 < depth → after ≤ length L.steps) → IsValidStep L (step_of after b)
+  valid_body : (flags : IsaFlags) (n nominal depth after : ℕ) (b : StepBody) → body_cause flags (declarations L) n nominal depth b ≡ None → BodyMasked b → (0 < depth → after ≤ length L.steps) → IsValidStep L (step_of after b)
   valid_body flags n nominal depth after (Whole i) e range le =
-      valid_step flags nominal depth after i (first_none (instruction_cause flags (declared L) nominal depth i) (numbers_cause n (instruction_fresh_labels i)) e).0 range le
+      valid_step flags nominal depth after i (first_none (instruction_cause flags (declarations L) nominal depth i) (numbers_cause n (instruction_fresh_labels i)) e).0 range le
   valid_body flags n nominal depth after (Folded r (Jump dest)) e range le =
       let i = Jump dest in
-      let own = first_none (leaf_cause flags (declared L) n nominal depth i) (remainder_cause L.block_count r) e in
-      valid_step flags nominal depth after i (first_none (instruction_cause flags (declared L) nominal depth i) (numbers_cause n 0) own.0).0 range.0 le
+      let own = first_none (leaf_cause flags (declarations L) n nominal depth i) (remainder_cause L.block_count r) e in
+      valid_step flags nominal depth after i (first_none (instruction_cause flags (declarations L) nominal depth i) (numbers_cause n 0) own.0).0 range.0 le
   valid_body flags n nominal depth after (Folded r (CondBr taken not_taken mask)) e range le =
       let i = CondBr taken not_taken mask in
-      let own = first_none (leaf_cause flags (declared L) n nominal depth i) (remainder_cause L.block_count r) e in
-      valid_step flags nominal depth after i (first_none (instruction_cause flags (declared L) nominal depth i) (numbers_cause n 0) own.0).0 range.0 le
+      let own = first_none (leaf_cause flags (declarations L) n nominal depth i) (remainder_cause L.block_count r) e in
+      valid_step flags nominal depth after i (first_none (instruction_cause flags (declarations L) nominal depth i) (numbers_cause n 0) own.0).0 range.0 le
   valid_body flags n nominal depth after (Folded r i) e range le = absurd range.1
   valid_body flags n nominal depth after (Loaded i) e range le =
-      let parts = first_none (first_emit_cause (facility_cause flags i) (memory_cause_or (declared L) (loaded_memory i) (Some BadOperator))) (numbers_cause n 0) e in
-      valid_single None (loaded_memory i) (first_none (facility_cause flags i) (memory_cause_or (declared L) (loaded_memory i) (Some BadOperator)) parts.0).1 (range_kept (memory i) range.1)
+      let parts = first_none (first_emit_cause (facility_cause flags i) (memory_cause_or (declarations L) (loaded_memory i) (Some BadOperator))) (numbers_cause n 0) e in
+      valid_single None (loaded_memory i) (first_none (facility_cause flags i) (memory_cause_or (declarations L) (loaded_memory i) (Some BadOperator)) parts.0).1 (range_kept (memory i) range.1)
   valid_body flags n nominal depth after (CallStep c) e range le =
       let later = first_emit_cause (unless (nat_eq c.popped nominal && (nat_eq c.popped 0 || nat_eq depth 0)) BadStackState) (labels_cause L.block_count (site_labels c.sites)) in
       let registers = first_none (unless (is_general c.link && is_target c.target) BadRegister) later e in
@@ -145,38 +145,38 @@ module _ (L : Layout) where
   valid_append (x ∷ xs) ys a b zero s e = a zero s e
   valid_append (x ∷ xs) ys a b (suc j) s e = valid_append xs ys (λ i t h. a (suc i) t h) b j s e
 
-  valid_tree : (flags : IsaFlags) (k after n nominal depth : ℕ) (t : Tree) → tree_cause flags (declared L) n nominal depth t ≡ None → AllMasked t → (0 < depth → after ≤ length L.steps) → k + step_count t ≤ length L.steps → AllValid (steps_of k after t)
+  valid_tree : (flags : IsaFlags) (k after n nominal depth : ℕ) (t : Tree) → tree_cause flags (declarations L) n nominal depth t ≡ None → AllMasked t → (0 < depth → after ≤ length L.steps) → k + step_count t ≤ length L.steps → AllValid (steps_of k after t)
   unfolding AllValid
   valid_tree flags k after n nominal depth empty e range le within = λ j s h. absurd (cc)
   valid_tree flags k after n nominal depth (leaf b rest) e range le within =
-      let parts = first_none (body_cause flags (declared L) n nominal depth b) (tree_cause flags (declared L) (n + body_fresh_labels b) (body_nominal_after nominal b) depth rest) e in
+      let parts = first_none (body_cause flags (declarations L) n nominal depth b) (tree_cause flags (declarations L) (n + body_fresh_labels b) (body_nominal_after nominal b) depth rest) e in
       valid_cons (step_of after b) (steps_of (k + 1) after rest) (valid_body flags n nominal depth after b parts.0 range.0 le) (valid_tree flags (k + 1) after (n + body_fresh_labels b) (body_nominal_after nominal b) depth rest parts.1 range.1 le (omega arith))
   valid_tree flags k after n nominal depth (loop_node mask members rest) e range le within =
-      let a = first_none (first_emit_cause (first_emit_cause (nesting_cause depth) (numbers_cause n 2)) (tree_cause flags (declared L) (n + 2) nominal (depth + 1) members)) (tree_cause flags (declared L) (n + 2 + fresh_labels members) nominal depth rest) e in
-      let b = first_none (first_emit_cause (nesting_cause depth) (numbers_cause n 2)) (tree_cause flags (declared L) (n + 2) nominal (depth + 1) members) a.0 in
+      let a = first_none (first_emit_cause (first_emit_cause (nesting_cause depth) (numbers_cause n 2)) (tree_cause flags (declarations L) (n + 2) nominal (depth + 1) members)) (tree_cause flags (declarations L) (n + 2 + fresh_labels members) nominal depth rest) e in
+      let b = first_none (first_emit_cause (nesting_cause depth) (numbers_cause n 2)) (tree_cause flags (declarations L) (n + 2) nominal (depth + 1) members) a.0 in
       let end = k + 2 + step_count members in
       let tail : AllValid (Back mask (k + 1) ∷ steps_of end after rest) = valid_cons (Back mask (k + 1)) (steps_of end after rest) (range.0, omega arith) (valid_tree flags end after (n + 2 + fresh_labels members) nominal depth rest a.1 range.2 le (omega arith)) in
       valid_cons Opening (steps_of (k + 1) end members ++ (Back mask (k + 1) ∷ steps_of end after rest)) tt
       (valid_append (steps_of (k + 1) end members) (Back mask (k + 1) ∷ steps_of end after rest) (valid_tree flags (k + 1) end (n + 2) nominal (depth + 1) members b.1 range.1 (λ d. omega arith) (omega arith)) tail)
 
-  valid_blocks : (flags : IsaFlags) (k n : ℕ) (ts : List Tree) → blocks_cause flags (declared L) n ts ≡ None → BlocksMasked ts → k + length (steps_from k ts) ≤ length L.steps → AllValid (steps_from k ts)
+  valid_blocks : (flags : IsaFlags) (k n : ℕ) (ts : List Tree) → blocks_cause flags (declarations L) n ts ≡ None → BlocksMasked ts → k + length (steps_from k ts) ≤ length L.steps → AllValid (steps_from k ts)
   unfolding AllValid
   valid_blocks flags k n [] e range within = λ j s h. absurd (cc)
   valid_blocks flags k n (t ∷ ts) e range within =
-      let parts = first_none (block_cause flags (declared L) n t) (blocks_cause flags (declared L) (n + fresh_labels t) ts) e in
-      let members = first_none (tree_cause flags (declared L) n 0 0 t) (unless (nat_eq (nominal_behind 0 t) 0) BadStackState) parts.0 in
+      let parts = first_none (block_cause flags (declarations L) n t) (blocks_cause flags (declarations L) (n + fresh_labels t) ts) e in
+      let members = first_none (tree_cause flags (declarations L) n 0 0 t) (unless (nat_eq (nominal_behind 0 t) 0) BadStackState) parts.0 in
       let counted = count_of k 0 t in
       let joined = length-append (steps_of k 0 t) (steps_from (k + step_count t) ts) in
       valid_append (steps_of k 0 t) (steps_from (k + step_count t) ts) (valid_tree flags k 0 n 0 0 t members.0 range.0 (λ d. absurd (omega arith)) (omega (arith, counted, joined))) (valid_blocks flags (k + step_count t) (n + fresh_labels t) ts parts.1 range.1 (omega (arith, counted, joined)))
 
-  pub valid_function : (flags : IsaFlags) (n : ℕ) (ts : List Tree) → L.steps ≡ function_steps ts → blocks_cause flags (declared L) n ts ≡ None → BlocksMasked ts → (k : ℕ) (s : Step) → slice_get L.steps k ≡ Some s → IsValidStep L s
+  pub valid_function : (flags : IsaFlags) (n : ℕ) (ts : List Tree) → L.steps ≡ function_steps ts → blocks_cause flags (declarations L) n ts ≡ None → BlocksMasked ts → (k : ℕ) (s : Step) → slice_get L.steps k ≡ Some s → IsValidStep L s
   unfolding AllValid
   valid_function flags n ts same e range k s h =
       let within : 0 + length (steps_from 0 ts) ≤ length L.steps = omega (arith, ap length same) in
       valid_blocks flags 0 n ts e range within k s (ap (λ ss. slice_get ss k) (sym same) ∙ h)
 
   -- those of one tree, whatever stack size it leaves
-  pub valid_alone : (flags : IsaFlags) (n nominal : ℕ) (t : Tree) → L.steps ≡ function_steps (t ∷ []) → tree_cause flags (declared L) n nominal 0 t ≡ None → BlocksMasked (t ∷ []) → (k : ℕ) (s : Step) → slice_get L.steps k ≡ Some s → IsValidStep L s
+  pub valid_alone : (flags : IsaFlags) (n nominal : ℕ) (t : Tree) → L.steps ≡ function_steps (t ∷ []) → tree_cause flags (declarations L) n nominal 0 t ≡ None → BlocksMasked (t ∷ []) → (k : ℕ) (s : Step) → slice_get L.steps k ≡ Some s → IsValidStep L s
   unfolding AllValid
   valid_alone flags n nominal t same e range k s h =
       let own : L.steps ≡ steps_of 0 0 t = same ∙ append-nil (steps_of 0 0 t) in
@@ -191,5 +191,5 @@ pub folded_steps : (flags : IsaFlags) (environment : LinkEnvironment) (ts : List
     (k : ℕ) (s : Step) → slice_get (function_steps (folded_trees ts)) k ≡ Some s → IsValidStep (function_layout environment (folded_trees ts) image) s
 folded_steps flags environment ts n image e range =
     let L = function_layout environment (folded_trees ts) image in
-    let same = folded_blocks_cause flags (declared L) n 0 ts ∙ ap (λ m. blocks_cause flags (record { blocks = m; aligns = environment.aligns }) n ts) (folded_length 0 ts) in
+    let same = folded_blocks_cause flags (declarations L) n 0 ts ∙ ap (λ m. blocks_cause flags (record { blocks = m; aligns = environment.aligns }) n ts) (folded_length 0 ts) in
     valid_function L flags n (folded_trees ts) refl (same ∙ e) (folded_blocks_masked 0 ts range)

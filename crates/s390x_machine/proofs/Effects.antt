@@ -7,8 +7,8 @@ use Rattle.s390x_lanes.specs.Relation.{Gives, divides_by_zero, code_of as vector
 use Rattle.s390x_lanes.specs.Results.{vector_result}
 use Rattle.s390x_operations.specs.State.{Registers, Core, with_code, set_general, set_vector, number_at, after_store}
 use Rattle.s390x_operations.specs.Access.{fault, store_event}
-use Rattle.s390x_operations.specs.Vectors.{loaded, layout_bytes}
-use Rattle.s390x_operations.specs.Effects.{access, refused, results, Results, effect_code, CodeAfter, MayExecute, MayInterrupt}
+use Rattle.s390x_operations.specs.Vectors.{register_after_load, layout_bytes}
+use Rattle.s390x_operations.specs.Effects.{access, stop_of_effect, results, Results, effect_code, CodeAfter, MayExecute, MayInterrupt}
 use Rattle.s390x_operations.specs.declared.stop.ConditionCode.{ConditionCode}
 use Rattle.s390x_operations.specs.declared.stop.ConditionCode.TheVariants.{Code0}
 use Rattle.s390x_operations.specs.declared.stop.StopKind.{StopKind}
@@ -42,7 +42,7 @@ pub record Ends (effect : Effect) (c : Core) (code : ConditionCode) : Type 0 whe
   pub results : Results effect c registers
   pub code_is : registers.code ≡ code
 
-ends : (effect : Effect) (c : Core) (code : ConditionCode) → HasValue effect → refused effect ≡ None → Ends effect c code
+ends : (effect : Effect) (c : Core) (code : ConditionCode) → HasValue effect → stop_of_effect effect ≡ None → Ends effect c code
 ends (Havoc target) c code h e = record { registers = with_code code (set_general c.registers target 0); results = (0, pow_pos 64, refl); code_is = refl }
 ends (ComputeVector operation target first second third fourth) c code h e =
     let x = vector_result operation first second third fourth in
@@ -51,7 +51,7 @@ ends (ComputeVector operation target first second third fourth) c code h e =
 ends (PutVector target known x) c code h e =
     record { registers = with_code code (set_vector c.registers target (bit_and x known)); results = (bit_and x known, masked_lt x known h, masked_twice x known, refl); code_is = refl }
 ends (LoadVector layout target old known address) c code h e =
-    let x = loaded layout old (number_at c.memory.get address (layout_bytes layout)) in
+    let x = register_after_load layout old (number_at c.memory.get address (layout_bytes layout)) in
     record { registers = with_code code (set_vector c.registers target (bit_and x known)); results = (bit_and x known, masked_lt x known h, masked_twice x known, refl); code_is = refl }
 ends Nothing c code h e = record { registers = with_code code (results Nothing c); results = refl; code_is = refl }
 ends effect c code h e = record { registers = with_code code (results effect c); results = refl; code_is = refl }
@@ -72,7 +72,7 @@ pub data Does (op : Operation) (c : Core) : Type 0 where
   Goes : (t : Core) → MayExecute op c t → Does op c
   Stops : (kind : StopKind) → MayInterrupt op c.memory.has kind → Does op c
 
-goes : (op : Operation) (c : Core) → HasValue op.effect → fault (access op.effect) c.memory.has ≡ None → refused op.effect ≡ None → Does op c
+goes : (op : Operation) (c : Core) → HasValue op.effect → fault (access op.effect) c.memory.has ≡ None → stop_of_effect op.effect ≡ None → Does op c
 goes op c h reached allowed =
     let end = ends op.effect c (allowed_code op.rule op.effect c) h allowed in
     Goes (record { registers = end.registers; memory = after_store (store_event (access op.effect) c.memory) c.memory })
@@ -87,10 +87,10 @@ goes op c h reached allowed =
 pub operation_does : (op : Operation) (c : Core) → HasValue op.effect → Does op c
 operation_does op c h = by_fault (fault (access op.effect) c.memory.has) refl
   where
-    by_values : fault (access op.effect) c.memory.has ≡ None → (stop : Option StopKind) → refused op.effect ≡ stop → Does op c
+    by_values : fault (access op.effect) c.memory.has ≡ None → (stop : Option StopKind) → stop_of_effect op.effect ≡ stop → Does op c
     by_values reached None e = goes op c h reached e
     by_values reached (Some kind) e = Stops kind (inr (reached, inl e))
 
     by_fault : (stop : Option StopKind) → fault (access op.effect) c.memory.has ≡ stop → Does op c
-    by_fault None e = by_values e (refused op.effect) refl
+    by_fault None e = by_values e (stop_of_effect op.effect) refl
     by_fault (Some kind) e = Stops kind (inl e)

@@ -12,7 +12,7 @@ use Rattle.s390x_format.specs.Fetch.{machine_rows}
 use Rattle.s390x_format.specs.Encoded.{IsEncoded, decoded_of}
 use Rattle.s390x_rows.specs.declared.opcodes.TheConstants as opcodes
 use Rattle.s390x_typed_steps.specs.Causes.{blocks_cause}
-use Rattle.s390x_typed_steps.specs.Image.{unlinked, step_offset, function_code}
+use Rattle.s390x_typed_steps.specs.Image.{unlinked_environment, step_offset, function_code}
 use Rattle.s390x_typed_steps.specs.MachineInstruction.{MachineInstruction, bytes_of, rr, rre, ril_c}
 use Rattle.s390x_typed_steps.specs.Parts.{step_parts}
 use Rattle.s390x_typed_steps.specs.Ranges.{BlocksInRange}
@@ -24,14 +24,14 @@ use Rattle.s390x_machine.specs.Fetch.{Found}
 use Rattle.s390x_machine.specs.Functions.{function_layout, StandsAsCode}
 use Rattle.s390x_machine.specs.Semantics.{semantics_in, semantics_of}
 use Rattle.s390x_machine.specs.Machine.{Event, Executed, FetchedStep, MachineStep}
-use Rattle.s390x_machine.specs.Example.{image, label, adds, trees, left, core, once, twice, LoopRuns}
+use Rattle.s390x_machine.specs.Example.{image, label, adds, trees, remaining_trees, core, once, twice, LoopRuns}
 use Rattle.s390x_machine.proofs.Checked.{folded_steps}
 use Rattle.s390x_machine.proofs.FoldedSteps.{folded_right}
 use Rattle.s390x_machine.proofs.Fetching.{StandsAt, found_at}
 use Rattle.s390x_machine.proofs.Rows.{fits_rr, fits_rre, fits_ril_c, agr_listed, bcr_listed, brcl_listed}
 
 -- the bytes are the function's code, as emission gives it
-code : image.bytes ≡ function_code (unlinked left []) left ++ []
+code : image.bytes ≡ function_code (unlinked_environment remaining_trees []) remaining_trees ++ []
 unfolding number bits layout_of length_of be_bytes
 code = refl
 
@@ -47,21 +47,21 @@ pub ranges : BlocksInRange trees
 ranges = (((tt, tt), ((omega arith, omega arith), tt)), (((tt, tt), tt), tt))
 
 -- no symbol is named
-reaches : (k : ℕ) (s : Step) → slice_get (function_steps left) k ≡ Some s → PartsReach (function_layout (unlinked left []) left image) (step_offset (function_steps left) k) (step_parts s)
-reaches zero s e = let same : Plain adds ≡ s = cc in subst (λ x. PartsReach (function_layout (unlinked left []) left image) (step_offset (function_steps left) zero) (step_parts x)) same (tt, tt)
-reaches (suc zero) s e = let same : Shortened (BranchLeft 4 0) (CondBr (label 0) (label 1) 4) ≡ s = cc in subst (λ x. PartsReach (function_layout (unlinked left []) left image) (step_offset (function_steps left) (suc zero)) (step_parts x)) same (tt, tt)
-reaches (suc (suc zero)) s e = let same : Plain (Ret (Real (general 14))) ≡ s = cc in subst (λ x. PartsReach (function_layout (unlinked left []) left image) (step_offset (function_steps left) (suc (suc zero))) (step_parts x)) same (tt, tt)
+reaches : (k : ℕ) (s : Step) → slice_get (function_steps remaining_trees) k ≡ Some s → PartsReach (function_layout (unlinked_environment remaining_trees []) remaining_trees image) (step_offset (function_steps remaining_trees) k) (step_parts s)
+reaches zero s e = let same : Plain adds ≡ s = cc in subst (λ x. PartsReach (function_layout (unlinked_environment remaining_trees []) remaining_trees image) (step_offset (function_steps remaining_trees) zero) (step_parts x)) same (tt, tt)
+reaches (suc zero) s e = let same : Shortened (BranchLeft 4 0) (CondBr (label 0) (label 1) 4) ≡ s = cc in subst (λ x. PartsReach (function_layout (unlinked_environment remaining_trees []) remaining_trees image) (step_offset (function_steps remaining_trees) (suc zero)) (step_parts x)) same (tt, tt)
+reaches (suc (suc zero)) s e = let same : Plain (Ret (Real (general 14))) ≡ s = cc in subst (λ x. PartsReach (function_layout (unlinked_environment remaining_trees []) remaining_trees image) (step_offset (function_steps remaining_trees) (suc (suc zero))) (step_parts x)) same (tt, tt)
 reaches (suc (suc (suc k))) s e = absurd (cc)
 
-pub stands : StandsAsCode (unlinked left []) left image
+pub stands : StandsAsCode (unlinked_environment remaining_trees []) remaining_trees image
 stands = record {
   constants = [];
   bytes = code;
   even = refl;
   fits = omega arith;
   short = omega arith;
-  valid = folded_steps base (unlinked left []) trees 2 image (checked base) ranges;
-  folded = folded_right (unlinked left []) trees image ranges;
+  valid = folded_steps base (unlinked_environment remaining_trees []) trees 2 image (checked base) ranges;
+  folded = folded_right (unlinked_environment remaining_trees []) trees image ranges;
   reached = reaches;
   stand = λ c lt. absurd (omega arith);
 }

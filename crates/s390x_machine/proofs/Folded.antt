@@ -6,7 +6,7 @@ use Rattle.s390x_inst.specs.declared.inst.Inst.TheVariants.{Jump, CondBr}
 use Rattle.s390x_typed_steps.specs.Parts.{ToBlock, Branch as BranchPart, step_parts}
 use Rattle.s390x_typed_steps.specs.StepBody.{Remainder, NothingLeft, BranchLeft}
 use Rattle.s390x_typed_steps.specs.Steps.{Step, Shortened}
-use Rattle.s390x_operations.specs.State.{Registers, Core, written, wrapping_add64}
+use Rattle.s390x_operations.specs.State.{Registers, Core, core_after_writes, wrapping_add64}
 use Rattle.s390x_operations.specs.Effects.{is_selected}
 use Rattle.s390x_machine.specs.declared.action_type.Action.TheVariants.{Branch}
 use Rattle.s390x_machine.specs.Machine.{Executed, Transition, all_writes}
@@ -47,10 +47,10 @@ AsBranch L k m j = (c : Core) (taken : Bool) → is_selected m c.registers.code 
 one_taken : (L : Layout) (k m j target size : ℕ) → ((y : Core) → typed_store_event L k y ≡ None) → AsBranch L k m j → target ≡ step_address L j → wrapping_add64 (step_address L k) size ≡ step_address L (suc k) → (c : Core) (t : Transition) (rest : List Transition) → Inside L k c [] c.registers (step_address L k) →
     Turned L c [] c.registers (step_address L k) (λ r. Branch m target) size t → t.event ≡ Executed None → (taken : Bool) → is_selected m c.registers.code ≡ taken → t.after ≡ mid c c.registers (all_writes (t ∷ [])) (cond taken target (wrapping_add64 (step_address L k) size)) → Runs L k c (t ∷ rest)
 one_taken L k m j target size none step there next c t rest i u e true sel at =
-    let y = written (all_writes (t ∷ [])) c in
+    let y = core_after_writes (all_writes (t ∷ [])) c in
     done L k c [] c.registers (step_address L k) (λ r. Branch m target) size t rest j y i u (e ∙ ap Executed (sym (none y))) (at ∙ ap (λ q. mid c c.registers (all_writes (t ∷ [])) q) there) (λ out. u.is_loaded) (step c true sel y refl)
 one_taken L k m j target size none step there next c t rest i u e false sel at =
-    let y = written (all_writes (t ∷ [])) c in
+    let y = core_after_writes (all_writes (t ∷ [])) c in
     done L k c [] c.registers (step_address L k) (λ r. Branch m target) size t rest (suc k) y i u (e ∙ ap Executed (sym (none y))) (at ∙ ap (λ q. mid c c.registers (all_writes (t ∷ [])) q) next) (λ out. u.is_loaded) (step c false sel y refl)
 
 one_branch_runs : (L : Layout) (k m j target size : ℕ) → ((y : Core) → typed_store_event L k y ≡ None) → AsBranch L k m j → RowAt L (step_address L k) (λ r. Branch m target) size → target ≡ step_address L j → wrapping_add64 (step_address L k) size ≡ step_address L (suc k) → InStep L k (step_address L k) → StepRuns L k

@@ -2,7 +2,7 @@
 use Rattle.std.proofs.Common.{◌≡◌, ℕ, zero, suc, ◌+◌, ◌-◌, inl, inr, List, [], ◌∷◌, ◌++◌, length, Some, None, Bool, true, false, cond, nat_eq, refl, sym, ap, ◌∙◌, subst, arith, slice_get, eqb-true, add-zero}
 use Rattle.s390x_base.specs.declared.ir.MachLabel.{MachLabel}
 use Rattle.s390x_inst.specs.declared.inst.Inst.TheVariants.{Jump, CondBr, CondBreak}
-use Rattle.s390x_typed_steps.specs.Folding.{shortened, fold, folded, folded_before, next_block, folded_from, folded_trees}
+use Rattle.s390x_typed_steps.specs.Folding.{body_with_remainder, fold, folded_members, folded_before, next_block, folded_from, folded_trees}
 use Rattle.s390x_typed_steps.specs.Ranges.{BodyInRange, AllInRange, BlocksInRange}
 use Rattle.s390x_typed_steps.specs.Rows.{LinkEnvironment}
 use Rattle.s390x_typed_steps.specs.Steps.{Step, Opening, Back, step_count, step_of, steps_of, steps_from, function_steps, first_step}
@@ -78,12 +78,12 @@ module _ (L : Layout) where
   leads_there : (k next b : ℕ) → nat_eq b next ≡ true → L.first_step next ≡ suc k → L.first_step b ≡ suc k
   leads_there k next b same e = ap L.first_step (eqb-true b next same) ∙ e
 
-  jump_leads : (k next : ℕ) (dest : MachLabel) (t : Bool) → nat_eq dest.0 next ≡ t → L.first_step next ≡ suc k → IsFoldedRight L k (step_of 0 (shortened (cond t (Some NothingLeft) None) (Jump dest)))
+  jump_leads : (k next : ℕ) (dest : MachLabel) (t : Bool) → nat_eq dest.0 next ≡ t → L.first_step next ≡ suc k → IsFoldedRight L k (step_of 0 (body_with_remainder (cond t (Some NothingLeft) None) (Jump dest)))
   jump_leads k next dest true same e = leads_there k next dest.0 same e
   jump_leads k next dest false same e = tt
 
   choice_leads : (k next : ℕ) (taken not_taken : MachLabel) (mask : ℕ) (n t : Bool) → nat_eq not_taken.0 next ≡ n → nat_eq taken.0 next ≡ t → L.first_step next ≡ suc k →
-      IsFoldedRight L k (step_of 0 (shortened (cond n (cond t (Some NothingLeft) (Some (BranchLeft mask taken.0))) (cond t (Some (BranchLeft (15 - mask) not_taken.0)) None)) (CondBr taken not_taken mask)))
+      IsFoldedRight L k (step_of 0 (body_with_remainder (cond n (cond t (Some NothingLeft) (Some (BranchLeft mask taken.0))) (cond t (Some (BranchLeft (15 - mask) not_taken.0)) None)) (CondBr taken not_taken mask)))
   choice_leads k next taken not_taken mask true true other same e = (leads_there k next taken.0 same e, leads_there k next not_taken.0 other e)
   choice_leads k next taken not_taken mask true false other same e = inl (refl, refl, leads_there k next not_taken.0 other e)
   choice_leads k next taken not_taken mask false true other same e = inr (refl, refl, leads_there k next taken.0 same e)
@@ -97,21 +97,21 @@ module _ (L : Layout) where
 
   -- ---- the members of a block
 
-  folded_tree : (k next : ℕ) (t : Tree) → AllInRange t → L.first_step next ≡ k + step_count t → AllLead k (steps_of k 0 (folded next t))
+  folded_tree : (k next : ℕ) (t : Tree) → AllInRange t → L.first_step next ≡ k + step_count t → AllLead k (steps_of k 0 (folded_members next t))
   folded_tree k next empty h e = λ j s at. absurd (cc)
   folded_tree k next (leaf b empty) h e =
       let last : k + (1 + 0) ≡ suc k = omega arith in
       lead_cons k (step_of 0 (fold next b)) [] (fold_leads k next b h.0 (e ∙ last)) (λ j s at. absurd (cc))
   folded_tree k next (leaf b (leaf c rest)) h e =
       let behind : k + (1 + step_count (leaf c rest)) ≡ k + 1 + step_count (leaf c rest) = omega arith in
-      lead_cons k (step_of 0 b) (steps_of (k + 1) 0 (folded next (leaf c rest))) (whole_body k 0 b h.0) (folded_tree (k + 1) next (leaf c rest) h.1 (e ∙ behind))
+      lead_cons k (step_of 0 b) (steps_of (k + 1) 0 (folded_members next (leaf c rest))) (whole_body k 0 b h.0) (folded_tree (k + 1) next (leaf c rest) h.1 (e ∙ behind))
   folded_tree k next (leaf b (loop_node mask members rest)) h e =
       let behind : k + (1 + step_count (loop_node mask members rest)) ≡ k + 1 + step_count (loop_node mask members rest) = omega arith in
-      lead_cons k (step_of 0 b) (steps_of (k + 1) 0 (folded next (loop_node mask members rest))) (whole_body k 0 b h.0) (folded_tree (k + 1) next (loop_node mask members rest) h.1 (e ∙ behind))
+      lead_cons k (step_of 0 b) (steps_of (k + 1) 0 (folded_members next (loop_node mask members rest))) (whole_body k 0 b h.0) (folded_tree (k + 1) next (loop_node mask members rest) h.1 (e ∙ behind))
   folded_tree k next (loop_node mask members rest) h e =
       let end = k + 2 + step_count members in
       let behind : k + (2 + step_count members + step_count rest) ≡ end + step_count rest = omega arith in
-      loop_lead k mask 0 members (folded next rest) (whole_tree (k + 1) end members h.1) (folded_tree end next rest h.2 (e ∙ behind))
+      loop_lead k mask 0 members (folded_members next rest) (whole_tree (k + 1) end members h.1) (folded_tree end next rest h.2 (e ∙ behind))
 
   before_leads : (k b : ℕ) (ts : List Tree) (t : Tree) → AllInRange t → L.first_step (b + 1) ≡ k + step_count t → AllLead k (steps_of k 0 (folded_before (next_block b ts) t))
   before_leads k b [] t h e = whole_tree k 0 t h

@@ -1,7 +1,7 @@
 -- The image stays in memory.
 use Rattle.std.proofs.Common.{Option, Some, None, ◌≡◌, ℕ, zero, suc, ◌-◌, ◌%◌, ◌/◌, List, [], ◌∷◌, ◌++◌, Bool, true, false, cond, ◌||◌, ◌==◌, IsTrue, IsFalse, slice_index, refl, sym, ap, ◌∙◌, true≢false, eqb-true}
-use Rattle.s390x_operations.specs.State.{Memory, Core, update, wrapping_add64, Write, write_get, written, bytes_to, StoreEvent, after_store, IsDisjoint, CodeImage, is_within, overlaps, IsLoaded, MayWrite, number_at}
-use Rattle.s390x_operations.specs.Access.{Access, Untouched, Reads, Stores, Locks, changed, store_event, store_event_at, stores_into}
+use Rattle.s390x_operations.specs.State.{Memory, Core, update, wrapping_add64, Write, write_get, core_after_writes, bytes_to, StoreEvent, after_store, IsDisjoint, CodeImage, is_within, overlaps, IsLoaded, MayWrite, number_at}
+use Rattle.s390x_operations.specs.Access.{Access, Untouched, Reads, Stores, Locks, change_result, store_event, store_event_at, stores_into}
 
 pub or_left : (a b : Bool) → IsFalse (a || b) → IsFalse a
 or_left true b e = e
@@ -43,11 +43,11 @@ pub apart_of : (image : CodeImage) (x : Access) (m : Memory) → IsFalse (stores
 apart_of image Untouched m out = tt
 apart_of image (Reads aligned a n) m out = tt
 apart_of image (Stores aligned a n v) m out = out
-apart_of image (Locks a n change) m out = apart_at image a n (changed change (number_at m.get a n)) out
+apart_of image (Locks a n change) m out = apart_at image a n (change_result change (number_at m.get a n)) out
 
 write_append : (ws vs : List Write) (f : ℕ → ℕ) → write_get vs (write_get ws f) ≡ write_get (ws ++ vs) f
 write_append [] vs f = refl
 write_append (w ∷ ws) vs f = write_append ws vs (update f w.address w.byte)
 
-pub written_append : (ws vs : List Write) (c : Core) → written vs (written ws c) ≡ written (ws ++ vs) c
+pub written_append : (ws vs : List Write) (c : Core) → core_after_writes vs (core_after_writes ws c) ≡ core_after_writes (ws ++ vs) c
 written_append ws vs c = ap (λ (g : ℕ → ℕ). record { registers = c.registers; memory = record { has = c.memory.has; get = g } }) (write_append ws vs c.memory.get)

@@ -1,13 +1,13 @@
 -- From each step alone to every run: the generic induction.
 use Rattle.std.proofs.Common.{◌⊎◌, Bool, true, false, IsTrue, IsFalse, true≢false, append-nil, ◌≡◌, ℕ, zero, suc, ◌+◌, ◌<◌, ◌≤◌, inl, inr, List, [], ◌∷◌, ◌++◌, length, Option, Some, None, refl, sym, ap, ◌∙◌, subst, arith, append_assoc, length-append, slice_get}
-use Rattle.s390x_operations.specs.State.{Core, State, Write, written, wrapping_add64, IsLoaded, CodeImage, IsDisjoint}
+use Rattle.s390x_operations.specs.State.{Core, State, Write, core_after_writes, wrapping_add64, IsLoaded, CodeImage, IsDisjoint}
 use Rattle.s390x_operations.specs.Access.{stores_into}
 use Rattle.s390x_operations.specs.Effects.{access}
 use Rattle.s390x_typed_steps.specs.Steps.{Step}
 use Rattle.s390x_machine.specs.Machine.{Transition, Run, after_all, all_writes}
 use Rattle.s390x_machine.specs.StepKinds.{StepKind, Performs}
 use Rattle.s390x_machine.specs.Typed.{Ending, Ended, At, touches_image, TypedStep, Wrong, kind_of_step, kind_at, store_event_of_kind, KindWrong}
-use Rattle.s390x_machine.specs.Match.{HasNoBytes, IsGroup, IsUnderWay, concatenated, start, EndsMatch, Allowed, EveryRun}
+use Rattle.s390x_machine.specs.Match.{HasNoBytes, IsGroup, IsUnderWay, concatenation, start, EndsMatch, Allowed, EveryRun}
 use Rattle.s390x_machine.specs.OneStep.{OneStep, here, on, StepHolds, Runs, waits, silent, goes, stops, ends, stuck, StepRuns}
 use Rattle.s390x_machine.specs.Layout.{Layout, InStep}
 use Rattle.s390x_machine.proofs.Frame.{apart_of}
@@ -21,15 +21,15 @@ after_append s [] h = refl
 after_append s (x ∷ g) h = after_append x.after g h
 
 -- a step, and what is allowed after it
-step_then : (L : Layout) (k : ℕ) (c : Core) (trace g rest : List Transition) → trace ≡ g ++ rest → (j : ℕ) (t : Core) → TypedStep L k (written (all_writes g) c) (At j) t → IsGroup L k c g (At j) t → Allowed L j (start L j t) rest → Allowed L k (start L k c) trace
+step_then : (L : Layout) (k : ℕ) (c : Core) (trace g rest : List Transition) → trace ≡ g ++ rest → (j : ℕ) (t : Core) → TypedStep L k (core_after_writes (all_writes g) c) (At j) t → IsGroup L k c g (At j) t → Allowed L j (start L j t) rest → Allowed L k (start L k c) trace
 step_then L k c trace g rest split j t step group a = record {
   groups = g ∷ a.groups;
   rest = a.rest;
-  split = split ∙ ap (λ l. g ++ l) a.split ∙ sym (append_assoc g (concatenated a.groups) a.rest);
+  split = split ∙ ap (λ l. g ++ l) a.split ∙ sym (append_assoc g (concatenation a.groups) a.rest);
   position = a.position;
   core = a.core;
   run = (At j, t, step, group, a.run);
-  ends_match = subst (λ s. EndsMatch L a.position a.core s a.rest) (sym (after_append (start L k c) g (concatenated a.groups) ∙ ap (λ s. after_all s (concatenated a.groups)) group.2)) a.ends_match;
+  ends_match = subst (λ s. EndsMatch L a.position a.core s a.rest) (sym (after_append (start L k c) g (concatenation a.groups) ∙ ap (λ s. after_all s (concatenation a.groups)) group.2)) a.ends_match;
 }
 
 combine : (L : Layout) (k : ℕ) (c : Core) (trace : List Transition) → Run L.image (start L k c) trace → OneStep L k c trace →
@@ -91,8 +91,8 @@ wrong_into L (Some (Performs needs operation code)) c e = touches_image e
 wrong_into L (Some _) c e = absurd (true≢false (sym e))
 wrong_into L None c e = tt
 
-apart_form : (image : CodeImage) (o : Option StepKind) (c : Core) (ws : List Write) → IsFalse (form_into image o c) → IsDisjoint image (store_event_of_kind o (written ws c))
-apart_form image (Some (Performs needs operation code)) c ws e = apart_of image (access (operation c.registers).effect) (written ws c).memory e
+apart_form : (image : CodeImage) (o : Option StepKind) (c : Core) (ws : List Write) → IsFalse (form_into image o c) → IsDisjoint image (store_event_of_kind o (core_after_writes ws c))
+apart_form image (Some (Performs needs operation code)) c ws e = apart_of image (access (operation c.registers).effect) (core_after_writes ws c).memory e
 apart_form image (Some _) c ws e = tt
 apart_form image None c ws e = tt
 
@@ -111,7 +111,7 @@ stays_here L k c trace w = here (record {
   ends_match = (refl, w);
 }) (omega arith)
 
-stays_ended : (L : Layout) (k : ℕ) (c : Core) (g rest : List Transition) (e : Ending) (x : Core) → TypedStep L k (written (all_writes g) c) (Ended e) x → IsGroup L k c g (Ended e) x → EndsMatch L (Ended e) x (after_all (start L k c) g) rest → OneStep L k c (g ++ rest)
+stays_ended : (L : Layout) (k : ℕ) (c : Core) (g rest : List Transition) (e : Ending) (x : Core) → TypedStep L k (core_after_writes (all_writes g) c) (Ended e) x → IsGroup L k c g (Ended e) x → EndsMatch L (Ended e) x (after_all (start L k c) g) rest → OneStep L k c (g ++ rest)
 stays_ended L k c g rest e x step group ends_match = here (record {
   groups = g ∷ [];
   rest = rest;

@@ -7,8 +7,8 @@ use Rattle.s390x_format.specs.declared.fields.Fields.{Fields}
 use Rattle.s390x_lanes.specs.Size.{lane_count}
 use Rattle.s390x_lanes.specs.Rows.{operation_of}
 use Rattle.s390x_lanes.specs.declared.operators.VectorOperation.{VectorOperation}
-use Rattle.s390x_operations.specs.Numbers.{whole}
-use Rattle.s390x_operations.specs.State.{State, Core, Memory, IsState, Registers, CodeImage, Write, MayWrite, written, wrapping_add64}
+use Rattle.s390x_operations.specs.Numbers.{modulus}
+use Rattle.s390x_operations.specs.State.{State, Core, Memory, IsState, Registers, CodeImage, Write, MayWrite, core_after_writes, wrapping_add64}
 use Rattle.s390x_operations.specs.Access.{store_event}
 use Rattle.s390x_operations.specs.Effects.{access, is_selected, MayExecute}
 use Rattle.s390x_operations.specs.declared.size.Size.{Size}
@@ -17,7 +17,7 @@ use Rattle.s390x_operations.specs.declared.effect.Operation.{Operation}
 use Rattle.s390x_machine.specs.declared.instruction_fetch.Fetched.{Fetched}
 use Rattle.s390x_machine.specs.declared.instruction_fetch.Fetched.TheVariants.{Misplaced, Missing, Unknown, Found}
 use Rattle.s390x_machine.specs.Fetch.{Fetches}
-use Rattle.s390x_machine.specs.Operands.{value_in, based, performed_where}
+use Rattle.s390x_machine.specs.Operands.{value_in, address_by_base, performed_where}
 use Rattle.s390x_machine.specs.Semantics.{register_field, mask_field, vector_field, element_size, relative_address, first_register, is_odd_pair, action, on_elements, semantics_of}
 use Rattle.s390x_machine.specs.Sound.{HasRegisters, IsMeant}
 use Rattle.s390x_machine.specs.Machine.{Event, Executed, Interrupted, ActionStep, OddPairStep, RowStep, FetchedStep, MachineStep, Transition, Run, after_all, TransitionStep}
@@ -44,7 +44,7 @@ ActionFits (BranchAndSave link target) = target < 2 ^ 64
 
 -- ---- what each row does
 
-value_in_lt : (size : Size) (r : Registers) (i : ℕ) → RegistersFit r → i < 16 → value_in size r i < whole size
+value_in_lt : (size : Size) (r : Registers) (i : ℕ) → RegistersFit r → i < 16 → value_in size r i < modulus size
 value_in_lt Halfword r i fit lt = mod_below (r.general i) (2 ^ 16) (pow_pos 16)
 value_in_lt Word r i fit lt = mod_below (r.general i) (2 ^ 32) (pow_pos 32)
 value_in_lt Doubleword r i fit lt = fit.general i lt
@@ -82,7 +82,7 @@ next_lt n lt e = by_rest (n % 2) refl
     by_rest (suc zero) h = absurd (true≢false (sym (eq-eqb (n % 2) 1 h) ∙ e))
     by_rest (suc (suc k)) h = absurd (omega arith)
 
-full_width : 2 ^ 64 ≤ whole Doubleword
+full_width : 2 ^ 64 ≤ modulus Doubleword
 full_width = omega arith
 
 row_fits : (semantics : RowSemantics) (f : Fields) (r : Registers) (address : ℕ) → HasRegisters semantics f → IsMeant semantics → is_odd_pair semantics f ≡ false → RegistersFit r → ActionFits (action semantics f r address)
@@ -101,8 +101,8 @@ row_fits BranchAndSaveToRegister f r address regs meant even fit =
 row_fits BranchAndSaveRelative f r address regs meant even fit = relative_lt f address
 row_fits LeftToRegister f r address regs meant even fit = (fit.general (register_field f 0) (regs 0), full_width)
 row_fits ExtractElement f r address regs meant even fit =
-    either_fits (nat_lt (based r (register_field f 1) f.disp) (lane_count (element_size f))) _ _ (fit.general (register_field f 0) (regs 0), full_width) tt
-row_fits InsertElement f r address regs meant even fit = either_fits (nat_lt (based r (register_field f 1) f.disp) (lane_count (element_size f))) _ _ tt tt
+    either_fits (nat_lt (address_by_base r (register_field f 1) f.disp) (lane_count (element_size f))) _ _ (fit.general (register_field f 0) (regs 0), full_width) tt
+row_fits InsertElement f r address regs meant even fit = either_fits (nat_lt (address_by_base r (register_field f 1) f.disp) (lane_count (element_size f))) _ _ tt tt
 row_fits (Elements row) f r address regs meant even fit =
     elements_fit (operation_of row f.masks f.imm) (register_field f 0) (vector_field f r 0) (vector_field f r 1) (vector_field f r 2) (vector_field f r 3)
 row_fits (ShiftElements row) f r address regs meant even fit = elements_fit (operation_of row f.masks _) (register_field f 0) (vector_field f r 0) (vector_field f r 2) 0 0
@@ -186,7 +186,7 @@ pub run_keeps : (image : CodeImage) (s : State) (trace : List Transition) → Is
 run_keeps image s [] h run = h
 run_keeps image s (transition ∷ trace) h run =
     let behind = written_in_range image s transition.writes h run.0.may in
-    run_keeps image transition.after trace (step_keeps (record { core = written transition.writes s.core; address = s.address }) transition.event transition.after behind run.0.goes) run.1
+    run_keeps image transition.after trace (step_keeps (record { core = core_after_writes transition.writes s.core; address = s.address }) transition.event transition.after behind run.0.goes) run.1
 
 pub run_goes_on : (image : CodeImage) (s : State) (trace : List Transition) (writes : List Write) → IsState s → Run image s trace → MayWrite image (after_all s trace).core.memory.has writes → HasTransition image (after_all s trace) writes
 run_goes_on image s trace writes h run may = written_steps image (after_all s trace) writes (run_keeps image s trace h run) may
@@ -228,7 +228,7 @@ record Onward (image : CodeImage) (s : State) (writes : List Write) : Type 0 whe
 onward : (image : CodeImage) (s : State) (writes : List Write) → IsState s → MayWrite image s.core.memory.has writes → Onward image s writes
 onward image s writes h may =
     let goes = written_steps image s writes h may in
-    let start : State = record { core = written writes s.core; address = s.address } in
+    let start : State = record { core = core_after_writes writes s.core; address = s.address } in
     record {
       transition = record { writes = writes; event = goes.event; after = goes.after };
       step = goes.step;

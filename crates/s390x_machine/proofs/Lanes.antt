@@ -20,13 +20,13 @@ use Rattle.s390x_lanes.specs.declared.operators.Division.{Division}
 use Rattle.s390x_lanes.specs.declared.operators.Division.TheVariants.{Quotient, Remainder}
 use Rattle.s390x_lanes.specs.declared.operators.Narrowing.{Narrowing}
 use Rattle.s390x_lanes.specs.declared.operators.Narrowing.TheVariants.{Modulo, Saturate}
-use Rattle.s390x_lanes.specs.Numbers.{element_number, wrapped, saturated}
-use Rattle.s390x_lanes.specs.Elements.{element_complement, is_lower, binary_result, unary_result, element_shifted, product, high_product, divided, narrowed}
-use Rattle.s390x_lanes.specs.Places.{bit_mask, selected}
+use Rattle.s390x_lanes.specs.Numbers.{element_number, wrapped_element, saturated_value}
+use Rattle.s390x_lanes.specs.Elements.{element_complement, is_lower, binary_result, unary_result, element_shifted, product, high_product, division_result, narrowed_element}
+use Rattle.s390x_lanes.specs.Places.{bit_mask, selected_bits}
 use Rattle.s390x_lanes.proofs.Powers.{pow_le, high_lt}
 use Rattle.s390x_lanes.proofs.Counting.{width_lt}
 
-pub wrapped_lt : (w : ℕ) (z : ℤ) → wrapped w z < 2 ^ w
+pub wrapped_lt : (w : ℕ) (z : ℤ) → wrapped_element w z < 2 ^ w
 wrapped_lt w (pos a) = mod_below a (2 ^ w) (pow_pos w)
 wrapped_lt w (negsuc a) = omega (arith, pow_pos w)
 
@@ -83,13 +83,13 @@ product_lt sign w x y = wrapped_lt (2 * w) (element_number sign w x *ℤ element
 pub high_product_lt : (sign : Signedness) (w x y : ℕ) → high_product sign w x y < 2 ^ w
 high_product_lt sign w x y = high_lt w (product sign w x y) (product_lt sign w x y)
 
-pub divided_lt : (division : Division) (sign : Signedness) (w x y : ℕ) → divided division sign w x y < 2 ^ w
-divided_lt Quotient sign w x y = choice_lt (y == 0) 0 (wrapped w (int_div (element_number sign w x) (element_number sign w y))) (2 ^ w) (pow_pos w) (wrapped_lt w (int_div (element_number sign w x) (element_number sign w y)))
-divided_lt Remainder sign w x y = choice_lt (y == 0) 0 (wrapped w (int_rem (element_number sign w x) (element_number sign w y))) (2 ^ w) (pow_pos w) (wrapped_lt w (int_rem (element_number sign w x) (element_number sign w y)))
+pub divided_lt : (division : Division) (sign : Signedness) (w x y : ℕ) → division_result division sign w x y < 2 ^ w
+divided_lt Quotient sign w x y = choice_lt (y == 0) 0 (wrapped_element w (int_div (element_number sign w x) (element_number sign w y))) (2 ^ w) (pow_pos w) (wrapped_lt w (int_div (element_number sign w x) (element_number sign w y)))
+divided_lt Remainder sign w x y = choice_lt (y == 0) 0 (wrapped_element w (int_rem (element_number sign w x) (element_number sign w y))) (2 ^ w) (pow_pos w) (wrapped_lt w (int_rem (element_number sign w x) (element_number sign w y)))
 
-pub narrowed_lt : (narrowing : Narrowing) (w x : ℕ) → narrowed narrowing w x < 2 ^ w
+pub narrowed_lt : (narrowing : Narrowing) (w x : ℕ) → narrowed_element narrowing w x < 2 ^ w
 narrowed_lt Modulo w x = mod_below x (2 ^ w) (pow_pos w)
-narrowed_lt (Saturate sign) w x = wrapped_lt w (saturated sign w (element_number sign (2 * w) x))
+narrowed_lt (Saturate sign) w x = wrapped_lt w (saturated_value sign w (element_number sign (2 * w) x))
 
 -- ---- ones from bit a to bit b
 
@@ -112,6 +112,6 @@ bit_mask_lt w a b = elim (cases_lt b a) [
 ]
 
 -- the bits of one number or another are those of 128 bits
-pub selected_lt : (x y z : ℕ) → x < 2 ^ 128 → y < 2 ^ 128 → selected x y z < 2 ^ 128
+pub selected_lt : (x y z : ℕ) → x < 2 ^ 128 → y < 2 ^ 128 → selected_bits x y z < 2 ^ 128
 selected_lt x y z hx hy =
     or_lt 128 (bit_and x z) (bit_and y (element_complement 128 z)) (omega (arith, and_le_l x z)) (omega (arith, and_le_l y (element_complement 128 z)))

@@ -1,7 +1,7 @@
 -- Numbers in memory, byte by byte.
 use Rattle.std.proofs.Common.{◌≡◌, ℕ, zero, suc, ◌+◌, ◌-◌, ◌*◌, ◌/◌, ◌%◌, ◌^◌, ◌<◌, ◌≤◌, arith, add-one, refl, ap, ap₂, lit<}
 use Rattle.std.proofs.Math.Nat.{pow-le-pow_right}
-use Rattle.s390x_operations.specs.Numbers.{whole}
+use Rattle.s390x_operations.specs.Numbers.{modulus}
 use Rattle.s390x_operations.specs.Bits.{bytes}
 use Rattle.s390x_operations.specs.Values.{width_of}
 use Rattle.s390x_operations.specs.State.{update, wrapping_add64, number_at, bytes_to, write_get}
@@ -44,7 +44,7 @@ pub room : (n : ℕ) → n ≤ 8 → 256 ^ n ≤ 2 ^ 64
 room n few = pow-le-pow_right {n = 256} (lit< tt) {i = n} {j = 8} few
 
 -- how many numbers the bytes of a size hold
-pub whole_bytes : (size : Size) (n : ℕ) → n ≡ bytes (width_of size) → 256 ^ n ≡ whole size
+pub whole_bytes : (size : Size) (n : ℕ) → n ≡ bytes (width_of size) → 256 ^ n ≡ modulus size
 whole_bytes Halfword n e = ap (λ k. 256 ^ k) e
 whole_bytes Word n e = ap (λ k. 256 ^ k) e
 whole_bytes Doubleword n e = ap (λ k. 256 ^ k) e

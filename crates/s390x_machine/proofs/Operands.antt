@@ -15,12 +15,12 @@ use Rattle.s390x_format.specs.View.{disp_of}
 use Rattle.s390x_typed_steps.specs.General.{is_general, low_word, low_displacement, low_12, low_halfword}
 use Rattle.s390x_typed_steps.specs.Operands.{is_numbered, fits_12, fits_20, fits_32}
 use Rattle.s390x_lanes.specs.declared.operators.Signedness.TheVariants.{Signed}
-use Rattle.s390x_operations.specs.Bits.{extended}
+use Rattle.s390x_operations.specs.Bits.{extended_bits}
 use Rattle.s390x_operations.specs.Numbers.{low}
 use Rattle.s390x_operations.specs.State.{Registers, set_general}
 use Rattle.s390x_operations.specs.declared.size.Size.TheVariants.{Doubleword}
 use Rattle.s390x_operations.specs.declared.size.Width.TheVariants.{Bits32}
-use Rattle.s390x_machine.specs.Operands.{address_part, indexed, based}
+use Rattle.s390x_machine.specs.Operands.{address_part, address_by_index, address_by_base}
 use Rattle.s390x_machine.specs.Storage.{signed_immediate}
 use Rattle.s390x_machine.proofs.Addresses.{low_of}
 use Rattle.s390x_machine.proofs.SingleInstruction.{low_small}
@@ -83,7 +83,7 @@ bits_12 d = omega arith
 -- ---- registers
 
 -- a base by itself
-pub based_indexed : (r : Registers) (base : ℕ) (d : ℤ) → indexed r base 0 d ≡ based r base d
+pub based_indexed : (r : Registers) (base : ℕ) (d : ℤ) → address_by_index r base 0 d ≡ address_by_base r base d
 based_indexed r base d = let e : address_part r base + 0 ≡ address_part r base = omega arith in ap (λ n. low Doubleword (pos n +ℤ d)) e
 
 -- a register of another number stays
@@ -118,17 +118,17 @@ low_below (pos a) = omega arith
 low_below (negsuc a) = omega arith
 
 -- an address that stands in %r1
-pub loaded_address : (r : Registers) (a : ℕ) → a < 2 ^ 64 → indexed (set_general r 1 (a % 2 ^ 64)) 1 0 (pos 0) ≡ a
+pub loaded_address : (r : Registers) (a : ℕ) → a < 2 ^ 64 → address_by_index (set_general r 1 (a % 2 ^ 64)) 1 0 (pos 0) ≡ a
 loaded_address r a lt =
     let e : a % 2 ^ 64 + 0 + 0 ≡ a = omega (arith, lt) in
     ap (λ n. low Doubleword (pos n)) e ∙ low_small a lt
 
 -- an offset of 32 bits that stands in %r1, as an index
-loaded_offset : (x : ℕ) (off : ℤ) → negsuc 2147483647 ≤ℤ off → off ≤ℤ pos 2147483647 → low Doubleword (pos (x + extended Signed Bits32 Doubleword (low_word off)) +ℤ pos 0) ≡ low Doubleword (pos x +ℤ off)
+loaded_offset : (x : ℕ) (off : ℤ) → negsuc 2147483647 ≤ℤ off → off ≤ℤ pos 2147483647 → low Doubleword (pos (x + extended_bits Signed Bits32 Doubleword (low_word off)) +ℤ pos 0) ≡ low Doubleword (pos x +ℤ off)
 loaded_offset x (pos a) least most =
     let le : a ≤ 2147483647 = omega (arith, most, ints) in
     let word : low_word (pos a) % 2 ^ 32 ≡ a = omega (arith, le) in
-    let value : extended Signed Bits32 Doubleword (low_word (pos a)) ≡ a = ap (λ n. cond (nat_lt n (2 ^ 31)) n (n + (2 ^ 64 - 2 ^ 32))) word ∙ ap (λ t. cond t a (a + (2 ^ 64 - 2 ^ 32))) (below a (2 ^ 31) (omega (arith, le))) in
+    let value : extended_bits Signed Bits32 Doubleword (low_word (pos a)) ≡ a = ap (λ n. cond (nat_lt n (2 ^ 31)) n (n + (2 ^ 64 - 2 ^ 32))) word ∙ ap (λ t. cond t a (a + (2 ^ 64 - 2 ^ 32))) (below a (2 ^ 31) (omega (arith, le))) in
     let e : pos (x + a) +ℤ pos 0 ≡ pos x +ℤ pos a = omega (arith, ints) in
     ap (λ n. low Doubleword (pos (x + n) +ℤ pos 0)) value ∙ ap (low Doubleword) e
 loaded_offset x (negsuc a) least most =
@@ -136,16 +136,16 @@ loaded_offset x (negsuc a) least most =
     let m : ℕ = 2 ^ 32 - suc a in
     let word : low_word (negsuc a) % 2 ^ 32 ≡ m = omega (arith, le) in
     let high : m + (2 ^ 64 - 2 ^ 32) ≡ 2 ^ 64 - suc a = omega (arith, le) in
-    let value : extended Signed Bits32 Doubleword (low_word (negsuc a)) ≡ 2 ^ 64 - suc a = ap (λ n. cond (nat_lt n (2 ^ 31)) n (n + (2 ^ 64 - 2 ^ 32))) word ∙ ap (λ t. cond t m (m + (2 ^ 64 - 2 ^ 32))) (not_below m (2 ^ 31) (omega (arith, le))) ∙ high in
+    let value : extended_bits Signed Bits32 Doubleword (low_word (negsuc a)) ≡ 2 ^ 64 - suc a = ap (λ n. cond (nat_lt n (2 ^ 31)) n (n + (2 ^ 64 - 2 ^ 32))) word ∙ ap (λ t. cond t m (m + (2 ^ 64 - 2 ^ 32))) (not_below m (2 ^ 31) (omega (arith, le))) ∙ high in
     let n : ℕ = x + (2 ^ 64 - suc a) in
     let left : pos n +ℤ pos 0 +ℤ pos (1 * 2 ^ 64) ≡ pos (n + 2 ^ 64) = omega (arith, ints) in
     let right : pos x +ℤ negsuc a +ℤ pos (1 * 2 ^ 64) ≡ pos n = omega (arith, le, ints) in
     ap (λ y. low Doubleword (pos (x + y) +ℤ pos 0)) value ∙ low_of (pos n +ℤ pos 0) (n + 2 ^ 64) left ∙ add-mod_right n (2 ^ 64) ∙ sym (low_of (pos x +ℤ negsuc a) n right)
 
 -- a register plus an offset that stands in %r1
-pub far_offset : (r : Registers) (base : ℕ) (off : ℤ) → (base == 1) ≡ false → negsuc 2147483647 ≤ℤ off → off ≤ℤ pos 2147483647 → indexed (set_general r 1 (extended Signed Bits32 Doubleword (low_word off))) base 1 (pos 0) ≡ based r base off
+pub far_offset : (r : Registers) (base : ℕ) (off : ℤ) → (base == 1) ≡ false → negsuc 2147483647 ≤ℤ off → off ≤ℤ pos 2147483647 → address_by_index (set_general r 1 (extended_bits Signed Bits32 Doubleword (low_word off))) base 1 (pos 0) ≡ address_by_base r base off
 far_offset r base off other least most =
-    let v = extended Signed Bits32 Doubleword (low_word off) in
+    let v = extended_bits Signed Bits32 Doubleword (low_word off) in
     ap (λ x. low Doubleword (pos (x + v) +ℤ pos 0)) (part_kept r v base other) ∙ loaded_offset (address_part r base) off least most
 
 -- 16 bits of an immediate, as the format reads them

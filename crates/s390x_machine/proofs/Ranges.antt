@@ -1,12 +1,12 @@
 -- What an operation leaves in registers and memory lies in its ranges.
 use Rattle.std.proofs.Common.{◌≡◌, ℕ, zero, suc, ◌+◌, ◌*◌, ◌/◌, ◌%◌, ◌^◌, ◌<◌, Bool, true, false, ◌==◌, if◌then◌else◌, Option, None, Some, refl, sym, subst, arith, eqb-true}
 use Rattle.std.proofs.lemmas.Nat.{mod_below}
-use Rattle.s390x_operations.specs.Numbers.{whole, signed}
+use Rattle.s390x_operations.specs.Numbers.{modulus, signed_number}
 use Rattle.s390x_operations.specs.Unsigned.{wide_product, signed_division, unsigned_division, IsPairBelow}
 use Rattle.s390x_operations.specs.Bits.{leftmost, IsWithin}
-use Rattle.s390x_operations.specs.Values.{value, taken}
+use Rattle.s390x_operations.specs.Values.{value, operand_value}
 use Rattle.s390x_operations.specs.State.{Registers, Memory, Core, StoreEvent, set_general, set_vector, with_code, update, number_at, wrapping_add64, write_get, bytes_to, after_store}
-use Rattle.s390x_operations.specs.Effects.{merged, found, set_sized, set_pair, set_divided, set_multiple, results, Results}
+use Rattle.s390x_operations.specs.Effects.{with_low_part, number_in_memory, set_sized, set_pair, set_divided, set_multiple, results, Results}
 use Rattle.s390x_operations.specs.declared.size.Size.{Size}
 use Rattle.s390x_operations.specs.declared.size.Size.TheVariants.{Doubleword}
 use Rattle.s390x_operations.specs.declared.operand.Pair.{Pair}
@@ -37,8 +37,8 @@ vector_fits r target v fit h = record { general = fit.general; vector = λ i lt.
 code_fits : (r : Registers) (code : ConditionCode) → RegistersFit r → RegistersFit (with_code code r)
 code_fits r code fit = record { general = fit.general; vector = fit.vector; access = fit.access }
 
-sized_fits : (size : Size) (r : Registers) (target x : ℕ) → RegistersFit r → x < whole size → RegistersFit (set_sized size r target x)
-sized_fits size r target x fit h = general_fits r target (merged size (r.general target) x) fit (λ lt. merged_lt size (r.general target) x (fit.general target lt) h)
+sized_fits : (size : Size) (r : Registers) (target x : ℕ) → RegistersFit r → x < modulus size → RegistersFit (set_sized size r target x)
+sized_fits size r target x fit h = general_fits r target (with_low_part size (r.general target) x) fit (λ lt. merged_lt size (r.general target) x (fit.general target lt) h)
 
 pair_fits : (size : Size) (r : Registers) (pair : ℕ) (p : Pair) → RegistersFit r → IsPairBelow size (Some p) → RegistersFit (set_pair size r pair p)
 pair_fits size r pair p fit h = sized_fits size (set_sized size r pair p.high) (pair + 1) p.low (sized_fits size r pair p.high fit h.0) h.1
@@ -56,23 +56,23 @@ multiple_fits r f first address (suc n) fit h =
 
 -- the values that have to lie in their ranges so that the results do
 abbrev pub ValuesFit : Effect → Type 0
-ValuesFit (Compute operator size target first second) = (first < whole size) × IsWithin second.width size
+ValuesFit (Compute operator size target first second) = (first < modulus size) × IsWithin second.width size
 ValuesFit (MultiplyPair sign pair first second) = (first < 2 ^ 64) × (second < 2 ^ 64)
-ValuesFit (DivideLogicalPair size pair high low divisor) = divisor < whole size
+ValuesFit (DivideLogicalPair size pair high low divisor) = divisor < modulus size
 ValuesFit (FindLeftmostOne pair x) = x < 2 ^ 64
 ValuesFit _ = Unit {0}
 
 plain_fits : (effect : Effect) (c : Core) → ValuesFit effect → RegistersFit c.registers → ((i : ℕ) → c.memory.get i < 256) → RegistersFit (results effect c)
 plain_fits (Compute operator size target first second) c h fit bytes =
-    sized_fits size c.registers target (value operator size first (taken size second c.memory)) fit (value_lt operator size first (taken size second c.memory) h.0 (taken_lt size second c.memory h.1))
+    sized_fits size c.registers target (value operator size first (operand_value size second c.memory)) fit (value_lt operator size first (operand_value size second c.memory) h.0 (taken_lt size second c.memory h.1))
 plain_fits (MultiplyPair sign pair first second) c h fit bytes = pair_fits Doubleword c.registers pair (wide_product sign first second) fit (product_below sign first second h.0 h.1)
 plain_fits (DividePair pair dividend divisor) c h fit bytes =
-    divided_fits Doubleword c.registers pair (signed_division (signed Doubleword dividend) (signed Doubleword divisor)) fit (signed_below (signed Doubleword dividend) (signed Doubleword divisor))
+    divided_fits Doubleword c.registers pair (signed_division (signed_number Doubleword dividend) (signed_number Doubleword divisor)) fit (signed_below (signed_number Doubleword dividend) (signed_number Doubleword divisor))
 plain_fits (DivideLogicalPair size pair high low divisor) c h fit bytes =
-    divided_fits size c.registers pair (unsigned_division size (high * whole size + low) divisor) fit (unsigned_below size (high * whole size + low) divisor h)
+    divided_fits size c.registers pair (unsigned_division size (high * modulus size + low) divisor) fit (unsigned_below size (high * modulus size + low) divisor h)
 plain_fits (FindLeftmostOne pair x) c h fit bytes = pair_fits Doubleword c.registers pair (leftmost x) fit (leftmost_below x h)
-plain_fits (LoadAndOperate operator size target second address) c h fit bytes = sized_fits size c.registers target (found size c.memory address) fit (found_lt size c.memory address bytes)
-plain_fits (CompareAndSwap size target expected replacement address) c h fit bytes = sized_fits size c.registers target (found size c.memory address) fit (found_lt size c.memory address bytes)
+plain_fits (LoadAndOperate operator size target second address) c h fit bytes = sized_fits size c.registers target (number_in_memory size c.memory address) fit (found_lt size c.memory address bytes)
+plain_fits (CompareAndSwap size target expected replacement address) c h fit bytes = sized_fits size c.registers target (number_in_memory size c.memory address) fit (found_lt size c.memory address bytes)
 plain_fits (LoadMultiple first_register count address) c h fit bytes = multiple_fits c.registers c.memory.get first_register address count fit bytes
 plain_fits Nothing c h fit bytes = fit
 plain_fits (Test operator size first second) c h fit bytes = fit

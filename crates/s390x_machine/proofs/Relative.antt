@@ -18,7 +18,7 @@ use Rattle.s390x_format.specs.Formats.{length_of}
 use Rattle.s390x_format.specs.View.{fields_of}
 use Rattle.s390x_typed_steps.specs.MachineInstruction.{bytes_of, ril_b}
 use Rattle.s390x_typed_steps.specs.Memory.{StorageForm, RxForm, RsForm, SiForm, SilForm, VrxForm, FloatForm, type_of, storage_row}
-use Rattle.s390x_typed_steps.specs.Operands.{is_relative, widened}
+use Rattle.s390x_typed_steps.specs.Operands.{is_relative, with_long_displacement}
 use Rattle.s390x_typed_steps.specs.Parts.{CodePart, Relative, RelativeConstant, RelativeSymbol, ToBlock, part_size, trap_here, relative_part, relative_parts, access_parts}
 use Rattle.s390x_typed_steps.specs.Rows.{half_distance, part_bytes}
 use Rattle.s390x_typed_steps.specs.Traps.{part_traps}
@@ -29,7 +29,7 @@ use Rattle.s390x_operations.specs.declared.effect.Operation.{Operation}
 use Rattle.s390x_operations.specs.declared.size.Size.TheVariants.{Doubleword}
 use Rattle.s390x_format.specs.declared.semantics.RowSemantics.{RowSemantics}
 use Rattle.s390x_machine.specs.declared.action_type.Action.TheVariants.{Perform}
-use Rattle.s390x_machine.specs.Layout.{Layout, declared, block_address, constant_address}
+use Rattle.s390x_machine.specs.Layout.{Layout, declarations, block_address, constant_address}
 use Rattle.s390x_machine.specs.Semantics.{action}
 use Rattle.s390x_machine.specs.CodeAt.{ConstantStands, ImageAt, IsBlock, NamesConstant, PartReaches}
 use Rattle.s390x_machine.specs.Storage.{aligned_where}
@@ -62,7 +62,7 @@ RelativeDoes form accesses operation = Unit {0}
 pub record Distant (L : Layout) (mem : MemArg) (address : ℕ) : Type 0 where
   pub part : (opcode register : ℕ) → CodePart
   pub relative : is_relative mem ≡ true
-  pub widens : (mi : MemInstType) → widened mi mem ≡ mem
+  pub widens : (mi : MemInstType) → with_long_displacement mi mem ≡ mem
   pub parts : (code : Option TrapKind) (opcode register : ℕ) → trap_here code ++ relative_part opcode register mem ≡ access_of code (part opcode register)
   pub size : (opcode register : ℕ) → part_size (part opcode register) ≡ 6
   pub untrapped : (opcode register p : ℕ) → part_traps p (part opcode register) ≡ []
@@ -91,10 +91,10 @@ unless_none true x e = refl
 unless_none false x e = absurd (cc)
 
 -- what emission has checked of the places that they name
-pub label_known : (L : Layout) (target : MachLabel) → bound_cause (declared L) (Label target) ≡ None → IsBlock L target.0
+pub label_known : (L : Layout) (target : MachLabel) → bound_cause (declarations L) (Label target) ≡ None → IsBlock L target.0
 label_known L target e = ltb-true target.0 L.block_count (unless_none (nat_lt target.0 L.block_count) UnboundLabel e)
 
-pub constant_known : (L : Layout) (c : VCodeConstant) → bound_cause (declared L) (Constant c) ≡ None → c.0 < length L.offsets.environment.aligns
+pub constant_known : (L : Layout) (c : VCodeConstant) → bound_cause (declarations L) (Constant c) ≡ None → c.0 < length L.offsets.environment.aligns
 constant_known L c e = ltb-true c.0 (length L.offsets.environment.aligns) (unless_none (nat_lt c.0 (length L.offsets.environment.aligns)) UnboundLabel e)
 
 -- a distance between even places of the image

@@ -22,7 +22,7 @@ use Rattle.s390x_machine.specs.Functions.{function_layout, StandsAsCode}
 use Rattle.s390x_machine.specs.Semantics.{semantics_in, semantics_of}
 use Rattle.s390x_machine.specs.Machine.{Event, Executed, Interrupted, FetchedStep, MachineStep, Run}
 use Rattle.s390x_machine.specs.CodeAt.{PartsReach, ConstantStands}
-use Rattle.s390x_machine.specs.RelativeExample.{image, loads, names, stops, trees, environment, core, with_constant, with_both, stopped, trace, RelativeRuns}
+use Rattle.s390x_machine.specs.RelativeExample.{image, loads, names, stops, trees, environment, core, with_constant, with_both, stopped_state, trace, RelativeRuns}
 use Rattle.s390x_operations.specs.declared.stop.StopKind.TheVariants.{Operation}
 use Rattle.s390x_machine.proofs.Checked.{checked_steps}
 use Rattle.s390x_machine.proofs.FoldedSteps.{whole_right}
@@ -106,7 +106,7 @@ address_step : (s t : State) → s.core.memory ≡ core.memory → s.address ≡
 address_step s t memory at acts = step_at (ril_b opcodes.LARL 3 2045) 6 s (Executed None) t refl memory at address_stands (fits_ril_b opcodes.LARL 3 2045 (omega arith) (omega arith) (omega arith)) (larl_listed 3 2045) acts
 
 -- no row begins with a byte of zeros
-stop_step : MachineStep stopped (Interrupted Operation) stopped
+stop_step : MachineStep stopped_state (Interrupted Operation) stopped_state
 stop_step = record {
   fetched = Unknown;
   fetches = (refl, (refl, refl), λ d h. none_begins (instruction_bytes core.memory 4108) d h refl);

@@ -18,7 +18,7 @@ use Rattle.s390x_lanes.specs.declared.size.ElementSize.TheVariants.{Byte, Halfwo
 use Rattle.s390x_lanes.proofs.Building.{build_lt, lane_lt, whole}
 use Rattle.s390x_lanes.proofs.Reversing.{in_reverse, reversed_doublewords, reversed_halves}
 use Rattle.s390x_operations.specs.Effects.{vector_code}
-use Rattle.s390x_operations.specs.State.{Registers, Core, set_vector, with_code, written, wrapping_add64}
+use Rattle.s390x_operations.specs.State.{Registers, Core, set_vector, with_code, core_after_writes, wrapping_add64}
 use Rattle.s390x_operations.specs.Vectors.{with_reversed_elements}
 use Rattle.s390x_operations.specs.declared.effect.Operation.{Operation}
 use Rattle.s390x_operations.specs.declared.stop.StopKind.TheVariants.{Divide}
@@ -34,7 +34,7 @@ use Rattle.s390x_format.specs.declared.semantics.RowSemantics.TheVariants as Row
 use Rattle.s390x_machine.specs.CodeAt.{ImageAt}
 use Rattle.s390x_machine.specs.Layout.{Layout, InStep, step_address}
 use Rattle.s390x_machine.specs.Machine.{Executed, Interrupted, Transition, all_writes}
-use Rattle.s390x_machine.specs.Operands.{based}
+use Rattle.s390x_machine.specs.Operands.{address_by_base}
 use Rattle.s390x_machine.specs.OneStep.{StepRuns}
 use Rattle.s390x_machine.specs.Semantics.{on_elements}
 use Rattle.s390x_machine.specs.StepKinds.{Performs, no_code}
@@ -109,7 +109,7 @@ exchange_there L image offset even d n ld ln =
     vector_there L image offset even (exchanges_doublewords d n) (PermuteDoublewords 1 0) row (fits_vrr_c opcodes.VPDI d n n 4 (few_digits (elements_listed row)) ld ln ln (elements_few row))
 
 -- such an amount, as the machine computes it
-amount_is : (r : Registers) (half : ℕ) → half < 64 → based r 0 (pos half) % 64 ≡ half
+amount_is : (r : Registers) (half : ℕ) → half < 64 → address_by_base r 0 (pos half) % 64 ≡ half
 amount_is r half lt = ap (λ t. t % 64) (moved 0 half) ∙ omega (arith, lt)
 
 turn_there : (L : Layout) (image : ImageAt L) (offset : ℕ) (even : offset % 2 ≡ 0) (op : VecShiftOp) (d half : ℕ) → d < 32 → half < 64 → shift_operator op ≡ RotateLeft → DoesThere L image offset even (vrs_a (shift_row op).opcode d 0 d (shift_row op).code half) (turned (shifted_elements op) half d)
@@ -119,7 +119,7 @@ turn_there L image offset even op d half ld small is =
     let fit = fits_vrs_a (shift_row op).opcode d 0 d (shift_row op).code half (few_digits (shift_rows op).0) ld (omega arith) ld (shift_code op) short in
     let operation = shift_operation op half small ∙ ap (λ (o : ShiftOperator). Some (ShiftElements o (shifted_elements op) half)) is in
     meant_at L image offset even x (Row.ShiftElements (vector_row_of (shift_row op).opcode)) (turned (shifted_elements op) half d) (shift_rows op) fit (shift_allowed op d 0 d half) (λ r p.
-    ap (λ (z : ℤ). on_elements (operation_of (vector_row_of (shift_row op).opcode) ((shift_row op).code ∷ 0 ∷ 0 ∷ []) (pos (based r 0 z % 64))) d (r.vector d) (r.vector d) 0 0) (small_displacement half short)
+    ap (λ (z : ℤ). on_elements (operation_of (vector_row_of (shift_row op).opcode) ((shift_row op).code ∷ 0 ∷ 0 ∷ []) (pos (address_by_base r 0 z % 64))) d (r.vector d) (r.vector d) 0 0) (small_displacement half short)
     ∙ ap (λ k. on_elements (operation_of (vector_row_of (shift_row op).opcode) ((shift_row op).code ∷ 0 ∷ 0 ∷ []) (pos k)) d (r.vector d) (r.vector d) 0 0) (amount_is r half small)
     ∙ ap (λ q. on_elements q d (r.vector d) (r.vector d) 0 0) operation)
 
@@ -153,7 +153,7 @@ module _ {L : Layout} {k : ℕ} {s : Step} (b : StepAt L k s) (total : ℕ) (siz
 
   -- the last one
   pub row_ends : (c : Core) (g : List Transition) (r r' : Registers) (a : ℕ) (act : Registers → Action) → a + 6 ≡ total → RowAt L (place L k a) act 6 → ChangesTo (act r) 6 r (place L k a) r' → ((y : Core) → typed_store_event L k y ≡ None) →
-      ((h : List Transition) → TypedStep L k (written (all_writes h) c) (At (suc k)) (mid c r' (all_writes h) 0).core) → Inside L k c g r (place L k a) → Simulates L k c g r (place L k a)
+      ((h : List Transition) → TypedStep L k (core_after_writes (all_writes h) c) (At (suc k)) (mid c r' (all_writes h) 0).core) → Inside L k c g r (place L k a) → Simulates L k c g r (place L k a)
   row_ends c g r r' a act e row changes none step i =
       row_over_last L k c g r (place L k a) act 6 r' (suc k) i row (λ m event t l. changes m event t) (sum_more (step_address L k) a 6 ∙ ap (λ n. wrapping_add64 (step_address L k) n) e ∙ next_place L k total size) none step
 
@@ -167,9 +167,9 @@ module _ {L : Layout} {k : ℕ} {s : Step} (b : StepAt L k s) (total : ℕ) (siz
 in_order_lt : (w n x : ℕ) → w * n ≡ 128 → in_reverse w n x < 2 ^ 128
 in_order_lt w n x e = subst (λ (k : ℕ). in_reverse w n x < 2 ^ k) e (build_lt w n (λ i. lane w x (n - 1 - i)) (λ j q. lane_lt w x (n - 1 - j)))
 
-reverse_step : (L : Layout) (k : ℕ) (e : ElementSize) (d n : ℕ) → kind_at L k ≡ Some (Performs false (reverses_elements e d n) no_code) → (c : Core) (h : List Transition) → TypedStep L k (written (all_writes h) c) (At (suc k)) (mid c (set_vector c.registers d (with_reversed_elements e (c.registers.vector n))) (all_writes h) 0).core
+reverse_step : (L : Layout) (k : ℕ) (e : ElementSize) (d n : ℕ) → kind_at L k ≡ Some (Performs false (reverses_elements e d n) no_code) → (c : Core) (h : List Transition) → TypedStep L k (core_after_writes (all_writes h) c) (At (suc k)) (mid c (set_vector c.registers d (with_reversed_elements e (c.registers.vector n))) (all_writes h) 0).core
 reverse_step L k e d n is c h =
-    let y = written (all_writes h) c in
+    let y = core_after_writes (all_writes h) c in
     let v = with_reversed_elements e (c.registers.vector n) in
     let x = (mid c (set_vector c.registers d v) (all_writes h) 0).core in
     let small = in_order_lt (element_bits e) (lane_count e) (c.registers.vector n) (whole e) in

@@ -25,7 +25,7 @@ use Rattle.s390x_machine.specs.Computations.{with_rule, operand_of, shift_operat
 use Rattle.s390x_machine.specs.StepKinds.{no_code}
 use Rattle.s390x_machine.specs.Layout.{Layout}
 use Rattle.s390x_machine.specs.OneStep.{StepRuns}
-use Rattle.s390x_machine.specs.Operands.{value_in, based, rotated_operand}
+use Rattle.s390x_machine.specs.Operands.{value_in, address_by_base, rotated_operand}
 use Rattle.s390x_machine.proofs.Bits.{shift_semantics, shift_rows, rotate_allows, rotate_rows, below, not_below, rotation_allowed, test_allowed}
 use Rattle.s390x_machine.proofs.Built.{StepAt, IsRow, IsSingle, meant_runs}
 use Rattle.s390x_machine.proofs.Listing.{few_digits}
@@ -45,7 +45,7 @@ module _ {L : Layout} {k : ℕ} {s : Step} (b : StepAt L k s) where
   shift_runs op d n base amount is l =
       let byte : low_byte amount < 2 ^ 19 = omega arith in
       meant_runs b (rsy (shift_opcode op) d n base (low_byte amount)) (shift_semantics op) (shifts op d n base (low_byte amount)) (λ r. never_by_values (shifts op d n base (low_byte amount) r) no_code refl (λ kind h. h)) is (shift_rows op) (fits_rsy (shift_opcode op) d n base (low_byte amount) (few_digits (shift_rows op).0) l.0 l.1 l.2 (omega arith)) refl (λ r p.
-      ap (λ t. Perform (with_rule (shift_rule op) (Effect.Compute (Shift (shift_operator op)) (shift_size op) d (value_in (shift_size op) r n) (operand_of (shift_computation op).second (based r base (cond t (pos (low_byte amount)) (pos (low_byte amount) -ℤ pos (2 ^ 20)))))))) (below (low_byte amount) (2 ^ 19) byte))
+      ap (λ t. Perform (with_rule (shift_rule op) (Effect.Compute (Shift (shift_operator op)) (shift_size op) d (value_in (shift_size op) r n) (operand_of (shift_computation op).second (address_by_base r base (cond t (pos (low_byte amount)) (pos (low_byte amount) -ℤ pos (2 ^ 20)))))))) (below (low_byte amount) (2 ^ 19) byte))
 
   pub rotate_runs : (op : RxSBGOp) (operands_valid : Bool) (d n start end : ℕ) (amount : ℤ) → IsSingle L s operands_valid (rotated_row (Some (rotate_then op)) d n start end start (rotation amount)) (rotates_into op d n start end (rotation amount)) → (IsTrue operands_valid → (d < 16) × (n < 16)) → StepRuns L k
   rotate_runs op operands_valid d n start end amount is small = go (nat_lt start 64 && nat_lt end 64) refl is

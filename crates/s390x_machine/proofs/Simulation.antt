@@ -1,16 +1,16 @@
 -- Inside one step: the machine's transitions, one row after another.
 use Rattle.std.proofs.Common.{◌≡◌, ℕ, suc, ◌≤◌, ◌⊎◌, inl, inr, List, [], ◌∷◌, ◌++◌, length, Option, Some, None, Bool, if◌then◌else◌, refl, sym, ap, ◌∙◌, subst, arith, append_assoc, append-nil, length-append}
 use Rattle.s390x_base.specs.declared.trap.TrapKind.{TrapKind}
-use Rattle.s390x_operations.specs.State.{Registers, Memory, Core, with_code, State, Write, written, wrapping_add64, IsLoaded, IsDisjoint}
+use Rattle.s390x_operations.specs.State.{Registers, Memory, Core, with_code, State, Write, core_after_writes, wrapping_add64, IsLoaded, IsDisjoint}
 use Rattle.s390x_operations.specs.Access.{fault, store_event}
-use Rattle.s390x_operations.specs.Effects.{access, refused, MayRefuse, is_selected, MayExecute, MayInterrupt, Refines}
+use Rattle.s390x_operations.specs.Effects.{access, stop_of_effect, MayRefuse, is_selected, MayExecute, MayInterrupt, Refines}
 use Rattle.s390x_operations.specs.declared.effect.Operation.{Operation}
 use Rattle.s390x_operations.specs.declared.stop.StopKind.{StopKind}
 use Rattle.s390x_machine.specs.declared.action_type.Action.{Action}
 use Rattle.s390x_machine.specs.declared.action_type.Action.TheVariants.{Perform, Branch, BranchAndSave}
 use Rattle.s390x_machine.specs.Machine.{Event, Executed, Interrupted, ActionStep, MachineStep, Transition, after_writes, TransitionStep, Run, after_all, all_writes}
 use Rattle.s390x_machine.specs.StepKinds.{Performs}
-use Rattle.s390x_machine.specs.Typed.{Ending, Trapped, At, Ended, loosened, loosen, goes_on, traps, OperationWrong, faults_uncoded, KindStep, KindWrong, TypedStep, kind_at, store_event_of_kind, typed_store_event}
+use Rattle.s390x_machine.specs.Typed.{Ending, Trapped, At, Ended, with_scratch_value, loosen, goes_on, traps, OperationWrong, faults_uncoded, KindStep, KindWrong, TypedStep, kind_at, store_event_of_kind, typed_store_event}
 use Rattle.s390x_machine.specs.Codes.{trap_code_at}
 use Rattle.s390x_machine.specs.Match.{StoreNothing, EndsAt, start, EndsMatch}
 use Rattle.s390x_machine.specs.OneStep.{Runs, waits, goes, ends, stops}
@@ -24,7 +24,7 @@ RowAt L p act size = (s : State) → s.address ≡ p → IsLoaded L.image s.core
 
 -- the state inside a step that began at c: these registers, the memory after these writes
 abbrev pub mid : Core → Registers → List Write → ℕ → State
-mid c r ws p = record { core = record { registers = r; memory = (written ws c).memory }; address = p }
+mid c r ws p = record { core = record { registers = r; memory = (core_after_writes ws c).memory }; address = p }
 
 -- after these transitions of step k the machine is inside the step, at an address, with these registers
 pub record Inside (L : Layout) (k : ℕ) (c : Core) (g : List Transition) (r : Registers) (p : ℕ) : Type 0 where
@@ -32,7 +32,7 @@ pub record Inside (L : Layout) (k : ℕ) (c : Core) (g : List Transition) (r : R
   pub quiet : StoreNothing g
   pub here : InStep L k p
   pub lands : after_all (start L k c) g ≡ mid c r (all_writes g) p
-  pub is_loaded : IsLoaded L.image (written (all_writes g) c).memory
+  pub is_loaded : IsLoaded L.image (core_after_writes (all_writes g) c).memory
 
 -- whatever transitions follow, the step runs
 abbrev pub Simulates : Layout → ℕ → Core → List Transition → Registers → ℕ → Type 0
@@ -55,14 +55,14 @@ one_more g t = sym (all_writes_append g (t ∷ []) ∙ ap (λ l. all_writes g ++
 
 -- what a transition inside a step does
 pub record Turned (L : Layout) (c : Core) (g : List Transition) (r : Registers) (p : ℕ) (act : Registers → Action) (size : ℕ) (t : Transition) : Type 0 where
-  pub is_loaded : IsLoaded L.image (written (all_writes (g ++ t ∷ [])) c).memory
+  pub is_loaded : IsLoaded L.image (core_after_writes (all_writes (g ++ t ∷ [])) c).memory
   pub acts : ActionStep (act r) size (mid c r (all_writes (g ++ t ∷ [])) p) t.event t.after
-  pub memory : (written (all_writes (g ++ t ∷ [])) c).memory ≡ (after_writes (mid c r (all_writes g) p) t).core.memory
+  pub memory : (core_after_writes (all_writes (g ++ t ∷ [])) c).memory ≡ (after_writes (mid c r (all_writes g) p) t).core.memory
 
 pub turned : (L : Layout) (k : ℕ) (c : Core) (g : List Transition) (r : Registers) (p : ℕ) (act : Registers → Action) (size : ℕ) (t : Transition) → Inside L k c g r p → RowAt L p act size → TransitionStep L.image (mid c r (all_writes g) p) t → Turned L c g r p act size t
 turned L k c g r p act size t i row s =
-    let e : written t.writes (written (all_writes g) c) ≡ written (all_writes (g ++ t ∷ [])) c = written_append (all_writes g) t.writes c ∙ ap (λ ws. written ws c) (one_more g t) in
-    let l : IsLoaded L.image (written t.writes (written (all_writes g) c)).memory = lies_written L.image _ _ t.writes i.is_loaded s.may in
+    let e : core_after_writes t.writes (core_after_writes (all_writes g) c) ≡ core_after_writes (all_writes (g ++ t ∷ [])) c = written_append (all_writes g) t.writes c ∙ ap (λ ws. core_after_writes ws c) (one_more g t) in
+    let l : IsLoaded L.image (core_after_writes t.writes (core_after_writes (all_writes g) c)).memory = lies_written L.image _ _ t.writes i.is_loaded s.may in
     let a : ActionStep (act r) size (after_writes (mid c r (all_writes g) p) t) t.event t.after = row (after_writes (mid c r (all_writes g) p) t) refl l t.event t.after s.goes in
     record {
       is_loaded = subst (λ (x : Core). IsLoaded L.image x.memory) e l;
@@ -97,13 +97,13 @@ branch_executes c r ws p mask target size (Interrupted kind) t h = absurd h
 
 -- the step is done, at another step
 pub done : (L : Layout) (k : ℕ) (c : Core) (g : List Transition) (r : Registers) (p : ℕ) (act : Registers → Action) (size : ℕ) (t : Transition) (rest : List Transition) (j : ℕ) (x : Core) → Inside L k c g r p → Turned L c g r p act size t →
-    t.event ≡ Executed (typed_store_event L k (written (all_writes (g ++ t ∷ [])) c)) → t.after ≡ start L j x → (IsDisjoint L.image (typed_store_event L k (written (all_writes (g ++ t ∷ [])) c)) → IsLoaded L.image x.memory) →
-    TypedStep L k (written (all_writes (g ++ t ∷ [])) c) (At j) x → Runs L k c (g ++ t ∷ rest)
+    t.event ≡ Executed (typed_store_event L k (core_after_writes (all_writes (g ++ t ∷ [])) c)) → t.after ≡ start L j x → (IsDisjoint L.image (typed_store_event L k (core_after_writes (all_writes (g ++ t ∷ [])) c)) → IsLoaded L.image x.memory) →
+    TypedStep L k (core_after_writes (all_writes (g ++ t ∷ [])) c) (At j) x → Runs L k c (g ++ t ∷ rest)
 done L k c g r p act size t rest j x i u e lands is_loaded step =
     goes g rest t refl i.few (some_bytes_in L k i.here) i.quiet j x step e (ap (λ (s : State). (after_writes s t).core.memory) i.lands ∙ sym u.memory) lands is_loaded
 
 -- the step ends the run
-pub ended : (L : Layout) (k : ℕ) (c : Core) (g rest : List Transition) (e : Ending) (x : Core) → length g ≤ 4 → StoreNothing g → EndsAt L k e g (after_all (start L k c) g) → TypedStep L k (written (all_writes g) c) (Ended e) x →
+pub ended : (L : Layout) (k : ℕ) (c : Core) (g rest : List Transition) (e : Ending) (x : Core) → length g ≤ 4 → StoreNothing g → EndsAt L k e g (after_all (start L k c) g) → TypedStep L k (core_after_writes (all_writes g) c) (Ended e) x →
     EndsMatch L (Ended e) x (after_all (start L k c) g) rest → Runs L k c (g ++ rest)
 ended L k c g rest e x few quiet at step ends_match = ends g rest refl e x step (few, quiet, at) ends_match
 
@@ -154,7 +154,7 @@ Coded L p code = (kind : StopKind) (n : TrapKind) → code kind ≡ Some n → t
 
 -- each stop that the operation's values may bring about has a code; a fault of its access may have none
 abbrev pub ValuesCoded : Operation → (StopKind → Option TrapKind) → Type 0
-ValuesCoded op code = (kind : StopKind) → (refused op.effect ≡ Some kind) ⊎ MayRefuse op.effect kind → (n : TrapKind) × (code kind ≡ Some n)
+ValuesCoded op code = (kind : StopKind) → (stop_of_effect op.effect ≡ Some kind) ⊎ MayRefuse op.effect kind → (n : TrapKind) × (code kind ≡ Some n)
 
 -- a stop without a code is the access's
 uncoded_wrong : (L : Layout) (op : Operation) (code : StopKind → Option TrapKind) (c : Core) (kind : StopKind) → ValuesCoded op code → code kind ≡ None → MayInterrupt op c.memory.has kind → OperationWrong L.image op code c
@@ -165,26 +165,26 @@ uncoded_wrong L op code c kind with_code none (inr (e, by)) = let x = with_code 
     some_none n h = cc
 
 stop_ends : (L : Layout) (k : ℕ) (c : Core) (g rest : List Transition) (t : Transition) (p : ℕ) (needs : Bool) (v : ℕ) (operation : Registers → Operation) (code : StopKind → Option TrapKind) (o : Option TrapKind) (kind : StopKind) →
-    kind_at L k ≡ Some (Performs needs operation code) → Inside L k c g (loosened needs v c.registers) p → Coded L p code → ValuesCoded (operation c.registers) code → t.event ≡ Interrupted kind →
+    kind_at L k ≡ Some (Performs needs operation code) → Inside L k c g (with_scratch_value needs v c.registers) p → Coded L p code → ValuesCoded (operation c.registers) code → t.event ≡ Interrupted kind →
     MayInterrupt (operation c.registers) c.memory.has kind → code kind ≡ o → Runs L k c (g ++ t ∷ rest)
 stop_ends L k c g rest t p needs v operation code None kind is i at with_code e h none =
     stops g rest t kind refl i.quiet e (subst (λ f. KindWrong L f c) (sym is) (uncoded_wrong L (operation c.registers) code c kind with_code none h))
 stop_ends L k c g rest t p needs v operation code (Some n) kind is i at with_code e h some =
-    let x = loosen needs v (written (all_writes g) c) in
-    let step : TypedStep L k (written (all_writes g) c) (Ended (Trapped n)) x = subst (λ f. KindStep L f k (written (all_writes g) c) (Ended (Trapped n)) x) (sym is) (traps v kind n h some refl refl) in
+    let x = loosen needs v (core_after_writes (all_writes g) c) in
+    let step : TypedStep L k (core_after_writes (all_writes g) c) (Ended (Trapped n)) x = subst (λ f. KindStep L f k (core_after_writes (all_writes g) c) (Ended (Trapped n)) x) (sym is) (traps v kind n h some refl refl) in
     let few : length g ≤ 4 = omega (arith, i.few) in
     ended L k c g (t ∷ rest) (Trapped n) x few i.quiet (inside_lands i) step (ap (λ (s : State). s.core) i.lands, (kind, e, subst (λ (s : State). trap_code_at L.image L.traps s.address kind ≡ Some n) (sym i.lands) (at kind n some)))
 
 row_transition : (L : Layout) (k : ℕ) (c : Core) (g rest : List Transition) (t : Transition) (p : ℕ) (act : Registers → Action) (size : ℕ) (needs : Bool) (v : ℕ) (operation : Registers → Operation) (code : StopKind → Option TrapKind) →
-    kind_at L k ≡ Some (Performs needs operation code) → Inside L k c g (loosened needs v c.registers) p → Turned L c g (loosened needs v c.registers) p act size t → wrapping_add64 p size ≡ step_address L (suc k) → Coded L p code →
-    ValuesCoded (operation c.registers) code → (event : Event) → t.event ≡ event → ActionStep (Perform (operation c.registers)) size (mid c (loosened needs v c.registers) (all_writes (g ++ t ∷ [])) p) event t.after →
+    kind_at L k ≡ Some (Performs needs operation code) → Inside L k c g (with_scratch_value needs v c.registers) p → Turned L c g (with_scratch_value needs v c.registers) p act size t → wrapping_add64 p size ≡ step_address L (suc k) → Coded L p code →
+    ValuesCoded (operation c.registers) code → (event : Event) → t.event ≡ event → ActionStep (Perform (operation c.registers)) size (mid c (with_scratch_value needs v c.registers) (all_writes (g ++ t ∷ [])) p) event t.after →
     Runs L k c (g ++ t ∷ rest)
 row_transition L k c g rest t p act size needs v operation code is i u next at with_code (Executed x) e acts =
-    let w = written (all_writes (g ++ t ∷ [])) c in
+    let w = core_after_writes (all_writes (g ++ t ∷ [])) c in
     let op = operation c.registers in
     let step : TypedStep L k w (At (suc k)) t.after.core = subst (λ f. KindStep L f k w (At (suc k)) t.after.core) (sym is) (goes_on v acts.0 refl) in
     let same : typed_store_event L k w ≡ store_event (access op.effect) w.memory = ap (λ f. store_event_of_kind f w) is in
-    done L k c g (loosened needs v c.registers) p act size t rest (suc k) t.after.core i u (e ∙ ap Executed (acts.2 ∙ sym same)) (λ j. record { core = t.after.core; address = (acts.1 ∙ next) j }) (λ out.
+    done L k c g (with_scratch_value needs v c.registers) p act size t rest (suc k) t.after.core i u (e ∙ ap Executed (acts.2 ∙ sym same)) (λ j. record { core = t.after.core; address = (acts.1 ∙ next) j }) (λ out.
     subst (λ (m : Memory). IsLoaded L.image m) (sym acts.0.memory) (loaded_after_store L.image (store_event (access op.effect) w.memory) w.memory u.is_loaded (subst (λ x. IsDisjoint L.image x) same out))) step
 row_transition L k c g rest t p act size needs v operation code is i u next at with_code (Interrupted kind) e acts =
     stop_ends L k c g rest t p needs v operation code (code kind) kind is i at with_code e acts.0 refl
@@ -192,10 +192,10 @@ row_transition L k c g rest t p act size needs v operation code is i u next at w
 -- A step whose last row does its operation runs as that step: a row on registers alone, one with a memory access, which may fault with or
 -- without a code, or one that stops by its values, with a code.
 pub general_step : (L : Layout) (k : ℕ) (c : Core) (g : List Transition) (p : ℕ) (act : Registers → Action) (size : ℕ) (needs : Bool) (v : ℕ) (operation : Registers → Operation) (code : StopKind → Option TrapKind) →
-    kind_at L k ≡ Some (Performs needs operation code) → Inside L k c g (loosened needs v c.registers) p → RowAt L p act size → DoesAs (act (loosened needs v c.registers)) (operation c.registers) →
-    wrapping_add64 p size ≡ step_address L (suc k) → Coded L p code → ValuesCoded (operation c.registers) code → Simulates L k c g (loosened needs v c.registers) p
+    kind_at L k ≡ Some (Performs needs operation code) → Inside L k c g (with_scratch_value needs v c.registers) p → RowAt L p act size → DoesAs (act (with_scratch_value needs v c.registers)) (operation c.registers) →
+    wrapping_add64 p size ≡ step_address L (suc k) → Coded L p code → ValuesCoded (operation c.registers) code → Simulates L k c g (with_scratch_value needs v c.registers) p
 general_step L k c g p act size needs v operation code is i row does next at with_code =
-    let r = loosened needs v c.registers in
+    let r = with_scratch_value needs v c.registers in
     peel L k c g r p i (λ t s rest run.
     let u = turned L k c g r p act size t i row s in
     row_transition L k c g rest t p act size needs v operation code is i u next at with_code t.event refl (acts_as (act r) (operation c.registers) size (mid c r (all_writes (g ++ t ∷ [])) p) t.event t.after does u.acts))

@@ -3,7 +3,7 @@ use Rattle.std.proofs.Common.{◌≡◌, ℕ, zero, suc, ◌%◌, ◌<◌, ◌�
 use Rattle.s390x_format.specs.Formats.{length_of}
 use Rattle.s390x_format.specs.declared.decoder.Decoded.{Decoded}
 use Rattle.s390x_format.specs.declared.fields.Fields.{Fields}
-use Rattle.s390x_operations.specs.State.{State, IsState, CodeImage, Write, MayWrite, written, write_get, update, reaches}
+use Rattle.s390x_operations.specs.State.{State, IsState, CodeImage, Write, MayWrite, core_after_writes, write_get, update, reaches}
 use Rattle.s390x_operations.specs.declared.stop.StopKind.TheVariants as Stop
 use Rattle.s390x_machine.specs.declared.instruction_fetch.Fetched.TheVariants.{Misplaced, Missing, Unknown, Found}
 use Rattle.s390x_machine.specs.Fetch.{IsReached, IsFound, length_at, instruction_bytes}
@@ -90,7 +90,7 @@ bytes_written : (image : CodeImage) (has : ℕ → Bool) (writes : List Write) (
 bytes_written image has [] f may h a = h a
 bytes_written image has (w ∷ ws) f may h a = bytes_written image has ws (update f w.address w.byte) may.3 (λ k. byte_below f w.address w.byte k (k == w.address) (h k) may.2) a
 
-pub written_in_range : (image : CodeImage) (s : State) (writes : List Write) → IsState s → MayWrite image s.core.memory.has writes → IsState (record { core = written writes s.core; address = s.address })
+pub written_in_range : (image : CodeImage) (s : State) (writes : List Write) → IsState s → MayWrite image s.core.memory.has writes → IsState (record { core = core_after_writes writes s.core; address = s.address })
 written_in_range image s writes h may = record {
   general = h.general;
   vector = h.vector;
@@ -102,5 +102,5 @@ written_in_range image s writes h may = record {
 
 pub written_steps : (image : CodeImage) (s : State) (writes : List Write) → IsState s → MayWrite image s.core.memory.has writes → HasTransition image s writes
 written_steps image s writes h may =
-    let goes = state_steps (record { core = written writes s.core; address = s.address }) (written_in_range image s writes h may) in
+    let goes = state_steps (record { core = core_after_writes writes s.core; address = s.address }) (written_in_range image s writes h may) in
     record { event = goes.event; after = goes.after; step = record { may = may; goes = goes.step } }

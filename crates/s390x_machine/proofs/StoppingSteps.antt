@@ -13,7 +13,7 @@ use Rattle.s390x_typed_steps.specs.Parts.{Row, Trapping, parts_or, step_parts, s
 use Rattle.s390x_typed_steps.specs.Rows.{half_distance}
 use Rattle.s390x_typed_steps.specs.Steps.{Step}
 use Rattle.s390x_typed_steps.specs.Traps.{parts_traps, first_code}
-use Rattle.s390x_operations.specs.Bits.{extended}
+use Rattle.s390x_operations.specs.Bits.{extended_bits}
 use Rattle.s390x_operations.specs.State.{Registers, wrapping_add64}
 use Rattle.s390x_operations.specs.declared.effect.Operation.{Operation}
 use Rattle.s390x_operations.specs.declared.effect.CodeRule.TheVariants.{Kept}
@@ -49,7 +49,7 @@ use Rattle.s390x_machine.proofs.Trapping.{division_late, comparison_late, stops_
 
 -- the stop of a division has its code
 pub signed_coded : (width : Width) (pair m : ℕ) (r : Registers) → ValuesCoded (divides_signed width pair m r) division_code
-signed_coded width pair m r = division_coded Kept pair (r.general (pair + 1)) (extended Signed width Doubleword (r.general m))
+signed_coded width pair m r = division_coded Kept pair (r.general (pair + 1)) (extended_bits Signed width Doubleword (r.general m))
 
 pub logical_coded : (size : Size) (pair m : ℕ) (r : Registers) → ValuesCoded (divides_logical size pair m r) division_code
 logical_coded size pair m r = logical_division_coded Kept size pair (value_in size r pair) (value_in size r (pair + 1)) (value_in size r m)
@@ -89,7 +89,7 @@ module _ {L : Layout} {k : ℕ} {s : Step} (b : StepAt L k s) where
       let x = rie_a opcode n bits mask in
       let op = compares_immediate_and_traps c n bits mask in
       let fit = fits_rie_a opcode n bits mask (few_digits row.0) (few is.2) lb lm in
-      let values : (r : Registers) → ValuesCoded (op r) (comparison_code code) = λ r. comparison_coded Kept code c.sign c.size (value_in c.size r n) (extended c.sign Bits16 c.size bits) mask in
+      let values : (r : Registers) → ValuesCoded (op r) (comparison_code code) = λ r. comparison_coded Kept code c.sign c.size (value_in c.size r n) (extended_bits c.sign Bits16 c.size bits) mask in
       coded_runs b x op (comparison_code code) code values (comparison_late L code) is.0 is.1 (row_tells x Any (some_opcode row.0) (lists_row row.0) fit refl) (λ st.
       meant_at L b.image (L.offsets.step k) (step_even b) x (CompareImmediateAndTrap c.sign c.size) op row fit refl (λ r p. ap (λ y. Perform (compares_immediate_and_traps c n y mask r)) (low_small bits (omega (arith, lb)))) st)
 

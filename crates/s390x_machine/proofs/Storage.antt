@@ -23,7 +23,7 @@ use Rattle.s390x_typed_steps.specs.Rows.{part_bytes}
 use Rattle.s390x_typed_steps.specs.Steps.{Step}
 use Rattle.s390x_typed_steps.specs.Traps.{part_traps, parts_traps, first_code}
 use Rattle.s390x_operations.specs.State.{Registers, Core, set_general, wrapping_add64}
-use Rattle.s390x_operations.specs.Bits.{extended}
+use Rattle.s390x_operations.specs.Bits.{extended_bits}
 use Rattle.s390x_operations.specs.declared.effect.CodeRule.TheVariants.{Kept}
 use Rattle.s390x_operations.specs.declared.effect.Operation.{Operation}
 use Rattle.s390x_operations.specs.declared.operator.Operator.TheVariants.{Move}
@@ -37,7 +37,7 @@ use Rattle.s390x_machine.specs.StepKinds.{access_code}
 use Rattle.s390x_machine.specs.Layout.{Layout}
 use Rattle.s390x_machine.specs.Machine.{Transition}
 use Rattle.s390x_machine.specs.Semantics.{action}
-use Rattle.s390x_machine.specs.Operands.{indexed, based}
+use Rattle.s390x_machine.specs.Operands.{address_by_index, address_by_base}
 use Rattle.s390x_machine.specs.CodeAt.{CodeAt, ImageAt, PartReaches, PartsReach}
 use Rattle.s390x_machine.proofs.Addresses.{sum_more}
 use Rattle.s390x_machine.proofs.Listing.{ListedRow, OpcodeRow, OpcodeRows, few_digits}
@@ -56,7 +56,7 @@ use Rattle.s390x_machine.proofs.Trapping.{code_within, within_image}
 -- the action of a row with a base, an index and a displacement
 abbrev pub IndexedStep : (register : ℕ) → RowSemantics → (ℕ → Registers → Operation) → Type 0
 IndexedStep register semantics operation = (kind : FormatKind) (opcode base index d : ℕ) (r : Registers) (p : ℕ) →
-    action semantics (fields_of kind (opcode ∷ register ∷ base ∷ index ∷ 0 ∷ 0 ∷ 0 ∷ 0 ∷ 0 ∷ d ∷ [])) r p ≡ Perform (operation (indexed r base index (disp_of d)) r)
+    action semantics (fields_of kind (opcode ∷ register ∷ base ∷ index ∷ 0 ∷ 0 ∷ 0 ∷ 0 ∷ 0 ∷ d ∷ [])) r p ≡ Perform (operation (address_by_index r base index (disp_of d)) r)
 
 -- the rows of an instruction with a register, and what they do with the memory at an address
 pub record IndexedForm (register : ℕ) (short long : Option ℕ) (operation : ℕ → Registers → Operation) : Type 0 where
@@ -73,7 +73,7 @@ pub record BasedForm (first second : ℕ) (short long : Option ℕ) (operation :
   pub semantics : RowSemantics
   pub short_rows : OpcodeRows Rs 256 short semantics
   pub long_rows : OpcodeRows Rsy 65536 long semantics
-  pub acts : (kind : FormatKind) (opcode base d : ℕ) (r : Registers) (p : ℕ) → action semantics (fields_of kind (opcode ∷ first ∷ second ∷ base ∷ 0 ∷ 0 ∷ 0 ∷ 0 ∷ 0 ∷ d ∷ [])) r p ≡ Perform (operation (based r base (disp_of d)) r)
+  pub acts : (kind : FormatKind) (opcode base d : ℕ) (r : Registers) (p : ℕ) → action semantics (fields_of kind (opcode ∷ first ∷ second ∷ base ∷ 0 ∷ 0 ∷ 0 ∷ 0 ∷ 0 ∷ d ∷ [])) r p ≡ Perform (operation (address_by_base r base (disp_of d)) r)
 
 -- with an immediate of 8 bits
 pub record ByteForm (imm short long : ℕ) (operation : ℕ → Registers → Operation) : Type 0 where
@@ -81,14 +81,14 @@ pub record ByteForm (imm short long : ℕ) (operation : ℕ → Registers → Op
   pub semantics : RowSemantics
   pub short_row : OpcodeRow Si 256 short semantics
   pub long_row : OpcodeRow Siy 65536 long semantics
-  pub acts : (kind : FormatKind) (opcode base d : ℕ) (r : Registers) (p : ℕ) → action semantics (fields_of kind (opcode ∷ base ∷ 0 ∷ 0 ∷ 0 ∷ imm ∷ 0 ∷ 0 ∷ 0 ∷ d ∷ [])) r p ≡ Perform (operation (based r base (disp_of d)) r)
+  pub acts : (kind : FormatKind) (opcode base d : ℕ) (r : Registers) (p : ℕ) → action semantics (fields_of kind (opcode ∷ base ∷ 0 ∷ 0 ∷ 0 ∷ imm ∷ 0 ∷ 0 ∷ 0 ∷ d ∷ [])) r p ≡ Perform (operation (address_by_base r base (disp_of d)) r)
 
 -- with the bits of an immediate of 16 bits
 pub record HalfwordForm (bits opcode : ℕ) (operation : ℕ → Registers → Operation) : Type 0 where
   pub few : bits < 2 ^ 16
   pub semantics : RowSemantics
   pub row : OpcodeRow Sil 65536 opcode semantics
-  pub acts : (base d : ℕ) (r : Registers) (p : ℕ) → action semantics (fields_of Sil (opcode ∷ base ∷ 0 ∷ 0 ∷ 0 ∷ 0 ∷ 0 ∷ 0 ∷ bits ∷ d ∷ [])) r p ≡ Perform (operation (based r base (disp_of d)) r)
+  pub acts : (base d : ℕ) (r : Registers) (p : ℕ) → action semantics (fields_of Sil (opcode ∷ base ∷ 0 ∷ 0 ∷ 0 ∷ 0 ∷ 0 ∷ 0 ∷ bits ∷ d ∷ [])) r p ≡ Perform (operation (address_by_base r base (disp_of d)) r)
 
 -- with a vector register and a mask; the row does the operation, or leaves less free
 pub record VectorForm (register opcode mask : ℕ) (operation : ℕ → Registers → Operation) : Type 0 where
@@ -99,7 +99,7 @@ pub record VectorForm (register opcode mask : ℕ) (operation : ℕ → Register
   pub row : ListedRow Vrx allowed 65536 opcode semantics
   pub allows : (base index d : ℕ) → is_allowed allowed (vrx opcode register base index mask d).slots ≡ true
   pub does : ℕ → Registers → Operation
-  pub acts : (base index d : ℕ) (r : Registers) (p : ℕ) → action semantics (fields_of Vrx (vrx opcode register base index mask d).slots) r p ≡ Perform (does (indexed r base index (disp_of d)) r)
+  pub acts : (base index d : ℕ) (r : Registers) (p : ℕ) → action semantics (fields_of Vrx (vrx opcode register base index mask d).slots) r p ≡ Perform (does (address_by_index r base index (disp_of d)) r)
   pub refines : (a : ℕ) (r : Registers) → Refines (does a r) (operation a r)
 
 abbrev pub FormDoes : StorageForm → (ℕ → Registers → Operation) → Type 0
@@ -145,10 +145,10 @@ looser_row L p size does operation refines row = λ s at loaded event t step. ac
 
 module _ (L : Layout) (image : ImageAt L) (operation : ℕ → Registers → Operation) where
   -- a row of a base and a displacement does it, where there is no index
-  unindexed : (r : Registers) (base index n : ℕ) (z : ℤ) → disp_of n ≡ z → index ≡ 0 → Perform (operation (based r base (disp_of n)) r) ≡ Perform (operation (indexed r base index z) r)
-  unindexed r base index n z e none = ap (λ a. Perform (operation a r)) (ap (based r base) e ∙ sym (based_indexed r base z) ∙ ap (λ i. indexed r base i z) (sym none))
+  unindexed : (r : Registers) (base index n : ℕ) (z : ℤ) → disp_of n ≡ z → index ≡ 0 → Perform (operation (address_by_base r base (disp_of n)) r) ≡ Perform (operation (address_by_index r base index z) r)
+  unindexed r base index n z e none = ap (λ a. Perform (operation a r)) (ap (address_by_base r base) e ∙ sym (based_indexed r base z) ∙ ap (λ i. address_by_index r base i z) (sym none))
 
-  pub stands_12 : (form : StorageForm) → FormDoes form operation → (accesses : Bool) → (type_of form accesses).have_d12 ≡ true → (base index : Reg) (d : ℕ) (flags : AccessFlags) → number_of base < 16 → number_of index < 16 → MayIndex form (number_of index) → d ≤ 4095 → Stands L form (BXD12 base index d flags) operation (λ r. indexed r (number_of base) (number_of index) (pos d))
+  pub stands_12 : (form : StorageForm) → FormDoes form operation → (accesses : Bool) → (type_of form accesses).have_d12 ≡ true → (base index : Reg) (d : ℕ) (flags : AccessFlags) → number_of base < 16 → number_of index < 16 → MayIndex form (number_of index) → d ≤ 4095 → Stands L form (BXD12 base index d flags) operation (λ r. address_by_index r (number_of base) (number_of index) (pos d))
   unfolding length_of
   stands_12 (RxForm register None long relative) does accesses have base index d flags lb li may le = absurd (cc)
   stands_12 (RxForm register (Some opcode) long relative) does accesses have base index d flags lb li may le = record {
@@ -156,8 +156,8 @@ module _ (L : Layout) (image : ImageAt L) (operation : ℕ → Registers → Ope
     is = λ code. access_row (rx opcode register (number_of base) (number_of index) (low_12 d)) code;
     some = omega arith;
     untrapped = λ p. refl;
-    row = λ offset even st reaches. meant_at L image offset even (rx opcode register (number_of base) (number_of index) (low_12 d)) does.semantics (λ r. operation (indexed r (number_of base) (number_of index) (pos d)) r) does.short_rows (fits_rx opcode register (number_of base) (number_of index) (low_12 d) (few_digits does.short_rows.0) does.few lb li (bits_12 d)) refl (λ r p.
-        does.acts Rx opcode (number_of base) (number_of index) (low_12 d) r p ∙ ap (λ z. Perform (operation (indexed r (number_of base) (number_of index) z) r)) (read_12 d le)) st;
+    row = λ offset even st reaches. meant_at L image offset even (rx opcode register (number_of base) (number_of index) (low_12 d)) does.semantics (λ r. operation (address_by_index r (number_of base) (number_of index) (pos d)) r) does.short_rows (fits_rx opcode register (number_of base) (number_of index) (low_12 d) (few_digits does.short_rows.0) does.few lb li (bits_12 d)) refl (λ r p.
+        does.acts Rx opcode (number_of base) (number_of index) (low_12 d) r p ∙ ap (λ z. Perform (operation (address_by_index r (number_of base) (number_of index) z) r)) (read_12 d le)) st;
   }
   stands_12 (RsForm first second None long) does accesses have base index d flags lb li may le = absurd (cc)
   stands_12 (RsForm first second (Some opcode) long) does accesses have base index d flags lb li may le = record {
@@ -165,7 +165,7 @@ module _ (L : Layout) (image : ImageAt L) (operation : ℕ → Registers → Ope
     is = λ code. access_row (rs opcode first second (number_of base) (low_12 d)) code;
     some = omega arith;
     untrapped = λ p. refl;
-    row = λ offset even st reaches. meant_at L image offset even (rs opcode first second (number_of base) (low_12 d)) does.semantics (λ r. operation (indexed r (number_of base) (number_of index) (pos d)) r) does.short_rows (fits_rs opcode first second (number_of base) (low_12 d) (few_digits does.short_rows.0) does.few does.few_second lb (bits_12 d)) refl (λ r p.
+    row = λ offset even st reaches. meant_at L image offset even (rs opcode first second (number_of base) (low_12 d)) does.semantics (λ r. operation (address_by_index r (number_of base) (number_of index) (pos d)) r) does.short_rows (fits_rs opcode first second (number_of base) (low_12 d) (few_digits does.short_rows.0) does.few does.few_second lb (bits_12 d)) refl (λ r p.
         does.acts Rs opcode (number_of base) (low_12 d) r p ∙ unindexed r (number_of base) (number_of index) (low_12 d) (pos d) (read_12 d le) may) st;
   }
   stands_12 (SiForm imm opcode long) does accesses have base index d flags lb li may le = record {
@@ -173,7 +173,7 @@ module _ (L : Layout) (image : ImageAt L) (operation : ℕ → Registers → Ope
     is = λ code. access_row (si opcode (number_of base) (low_12 d) imm) code;
     some = omega arith;
     untrapped = λ p. refl;
-    row = λ offset even st reaches. meant_at L image offset even (si opcode (number_of base) (low_12 d) imm) does.semantics (λ r. operation (indexed r (number_of base) (number_of index) (pos d)) r) does.short_row (fits_si opcode (number_of base) (low_12 d) imm (few_digits does.short_row.0) lb (bits_12 d) does.few) refl (λ r p.
+    row = λ offset even st reaches. meant_at L image offset even (si opcode (number_of base) (low_12 d) imm) does.semantics (λ r. operation (address_by_index r (number_of base) (number_of index) (pos d)) r) does.short_row (fits_si opcode (number_of base) (low_12 d) imm (few_digits does.short_row.0) lb (bits_12 d) does.few) refl (λ r p.
         does.acts Si opcode (number_of base) (low_12 d) r p ∙ unindexed r (number_of base) (number_of index) (low_12 d) (pos d) (read_12 d le) may) st;
   }
   stands_12 (SilForm bits opcode) does accesses have base index d flags lb li may le = record {
@@ -181,7 +181,7 @@ module _ (L : Layout) (image : ImageAt L) (operation : ℕ → Registers → Ope
     is = λ code. access_row (sil opcode (number_of base) (low_12 d) bits) code;
     some = omega arith;
     untrapped = λ p. refl;
-    row = λ offset even st reaches. meant_at L image offset even (sil opcode (number_of base) (low_12 d) bits) does.semantics (λ r. operation (indexed r (number_of base) (number_of index) (pos d)) r) does.row (fits_sil opcode (number_of base) (low_12 d) bits (few_digits does.row.0) lb (bits_12 d) does.few) refl (λ r p.
+    row = λ offset even st reaches. meant_at L image offset even (sil opcode (number_of base) (low_12 d) bits) does.semantics (λ r. operation (address_by_index r (number_of base) (number_of index) (pos d)) r) does.row (fits_sil opcode (number_of base) (low_12 d) bits (few_digits does.row.0) lb (bits_12 d) does.few) refl (λ r p.
         does.acts (number_of base) (low_12 d) r p ∙ unindexed r (number_of base) (number_of index) (low_12 d) (pos d) (read_12 d le) may) st;
   }
   stands_12 (VrxForm register opcode mask) does accesses have base index d flags lb li may le = record {
@@ -191,22 +191,22 @@ module _ (L : Layout) (image : ImageAt L) (operation : ℕ → Registers → Ope
     untrapped = λ p. refl;
     row = λ offset even st reaches.
         let x = vrx opcode register (number_of base) (number_of index) mask (low_12 d) in
-        let there : Registers → ℕ = λ r. indexed r (number_of base) (number_of index) (pos d) in
+        let there : Registers → ℕ = λ r. address_by_index r (number_of base) (number_of index) (pos d) in
         looser_row L (wrapping_add64 L.image.base offset) 6 (λ r. does.does (there r) r) (λ r. operation (there r) r) (λ r. does.refines (there r) r)
         (meant_at L image offset even x does.semantics (λ r. does.does (there r) r) does.row (fits_vrx opcode register (number_of base) (number_of index) mask (low_12 d) (few_digits does.row.0) does.few lb li does.few_mask (bits_12 d)) (does.allows (number_of base) (number_of index) (low_12 d)) (λ r p.
-        does.acts (number_of base) (number_of index) (low_12 d) r p ∙ ap (λ z. Perform (does.does (indexed r (number_of base) (number_of index) z) r)) (read_12 d le)) st);
+        does.acts (number_of base) (number_of index) (low_12 d) r p ∙ ap (λ z. Perform (does.does (address_by_index r (number_of base) (number_of index) z) r)) (read_12 d le)) st);
   }
   stands_12 (FloatForm register opcode long) does accesses have base index d flags lb li may le = record {
     part = Row (rx opcode register (number_of base) (number_of index) (low_12 d));
     is = λ code. access_row (rx opcode register (number_of base) (number_of index) (low_12 d)) code;
     some = omega arith;
     untrapped = λ p. refl;
-    row = λ offset even st reaches. meant_at L image offset even (rx opcode register (number_of base) (number_of index) (low_12 d)) does.semantics (λ r. operation (indexed r (number_of base) (number_of index) (pos d)) r) does.short_rows (fits_rx opcode register (number_of base) (number_of index) (low_12 d) (few_digits does.short_rows.0) does.few lb li (bits_12 d)) refl (λ r p.
-        does.acts Rx opcode (number_of base) (number_of index) (low_12 d) r p ∙ ap (λ z. Perform (operation (indexed r (number_of base) (number_of index) z) r)) (read_12 d le)) st;
+    row = λ offset even st reaches. meant_at L image offset even (rx opcode register (number_of base) (number_of index) (low_12 d)) does.semantics (λ r. operation (address_by_index r (number_of base) (number_of index) (pos d)) r) does.short_rows (fits_rx opcode register (number_of base) (number_of index) (low_12 d) (few_digits does.short_rows.0) does.few lb li (bits_12 d)) refl (λ r p.
+        does.acts Rx opcode (number_of base) (number_of index) (low_12 d) r p ∙ ap (λ z. Perform (operation (address_by_index r (number_of base) (number_of index) z) r)) (read_12 d le)) st;
   }
 
   pub stands_20 : (form : StorageForm) → FormDoes form operation → (accesses : Bool) → (type_of form accesses).have_d20 ≡ true → (base index : Reg) (z : ℤ) (flags : AccessFlags) → number_of base < 16 → number_of index < 16 → MayIndex form (number_of index) → negsuc 524287 ≤ℤ z → z ≤ℤ pos 524287 →
-      low_displacement z < 2 ^ 20 → Stands L form (BXD20 base index z flags) operation (λ r. indexed r (number_of base) (number_of index) z)
+      low_displacement z < 2 ^ 20 → Stands L form (BXD20 base index z flags) operation (λ r. address_by_index r (number_of base) (number_of index) z)
   unfolding length_of
   stands_20 (RxForm register short None relative) does accesses have base index z flags lb li may least most lz = absurd (cc)
   stands_20 (RxForm register short (Some opcode) relative) does accesses have base index z flags lb li may least most lz = record {
@@ -214,8 +214,8 @@ module _ (L : Layout) (image : ImageAt L) (operation : ℕ → Registers → Ope
     is = λ code. access_row (rxy opcode register (number_of base) (number_of index) (low_displacement z)) code;
     some = omega arith;
     untrapped = λ p. refl;
-    row = λ offset even st reaches. meant_at L image offset even (rxy opcode register (number_of base) (number_of index) (low_displacement z)) does.semantics (λ r. operation (indexed r (number_of base) (number_of index) z) r) does.long_rows (fits_rxy opcode register (number_of base) (number_of index) (low_displacement z) (few_digits does.long_rows.0) does.few lb li lz) refl (λ r p.
-        does.acts Rxy opcode (number_of base) (number_of index) (low_displacement z) r p ∙ ap (λ y. Perform (operation (indexed r (number_of base) (number_of index) y) r)) (read_20 z least most)) st;
+    row = λ offset even st reaches. meant_at L image offset even (rxy opcode register (number_of base) (number_of index) (low_displacement z)) does.semantics (λ r. operation (address_by_index r (number_of base) (number_of index) z) r) does.long_rows (fits_rxy opcode register (number_of base) (number_of index) (low_displacement z) (few_digits does.long_rows.0) does.few lb li lz) refl (λ r p.
+        does.acts Rxy opcode (number_of base) (number_of index) (low_displacement z) r p ∙ ap (λ y. Perform (operation (address_by_index r (number_of base) (number_of index) y) r)) (read_20 z least most)) st;
   }
   stands_20 (RsForm first second short None) does accesses have base index z flags lb li may least most lz = absurd (cc)
   stands_20 (RsForm first second short (Some opcode)) does accesses have base index z flags lb li may least most lz = record {
@@ -223,7 +223,7 @@ module _ (L : Layout) (image : ImageAt L) (operation : ℕ → Registers → Ope
     is = λ code. access_row (rsy opcode first second (number_of base) (low_displacement z)) code;
     some = omega arith;
     untrapped = λ p. refl;
-    row = λ offset even st reaches. meant_at L image offset even (rsy opcode first second (number_of base) (low_displacement z)) does.semantics (λ r. operation (indexed r (number_of base) (number_of index) z) r) does.long_rows (fits_rsy opcode first second (number_of base) (low_displacement z) (few_digits does.long_rows.0) does.few does.few_second lb lz) refl (λ r p.
+    row = λ offset even st reaches. meant_at L image offset even (rsy opcode first second (number_of base) (low_displacement z)) does.semantics (λ r. operation (address_by_index r (number_of base) (number_of index) z) r) does.long_rows (fits_rsy opcode first second (number_of base) (low_displacement z) (few_digits does.long_rows.0) does.few does.few_second lb lz) refl (λ r p.
         does.acts Rsy opcode (number_of base) (low_displacement z) r p ∙ unindexed r (number_of base) (number_of index) (low_displacement z) z (read_20 z least most) may) st;
   }
   stands_20 (SiForm imm short opcode) does accesses have base index z flags lb li may least most lz = record {
@@ -231,7 +231,7 @@ module _ (L : Layout) (image : ImageAt L) (operation : ℕ → Registers → Ope
     is = λ code. access_row (siy opcode (number_of base) (low_displacement z) imm) code;
     some = omega arith;
     untrapped = λ p. refl;
-    row = λ offset even st reaches. meant_at L image offset even (siy opcode (number_of base) (low_displacement z) imm) does.semantics (λ r. operation (indexed r (number_of base) (number_of index) z) r) does.long_row (fits_siy opcode (number_of base) (low_displacement z) imm (few_digits does.long_row.0) lb lz does.few) refl (λ r p.
+    row = λ offset even st reaches. meant_at L image offset even (siy opcode (number_of base) (low_displacement z) imm) does.semantics (λ r. operation (address_by_index r (number_of base) (number_of index) z) r) does.long_row (fits_siy opcode (number_of base) (low_displacement z) imm (few_digits does.long_row.0) lb lz does.few) refl (λ r p.
         does.acts Siy opcode (number_of base) (low_displacement z) r p ∙ unindexed r (number_of base) (number_of index) (low_displacement z) z (read_20 z least most) may) st;
   }
   stands_20 (SilForm bits opcode) does accesses have base index z flags lb li may least most lz = absurd (cc)
@@ -241,8 +241,8 @@ module _ (L : Layout) (image : ImageAt L) (operation : ℕ → Registers → Ope
     is = λ code. access_row (rxy opcode register (number_of base) (number_of index) (low_displacement z)) code;
     some = omega arith;
     untrapped = λ p. refl;
-    row = λ offset even st reaches. meant_at L image offset even (rxy opcode register (number_of base) (number_of index) (low_displacement z)) does.semantics (λ r. operation (indexed r (number_of base) (number_of index) z) r) does.long_rows (fits_rxy opcode register (number_of base) (number_of index) (low_displacement z) (few_digits does.long_rows.0) does.few lb li lz) refl (λ r p.
-        does.acts Rxy opcode (number_of base) (number_of index) (low_displacement z) r p ∙ ap (λ y. Perform (operation (indexed r (number_of base) (number_of index) y) r)) (read_20 z least most)) st;
+    row = λ offset even st reaches. meant_at L image offset even (rxy opcode register (number_of base) (number_of index) (low_displacement z)) does.semantics (λ r. operation (address_by_index r (number_of base) (number_of index) z) r) does.long_rows (fits_rxy opcode register (number_of base) (number_of index) (low_displacement z) (few_digits does.long_rows.0) does.few lb li lz) refl (λ r p.
+        does.acts Rxy opcode (number_of base) (number_of index) (low_displacement z) r p ∙ ap (λ y. Perform (operation (address_by_index r (number_of base) (number_of index) y) r)) (read_20 z least most)) st;
   }
 
 -- ---- the bytes of a step: rows, and then an access
@@ -343,7 +343,7 @@ module _ (L : Layout) (image : ImageAt L) (k : ℕ) where
 
   -- what a move of a value that is read like this puts into a register
   abbrev pub moved : Second → ℕ → ℕ
-  moved s x = extended s.sign s.width Doubleword x
+  moved s x = extended_bits s.sign s.width Doubleword x
 
   pub helper_then : (c : Core) (g : List Transition) (r : Registers) (o : ℕ) (size : ℕ) (s : Second) (bits : Registers → ℕ) → s.reversed ≡ false → Inside L k c g r (wrapping_add64 L.image.base o) → length g ≤ 2 →
       L.offsets.step k ≤ o + size → o + size < L.offsets.step (suc k) → RowAt L (wrapping_add64 L.image.base o) (λ q. Perform (computes_immediate Kept (with_second Move Doubleword s) 1 1 (bits q) q)) (size) →

@@ -16,7 +16,7 @@ use Rattle.s390x_typed_steps.specs.Parts.{memory_or, memory_parts, step_parts}
 use Rattle.s390x_typed_steps.specs.Steps.{Step}
 use Rattle.s390x_operations.specs.State.{Registers, set_general}
 use Rattle.s390x_operations.specs.Access.{Stores}
-use Rattle.s390x_operations.specs.Values.{ordered}
+use Rattle.s390x_operations.specs.Values.{in_byte_order}
 use Rattle.s390x_operations.specs.Effects.{Refines, joined_doublewords}
 use Rattle.s390x_operations.specs.declared.size.Size.{Size}
 use Rattle.s390x_operations.specs.declared.size.Size.TheVariants.{Halfword, Word, Doubleword}
@@ -36,7 +36,7 @@ use Rattle.s390x_machine.specs.StepKinds.{Unsupported, kind_or, performed_at, ac
 use Rattle.s390x_machine.specs.Layout.{Layout}
 use Rattle.s390x_machine.specs.OneStep.{StepRuns}
 use Rattle.s390x_machine.specs.Semantics.{registers_between}
-use Rattle.s390x_machine.specs.Operands.{value_in, based, values_from}
+use Rattle.s390x_machine.specs.Operands.{value_in, address_by_base, values_from}
 use Rattle.s390x_machine.specs.CodeAt.{IsValidMemory, ValidMemoryOr}
 use Rattle.s390x_machine.specs.Storage.{operand_address, operand_at, computes_at, compares_at, loads_at, loads_address, stores_at, stores_value, signed_immediate, loads_multiple, stores_multiple, operates_at, swaps_at}
 use Rattle.s390x_machine.specs.Typed.{kind_of_step}
@@ -167,7 +167,7 @@ module _ {L : Layout} {k : ℕ} {s : Step} (b : StepAt L k s) where
       let general = (and_parts (is_general rd) (operand_general mem) is.3.registers).0 in
       memory_steps x forms (stores_at second d) (record { few = general_number rd general; semantics = storing second; short_rows = rows.0; long_rows = rows.1; acts = λ kind opcode base index n r p. refl })
       (record { few = general_number rd general; semantics = relative_storing second; rows = relative_row; acts = λ opcode half r p. refl }) (λ a r. never_by_values (stores_at second d a r) (access_code (fault_code x)) refl (λ kind h. h)) (λ e a r v.
-      same_operation (stores_at second d a (set_general r 1 v)) (stores_at second d a r) (ap (λ n. with_rule Kept (Effect.Store second.width (ordered second.reversed second.width n) (InMemory a))) (other_kept r v d (not_scratch rd general e)))) is
+      same_operation (stores_at second d a (set_general r 1 v)) (stores_at second d a r) (ap (λ n. with_rule Kept (Effect.Store second.width (in_byte_order second.reversed second.width n) (InMemory a))) (other_kept r v d (not_scratch rd general e)))) is
 
   pub compares_in_memory : (c : Comparison) (short long relative : Option ℕ) → OpcodeRows Rx 256 short (compared_with Indexed c) → OpcodeRows Rxy 65536 long (compared_with Indexed c) → RelativeRows relative (compared_with Relative c) → (rn : Reg) (mem : MemArg) (forms : MemInstType) →
       Is (record { form = RxForm (number_of rn) short long relative; operand = mem; accesses = true; operands_valid = is_general rn; reads_scratch = is_numbered 1 rn }) forms (compares_at c (number_of rn)) → StepRuns L k
@@ -199,7 +199,7 @@ module _ {L : Layout} {k : ℕ} {s : Step} (b : StepAt L k s) where
   pub stores_an_immediate : (width : Width) (opcode bits : ℕ) → bits < 2 ^ 16 → OpcodeRow Sil 65536 opcode (StoreImmediate width) → (mem : MemArg) (forms : MemInstType) → Is (record { form = SilForm bits opcode; operand = mem; accesses = true; operands_valid = true; reads_scratch = false }) forms (stores_value width (signed_immediate bits)) → StepRuns L k
   stores_an_immediate width opcode bits lt row mem forms is =
       let x : MemoryInstruction = record { form = SilForm bits opcode; operand = mem; accesses = true; operands_valid = true; reads_scratch = false } in
-      memory_steps x forms (stores_value width (signed_immediate bits)) (record { few = lt; semantics = StoreImmediate width; row = row; acts = λ base n r p. ap (λ y. Perform (stores_value width y (based r base (disp_of n)) r)) (signed_read bits lt) }) tt
+      memory_steps x forms (stores_value width (signed_immediate bits)) (record { few = lt; semantics = StoreImmediate width; row = row; acts = λ base n r p. ap (λ y. Perform (stores_value width y (address_by_base r base (disp_of n)) r)) (signed_read bits lt) }) tt
       (λ a r. never_by_values (stores_value width (signed_immediate bits) a r) (access_code (fault_code x)) refl (λ kind h. h)) (λ e a r v. itself (stores_value width (signed_immediate bits) a r)) is
 
   pub loads_registers : (rt rt2 : Reg) (mem : MemArg) (forms : MemInstType) → Is (record { form = RsForm (number_of rt) (number_of rt2) None (Some opcodes.LMG); operand = mem; accesses = true; operands_valid = is_range rt rt2; reads_scratch = false }) forms (loads_multiple (number_of rt) (number_of rt2)) → StepRuns L k
@@ -211,7 +211,7 @@ module _ {L : Layout} {k : ℕ} {s : Step} (b : StepAt L k s) where
       let g = and_parts (is_general rt) (is_general rt2) p.0 in
       let count = counted first last (leb-true first last p.1) (general_number rt2 g.1) in
       memory_steps x forms (loads_multiple first last)
-      (record { few = general_number rt g.0; few_second = general_number rt2 g.1; semantics = LoadMultiple; short_rows = load_multiple.0; long_rows = load_multiple.1; acts = λ kind opcode base n r q. ap (λ m. Perform (with_rule Kept (Effect.LoadMultiple first m (based r base (disp_of n))))) count }) tt
+      (record { few = general_number rt g.0; few_second = general_number rt2 g.1; semantics = LoadMultiple; short_rows = load_multiple.0; long_rows = load_multiple.1; acts = λ kind opcode base n r q. ap (λ m. Perform (with_rule Kept (Effect.LoadMultiple first m (address_by_base r base (disp_of n))))) count }) tt
       (λ a r. never_by_values (loads_multiple first last a r) (access_code (fault_code x)) refl (λ kind h. h)) (λ e a r v. itself (loads_multiple first last a r)) is
 
   pub stores_registers : (rt rt2 : Reg) (mem : MemArg) (forms : MemInstType) → Is (record { form = RsForm (number_of rt) (number_of rt2) None (Some opcodes.STMG); operand = mem; accesses = true; operands_valid = is_range rt rt2; reads_scratch = holds_scratch rt rt2 }) forms (stores_multiple (number_of rt) (number_of rt2)) → StepRuns L k
@@ -224,7 +224,7 @@ module _ {L : Layout} {k : ℕ} {s : Step} (b : StepAt L k s) where
       let le : first ≤ last = leb-true first last p.1 in
       let lt = general_number rt2 g.1 in
       memory_steps x forms (stores_multiple first last)
-      (record { few = general_number rt g.0; few_second = lt; semantics = StoreMultiple; short_rows = store_multiple.0; long_rows = store_multiple.1; acts = λ kind opcode base n r q. ap (λ m. Perform (with_rule Kept (Effect.StoreMultiple (values_from r first 16) m (based r base (disp_of n))))) (counted first last le lt) }) tt
+      (record { few = general_number rt g.0; few_second = lt; semantics = StoreMultiple; short_rows = store_multiple.0; long_rows = store_multiple.1; acts = λ kind opcode base n r q. ap (λ m. Perform (with_rule Kept (Effect.StoreMultiple (values_from r first 16) m (address_by_base r base (disp_of n))))) (counted first last le lt) }) tt
       (λ a r. never_by_values (stores_multiple first last a r) (access_code (fault_code x)) refl (λ kind h. h)) (λ e a r v.
       record { access = ap (λ y. Stores false a (8 * (last + 1 - first)) y) (joined_kept r v first last (last + 1 - first) e lt (omega (arith, le))); refused = refl; may_refuse = λ kind h. h; results = λ c q h. h; code = λ c code h. h }) is
 

@@ -3,10 +3,10 @@ use Rattle.std.proofs.Common.{◌≡◌, ℕ, suc, ◌+◌, ◌*◌, ◌/◌, �
 use Rattle.std.specs.Prelude.{pos, ◌+ℤ◌}
 use Rattle.std.specs.Int.{w64, to_be_bytes}
 use Rattle.s390x_lanes.specs.declared.operators.Signedness.TheVariants.{Unsigned}
-use Rattle.s390x_operations.specs.State.{Registers, Memory, Core, CodeImage, set_general, with_code, written, wrapping_add64, number_at, IsLoaded}
+use Rattle.s390x_operations.specs.State.{Registers, Memory, Core, CodeImage, set_general, with_code, core_after_writes, wrapping_add64, number_at, IsLoaded}
 use Rattle.s390x_operations.specs.Access.{Reads, fault}
 use Rattle.s390x_operations.specs.Numbers.{low}
-use Rattle.s390x_operations.specs.Bits.{extended}
+use Rattle.s390x_operations.specs.Bits.{extended_bits}
 use Rattle.s390x_operations.specs.declared.size.Size.TheVariants.{Doubleword}
 use Rattle.s390x_operations.specs.declared.size.Width.TheVariants.{Bits64}
 use Rattle.s390x_operations.specs.declared.operand.Source.TheVariants.{Memory as InMemory}
@@ -92,16 +92,16 @@ doubleword_place r = low Doubleword (pos (address_part r 1 + address_part r 0) +
 doubleword_found : (r : Registers) (base offset : ℕ) → r.general 1 ≡ wrapping_add64 base offset → doubleword_place r ≡ wrapping_add64 base offset
 doubleword_found r base offset at = unmoved (r.general 1 + 0) ∙ ap (λ n. (n + 0) % 2 ^ 64) at ∙ omega arith
 
-doubleword_read : (image : CodeImage) (m : Memory) (r : Registers) (offset n : ℕ) → image.base + length image.bytes ≤ 2 ^ 64 → IsLoaded image m → StandsAt image offset (to_be_bytes w64 n) → r.general 1 ≡ wrapping_add64 image.base offset → extended Unsigned Bits64 Doubleword (number_at m.get (doubleword_place r) 8) ≡ extended Unsigned Bits64 Doubleword n
+doubleword_read : (image : CodeImage) (m : Memory) (r : Registers) (offset n : ℕ) → image.base + length image.bytes ≤ 2 ^ 64 → IsLoaded image m → StandsAt image offset (to_be_bytes w64 n) → r.general 1 ≡ wrapping_add64 image.base offset → extended_bits Unsigned Bits64 Doubleword (number_at m.get (doubleword_place r) 8) ≡ extended_bits Unsigned Bits64 Doubleword n
 doubleword_read image m r offset n fits is_loaded s at =
-    ap (λ a. extended Unsigned Bits64 Doubleword (number_at m.get a 8)) (doubleword_found r image.base offset at)
-    ∙ ap (λ x. extended Unsigned Bits64 Doubleword x) (doubleword_at image m offset n fits is_loaded s)
+    ap (λ a. extended_bits Unsigned Bits64 Doubleword (number_at m.get a 8)) (doubleword_found r image.base offset at)
+    ∙ ap (λ x. extended_bits Unsigned Bits64 Doubleword x) (doubleword_at image m offset n fits is_loaded s)
     ∙ omega arith
 
-doubleword_changes : (image : CodeImage) (r : Registers) (d offset n size p : ℕ) → image.base + length image.bytes ≤ 2 ^ 64 → StandsAt image offset (to_be_bytes w64 n) → r.general 1 ≡ wrapping_add64 image.base offset → ChangesOver image (Perform (loads_doubleword d r)) size r p (set_general r d (extended Unsigned Bits64 Doubleword n))
+doubleword_changes : (image : CodeImage) (r : Registers) (d offset n size p : ℕ) → image.base + length image.bytes ≤ 2 ^ 64 → StandsAt image offset (to_be_bytes w64 n) → r.general 1 ≡ wrapping_add64 image.base offset → ChangesOver image (Perform (loads_doubleword d r)) size r p (set_general r d (extended_bits Unsigned Bits64 Doubleword n))
 doubleword_changes image r d offset n size p fits s at m (Executed e) t is_loaded h =
-    let y = extended Unsigned Bits64 Doubleword (number_at m.get (doubleword_place r) 8) in
-    let registers : t.core.registers ≡ set_general r d (extended Unsigned Bits64 Doubleword n) = h.0.results ∙ ap (λ code. with_code code (set_general r d y)) h.0.code ∙ ap (λ z. set_general r d z) (doubleword_read image m r offset n fits is_loaded s at) in
+    let y = extended_bits Unsigned Bits64 Doubleword (number_at m.get (doubleword_place r) 8) in
+    let registers : t.core.registers ≡ set_general r d (extended_bits Unsigned Bits64 Doubleword n) = h.0.results ∙ ap (λ code. with_code code (set_general r d y)) h.0.code ∙ ap (λ z. set_general r d z) (doubleword_read image m r offset n fits is_loaded s at) in
     (ap Executed h.2, λ i. record { core = record { registers = registers i; memory = h.0.memory i }; address = h.1 i })
 doubleword_changes image r d offset n size p fits s at m (Interrupted kind) t is_loaded (inl e, same) =
     let none : fault (Reads false (doubleword_place r) 8) m.has ≡ None = ap (λ a. fault (Reads false a 8) m.has) (doubleword_found r image.base offset at) ∙ doubleword_reached image m offset n fits is_loaded s in
@@ -134,10 +134,10 @@ pub record SymbolRows (L : Layout) (k d n : ℕ) : Type 0 where
   pub next : wrapping_add64 (wrapping_add64 (step_address L k) 12) 6 ≡ step_address L (suc k)
   pub holds : StandsAt L.image (L.offsets.step k + 4) (to_be_bytes w64 n)
 
-symbol_step : (L : Layout) (k d n v : ℕ) → kind_at L k ≡ Some (Performs true (computes_immediate Kept (on_doublewords Move) d d n) no_code) → (c : Core) (h : List Transition) → TypedStep L k (written (all_writes h) c) (At (suc k)) (mid c (set_general (set_general c.registers 1 v) d (extended Unsigned Bits64 Doubleword n)) (all_writes h) 0).core
+symbol_step : (L : Layout) (k d n v : ℕ) → kind_at L k ≡ Some (Performs true (computes_immediate Kept (on_doublewords Move) d d n) no_code) → (c : Core) (h : List Transition) → TypedStep L k (core_after_writes (all_writes h) c) (At (suc k)) (mid c (set_general (set_general c.registers 1 v) d (extended_bits Unsigned Bits64 Doubleword n)) (all_writes h) 0).core
 symbol_step L k d n v is c h =
-    let y = written (all_writes h) c in
-    let x = (mid c (set_general (set_general c.registers 1 v) d (extended Unsigned Bits64 Doubleword n)) (all_writes h) 0).core in
+    let y = core_after_writes (all_writes h) c in
+    let x = (mid c (set_general (set_general c.registers 1 v) d (extended_bits Unsigned Bits64 Doubleword n)) (all_writes h) 0).core in
     subst (λ f. KindStep L f k y (At (suc k)) x) (sym is) (goes_on v (record { reached = refl; allowed = refl; results = refl; code = refl; memory = refl }) refl)
 
 pub symbol_runs : (L : Layout) → ImageAt L → (k d n : ℕ) → kind_at L k ≡ Some (Performs true (computes_immediate Kept (on_doublewords Move) d d n) no_code) → SymbolRows L k d n → StepRuns L k
@@ -150,6 +150,6 @@ symbol_runs L image k d n is rows c is_loaded =
     let went = saves c c.registers (all_writes (t ∷ [])) (step_address L k) 1 p2 4 t.event t.after u.acts in
     let i2 = further L k c [] c.registers (step_address L k) (λ r. BranchAndSave 1 p2) 4 t saved p2 i u (omega arith) rows.here_second went.0 went.1 in
     resume L k c [] t saved p2 rest went.1 run
-    (row_over_last L k c (t ∷ []) saved p2 (λ r. Perform (loads_doubleword d r)) 6 (set_general saved d (extended Unsigned Bits64 Doubleword n)) (suc k) i2 rows.second
+    (row_over_last L k c (t ∷ []) saved p2 (λ r. Perform (loads_doubleword d r)) 6 (set_general saved d (extended_bits Unsigned Bits64 Doubleword n)) (suc k) i2 rows.second
     (doubleword_changes L.image saved d (L.offsets.step k + 4) n 6 p2 image.fits rows.holds (sum_more L.image.base (L.offsets.step k) 4))
     rows.next (stores_none L k (Performs true (computes_immediate Kept (on_doublewords Move) d d n) no_code) (λ z. refl) is) (symbol_step L k d n (wrapping_add64 (step_address L k) 4) is c)))

@@ -6,11 +6,11 @@ use Rattle.std.proofs.lemmas.Bool.{ltb-true, lt-ltb}
 use Rattle.std.proofs.lemmas.Int.{ints, int_rem_euclid_is}
 use Rattle.s390x_base.specs.declared.ir.MachLabel.{MachLabel}
 use Rattle.s390x_lanes.specs.declared.operators.Signedness.TheVariants.{Signed, Unsigned}
-use Rattle.s390x_operations.specs.State.{Registers, Memory, Core, CodeImage, set_general, with_code, written, wrapping_add64, number_at, IsLoaded}
+use Rattle.s390x_operations.specs.State.{Registers, Memory, Core, CodeImage, set_general, with_code, core_after_writes, wrapping_add64, number_at, IsLoaded}
 use Rattle.s390x_operations.specs.Access.{Reads, fault}
-use Rattle.s390x_operations.specs.Numbers.{low, signed}
+use Rattle.s390x_operations.specs.Numbers.{low, signed_number}
 use Rattle.s390x_operations.specs.Values.{value, code_of_value}
-use Rattle.s390x_operations.specs.Bits.{extended}
+use Rattle.s390x_operations.specs.Bits.{extended_bits}
 use Rattle.s390x_operations.specs.Effects.{is_selected}
 use Rattle.s390x_operations.specs.declared.size.Size.TheVariants.{Doubleword}
 use Rattle.s390x_operations.specs.declared.size.Width.TheVariants.{Bits32, Bits64}
@@ -53,35 +53,35 @@ use Rattle.s390x_machine.proofs.Standing.{PartsStand}
 low_sum : (z : ℤ) (n m : ℕ) → z +ℤ pos (2 * 2 ^ 64) ≡ pos m → m % 2 ^ 64 ≡ n → low Doubleword z ≡ n
 low_sum z n m e f = ap unsigned_abs (int_rem_euclid_is z (pos (2 ^ 64)) (2 ^ 64) 2 m (omega arith) refl e) ∙ f
 
-signed_pos : (x : ℕ) → x < 2 ^ 63 → signed Doubleword x ≡ pos x
+signed_pos : (x : ℕ) → x < 2 ^ 63 → signed_number Doubleword x ≡ pos x
 signed_pos x lt = ap (λ b. cond b (pos x) (pos x -ℤ pos 18446744073709551616)) (lt-ltb x 9223372036854775808 lt)
 
-signed_neg : (x : ℕ) → nat_lt x 9223372036854775808 ≡ false → signed Doubleword x ≡ pos x -ℤ pos 18446744073709551616
+signed_neg : (x : ℕ) → nat_lt x 9223372036854775808 ≡ false → signed_number Doubleword x ≡ pos x -ℤ pos 18446744073709551616
 signed_neg x e = ap (λ b. cond b (pos x) (pos x -ℤ pos 18446744073709551616)) e
 
-sum_of_signed : (x y : ℕ) → x < 2 ^ 64 → y < 2 ^ 64 → low Doubleword (signed Doubleword x +ℤ signed Doubleword y) ≡ (x + y) % 2 ^ 64
+sum_of_signed : (x y : ℕ) → x < 2 ^ 64 → y < 2 ^ 64 → low Doubleword (signed_number Doubleword x +ℤ signed_number Doubleword y) ≡ (x + y) % 2 ^ 64
 sum_of_signed x y lx ly = go (nat_lt x 9223372036854775808) refl (nat_lt y 9223372036854775808) refl
   where
-    go : (a : Bool) → nat_lt x 9223372036854775808 ≡ a → (b : Bool) → nat_lt y 9223372036854775808 ≡ b → low Doubleword (signed Doubleword x +ℤ signed Doubleword y) ≡ (x + y) % 2 ^ 64
+    go : (a : Bool) → nat_lt x 9223372036854775808 ≡ a → (b : Bool) → nat_lt y 9223372036854775808 ≡ b → low Doubleword (signed_number Doubleword x +ℤ signed_number Doubleword y) ≡ (x + y) % 2 ^ 64
     go true ea true eb =
         let ex = signed_pos x (ltb-true x 9223372036854775808 ea) in
         let ey = signed_pos y (ltb-true y 9223372036854775808 eb) in
-        ap (λ z. low Doubleword (z +ℤ signed Doubleword y)) ex ∙ ap (λ z. low Doubleword (pos x +ℤ z)) ey ∙ low_sum (pos x +ℤ pos y) ((x + y) % 2 ^ 64) (x + y + 2 * 2 ^ 64) (omega (arith, ints)) (omega arith)
+        ap (λ z. low Doubleword (z +ℤ signed_number Doubleword y)) ex ∙ ap (λ z. low Doubleword (pos x +ℤ z)) ey ∙ low_sum (pos x +ℤ pos y) ((x + y) % 2 ^ 64) (x + y + 2 * 2 ^ 64) (omega (arith, ints)) (omega arith)
     go true ea false eb =
         let ex = signed_pos x (ltb-true x 9223372036854775808 ea) in
         let ey = signed_neg y eb in
-        ap (λ z. low Doubleword (z +ℤ signed Doubleword y)) ex ∙ ap (λ z. low Doubleword (pos x +ℤ z)) ey ∙ low_sum (pos x +ℤ (pos y -ℤ pos 18446744073709551616)) ((x + y) % 2 ^ 64) (x + y + 2 ^ 64) (omega (arith, ints)) (omega arith)
+        ap (λ z. low Doubleword (z +ℤ signed_number Doubleword y)) ex ∙ ap (λ z. low Doubleword (pos x +ℤ z)) ey ∙ low_sum (pos x +ℤ (pos y -ℤ pos 18446744073709551616)) ((x + y) % 2 ^ 64) (x + y + 2 ^ 64) (omega (arith, ints)) (omega arith)
     go false ea true eb =
         let ex = signed_neg x ea in
         let ey = signed_pos y (ltb-true y 9223372036854775808 eb) in
-        ap (λ z. low Doubleword (z +ℤ signed Doubleword y)) ex ∙ ap (λ z. low Doubleword (pos x -ℤ pos 18446744073709551616 +ℤ z)) ey ∙ low_sum (pos x -ℤ pos 18446744073709551616 +ℤ pos y) ((x + y) % 2 ^ 64) (x + y + 2 ^ 64) (omega (arith, ints)) (omega arith)
+        ap (λ z. low Doubleword (z +ℤ signed_number Doubleword y)) ex ∙ ap (λ z. low Doubleword (pos x -ℤ pos 18446744073709551616 +ℤ z)) ey ∙ low_sum (pos x -ℤ pos 18446744073709551616 +ℤ pos y) ((x + y) % 2 ^ 64) (x + y + 2 ^ 64) (omega (arith, ints)) (omega arith)
     go false ea false eb =
         let ex = signed_neg x ea in
         let ey = signed_neg y eb in
-        ap (λ z. low Doubleword (z +ℤ signed Doubleword y)) ex ∙ ap (λ z. low Doubleword (pos x -ℤ pos 18446744073709551616 +ℤ z)) ey ∙ low_sum (pos x -ℤ pos 18446744073709551616 +ℤ (pos y -ℤ pos 18446744073709551616)) ((x + y) % 2 ^ 64) (x + y) (omega (arith, ints)) (omega arith)
+        ap (λ z. low Doubleword (z +ℤ signed_number Doubleword y)) ex ∙ ap (λ z. low Doubleword (pos x -ℤ pos 18446744073709551616 +ℤ z)) ey ∙ low_sum (pos x -ℤ pos 18446744073709551616 +ℤ (pos y -ℤ pos 18446744073709551616)) ((x + y) % 2 ^ 64) (x + y) (omega (arith, ints)) (omega arith)
 
 -- a word with its sign
-extended_low : (w : ℕ) → w < 2 ^ 31 → extended Signed Bits32 Doubleword w ≡ w
+extended_low : (w : ℕ) → w < 2 ^ 31 → extended_bits Signed Bits32 Doubleword w ≡ w
 extended_low w lt =
     let e : w % 4294967296 ≡ w = omega arith in
     ap (λ b. cond b (w % 4294967296) (w % 4294967296 + 18446744069414584320)) (lt-ltb (w % 4294967296) 2147483648 (omega arith)) ∙ e
@@ -89,25 +89,25 @@ extended_low w lt =
 not_below : (x n : ℕ) → n ≤ x → nat_lt x n ≡ false
 not_below x n le = grind arith
 
-extended_high : (w : ℕ) → 2 ^ 31 ≤ w → w < 2 ^ 32 → extended Signed Bits32 Doubleword w ≡ w + 18446744069414584320
+extended_high : (w : ℕ) → 2 ^ 31 ≤ w → w < 2 ^ 32 → extended_bits Signed Bits32 Doubleword w ≡ w + 18446744069414584320
 extended_high w ge lt =
     let e : w % 4294967296 ≡ w = omega arith in
     ap (λ b. cond b (w % 4294967296) (w % 4294967296 + 18446744069414584320)) (not_below (w % 4294967296) 2147483648 (omega arith)) ∙ ap (λ n. n + 18446744069414584320) e
 
 -- the address of a table plus a word of it is the target's
 reaches_target : (base table j target : ℕ) → table + j < 2 ^ 31 → target < 2 ^ 31 →
-    value (O.Signed Add) Doubleword (wrapping_add64 base table) (extended Signed Bits32 Doubleword (table_distance (table + j) j target)) ≡ wrapping_add64 base target
+    value (O.Signed Add) Doubleword (wrapping_add64 base table) (extended_bits Signed Bits32 Doubleword (table_distance (table + j) j target)) ≡ wrapping_add64 base target
 reaches_target base table j target lt small =
     elim (Rattle.std.proofs.lemmas.Bool.cases_lt target table) [
       | inl less ↦
           let d : ℕ = table - target in
           let w : table_distance (table + j) j target ≡ 2 ^ 32 - d = omega arith in
-          let y : extended Signed Bits32 Doubleword (table_distance (table + j) j target) ≡ 2 ^ 64 - d = extended_high (table_distance (table + j) j target) (omega (arith, w)) (omega (arith, w)) ∙ omega (arith, w) in
+          let y : extended_bits Signed Bits32 Doubleword (table_distance (table + j) j target) ≡ 2 ^ 64 - d = extended_high (table_distance (table + j) j target) (omega (arith, w)) (omega (arith, w)) ∙ omega (arith, w) in
           ap (value (O.Signed Add) Doubleword (wrapping_add64 base table)) y ∙ sum_of_signed (wrapping_add64 base table) (2 ^ 64 - d) (omega arith) (omega arith) ∙ omega arith
       | inr more ↦
           let d : ℕ = target - table in
           let w : table_distance (table + j) j target ≡ d = omega arith in
-          let y : extended Signed Bits32 Doubleword (table_distance (table + j) j target) ≡ d = extended_low (table_distance (table + j) j target) (omega (arith, w)) ∙ w in
+          let y : extended_bits Signed Bits32 Doubleword (table_distance (table + j) j target) ≡ d = extended_low (table_distance (table + j) j target) (omega (arith, w)) ∙ w in
           ap (value (O.Signed Add) Doubleword (wrapping_add64 base table)) y ∙ sum_of_signed (wrapping_add64 base table) d (omega arith) (omega arith) ∙ omega arith
     ]
 
@@ -155,16 +155,16 @@ word_found base r index table j at_table at_index some =
     ∙ sum_more base table j
 
 word_read : (image : CodeImage) (m : Memory) (r : Registers) (index table j w : ℕ) → w < 2 ^ 32 → image.base + length image.bytes ≤ 2 ^ 64 → IsLoaded image m → StandsAt image (table + j) (word_bytes w) → r.general 1 ≡ wrapping_add64 image.base table → r.general index ≡ j → index ≢ 0 →
-    extended Signed Bits32 Doubleword (number_at m.get (word_place index r) 4) ≡ extended Signed Bits32 Doubleword w
+    extended_bits Signed Bits32 Doubleword (number_at m.get (word_place index r) 4) ≡ extended_bits Signed Bits32 Doubleword w
 word_read image m r index table j w lt fits is_loaded s at_table at_index some =
-    ap (λ a. extended Signed Bits32 Doubleword (number_at m.get a 4)) (word_found image.base r index table j at_table at_index some) ∙ ap (extended Signed Bits32 Doubleword) (word_at image m (table + j) w lt fits is_loaded s)
+    ap (λ a. extended_bits Signed Bits32 Doubleword (number_at m.get a 4)) (word_found image.base r index table j at_table at_index some) ∙ ap (extended_bits Signed Bits32 Doubleword) (word_at image m (table + j) w lt fits is_loaded s)
 
 word_changes : (image : CodeImage) (r : Registers) (index table j w size p : ℕ) → w < 2 ^ 32 → image.base + length image.bytes ≤ 2 ^ 64 → StandsAt image (table + j) (word_bytes w) → r.general 1 ≡ wrapping_add64 image.base table → r.general index ≡ j → index ≢ 0 →
-    ChangesOver image (Perform (adds_word index r)) size r p (with_code (code_of_value (O.Signed Add) Doubleword (r.general 1) (extended Signed Bits32 Doubleword w)) (set_general r 1 (value (O.Signed Add) Doubleword (r.general 1) (extended Signed Bits32 Doubleword w))))
+    ChangesOver image (Perform (adds_word index r)) size r p (with_code (code_of_value (O.Signed Add) Doubleword (r.general 1) (extended_bits Signed Bits32 Doubleword w)) (set_general r 1 (value (O.Signed Add) Doubleword (r.general 1) (extended_bits Signed Bits32 Doubleword w))))
 word_changes image r index table j w size p lt fits s at_table at_index some m (Executed e) t is_loaded h =
     let x = r.general 1 in
-    let y = extended Signed Bits32 Doubleword (number_at m.get (word_place index r) 4) in
-    let registers : t.core.registers ≡ with_code (code_of_value (O.Signed Add) Doubleword x (extended Signed Bits32 Doubleword w)) (set_general r 1 (value (O.Signed Add) Doubleword x (extended Signed Bits32 Doubleword w))) =
+    let y = extended_bits Signed Bits32 Doubleword (number_at m.get (word_place index r) 4) in
+    let registers : t.core.registers ≡ with_code (code_of_value (O.Signed Add) Doubleword x (extended_bits Signed Bits32 Doubleword w)) (set_general r 1 (value (O.Signed Add) Doubleword x (extended_bits Signed Bits32 Doubleword w))) =
     h.0.results ∙ ap (λ code. with_code code (set_general r 1 (value (O.Signed Add) Doubleword x y))) h.0.code ∙ ap (λ z. with_code (code_of_value (O.Signed Add) Doubleword x z) (set_general r 1 (value (O.Signed Add) Doubleword x z))) (word_read image m r index table j w lt fits is_loaded s at_table at_index some) in
     (ap Executed h.2, λ i. record { core = record { registers = registers i; memory = h.0.memory i }; address = h.1 i })
 word_changes image r index table j w size p lt fits s at_table at_index some m (Interrupted kind) t is_loaded (inl e, same) =
@@ -234,16 +234,16 @@ target_found n targets l h = go (n % 4 == 0) refl h
     go false e f = absurd (cc)
 
 module _ (L : Layout) (image : ImageAt L) (k index mask other table : ℕ) (targets : List MachLabel) (is : kind_at L k ≡ Some (GoesByTable index mask other targets)) (rows : TableRows L k index mask other table targets) (c : Core) (is_loaded : IsLoaded L.image c.memory) where
-  other_step : is_selected mask c.registers.code ≡ true → (h : List Transition) → TypedStep L k (written (all_writes h) c) (At (L.first_step other)) (written (all_writes h) c)
+  other_step : is_selected mask c.registers.code ≡ true → (h : List Transition) → TypedStep L k (core_after_writes (all_writes h) c) (At (L.first_step other)) (core_after_writes (all_writes h) c)
   other_step sel h =
-      let y = written (all_writes h) c in
+      let y = core_after_writes (all_writes h) c in
       let same : y ≡ loosen true (c.registers.general 1) y = ap (λ (r : Registers). record { registers = r; memory = y.memory }) (sym (put_same c.registers 1)) in
       subst (λ f. KindStep L f k y (At (L.first_step other)) y) (sym is) (subst (λ b. TableStep L b (table_target (c.registers.general index) targets) other y (At (L.first_step other)) y) (sym sel) (c.registers.general 1, refl, same))
 
   goes_other : is_selected mask c.registers.code ≡ true → Simulates L k c [] c.registers (step_address L k)
   goes_other sel =
       branch L k c [] c.registers (step_address L k) (λ r. Branch mask (block_address L other)) 6 mask (block_address L other) (at_start L k c rows.here is_loaded) rows.first refl (λ t rest u e lands run.
-      let y = written (all_writes (t ∷ [])) c in
+      let y = core_after_writes (all_writes (t ∷ [])) c in
       let at : t.after ≡ start L (L.first_step other) y = lands ∙ ap (λ b. mid c c.registers (all_writes (t ∷ [])) (cond b (block_address L other) (wrapping_add64 (step_address L k) 6))) sel ∙ ap (λ q. mid c c.registers (all_writes (t ∷ [])) q) rows.known in
       done L k c [] c.registers (step_address L k) _ 6 t rest (L.first_step other) y (at_start L k c rows.here is_loaded) u (e ∙ ap Executed (sym (stores_none L k (GoesByTable index mask other targets) (λ z. refl) is y))) at (λ out. u.is_loaded) (other_step sel (t ∷ [])))
 
@@ -259,13 +259,13 @@ module _ (L : Layout) (image : ImageAt L) (k index mask other table : ℕ) (targ
 
     -- the registers with the table's address, and then with the target's
     abbrev loaded : Registers
-    loaded = set_general c.registers 1 (extended Unsigned Bits64 Doubleword (wrapping_add64 L.image.base table))
+    loaded = set_general c.registers 1 (extended_bits Unsigned Bits64 Doubleword (wrapping_add64 L.image.base table))
 
     abbrev code : ConditionCode
-    code = code_of_value (O.Signed Add) Doubleword (loaded.general 1) (extended Signed Bits32 Doubleword word)
+    code = code_of_value (O.Signed Add) Doubleword (loaded.general 1) (extended_bits Signed Bits32 Doubleword word)
 
     abbrev target : ℕ
-    target = value (O.Signed Add) Doubleword (loaded.general 1) (extended Signed Bits32 Doubleword word)
+    target = value (O.Signed Add) Doubleword (loaded.general 1) (extended_bits Signed Bits32 Doubleword word)
 
     abbrev added : Registers
     added = with_code code (set_general loaded 1 target)
@@ -277,11 +277,11 @@ module _ (L : Layout) (image : ImageAt L) (k index mask other table : ℕ) (targ
     at_index = other_register c.registers 1 index _ rows.not_scratch ∙ (target_found (c.registers.general index) targets l found).0
 
     at_target : target ≡ step_address L (L.first_step l.0)
-    at_target = ap (λ x. value (O.Signed Add) Doubleword x (extended Signed Bits32 Doubleword word)) at_table ∙ reaches_target L.image.base table (4 * j) (L.offsets.block l.0) leads.near leads.small ∙ leads.known
+    at_target = ap (λ x. value (O.Signed Add) Doubleword x (extended_bits Signed Bits32 Doubleword word)) at_table ∙ reaches_target L.image.base table (4 * j) (L.offsets.block l.0) leads.near leads.small ∙ leads.known
 
-    table_step : (h : List Transition) → TypedStep L k (written (all_writes h) c) (At (L.first_step l.0)) (mid c added (all_writes h) 0).core
+    table_step : (h : List Transition) → TypedStep L k (core_after_writes (all_writes h) c) (At (L.first_step l.0)) (mid c added (all_writes h) 0).core
     table_step h =
-        let y = written (all_writes h) c in
+        let y = core_after_writes (all_writes h) c in
         let x = (mid c added (all_writes h) 0).core in
         let same : x ≡ record { registers = with_code code (set_general c.registers 1 target); memory = y.memory } = ap (λ (r : Registers). record { registers = with_code code r; memory = y.memory }) (put_twice c.registers 1 _ target) in
         subst (λ f. KindStep L f k y (At (L.first_step l.0)) x) (sym is)

@@ -4,8 +4,8 @@ use Rattle.s390x_lanes.specs.declared.operators.Signedness.{Signedness}
 use Rattle.s390x_operations.specs.Bits.{bytes}
 use Rattle.s390x_operations.specs.State.{Core, Memory, Registers, after_store, with_code}
 use Rattle.s390x_operations.specs.Access.{fault, store_event}
-use Rattle.s390x_operations.specs.Unsigned.{compared}
-use Rattle.s390x_operations.specs.Values.{code_of_value, taken, value}
+use Rattle.s390x_operations.specs.Unsigned.{compare_code}
+use Rattle.s390x_operations.specs.Values.{code_of_value, operand_value, value}
 use Rattle.s390x_operations.specs.Effects.{CodeAfter, MayExecute, set_sized, source_access, store_access}
 use Rattle.s390x_operations.specs.declared.size.Size.{Size}
 use Rattle.s390x_operations.specs.declared.size.Width.{Width}
@@ -20,7 +20,7 @@ use Rattle.s390x_operations.specs.declared.stop.ConditionCode.{ConditionCode}
 use Rattle.s390x_machine.specs.Step.{code_under}
 
 code_ruled : (rule : CodeRule) (op : Operator) (size : Size) (y : Operand) (target first : ℕ) (c : Core) (code : ConditionCode) →
-    code ≡ code_under rule (code_of_value op size first (taken size y c.memory)) c.registers.code → CodeAfter rule (Compute op size target first y) c code
+    code ≡ code_under rule (code_of_value op size first (operand_value size y c.memory)) c.registers.code → CodeAfter rule (Compute op size target first y) c code
 code_ruled Kept op size y target first c code h = h
 code_ruled Set op size y target first c code h = h
 code_ruled Unspecified op size y target first c code h = tt
@@ -31,14 +31,14 @@ nothing_stored (Value x) n m = refl
 nothing_stored (InMemory a) n m = refl
 nothing_stored (AlignedMemory a) n m = refl
 
-pub computed : (op : Operator) (size : Size) (y : Operand) (rule : CodeRule) (target first second : ℕ) (c : Core) (r : Registers) → fault (source_access y.source (bytes y.width)) c.memory.has ≡ None → second ≡ taken size y c.memory →
+pub computed : (op : Operator) (size : Size) (y : Operand) (rule : CodeRule) (target first second : ℕ) (c : Core) (r : Registers) → fault (source_access y.source (bytes y.width)) c.memory.has ≡ None → second ≡ operand_value size y c.memory →
     r ≡ with_code (code_under rule (code_of_value op size first second) c.registers.code) (set_sized size c.registers target (value op size first second)) →
     MayExecute (record { effect = Compute op size target first y; rule = rule }) c (record { registers = r; memory = c.memory })
 computed op size y rule target first second c r reached t h =
-    let x : Registers = set_sized size c.registers target (value op size first (taken size y c.memory)) in
-    let all : r ≡ with_code (code_under rule (code_of_value op size first (taken size y c.memory)) c.registers.code) x =
+    let x : Registers = set_sized size c.registers target (value op size first (operand_value size y c.memory)) in
+    let all : r ≡ with_code (code_under rule (code_of_value op size first (operand_value size y c.memory)) c.registers.code) x =
     subst (λ (z : ℕ). r ≡ with_code (code_under rule (code_of_value op size first z) c.registers.code) (set_sized size c.registers target (value op size first z))) t h in
-    let code : r.code ≡ code_under rule (code_of_value op size first (taken size y c.memory)) c.registers.code = ap (λ (q : Registers). q.code) all in
+    let code : r.code ≡ code_under rule (code_of_value op size first (operand_value size y c.memory)) c.registers.code = ap (λ (q : Registers). q.code) all in
     record {
       reached = reached;
       allowed = refl;
@@ -47,12 +47,12 @@ computed op size y rule target first second c r reached t h =
       memory = nothing_stored y.source (bytes y.width) c.memory;
     }
 
-pub ordered_by : (sign : Signedness) (size : Size) (y : Operand) (first second : ℕ) (c : Core) (r : Registers) → fault (source_access y.source (bytes y.width)) c.memory.has ≡ None → second ≡ taken size y c.memory →
-    r ≡ with_code (compared sign size first second) c.registers →
+pub ordered_by : (sign : Signedness) (size : Size) (y : Operand) (first second : ℕ) (c : Core) (r : Registers) → fault (source_access y.source (bytes y.width)) c.memory.has ≡ None → second ≡ operand_value size y c.memory →
+    r ≡ with_code (compare_code sign size first second) c.registers →
     MayExecute (record { effect = Compare sign size first y; rule = Set }) c (record { registers = r; memory = c.memory })
 ordered_by sign size y first second c r reached t h =
-    let all : r ≡ with_code (compared sign size first (taken size y c.memory)) c.registers = subst (λ (z : ℕ). r ≡ with_code (compared sign size first z) c.registers) t h in
-    let code : r.code ≡ compared sign size first (taken size y c.memory) = ap (λ (q : Registers). q.code) all in
+    let all : r ≡ with_code (compare_code sign size first (operand_value size y c.memory)) c.registers = subst (λ (z : ℕ). r ≡ with_code (compare_code sign size first z) c.registers) t h in
+    let code : r.code ≡ compare_code sign size first (operand_value size y c.memory) = ap (λ (q : Registers). q.code) all in
     record {
       reached = reached;
       allowed = refl;

@@ -3,7 +3,7 @@ use Rattle.std.proofs.Common.{◌≡◌, ℕ, ◌^◌, ◌<◌, Bool, true, fals
 use Rattle.s390x_operations.specs.State.{Core, Memory, Registers, after_store, number_at, reaches, set_vector, with_code}
 use Rattle.s390x_operations.specs.Access.{Stores, store_event}
 use Rattle.s390x_operations.specs.Effects.{MayExecute, MayInterrupt}
-use Rattle.s390x_operations.specs.Vectors.{layout_bytes, loaded, vector_stored}
+use Rattle.s390x_operations.specs.Vectors.{layout_bytes, register_after_load, vector_stored}
 use Rattle.s390x_operations.specs.declared.effect.Effect.TheVariants.{LoadVector, StoreVector}
 use Rattle.s390x_operations.specs.declared.effect.CodeRule.TheVariants.{Kept}
 use Rattle.s390x_operations.specs.declared.effect.VectorLayout.{VectorLayout}
@@ -16,10 +16,10 @@ abbrev fault_where : Bool → Option StopKind
 fault_where reached = if reached then None else Some AccessStop
 
 pub vector_loaded : (layout : VectorLayout) (target old known address : ℕ) (c : Core) (r : Registers) → reaches c.memory.has address (layout_bytes layout) ≡ true →
-    loaded layout old (number_at c.memory.get address (layout_bytes layout)) < 2 ^ 128 → r ≡ set_vector c.registers target (loaded layout old (number_at c.memory.get address (layout_bytes layout))) →
+    register_after_load layout old (number_at c.memory.get address (layout_bytes layout)) < 2 ^ 128 → r ≡ set_vector c.registers target (register_after_load layout old (number_at c.memory.get address (layout_bytes layout))) →
     MayExecute (record { effect = LoadVector layout target old known address; rule = Kept }) c (record { registers = r; memory = c.memory })
 vector_loaded layout target old known address c r reached small e =
-    let y = loaded layout old (number_at c.memory.get address (layout_bytes layout)) in
+    let y = register_after_load layout old (number_at c.memory.get address (layout_bytes layout)) in
     let code : r.code ≡ c.registers.code = ap (λ (q : Registers). q.code) e in
     record {
       reached = ap fault_where reached;

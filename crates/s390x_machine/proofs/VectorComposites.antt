@@ -19,7 +19,7 @@ use Rattle.s390x_lanes.specs.declared.operators.VectorOperation.TheVariants as O
 use Rattle.s390x_lanes.specs.declared.size.ElementSize.{ElementSize}
 use Rattle.s390x_lanes.specs.declared.size.ElementSize.TheVariants.{Word, Doubleword}
 use Rattle.s390x_operations.specs.Access.{Untouched}
-use Rattle.s390x_operations.specs.Effects.{Refines, MayRefuse, access, is_selected, refused}
+use Rattle.s390x_operations.specs.Effects.{Refines, MayRefuse, access, is_selected, stop_of_effect}
 use Rattle.s390x_operations.specs.State.{Registers, wrapping_add64}
 use Rattle.s390x_operations.specs.declared.effect.Operation.{Operation}
 use Rattle.s390x_operations.specs.declared.stop.ConditionCode.{ConditionCode}
@@ -85,7 +85,7 @@ half_even o e = omega (arith, e)
 module _ {L : Layout} {k : ℕ} {s : Step} (b : StepAt L k s) where
   -- a row that is skipped under the codes that the mask doesn't select. The branch over it leads so many bytes on
   skip_runs : (mask half distance : ℕ) (row : MachineInstruction) (does operation : Registers → Operation) → kind_of_step L (Some s) ≡ Some (PerformsWhere mask operation) → step_parts s ≡ Row (ri_c opcodes.BRC (15 - mask) half) ∷ Row row ∷ [] → mask < 16 → half < 2 ^ 16 → pos 2 *ℤ cast_signed w16 (half % 2 ^ 16) ≡ pos distance →
-      4 + size_of row ≡ distance → 0 < size_of row → DoesThere L b.image (L.offsets.step k + 4) (half_even (L.offsets.step k) (step_even b)) row does → ((r : Registers) → Refines (does r) (operation r)) → ((r : Registers) → access (operation r).effect ≡ Untouched) → ((r : Registers) → refused (operation r).effect ≡ None) → ((r : Registers) (kind : StopKind) → MayRefuse (operation r).effect kind → ⊥) → StepRuns L k
+      4 + size_of row ≡ distance → 0 < size_of row → DoesThere L b.image (L.offsets.step k + 4) (half_even (L.offsets.step k) (step_even b)) row does → ((r : Registers) → Refines (does r) (operation r)) → ((r : Registers) → access (operation r).effect ≡ Untouched) → ((r : Registers) → stop_of_effect (operation r).effect ≡ None) → ((r : Registers) (kind : StopKind) → MayRefuse (operation r).effect kind → ⊥) → StepRuns L k
   unfolding length_of
   skip_runs mask half distance row does operation is parts lm lh words long some there refines untouched never_refused never_stops =
       let o = L.offsets.step k in
@@ -111,7 +111,7 @@ module _ {L : Layout} {k : ℕ} {s : Step} (b : StepAt L k s) where
 
   -- a move of a whole register
   skipped_vector : (mask d n : ℕ) (operation : Registers → Operation) → kind_of_step L (Some s) ≡ Some (PerformsWhere mask operation) → step_parts s ≡ row_parts (skipping mask (vrr_a opcodes.VLR d n 0)) → mask < 16 → d < 32 → n < 32 → ((r : Registers) → Refines (elements_computed (vrr_a opcodes.VLR d n 0) O.Move r) (operation r)) →
-      ((r : Registers) → access (operation r).effect ≡ Untouched) → ((r : Registers) → refused (operation r).effect ≡ None) → ((r : Registers) (kind : StopKind) → MayRefuse (operation r).effect kind → ⊥) → StepRuns L k
+      ((r : Registers) → access (operation r).effect ≡ Untouched) → ((r : Registers) → stop_of_effect (operation r).effect ≡ None) → ((r : Registers) (kind : StopKind) → MayRefuse (operation r).effect kind → ⊥) → StepRuns L k
   unfolding length_of
   skipped_vector mask d n operation is parts lm ld ln refines untouched never_refused never_stops =
       let x = vrr_a opcodes.VLR d n 0 in

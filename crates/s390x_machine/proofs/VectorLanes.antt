@@ -16,7 +16,7 @@ use Rattle.s390x_lanes.specs.declared.size.ElementSize.{ElementSize}
 use Rattle.s390x_lanes.specs.declared.size.ElementSize.TheVariants.{Byte, Halfword, Word, Doubleword, Quadword}
 use Rattle.s390x_operations.specs.Effects.{Refines}
 use Rattle.s390x_operations.specs.State.{Registers}
-use Rattle.s390x_operations.specs.Vectors.{loaded}
+use Rattle.s390x_operations.specs.Vectors.{register_after_load}
 use Rattle.s390x_operations.specs.declared.effect.CodeRule.TheVariants.{Kept}
 use Rattle.s390x_operations.specs.declared.effect.Effect.{Effect}
 use Rattle.s390x_operations.specs.declared.effect.Operation.{Operation}
@@ -34,7 +34,7 @@ use Rattle.s390x_machine.specs.CodeAt.{OperandsValidOr}
 use Rattle.s390x_machine.specs.Computations.{with_rule, on_doublewords, havocs}
 use Rattle.s390x_machine.specs.Layout.{Layout}
 use Rattle.s390x_machine.specs.OneStep.{StepRuns}
-use Rattle.s390x_machine.specs.Operands.{based}
+use Rattle.s390x_machine.specs.Operands.{address_by_base}
 use Rattle.s390x_machine.specs.Semantics.{all_bits, left_bits, inserts_element, extracts_element}
 use Rattle.s390x_machine.specs.StepKinds.{Performs, no_code}
 use Rattle.s390x_machine.specs.Typed.{kind_of_step}
@@ -88,7 +88,7 @@ one_element : (w old x k : ℕ) (t : Bool) → (if t then x % 2 ^ w else lane w 
 one_element w old x k true = mod_below x (2 ^ w) (pow_pos w)
 one_element w old x k false = lane_lt w old k
 
-element_fits : (e : ElementSize) (index old x : ℕ) → loaded (VectorLayout.Element e index false) old (x % 2 ^ element_bits e) < 2 ^ 128
+element_fits : (e : ElementSize) (index old x : ℕ) → register_after_load (VectorLayout.Element e index false) old (x % 2 ^ element_bits e) < 2 ^ 128
 element_fits e index old x =
     let w = element_bits e in
     let f : ℕ → ℕ = λ i. if i == index then x % 2 ^ w else lane w old i in
@@ -107,11 +107,11 @@ low_128 a =
     let within : bit_and all_bits high_half ≡ high_half = refl in
     ap (bit_and a) (sym within) ∙ sym (and_assoc high_half a all_bits) ∙ ap (λ y. bit_and y high_half) (and_mask a 128)
 
-joined_doubleword : (x old : ℕ) → loaded (VectorLayout.Element Doubleword 0 false) old (x % 2 ^ 64) ≡ x % 2 ^ 64 * 2 ^ 64 + lane 64 old 1
+joined_doubleword : (x old : ℕ) → register_after_load (VectorLayout.Element Doubleword 0 false) old (x % 2 ^ 64) ≡ x % 2 ^ 64 * 2 ^ 64 + lane 64 old 1
 unfolding from_lanes
 joined_doubleword x old = omega arith
 
-same_left : (x old : ℕ) → bit_and (x * 2 ^ 64) high_half ≡ bit_and (loaded (VectorLayout.Element Doubleword 0 false) old (x % 2 ^ 64)) high_half
+same_left : (x old : ℕ) → bit_and (x * 2 ^ 64) high_half ≡ bit_and (register_after_load (VectorLayout.Element Doubleword 0 false) old (x % 2 ^ 64)) high_half
 same_left x old =
     let right : lane 64 old 1 < 2 ^ 64 = lane_lt 64 old 1 in
     let v = x % 2 ^ 64 * 2 ^ 64 + lane 64 old 1 in
@@ -119,7 +119,7 @@ same_left x old =
     let same : x * 2 ^ 64 % 2 ^ 128 / 2 ^ 64 * 2 ^ 64 ≡ v / 2 ^ 64 * 2 ^ 64 = omega (arith, right) in
     low_128 (x * 2 ^ 64) ∙ high_half_of (x * 2 ^ 64 % 2 ^ 128) (omega arith) ∙ same ∙ sym (high_half_of v small) ∙ ap (λ y. bit_and y high_half) (sym (joined_doubleword x old))
 
-left_known : (d x old : ℕ) → Refines (puts d high_half (x * 2 ^ 64)) (puts d high_half (loaded (VectorLayout.Element Doubleword 0 false) old (x % 2 ^ 64)))
+left_known : (d x old : ℕ) → Refines (puts d high_half (x * 2 ^ 64)) (puts d high_half (register_after_load (VectorLayout.Element Doubleword 0 false) old (x % 2 ^ 64)))
 left_known d x old = record {
   access = refl;
   refused = refl;
@@ -167,22 +167,22 @@ extract_allowed Quadword narrow d n base lane = absurd narrow
 
 inserts_there : (e : ElementSize) (d n base displacement : ℕ) → displacement < 4096 → Doing (fields_of VrsB (vrs_b opcodes.VLVG d base n (code_of_size e) displacement).slots) InsertElement (inserts_lane e d n base displacement)
 inserts_there e d n base displacement low r p =
-    ap (λ (q : ElementSize). inserts_element q d (r.vector d) (based r base (disp_of displacement)) (r.general n)) (size_again e)
-    ∙ ap (λ (z : ℤ). inserts_element e d (r.vector d) (based r base z) (r.general n)) (small_displacement displacement low)
+    ap (λ (q : ElementSize). inserts_element q d (r.vector d) (address_by_base r base (disp_of displacement)) (r.general n)) (size_again e)
+    ∙ ap (λ (z : ℤ). inserts_element e d (r.vector d) (address_by_base r base z) (r.general n)) (small_displacement displacement low)
     ∙ chosen (nat_lt (element_index r base displacement) (lane_count e)) _ _
 
 extracts_there : (e : ElementSize) (d n base displacement : ℕ) → displacement < 4096 → Doing (fields_of VrsC (vrs_c opcodes.VLGV d base n (code_of_size e) displacement).slots) ExtractElement (extracts_lane e d n base displacement)
 extracts_there e d n base displacement low r p =
     let f = fields_of VrsC (vrs_c opcodes.VLGV d base n (code_of_size e) displacement).slots in
-    ap (λ (q : ElementSize). extracts_element f r q (based r base (disp_of displacement))) (size_again e)
-    ∙ ap (λ (z : ℤ). extracts_element f r e (based r base z)) (small_displacement displacement low)
+    ap (λ (q : ElementSize). extracts_element f r q (address_by_base r base (disp_of displacement))) (size_again e)
+    ∙ ap (λ (z : ℤ). extracts_element f r e (address_by_base r base z)) (small_displacement displacement low)
     ∙ chosen (nat_lt (element_index r base displacement) (lane_count e)) _ _
 
 -- ---- steps that are one
 
 puts_element_never : (e : ElementSize) (known d index x : ℕ) → NeverStops (puts_element e known d index x)
 puts_element_never e known d index x r =
-    either_never (nat_lt index (lane_count e)) _ _ (puts_never d known (loaded (VectorLayout.Element e index false) (r.vector d) (x % 2 ^ element_bits e))) (puts_never d 0 0)
+    either_never (nat_lt index (lane_count e)) _ _ (puts_never d known (register_after_load (VectorLayout.Element e index false) (r.vector d) (x % 2 ^ element_bits e))) (puts_never d 0 0)
 
 pub inserts_never : (e : ElementSize) (d n base displacement : ℕ) → NeverStops (inserts_lane e d n base displacement)
 inserts_never e d n base displacement r = puts_element_never e all_bits d (element_index r base displacement) (r.general n) r
@@ -200,7 +200,7 @@ extracts_never e d n base displacement r =
 alone_refines : (e : ElementSize) (d n base displacement : ℕ) (r : Registers) → Refines (inserts_lane e d n base displacement r) (inserts_lane_alone e d n base displacement r)
 alone_refines e d n base displacement r =
     let index = element_index r base displacement in
-    let v = loaded (VectorLayout.Element e index false) (r.vector d) (r.general n % 2 ^ element_bits e) in
+    let v = register_after_load (VectorLayout.Element e index false) (r.vector d) (r.general n % 2 ^ element_bits e) in
     either_refines (nat_lt index (lane_count e)) _ _ _ _ (part_known d (lane_bits e index) v (element_fits e index (r.vector d) (r.general n))) (exactly (puts d 0 0))
 
 -- the tests of a leftmost doubleword

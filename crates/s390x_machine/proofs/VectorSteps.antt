@@ -54,7 +54,7 @@ use Rattle.s390x_machine.specs.declared.action_type.Action.TheVariants.{Perform}
 use Rattle.s390x_machine.specs.CodeAt.{ImageAt, OperandsValidOr}
 use Rattle.s390x_machine.specs.Computations.{with_rule}
 use Rattle.s390x_machine.specs.Layout.{Layout, step_address}
-use Rattle.s390x_machine.specs.Operands.{based}
+use Rattle.s390x_machine.specs.Operands.{address_by_base}
 use Rattle.s390x_machine.specs.OneStep.{StepRuns}
 use Rattle.s390x_machine.specs.Semantics.{on_elements, left_bits, vector_field, register_field}
 use Rattle.s390x_machine.specs.StepKinds.{Performs, Unsupported, no_code, division_code, kind_or, on_vectors}
@@ -349,8 +349,8 @@ module _ {L : Layout} {k : ℕ} {s : Step} (b : StepAt L k s) where
       let does = shifts_vector (shift_operator op) (shifted_elements op) d n base displacement in
       let fit = fits_vrs_a (shift_row op).opcode d base n (shift_row op).code displacement (few_digits (shift_rows op).0) few.0 few.2 few.1 (shift_code op) small in
       meant_runs b x (Row.ShiftElements (vector_row_of (shift_row op).opcode)) does (λ r. never_by_values (does r) no_code refl (λ kind by. true≢false (sym by.1))) is (shift_rows op) fit (shift_allowed op d base n displacement) (λ r p.
-      ap (λ (z : ℤ). on_elements (operation_of (vector_row_of (shift_row op).opcode) ((shift_row op).code ∷ 0 ∷ 0 ∷ []) (pos (based r base z % 64))) d (r.vector d) (r.vector n) 0 0) (small_displacement displacement small)
-      ∙ ap (λ q. on_elements q d (r.vector d) (r.vector n) 0 0) (shift_operation op (based r base (pos displacement) % 64) (omega arith)))
+      ap (λ (z : ℤ). on_elements (operation_of (vector_row_of (shift_row op).opcode) ((shift_row op).code ∷ 0 ∷ 0 ∷ []) (pos (address_by_base r base z % 64))) d (r.vector d) (r.vector n) 0 0) (small_displacement displacement small)
+      ∙ ap (λ q. on_elements q d (r.vector d) (r.vector n) 0 0) (shift_operation op (address_by_base r base (pos displacement) % 64) (omega arith)))
 
   -- two general registers, one behind the other
   joined_runs : (d n m : ℕ) → (d < 32) × (n < 16) × (m < 16) → IsVectorRow (vrr_f opcodes.VLVGP d n m) (joins_registers d n m) → StepRuns L k

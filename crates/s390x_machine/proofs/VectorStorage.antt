@@ -42,7 +42,7 @@ use Rattle.s390x_format.specs.declared.semantics.VectorStorage.{VectorStorage}
 use Rattle.s390x_machine.specs.CodeAt.{ValidMemoryOr}
 use Rattle.s390x_machine.specs.Layout.{Layout}
 use Rattle.s390x_machine.specs.OneStep.{StepRuns}
-use Rattle.s390x_machine.specs.Operands.{indexed}
+use Rattle.s390x_machine.specs.Operands.{address_by_index}
 use Rattle.s390x_machine.specs.Semantics.{all_bits, performs, semantics_in, semantics_of, vector_layout_of}
 use Rattle.s390x_machine.specs.StepKinds.{Unsupported, kind_or, performed_at, access_code}
 use Rattle.s390x_machine.specs.Storage.{indexed_forms, lane_forms, layout_of, loads_vector, operand_address, stores_vector, vector_forms}
@@ -108,7 +108,7 @@ loaded_form storage layout opcode mask low high known d row lm allows tells with
   row = row;
   allows = λ base index n. allows;
   does = loads_vector layout all_bits d;
-  acts = λ base index n r p. ap (λ l. performs Kept (Effect.LoadVector l d (r.vector d) all_bits (indexed r base index (disp_of n)))) (tells base index n);
+  acts = λ base index n r p. ap (λ l. performs Kept (Effect.LoadVector l d (r.vector d) all_bits (address_by_index r base index (disp_of n)))) (tells base index n);
   refines = loads_part layout known d within;
 }
 
@@ -122,7 +122,7 @@ stored_form storage layout opcode mask low high d row lm allows tells lt = recor
   row = row;
   allows = λ base index n. allows;
   does = stores_vector layout d;
-  acts = λ base index n r p. ap (λ l. performs Kept (Effect.StoreVector l (r.vector d) (indexed r base index (disp_of n)))) (tells base index n);
+  acts = λ base index n r p. ap (λ l. performs Kept (Effect.StoreVector l (r.vector d) (address_by_index r base index (disp_of n)))) (tells base index n);
   refines = λ a r. Rattle.s390x_machine.proofs.Built.exactly (stores_vector layout d a r);
 }
 

@@ -15,7 +15,7 @@ use Rattle.s390x_lanes.specs.declared.operators.VectorOperation.TheVariants.{Com
 use Rattle.s390x_lanes.specs.declared.size.ElementSize.TheVariants.{Doubleword}
 use Rattle.s390x_lanes.proofs.Building.{lane_lt}
 use Rattle.s390x_operations.specs.Effects.{code_numbered, is_selected}
-use Rattle.s390x_operations.specs.State.{Registers, Core, set_vector, with_code, written, wrapping_add64}
+use Rattle.s390x_operations.specs.State.{Registers, Core, set_vector, with_code, core_after_writes, wrapping_add64}
 use Rattle.s390x_operations.specs.declared.stop.ConditionCode.{ConditionCode}
 use Rattle.s390x_operations.specs.declared.stop.ConditionCode.TheVariants.{Code1, Code2, Code3}
 use Rattle.s390x_rows.specs.declared.opcodes.TheConstants as opcodes
@@ -169,9 +169,9 @@ right_changes sign tmp n m p r =
 -- ---- the step
 
 wide_step : (L : Layout) (k : ℕ) (sign : Signedness) (tmp n m v : ℕ) → kind_at L k ≡ Some (ComparesWide sign tmp n m) → (c : Core) (r : Registers) → r ≡ with_code (wide_order sign (c.registers.vector n) (c.registers.vector m)) (set_vector c.registers tmp v) → (h : List Transition) →
-    TypedStep L k (written (all_writes h) c) (At (suc k)) (mid c r (all_writes h) 0).core
+    TypedStep L k (core_after_writes (all_writes h) c) (At (suc k)) (mid c r (all_writes h) 0).core
 wide_step L k sign tmp n m v is c r e h =
-    let y = written (all_writes h) c in
+    let y = core_after_writes (all_writes h) c in
     let x = (mid c r (all_writes h) 0).core in
     subst (λ f. KindStep L f k y (At (suc k)) x) (sym is) (v, refl, λ i. record { registers = e i; memory = y.memory })
 
@@ -188,7 +188,7 @@ module _ {L : Layout} {k : ℕ} {s : Step} (b : StepAt L k s) (opcode : ℕ) (si
       let h = g ++ t ∷ [] in
       let there = at ∙ ap (λ q. mid c r (all_writes h) (cond q (step_address L (suc k)) (wrapping_add64 (place L k 6) 4))) told.taken in
       let same : r ≡ with_code (wide_order sign (c.registers.vector n) (c.registers.vector m)) (set_vector c.registers tmp (c.registers.vector tmp)) = ap (λ x. with_code x c.registers) told.order ∙ ap (λ x. with_code (wide_order sign (c.registers.vector n) (c.registers.vector m)) x) (sym (put_same c.registers tmp (c.registers.vector tmp) refl)) in
-      done L k c g r (place L k 6) _ 4 t rest (suc k) (mid c r (all_writes h) 0).core i u (e ∙ ap Executed (sym (none (written (all_writes h) c)))) there (λ out. u.is_loaded) (wide_step L k sign tmp n m (c.registers.vector tmp) (step_form b _ is) c r same h))
+      done L k c g r (place L k 6) _ 4 t rest (suc k) (mid c r (all_writes h) 0).core i u (e ∙ ap Executed (sym (none (core_after_writes (all_writes h) c)))) there (λ out. u.is_loaded) (wide_step L k sign tmp n m (c.registers.vector tmp) (step_form b _ is) c r same h))
   branched c g one skip row i (inr left) =
       let r = told_in sign n m c.registers in
       branch L k c g r (place L k 6) (λ r. Branch 7 (step_address L (suc k))) 4 7 (step_address L (suc k)) i skip refl (λ t rest u e at run.

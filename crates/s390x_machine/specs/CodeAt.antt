@@ -22,7 +22,7 @@ use Rattle.s390x_typed_steps.specs.Traps.{step_traps, first_code}
 use Rattle.s390x_operations.specs.Numbers.{low}
 use Rattle.s390x_operations.specs.State.{wrapping_add64}
 use Rattle.s390x_operations.specs.declared.size.Size.TheVariants.{Doubleword}
-use Rattle.s390x_machine.specs.Layout.{Layout, constant_address, declared}
+use Rattle.s390x_machine.specs.Layout.{Layout, constant_address, declarations}
 
 -- the number is a block's
 abbrev pub IsBlock : Layout → ℕ → Type 0
@@ -68,7 +68,7 @@ pub record IsValidMemory (L : Layout) (x : MemoryInstruction) : Type 0 where
   pub kept : IsTrue (not (loses_scratch x))
   pub offset : IsTrue (offset_fits x.operand)
   pub range : OperandInRange x.operand
-  pub target : target_cause (declared L) x ≡ None
+  pub target : target_cause (declarations L) x ≡ None
 
 -- an instruction with a memory operand is so; of another one, what is asked of it
 abbrev pub ValidMemoryOr : Layout → Option MemoryInstruction → Type 0 → Type 0

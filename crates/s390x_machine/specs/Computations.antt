@@ -14,7 +14,7 @@ use Rattle.s390x_lanes.specs.declared.operators.Signedness.{Signedness}
 use Rattle.s390x_lanes.specs.declared.operators.Signedness.TheVariants.{Signed, Unsigned}
 use Rattle.s390x_lanes.specs.declared.operators.ShiftOperator.{ShiftOperator}
 use Rattle.s390x_lanes.specs.declared.operators.ShiftOperator.TheVariants.{RotateLeft, ShiftLeft, ShiftRightLogical, ShiftRightArithmetic}
-use Rattle.s390x_operations.specs.Bits.{selection, extended}
+use Rattle.s390x_operations.specs.Bits.{selection, extended_bits}
 use Rattle.s390x_operations.specs.Effects.{is_selected}
 use Rattle.s390x_operations.specs.State.{Registers}
 use Rattle.s390x_operations.specs.declared.size.Size.{Size}
@@ -36,7 +36,7 @@ use Rattle.s390x_operations.specs.declared.effect.CodeRule.{CodeRule}
 use Rattle.s390x_operations.specs.declared.effect.CodeRule.TheVariants.{Kept, Set, Unspecified}
 use Rattle.s390x_operations.specs.declared.effect.Operation.{Operation}
 use Rattle.s390x_typed_steps.specs.General.{low_word}
-use Rattle.s390x_machine.specs.Operands.{value_in, based, rotated_operand, performed_where}
+use Rattle.s390x_machine.specs.Operands.{value_in, address_by_base, rotated_operand, performed_where}
 
 -- which bits of the second operand are read, and how they are extended to the operation's size
 pub record Second : Type 0 where
@@ -299,7 +299,7 @@ shift_rule _ = Kept
 -- register d becomes register n shifted by a base plus a displacement
 abbrev pub shifts : ShiftOp → (d n base displacement : ℕ) → Registers → Operation
 shifts op d n base displacement r =
-    with_rule (shift_rule op) (Compute (shift_computation op).operator (shift_size op) d (value_in (shift_size op) r n) (operand_of (shift_computation op).second (based r base (pos displacement))))
+    with_rule (shift_rule op) (Compute (shift_computation op).operator (shift_size op) d (value_in (shift_size op) r n) (operand_of (shift_computation op).second (address_by_base r base (pos displacement))))
 
 -- ---- rotations
 
@@ -336,7 +336,7 @@ multiplies_logical pair m r = with_rule Kept (MultiplyPair Unsigned pair (r.gene
 
 -- a pair becomes the remainder and the quotient of its second register by register m, of which so many bits count, with their signs
 abbrev pub divides_signed : Width → (pair m : ℕ) → Registers → Operation
-divides_signed width pair m r = with_rule Kept (DividePair pair (r.general (pair + 1)) (extended Signed width Doubleword (r.general m)))
+divides_signed width pair m r = with_rule Kept (DividePair pair (r.general (pair + 1)) (extended_bits Signed width Doubleword (r.general m)))
 
 -- a pair becomes the remainder and the quotient of the number that its two parts make by register m, without signs
 abbrev pub divides_logical : Size → (pair m : ℕ) → Registers → Operation
@@ -354,7 +354,7 @@ compares_and_traps c n m mask r = with_rule Kept (CompareAndTrap c.sign c.size (
 
 -- a stop where the mask selects the order of register n and the 16 bits of an immediate
 abbrev pub compares_immediate_and_traps : Comparison → (n bits mask : ℕ) → Registers → Operation
-compares_immediate_and_traps c n bits mask r = with_rule Kept (CompareAndTrap c.sign c.size (value_in c.size r n) (extended c.sign Bits16 c.size bits) mask)
+compares_immediate_and_traps c n bits mask r = with_rule Kept (CompareAndTrap c.sign c.size (value_in c.size r n) (extended_bits c.sign Bits16 c.size bits) mask)
 
 -- ---- access registers and conditional moves
 

@@ -8,7 +8,7 @@ use Rattle.s390x_inst.specs.declared.inst.Inst.{Inst}
 use Rattle.s390x_inst.specs.declared.inst.Inst.TheVariants.{AluRRR, CondBr, Ret}
 use Rattle.s390x_typed_steps.specs.Tree.{Tree, empty, leaf, Whole}
 use Rattle.s390x_typed_steps.specs.Folding.{folded_trees}
-use Rattle.s390x_typed_steps.specs.Image.{unlinked}
+use Rattle.s390x_typed_steps.specs.Image.{unlinked_environment}
 use Rattle.s390x_operations.specs.State.{Registers, Core, CodeImage, is_within, IsLoaded, set_general, with_code}
 use Rattle.s390x_operations.specs.declared.stop.ConditionCode.TheVariants.{Code0, Code1}
 use Rattle.s390x_machine.specs.Machine.{Transition, Executed, Run}
@@ -35,8 +35,8 @@ abbrev pub trees : List Tree
 trees = leaf (Whole adds) (leaf (Whole (CondBr (label 0) (label 1) 4)) empty) ∷ leaf (Whole (Ret (Real (general 14)))) empty ∷ []
 
 -- what their ends leave of them
-abbrev pub left : List Tree
-left = folded_trees trees
+abbrev pub remaining_trees : List Tree
+remaining_trees = folded_trees trees
 
 -- `%r2` is -2, `%r4` is 1 and `%r14` is 8192
 abbrev pub registers : Registers
@@ -73,4 +73,4 @@ trace = transition once 4100 ∷ transition once 4096 ∷ transition twice 4100 
 
 -- the image is the function's code and lies in memory, and the machine runs so from the first block
 abbrev pub LoopRuns : Type 0
-LoopRuns = StandsAsCode (unlinked left []) left image × IsLoaded image core.memory × Run image (record { core = core; address = block_address (function_layout (unlinked left []) left image) 0 }) trace
+LoopRuns = StandsAsCode (unlinked_environment remaining_trees []) remaining_trees image × IsLoaded image core.memory × Run image (record { core = core; address = block_address (function_layout (unlinked_environment remaining_trees []) remaining_trees image) 0 }) trace

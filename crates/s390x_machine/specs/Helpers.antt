@@ -5,7 +5,7 @@ use Rattle.s390x_base.specs.declared.regs.Reg.{Reg}
 use Rattle.s390x_inst.specs.declared.args.MemArg.{MemArg}
 use Rattle.s390x_inst.specs.declared.args.MemArg.TheVariants.{BXD12, BXD20, Label, Constant, Symbol}
 use Rattle.s390x_inst.specs.declared.inst.Inst.{Inst}
-use Rattle.s390x_typed_steps.specs.Operands.{finalized, loses_base, operand_general, offset_fits}
+use Rattle.s390x_typed_steps.specs.Operands.{finalized_operand, loses_base, operand_general, offset_fits}
 use Rattle.s390x_typed_steps.specs.Causes.{is_helped}
 use Rattle.s390x_typed_steps.specs.Ranges.{OperandInRange}
 use Rattle.s390x_typed_steps.specs.declared.mem_inst_type.MemInstType.{MemInstType}
@@ -33,7 +33,7 @@ IsSameAddress _ r _ q = ⊥
 
 -- where helpers load the address of the symbol that an operand names, it is, with its offset, one below 2 ^ 64
 abbrev pub HasAddress : Layout → MemInstType → MemArg → Type 0
-HasAddress L mi (Symbol name offset flags) = is_helped (finalized mi (Symbol name offset flags)).helpers ≡ true → L.offsets.environment.symbol_value name offset < 2 ^ 64
+HasAddress L mi (Symbol name offset flags) = is_helped (finalized_operand mi (Symbol name offset flags)).helpers ≡ true → L.offsets.environment.symbol_value name offset < 2 ^ 64
 HasAddress L mi m = Unit {0}
 
 -- an operand that names a place, or has real registers and an offset of 32 bits, and whose base isn't overwritten; `operands_are_addressable`: so has
@@ -47,7 +47,7 @@ pub record IsAddressable (L : Layout) (mi : MemInstType) (m : MemArg) : Type 0 w
 
 -- after the helpers the operand of the access has the address that the given one had before, and only `%r1` has changed, where it is needed
 abbrev pub HelpersKeep : Layout → MemInstType → MemArg → Type 0
-HelpersKeep L mi m = (c t : Core) → HelpersMayExecute L (finalized mi m).helpers c t → IsSameAddress (operand_address L (finalized mi m).operand) t.registers (operand_address L m) c.registers × (v : ℕ) × (t ≡ loosen (needs_scratch mi m) v c)
+HelpersKeep L mi m = (c t : Core) → HelpersMayExecute L (finalized_operand mi m).helpers c t → IsSameAddress (operand_address L (finalized_operand mi m).operand) t.registers (operand_address L m) c.registers × (v : ℕ) × (t ≡ loosen (needs_scratch mi m) v c)
 
 -- rows take this index: they have one, or it is none
 abbrev pub TakesIndex : MemInstType → Reg → Type 0

@@ -33,8 +33,8 @@ abbrev pub constant_address : Layout → ℕ → ℕ
 constant_address L c = wrapping_add64 L.image.base (L.offsets.environment.constant c)
 
 -- what the steps may name
-abbrev pub declared : Layout → Declared
-declared L = record { blocks = L.block_count; aligns = L.offsets.environment.aligns }
+abbrev pub declarations : Layout → Declared
+declarations L = record { blocks = L.block_count; aligns = L.offsets.environment.aligns }
 
 -- the address is that of one of a step's bytes
 pub record InStep (L : Layout) (k p : ℕ) : Type 0 where

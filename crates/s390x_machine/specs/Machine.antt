@@ -3,7 +3,7 @@
 use Rattle.std.specs.Prelude.{◌≡◌, ℕ, List, [], ◌∷◌, ◌++◌, Option, Some, None, Bool, true, false, if◌then◌else◌}
 use Rattle.s390x_format.specs.Formats.{length_of}
 use Rattle.s390x_format.specs.declared.fields.Fields.{Fields}
-use Rattle.s390x_operations.specs.State.{State, set_general, wrapping_add64, Write, written, MayWrite, CodeImage, StoreEvent}
+use Rattle.s390x_operations.specs.State.{State, set_general, wrapping_add64, Write, core_after_writes, MayWrite, CodeImage, StoreEvent}
 use Rattle.s390x_operations.specs.Access.{store_event}
 use Rattle.s390x_operations.specs.Effects.{access, is_selected, MayExecute, MayInterrupt}
 use Rattle.s390x_operations.specs.declared.stop.StopKind.{StopKind}
@@ -64,7 +64,7 @@ pub record Transition : Type 0 where
 
 -- the state after the transition's writes, before its step
 abbrev pub after_writes : State → Transition → State
-after_writes s transition = record { core = written transition.writes s.core; address = s.address }
+after_writes s transition = record { core = core_after_writes transition.writes s.core; address = s.address }
 
 -- others may write this, and then the machine takes this step
 pub record TransitionStep (image : CodeImage) (s : State) (transition : Transition) : Type 0 where

@@ -4,7 +4,7 @@ use Rattle.s390x_base.specs.declared.trap.TrapKind.{TrapKind}
 use Rattle.s390x_typed_steps.specs.Calls.{call_size}
 use Rattle.s390x_typed_steps.specs.StepBody.{Calling}
 use Rattle.s390x_typed_steps.specs.Steps.{CallingStep}
-use Rattle.s390x_operations.specs.State.{Core, State, StoreEvent, written, wrapping_add64, IsLoaded, is_within}
+use Rattle.s390x_operations.specs.State.{Core, State, StoreEvent, core_after_writes, wrapping_add64, IsLoaded, is_within}
 use Rattle.s390x_operations.specs.declared.stop.StopKind.{StopKind}
 use Rattle.s390x_operations.specs.declared.stop.StopKind.TheVariants.{Operation as OperationStop}
 use Rattle.s390x_machine.specs.Codes.{trap_code_at}
@@ -15,9 +15,9 @@ use Rattle.s390x_machine.specs.Layout.{Layout, InStep, step_address, block_addre
 -- ---- the match
 
 -- the transitions of all groups, one group after another
-abbrev pub concatenated : List (List Transition) → List Transition
-concatenated [] = []
-concatenated (g ∷ gs) = g ++ concatenated gs
+abbrev pub concatenation : List (List Transition) → List Transition
+concatenation [] = []
+concatenation (g ∷ gs) = g ++ concatenation gs
 
 -- the state at a step's address
 abbrev pub start : Layout → ℕ → Core → State
@@ -41,7 +41,7 @@ HasNoBytes L k = L.offsets.step (suc k) ≡ L.offsets.step k
 
 -- what step k does from a core, in these transitions: nothing where it has no bytes; else what it stores is stored in the last of them
 abbrev pub Does : Layout → (k : ℕ) → Core → List Transition → Type 0
-Does L k c g = (HasNoBytes L k × (g ≡ [])) ⊎ ((HasNoBytes L k → ⊥) × LastStores (typed_store_event L k (written (all_writes g) c)) g)
+Does L k c g = (HasNoBytes L k × (g ≡ [])) ⊎ ((HasNoBytes L k → ⊥) × LastStores (typed_store_event L k (core_after_writes (all_writes g) c)) g)
 
 -- where the machine stands when a step ends the run: at one of the step's bytes, about to stop; or behind a return, a call or a tail call, which took a transition
 abbrev pub EndsAt : Layout → (k : ℕ) → Ending → List Transition → State → Type 0
@@ -60,7 +60,7 @@ abbrev pub TypedRun : Layout → Position → Core → List (List Transition) �
 TypedRun L position c [] position' t = (position' ≡ position) × (t ≡ c)
 TypedRun L (Ended e) c (g ∷ gs) position' t = ⊥
 TypedRun L (At k) c (g ∷ gs) position' t =
-    (next : Position) × (mid : Core) × TypedStep L k (written (all_writes g) c) next mid × IsGroup L k c g next mid × TypedRun L next mid gs position' t
+    (next : Position) × (mid : Core) × TypedStep L k (core_after_writes (all_writes g) c) next mid × IsGroup L k c g next mid × TypedRun L next mid gs position' t
 
 -- step k isn't done: at most three transitions, from this state on, stored nothing and didn't stop, and the machine stands at one of the step's bytes
 abbrev pub IsUnderWay : Layout → (k : ℕ) → State → List Transition → Type 0
@@ -90,11 +90,11 @@ EndsMatch L (Ended DebugStopped) t s rest = (s.core ≡ t) × NextDebugStops L s
 pub record Allowed (L : Layout) (k : ℕ) (s : State) (trace : List Transition) : Type 0 where
   pub groups : List (List Transition)
   pub rest : List Transition
-  pub split : trace ≡ concatenated groups ++ rest
+  pub split : trace ≡ concatenation groups ++ rest
   pub position : Position
   pub core : Core
   pub run : TypedRun L (At k) s.core groups position core
-  pub ends_match : EndsMatch L position core (after_all s (concatenated groups)) rest
+  pub ends_match : EndsMatch L position core (after_all s (concatenation groups)) rest
 
 -- ---- every run
 

@@ -77,16 +77,16 @@ abbrev pub transition : Core → ℕ → Transition
 transition c address = record { writes = []; event = Executed None; after = record { core = c; address = address } }
 
 -- the state in which the machine stops
-abbrev pub stopped : State
-stopped = record { core = with_both; address = 4108 }
+abbrev pub stopped_state : State
+stopped_state = record { core = with_both; address = 4108 }
 
 -- the load, the address, and the stop
 abbrev pub trace : List Transition
-trace = transition with_constant 4102 ∷ transition with_both 4108 ∷ record { writes = []; event = Interrupted Operation; after = stopped } ∷ []
+trace = transition with_constant 4102 ∷ transition with_both 4108 ∷ record { writes = []; event = Interrupted Operation; after = stopped_state } ∷ []
 
 -- the image is the function's code and lies in memory, and the machine runs so from the block, to a stop that has the trap's code
 pub record RelativeRuns : Type 0 where
   pub stands : StandsAsCode environment trees image
   pub lies : IsLoaded image core.memory
   pub run : Run image (record { core = core; address = block_address (function_layout environment trees image) 0 }) trace
-  pub code : trap_code_at image (function_traps trees) stopped.address Operation ≡ Some (User 7)
+  pub code : trap_code_at image (function_traps trees) stopped_state.address Operation ≡ Some (User 7)

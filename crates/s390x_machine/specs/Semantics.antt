@@ -7,17 +7,17 @@ use Rattle.s390x_lanes.specs.Rows.{operation_of}
 use Rattle.s390x_lanes.specs.declared.operators.VectorOperation.{VectorOperation}
 use Rattle.s390x_lanes.specs.declared.size.ElementSize.{ElementSize}
 use Rattle.s390x_operations.specs.Numbers.{low}
-use Rattle.s390x_operations.specs.Vectors.{loaded}
+use Rattle.s390x_operations.specs.Vectors.{register_after_load}
 use Rattle.s390x_operations.specs.declared.effect.VectorLayout.{VectorLayout}
 use Rattle.s390x_operations.specs.State.{Registers, wrapping_add64}
 use Rattle.s390x_operations.specs.declared.size.Size.TheVariants.{Doubleword}
-use Rattle.s390x_machine.specs.Operands.{value_in, indexed, based, values_from, rotated_operand, performed_where}
+use Rattle.s390x_machine.specs.Operands.{value_in, address_by_index, address_by_base, values_from, rotated_operand, performed_where}
 use Rattle.s390x_operations.specs.declared.operand.Source.{Source}
 use Rattle.s390x_operations.specs.declared.operand.Source.TheVariants.{Value, Memory as InMemory, AlignedMemory}
 use Rattle.s390x_operations.specs.declared.operand.Operand.{Operand}
 use Rattle.s390x_lanes.specs.declared.operators.Signedness.TheVariants.{Signed, Unsigned}
-use Rattle.s390x_operations.specs.Bits.{selection, extended}
-use Rattle.s390x_operations.specs.Values.{ordered}
+use Rattle.s390x_operations.specs.Bits.{selection, extended_bits}
+use Rattle.s390x_operations.specs.Values.{in_byte_order}
 use Rattle.s390x_operations.specs.Effects.{is_selected}
 use Rattle.s390x_operations.specs.declared.size.Width.TheVariants.{Bits8, Bits16, Bits64}
 use Rattle.s390x_operations.specs.declared.operator.Operator.{Operator}
@@ -50,7 +50,7 @@ mask_field f i = slice_index f.masks i
 
 -- base plus index plus displacement, modulo 2 ^ 64
 abbrev pub indexed_address : Fields → Registers → ℕ
-indexed_address f r = indexed r (register_field f 1) (register_field f 2) f.disp
+indexed_address f r = address_by_index r (register_field f 1) (register_field f 2) f.disp
 
 -- the instruction's own address plus its distance, modulo 2 ^ 64
 abbrev pub relative_address : Fields → ℕ → ℕ
@@ -74,7 +74,7 @@ source RelativeAddress f r address = Value (relative_address f address)
 source Immediate f r address = Value (low Doubleword f.imm)
 source ThreeImmediate f r address = Value (low Doubleword f.imm)
 source (ShiftedImmediate n) f r address = Value (low Doubleword f.imm * 2 ^ n)
-source Amount f r address = Value (based r (register_field f 2) f.disp)
+source Amount f r address = Value (address_by_base r (register_field f 2) f.disp)
 source AccessRegister f r address = Value (r.access (register_field f 1))
 
 -- the second operand, and how it is read
@@ -137,7 +137,7 @@ leftmost_layout size = VectorLayout.Element size 0 false
 -- an element gets a number; where there is no such element, the register may have any value
 abbrev pub inserts_element : ElementSize → (target old index x : ℕ) → Action
 inserts_element size target old index x =
-    if nat_lt index (lane_count size) then performs Kept (Effect.PutVector target all_bits (loaded (VectorLayout.Element size index false) old (x % 2 ^ element_bits size)))
+    if nat_lt index (lane_count size) then performs Kept (Effect.PutVector target all_bits (register_after_load (VectorLayout.Element size index false) old (x % 2 ^ element_bits size)))
     else performs Kept (Effect.PutVector target 0 0)
 
 -- a general register gets a value
@@ -162,33 +162,33 @@ action CountOnes f r address =
 action (RotateThen op rule) f r address = rotates op rule (register_field f 0) (mask_field f 0) (mask_field f 1) r (rotated_operand r (register_field f 1) (mask_field f 2))
 action MultiplySigned f r address = performs Kept (Effect.MultiplyPair Signed (register_field f 0) (r.general (register_field f 1)) (r.general (register_field f 2)))
 action MultiplyLogical f r address = performs Kept (Effect.MultiplyPair Unsigned (register_field f 0) (r.general (register_field f 0 + 1)) (r.general (register_field f 1)))
-action (DivideSigned width) f r address = performs Kept (Effect.DividePair (register_field f 0) (r.general (register_field f 0 + 1)) (extended Signed width Doubleword (r.general (register_field f 1))))
+action (DivideSigned width) f r address = performs Kept (Effect.DividePair (register_field f 0) (r.general (register_field f 0 + 1)) (extended_bits Signed width Doubleword (r.general (register_field f 1))))
 action (DivideLogical size) f r address =
     performs Kept (Effect.DivideLogicalPair size (register_field f 0) (value_in size r (register_field f 0)) (value_in size r (register_field f 0 + 1)) (value_in size r (register_field f 1)))
 action (CompareAndTrap sign size) f r address = performs Kept (Effect.CompareAndTrap sign size (value_in size r (register_field f 0)) (value_in size r (register_field f 1)) (mask_field f 0))
 action (CompareImmediateAndTrap sign size) f r address =
-    performs Kept (Effect.CompareAndTrap sign size (value_in size r (register_field f 0)) (extended sign Bits16 size (low Doubleword f.imm)) (mask_field f 0))
+    performs Kept (Effect.CompareAndTrap sign size (value_in size r (register_field f 0)) (extended_bits sign Bits16 size (low Doubleword f.imm)) (mask_field f 0))
 action FindLeftmostOne f r address = performs Set (Effect.FindLeftmostOne (register_field f 0) (r.general (register_field f 1)))
 action Havoc f r address = performs Kept (Effect.Havoc (register_field f 0))
 action BranchToRegister f r address =
     if register_field f 1 == 0 then performs Kept Effect.Nothing else Branch (register_field f 0) (r.general (register_field f 1))
 action BranchRelative f r address = Branch (mask_field f 0) (relative_address f address)
-action (Store s) f r address = performs Kept (Effect.Store s.width (ordered s.reversed s.width (r.general (register_field f 0))) (source s.operand_source f r address))
-action StoreByte f r address = performs Kept (Effect.Store Bits8 (mask_field f 0) (InMemory (based r (register_field f 0) f.disp)))
-action (StoreImmediate width) f r address = performs Kept (Effect.Store width (low Doubleword f.imm) (InMemory (based r (register_field f 0) f.disp)))
-action LoadMultiple f r address = performs Kept (Effect.LoadMultiple (register_field f 0) (registers_between (register_field f 0) (register_field f 1)) (based r (register_field f 2) f.disp))
+action (Store s) f r address = performs Kept (Effect.Store s.width (in_byte_order s.reversed s.width (r.general (register_field f 0))) (source s.operand_source f r address))
+action StoreByte f r address = performs Kept (Effect.Store Bits8 (mask_field f 0) (InMemory (address_by_base r (register_field f 0) f.disp)))
+action (StoreImmediate width) f r address = performs Kept (Effect.Store width (low Doubleword f.imm) (InMemory (address_by_base r (register_field f 0) f.disp)))
+action LoadMultiple f r address = performs Kept (Effect.LoadMultiple (register_field f 0) (registers_between (register_field f 0) (register_field f 1)) (address_by_base r (register_field f 2) f.disp))
 action StoreMultiple f r address =
-    performs Kept (Effect.StoreMultiple (values_from r (register_field f 0) 16) (registers_between (register_field f 0) (register_field f 1)) (based r (register_field f 2) f.disp))
+    performs Kept (Effect.StoreMultiple (values_from r (register_field f 0) 16) (registers_between (register_field f 0) (register_field f 1)) (address_by_base r (register_field f 2) f.disp))
 action (LoadAndOperate operator size) f r address =
-    performs Set (Effect.LoadAndOperate operator size (register_field f 0) (value_in size r (register_field f 1)) (based r (register_field f 2) f.disp))
+    performs Set (Effect.LoadAndOperate operator size (register_field f 0) (value_in size r (register_field f 1)) (address_by_base r (register_field f 2) f.disp))
 action (CompareAndSwap size) f r address =
-    performs Set (Effect.CompareAndSwap size (register_field f 0) (value_in size r (register_field f 0)) (value_in size r (register_field f 1)) (based r (register_field f 2) f.disp))
+    performs Set (Effect.CompareAndSwap size (register_field f 0) (value_in size r (register_field f 0)) (value_in size r (register_field f 1)) (address_by_base r (register_field f 2) f.disp))
 action BranchAndSaveToRegister f r address = BranchAndSave (register_field f 0) (if register_field f 1 == 0 then wrapping_add64 address 2 else r.general (register_field f 1))
 action BranchAndSaveRelative f r address = BranchAndSave (register_field f 0) (relative_address f address)
 action (Elements row) f r address =
     on_elements (operation_of row f.masks f.imm) (register_field f 0) (vector_field f r 0) (vector_field f r 1) (vector_field f r 2) (vector_field f r 3)
 action (ShiftElements row) f r address =
-    on_elements (operation_of row f.masks (pos (based r (register_field f 1) f.disp % 64))) (register_field f 0) (vector_field f r 0) (vector_field f r 2) 0 0
+    on_elements (operation_of row f.masks (pos (address_by_base r (register_field f 1) f.disp % 64))) (register_field f 0) (vector_field f r 0) (vector_field f r 2) 0 0
 action (LoadVector storage) f r address =
     performs Kept (Effect.LoadVector (vector_layout_of storage f) (register_field f 0) (vector_field f r 0) all_bits (indexed_address f r))
 action (StoreVector storage) f r address = performs Kept (Effect.StoreVector (vector_layout_of storage f) (vector_field f r 0) (indexed_address f r))
@@ -202,8 +202,8 @@ action LeftToRegister f r address = moves_value f r (lane 64 (vector_field f r 1
 action JoinRegisters f r address =
     performs Kept (Effect.PutVector (register_field f 0) all_bits (r.general (register_field f 1) * 2 ^ 64 + r.general (register_field f 2)))
 action InsertElement f r address =
-    inserts_element (element_size f) (register_field f 0) (vector_field f r 0) (based r (register_field f 1) f.disp) (r.general (register_field f 2))
-action ExtractElement f r address = extracts_element f r (element_size f) (based r (register_field f 1) f.disp)
+    inserts_element (element_size f) (register_field f 0) (vector_field f r 0) (address_by_base r (register_field f 1) f.disp) (r.general (register_field f 2))
+action ExtractElement f r address = extracts_element f r (element_size f) (address_by_base r (register_field f 1) f.disp)
 
 -- the row's r1 is the first of an even-odd pair: an odd one stops (chapter 7)
 abbrev pub names_pair : RowSemantics → Bool

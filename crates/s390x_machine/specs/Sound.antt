@@ -9,17 +9,17 @@ use Rattle.s390x_format.specs.declared.row.MachineRow.{MachineRow}
 use Rattle.s390x_format.specs.View.{imm_class_of}
 use Rattle.s390x_format.specs.Formats.{layout_of}
 use Rattle.s390x_format.specs.Layout.{width_of_part}
-use Rattle.s390x_operations.specs.Numbers.{whole, low}
+use Rattle.s390x_operations.specs.Numbers.{modulus, low}
 use Rattle.s390x_operations.specs.Bits.{bits_of_width, IsWithin}
 use Rattle.s390x_operations.specs.State.{Registers, Core, set_general, set_vector, number_at, reaches}
 use Rattle.s390x_operations.specs.Effects.{results}
-use Rattle.s390x_operations.specs.Vectors.{layout_bytes, loaded}
+use Rattle.s390x_operations.specs.Vectors.{layout_bytes, register_after_load}
 use Rattle.s390x_lanes.specs.Results.{vector_result}
 use Rattle.s390x_lanes.specs.Rows.{is_operation, is_computed, operation_of}
 use Rattle.s390x_lanes.specs.declared.operators.VectorOperation.{VectorOperation}
 use Rattle.s390x_format.specs.declared.row.Allowed.{Allowed}
 use Rattle.s390x_format.specs.declared.row.Allowed.TheVariants.{FirstMask}
-use Rattle.s390x_machine.specs.Operands.{based}
+use Rattle.s390x_machine.specs.Operands.{address_by_base}
 use Rattle.s390x_operations.specs.Access.{Access, Untouched, Reads, Stores, Locks}
 use Rattle.s390x_operations.specs.declared.size.Size.{Size}
 use Rattle.s390x_operations.specs.declared.size.Size.TheVariants.{Halfword, Word, Doubleword}
@@ -44,16 +44,16 @@ is_reached (Locks a n change) has = reaches has a n
 -- its registers are there, its values have its size, and an operation on vectors is one whose result is computed
 abbrev pub IsSound : Effect → Type 0
 IsSound Effect.Nothing = Unit {0}
-IsSound (Effect.Compute operator size target first second) = (target < 16) × (first < whole size) × IsWithin second.width size
-IsSound (Effect.Test operator size first second) = (first < whole size) × IsWithin second.width size
-IsSound (Effect.Compare sign size first second) = (first < whole size) × IsWithin second.width size
-IsSound (Effect.CompareAndTrap sign size first second mask) = (first < whole size) × (second < whole size)
+IsSound (Effect.Compute operator size target first second) = (target < 16) × (first < modulus size) × IsWithin second.width size
+IsSound (Effect.Test operator size first second) = (first < modulus size) × IsWithin second.width size
+IsSound (Effect.Compare sign size first second) = (first < modulus size) × IsWithin second.width size
+IsSound (Effect.CompareAndTrap sign size first second mask) = (first < modulus size) × (second < modulus size)
 IsSound (Effect.MultiplyPair sign pair first second) = pair < 15
 IsSound (Effect.DividePair pair dividend divisor) = pair < 15
-IsSound (Effect.DivideLogicalPair size pair high low divisor) = (pair < 15) × (high < whole size) × (low < whole size) × (divisor < whole size)
+IsSound (Effect.DivideLogicalPair size pair high low divisor) = (pair < 15) × (high < modulus size) × (low < modulus size) × (divisor < modulus size)
 IsSound (Effect.FindLeftmostOne pair value) = pair < 15
 IsSound (Effect.Store width value destination) = Unit {0}
-IsSound (Effect.LoadAndOperate operator size target second address) = (target < 16) × (second < whole size)
+IsSound (Effect.LoadAndOperate operator size target second address) = (target < 16) × (second < modulus size)
 IsSound (Effect.CompareAndSwap size target expected replacement address) = target < 16
 IsSound (Effect.LoadMultiple first_register count address) = (first_register < 16) × (count ≤ 16)
 IsSound (Effect.StoreMultiple values count address) = count ≤ 16
@@ -69,13 +69,13 @@ abbrev pub outcome : Effect → Core → Registers
 outcome (Effect.Havoc target) c = set_general c.registers target 0
 outcome (Effect.ComputeVector operation target first second third fourth) c = set_vector c.registers target (vector_result operation first second third fourth)
 outcome (Effect.PutVector target known value) c = set_vector c.registers target value
-outcome (Effect.LoadVector layout target old known address) c = set_vector c.registers target (loaded layout old (number_at c.memory.get address (layout_bytes layout)))
+outcome (Effect.LoadVector layout target old known address) c = set_vector c.registers target (register_after_load layout old (number_at c.memory.get address (layout_bytes layout)))
 outcome effect c = results effect c
 
 -- a vector register can hold it
 abbrev pub HasOutcome : Effect → Core → Type 0
 HasOutcome (Effect.ComputeVector operation target first second third fourth) c = vector_result operation first second third fourth < 2 ^ 128
-HasOutcome (Effect.LoadVector layout target old known address) c = loaded layout old (number_at c.memory.get address (layout_bytes layout)) < 2 ^ 128
+HasOutcome (Effect.LoadVector layout target old known address) c = register_after_load layout old (number_at c.memory.get address (layout_bytes layout)) < 2 ^ 128
 HasOutcome _ c = Unit {0}
 
 -- what a row does is sound; a branch that saves has a register for it
@@ -161,7 +161,7 @@ is_uncomputed (Some operation) = not (is_computed operation)
 
 -- the amount of an element shift
 abbrev pub shift_amount : Fields → Registers → ℤ
-shift_amount f r = pos (based r (register_field f 1) f.disp % 64)
+shift_amount f r = pos (address_by_base r (register_field f 1) f.disp % 64)
 
 -- the row's result is free, or a high product of 128-bit elements: the step gives none
 abbrev pub is_free : RowSemantics → Fields → Registers → Bool

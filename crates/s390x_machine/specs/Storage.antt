@@ -31,9 +31,9 @@ use Rattle.s390x_typed_steps.specs.General.{low_byte, low_halfword}
 use Rattle.s390x_typed_steps.specs.Memory.{is_left_lane}
 use Rattle.s390x_typed_steps.specs.Operands.{fits_12, fits_20, is_relative}
 use Rattle.s390x_typed_steps.specs.declared.mem_inst_type.MemInstType.{MemInstType}
-use Rattle.s390x_operations.specs.Bits.{extended}
+use Rattle.s390x_operations.specs.Bits.{extended_bits}
 use Rattle.s390x_operations.specs.State.{Registers}
-use Rattle.s390x_operations.specs.Values.{ordered}
+use Rattle.s390x_operations.specs.Values.{in_byte_order}
 use Rattle.s390x_operations.specs.declared.size.Size.{Size}
 use Rattle.s390x_operations.specs.declared.size.Size.TheVariants.{Halfword, Word, Doubleword}
 use Rattle.s390x_operations.specs.declared.size.Width.{Width}
@@ -50,7 +50,7 @@ use Rattle.s390x_operations.specs.declared.effect.CodeRule.TheVariants.{Kept, Se
 use Rattle.s390x_operations.specs.declared.effect.Operation.{Operation}
 use Rattle.s390x_machine.specs.Computations.{Second, unsigned_word, signed_word, signed_halfword, unsigned_halfword, doubleword, Computation, alu_computation, alu_two_rule, Comparison, comparison, with_rule, operand_of}
 use Rattle.s390x_machine.specs.Layout.{Layout, block_address, constant_address}
-use Rattle.s390x_machine.specs.Operands.{value_in, based, indexed, values_from}
+use Rattle.s390x_machine.specs.Operands.{value_in, address_by_base, address_by_index, values_from}
 use Rattle.s390x_machine.specs.Semantics.{all_bits}
 use Rattle.s390x_machine.specs.VectorSteps.{elements_of, lane_bits}
 
@@ -59,9 +59,9 @@ use Rattle.s390x_machine.specs.VectorSteps.{elements_of, lane_bits}
 -- The address of an operand at a step: base plus index plus displacement, a register plus an offset, or where a block, a constant or a symbol plus an
 -- offset stands. A step has no frame operands
 abbrev pub operand_address : Layout → MemArg → Option (Registers → ℕ)
-operand_address L (BXD12 base index disp flags) = Some (λ r. indexed r (number_of base) (number_of index) (pos disp))
-operand_address L (BXD20 base index disp flags) = Some (λ r. indexed r (number_of base) (number_of index) disp)
-operand_address L (RegOffset reg off flags) = Some (λ r. based r (number_of reg) off)
+operand_address L (BXD12 base index disp flags) = Some (λ r. address_by_index r (number_of base) (number_of index) (pos disp))
+operand_address L (BXD20 base index disp flags) = Some (λ r. address_by_index r (number_of base) (number_of index) disp)
+operand_address L (RegOffset reg off flags) = Some (λ r. address_by_base r (number_of reg) off)
 operand_address L (Label target) = Some (λ r. block_address L target.0)
 operand_address L (Constant constant) = Some (λ r. constant_address L constant.0)
 operand_address L (Symbol name offset flags) = Some (λ r. L.offsets.environment.symbol_value name offset)
@@ -123,7 +123,7 @@ loads_address d address r = with_rule Kept (Compute Move Doubleword d (r.general
 
 -- the memory becomes the low bits of register n
 abbrev pub stores_at : Second → (n address : ℕ) → Registers → Operation
-stores_at s n address r = with_rule Kept (Store s.width (ordered s.reversed s.width (r.general n)) (InMemory address))
+stores_at s n address r = with_rule Kept (Store s.width (in_byte_order s.reversed s.width (r.general n)) (InMemory address))
 
 -- the memory becomes the low bits of a value
 abbrev pub stores_value : Width → (stored address : ℕ) → Registers → Operation
@@ -131,7 +131,7 @@ stores_value width stored address r = with_rule Kept (Store width stored (InMemo
 
 -- 16 bits of an immediate as 64, with their sign
 abbrev pub signed_immediate : (bits : ℕ) → ℕ
-signed_immediate bits = extended Signed Bits16 Doubleword bits
+signed_immediate bits = extended_bits Signed Bits16 Doubleword bits
 
 -- the registers from the first to the last become the doublewords in memory
 abbrev pub loads_multiple : (first last address : ℕ) → Registers → Operation

@@ -30,13 +30,13 @@ pub data Position : Type 0 where
   Ended : Ending → Position
 
 -- `%r1` may have any value where it is needed
-abbrev pub loosened : Bool → ℕ → Registers → Registers
-loosened false v r = r
-loosened true v r = set_general r 1 v
+abbrev pub with_scratch_value : Bool → ℕ → Registers → Registers
+with_scratch_value false v r = r
+with_scratch_value true v r = set_general r 1 v
 
 -- a core whose `%r1` may have any value where it is needed
 abbrev pub loosen : Bool → ℕ → Core → Core
-loosen needs v c = record { registers = loosened needs v c.registers; memory = c.memory }
+loosen needs v c = record { registers = with_scratch_value needs v c.registers; memory = c.memory }
 
 -- an operation goes on to the next step, or it stops and ends by a trap with its code; a trap changes nothing but a needed `%r1`
 pub data OperationStep (needs : Bool) (op : Operation) (code : StopKind → Option TrapKind) (k : ℕ) (c : Core) (position : Position) (t : Core) : Type 0 where

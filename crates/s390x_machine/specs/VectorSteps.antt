@@ -14,7 +14,7 @@ use Rattle.s390x_lanes.specs.Size.{element_bits, lane_count}
 use Rattle.s390x_lanes.specs.declared.size.ElementSize.{ElementSize}
 use Rattle.s390x_lanes.specs.declared.size.ElementSize.TheVariants.{Byte, Halfword, Word, Doubleword}
 use Rattle.s390x_operations.specs.State.{Registers}
-use Rattle.s390x_operations.specs.Vectors.{loaded, with_reversed_elements}
+use Rattle.s390x_operations.specs.Vectors.{register_after_load, with_reversed_elements}
 use Rattle.s390x_operations.specs.declared.effect.VectorLayout.{VectorLayout}
 use Rattle.s390x_operations.specs.declared.operator.Operator.TheVariants as Operator
 use Rattle.s390x_operations.specs.declared.effect.CodeRule.TheVariants.{Kept, Set}
@@ -22,7 +22,7 @@ use Rattle.s390x_operations.specs.declared.effect.Effect.{Effect}
 use Rattle.s390x_operations.specs.declared.effect.Operation.{Operation}
 use Rattle.s390x_typed_steps.specs.General.{four_bits, low_halfword, low_byte}
 use Rattle.s390x_machine.specs.Computations.{with_rule, computes_immediate, on_doublewords, havocs}
-use Rattle.s390x_machine.specs.Operands.{based}
+use Rattle.s390x_machine.specs.Operands.{address_by_base}
 use Rattle.s390x_machine.specs.Semantics.{all_bits, left_bits}
 use Rattle.s390x_machine.specs.VectorOperations.{binary_operation, unary_operation, shift_operator, shifted_elements, comparison_operation, element_comparison}
 
@@ -48,7 +48,7 @@ generates_vector o d r = with_rule Set (Effect.ComputeVector o d (r.vector d) 0 
 
 -- vector register d becomes n, its elements shifted by a base plus a displacement; of that sum the low six bits count
 abbrev pub shifts_vector : ShiftOperator → ElementSize → (d n base displacement : ℕ) → Registers → Operation
-shifts_vector operator size d n base displacement r = computes_one_vector (ShiftElements operator size (based r base (pos displacement) % 64)) d n r
+shifts_vector operator size d n base displacement r = computes_one_vector (ShiftElements operator size (address_by_base r base (pos displacement) % 64)) d n r
 
 -- vector register d becomes general registers n and m, one behind the other
 abbrev pub joins_registers : (d n m : ℕ) → Registers → Operation
@@ -69,12 +69,12 @@ inserts_immediate_alone size d bits lane r = with_rule Kept (Effect.PutVector d 
 -- vector register d gets the low bits of a number at one of its elements, of which some bits are told; where it has no such element, it may have any value
 abbrev pub puts_element : ElementSize → (known d index x : ℕ) → Registers → Operation
 puts_element size known d index x r =
-    if nat_lt index (lane_count size) then with_rule Kept (Effect.PutVector d known (loaded (VectorLayout.Element size index false) (r.vector d) (x % 2 ^ element_bits size)))
+    if nat_lt index (lane_count size) then with_rule Kept (Effect.PutVector d known (register_after_load (VectorLayout.Element size index false) (r.vector d) (x % 2 ^ element_bits size)))
     else with_rule Kept (Effect.PutVector d 0 0)
 
 -- the number of an element: a base plus a displacement
 abbrev pub element_index : Registers → (base displacement : ℕ) → ℕ
-element_index r base displacement = based r base (pos displacement)
+element_index r base displacement = address_by_base r base (pos displacement)
 
 -- general register n in one element of vector register d
 abbrev pub inserts_lane : ElementSize → (d n base displacement : ℕ) → Registers → Operation

@@ -2,11 +2,11 @@
 
 ghost use Rattle.std.specs.Prelude.{◌≡◌, ℕ, ◌<◌, ◌≤◌, ◌*◌, ◌^◌, true, IsTrue, Option, Some};
 ghost use Rattle.s390x_operations.specs.Bits.{bytes};
-ghost use Rattle.s390x_operations.specs.Numbers.{whole};
+ghost use Rattle.s390x_operations.specs.Numbers.{modulus};
 ghost use Rattle.s390x_operations.specs.State.{number_at, bytes_to, write_get, reaches};
 ghost use Rattle.s390x_operations.specs.Access.{reach_fault, fault, is_misaligned};
 ghost use Rattle.s390x_operations.specs.Values.{width_of};
-ghost use Rattle.s390x_operations.specs.Effects.{source_access, store_access, access, found, joined_doublewords};
+ghost use Rattle.s390x_operations.specs.Effects.{source_access, store_access, access, number_in_memory, joined_doublewords};
 ghost use Rattle.s390x_machine.specs.State.{memory_of};
 ghost use Rattle.s390x_machine.specs.Sound.{IsSound};
 
@@ -55,11 +55,11 @@ pub fn size_in_bytes(size: Size) -> u64
 
 /// The number of a size at an address.
 #[tactic(auto, using(crate::proofs::Numbers::whole_bytes))]
-pub fn found<M: Memory>(memory: &M, size: Size, address: u64) -> u64
+pub fn number_in_memory<M: Memory>(memory: &M, size: Size, address: u64) -> u64
     requires { IsTrue (reaches (M.held memory.now) address (bytes (width_of size))) }
     ensures value { result
-        ≡ found size (memory_of (M.held memory.now) (M.byte memory.now)) address }
-    ensures below { result < whole size }
+        ≡ number_in_memory size (memory_of (M.held memory.now) (M.byte memory.now)) address }
+    ensures below { result < modulus size }
 {
     load(memory, address, size_in_bytes(size))
 }

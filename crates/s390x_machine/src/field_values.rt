@@ -1,8 +1,8 @@
 //! The values and addresses that a row's fields name.
 
 ghost use Rattle.std.specs.Prelude.{◌≡◌, ◌<◌, ◌*◌, ◌^◌, false};
-ghost use Rattle.s390x_operations.specs.Numbers.{whole, low};
-ghost use Rattle.s390x_machine.specs.Operands.{value_in, address_part, based};
+ghost use Rattle.s390x_operations.specs.Numbers.{modulus, low};
+ghost use Rattle.s390x_machine.specs.Operands.{value_in, address_part, address_by_base};
 ghost use Rattle.s390x_machine.specs.Semantics.{register_field, indexed_address, relative_address, first_register, source, operand, performs};
 ghost use Rattle.s390x_machine.specs.State.{registers_of};
 ghost use Rattle.s390x_machine.specs.Sound.{AreGeneral, ShiftFits};
@@ -17,7 +17,7 @@ use s390x_operations::{CodeRule, Effect, Operand, Operation, Size, Source, Width
 pub fn value_in(machine: &Machine, size: Size, register: u8) -> u64
     requires { register < 16 }
     ensures value { result ≡ value_in size (registers_of machine.now) register }
-    ensures below { result < whole size }
+    ensures below { result < modulus size }
 {
     match size {
         Size::Halfword => machine.general(register) % 65536,
@@ -39,9 +39,9 @@ pub fn address_part(machine: &Machine, register: u8) -> u64
 }
 
 /// A base plus a displacement.
-pub fn based(machine: &Machine, base: u8, displacement: i32) -> u64
+pub fn address_by_base(machine: &Machine, base: u8, displacement: i32) -> u64
     requires { base < 16 }
-    ensures { result ≡ based (registers_of machine.now) base displacement }
+    ensures { result ≡ address_by_base (registers_of machine.now) base displacement }
 {
     low(
         Size::Doubleword,
@@ -115,7 +115,11 @@ pub fn source(machine: &Machine, operand_source: OperandSource, fields: &Fields)
         OperandSource::Immediate => Source::Value(immediate(fields)),
         OperandSource::ThreeImmediate => Source::Value(immediate(fields)),
         OperandSource::ShiftedImmediate(n) => Source::Value(shifted_immediate(fields, n)),
-        OperandSource::Amount => Source::Value(based(machine, fields.regs[2], fields.disp)),
+        OperandSource::Amount => Source::Value(address_by_base(
+            machine,
+            fields.regs[2],
+            fields.disp,
+        )),
         OperandSource::AccessRegister => Source::Value(
             machine.aregs[fields.regs[1] as usize] as u64,
         ),

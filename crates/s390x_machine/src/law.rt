@@ -22,7 +22,7 @@ ghost use Rattle.s390x_machine.specs.RelativeExample.{RelativeRuns};
 ghost use Rattle.s390x_inst.specs.declared.args.MemArg.{MemArg};
 ghost use Rattle.s390x_inst.specs.declared.inst.Inst.{Inst};
 ghost use Rattle.s390x_typed_steps.specs.Causes.{is_helped, boundary};
-ghost use Rattle.s390x_typed_steps.specs.Operands.{finalized, has_form, operand_general, offset_fits};
+ghost use Rattle.s390x_typed_steps.specs.Operands.{finalized_operand, has_form, operand_general, offset_fits};
 ghost use Rattle.s390x_typed_steps.specs.declared.mem_inst_type.MemInstType.{MemInstType};
 ghost use Rattle.s390x_machine.specs.Storage.{operand_address, needs_scratch, operand_step};
 ghost use Rattle.s390x_machine.specs.Aligned.{IsOwn, OwnOperand, IsOnBoundary, relative_row_of, StepAccesses, NeverMisaligned};
@@ -125,7 +125,7 @@ pub fn a_constant_is_loaded()
 /// Helpers come before an access exactly where its step needs `%r1`.
 pub fn helpers_where_needed()
     ensures { (mi : MemInstType) (m : MemArg) → IsTrue (operand_general m) → IsTrue (offset_fits m)
-        → is_helped (finalized mi m).helpers ≡ needs_scratch mi m }
+        → is_helped (finalized_operand mi m).helpers ≡ needs_scratch mi m }
 {}
 
 /// Helpers change nothing but `%r1`, and behind them the operand of the access has the address that the given one had before them.
@@ -148,7 +148,8 @@ pub fn operands_are_addressable()
 pub fn access_takes_its_operand()
     ensures { (mi : MemInstType) (m : MemArg) → IsTrue (has_form mi m) → IsTrue (operand_general m)
         → IsTrue (offset_fits m) → OperandInRange m
-        → TakesOperand mi (finalized mi m).operand × OperandInRange (finalized mi m).operand }
+        → TakesOperand mi (finalized_operand mi m).operand
+        × OperandInRange (finalized_operand mi m).operand }
 {}
 
 /// A block or a constant that an instruction names relative to itself stands on the boundary that emission asks of it.

@@ -1,25 +1,26 @@
 //! Performing an operation on a machine and a memory.
 
 ghost use Rattle.std.specs.Prelude.{◌≡◌, ◌<◌, ◌≤◌, ◌*◌, true, IsTrue, Option};
-ghost use Rattle.s390x_operations.specs.Numbers.{whole};
+ghost use Rattle.s390x_operations.specs.Numbers.{modulus};
 ghost use Rattle.s390x_operations.specs.Bits.{bytes, IsWithin};
 ghost use Rattle.s390x_operations.specs.State.{number_at, reaches, with_code, write_get, writes_of};
-ghost use Rattle.s390x_operations.specs.Vectors.{layout_bytes, loaded};
+ghost use Rattle.s390x_operations.specs.Vectors.{layout_bytes, register_after_load};
 ghost use Rattle.s390x_operations.specs.Access.{store_event};
-ghost use Rattle.s390x_operations.specs.Values.{raw, taken};
-ghost use Rattle.s390x_operations.specs.Effects.{source_access, store_access, access, is_selected, divide_stop, refused, MayRefuse, set_multiple, vector_code, code_numbered, effect_code, CodeAfter};
+ghost use Rattle.s390x_operations.specs.Values.{raw, operand_value};
+ghost use Rattle.s390x_operations.specs.Effects.{source_access, store_access, access, is_selected, divide_stop, stop_of_effect, MayRefuse, set_multiple, vector_code, code_numbered, effect_code, CodeAfter};
 ghost use Rattle.s390x_machine.specs.State.{memory_of, registers_of, core_of};
 ghost use Rattle.s390x_machine.specs.Sound.{is_reached, IsSound, outcome, HasOutcome};
 ghost use Rattle.s390x_machine.specs.Step.{ExecutesOperation};
 
-use crate::access::{access_fault, found, load, size_in_bytes, store_multiple};
+use crate::access::{access_fault, load, number_in_memory, size_in_bytes, store_multiple};
 use crate::machine::Machine;
 use crate::memory::Memory;
 use s390x_lanes::{code, divides_by_zero, division_overflows, result};
 use s390x_operations::{
     CodeRule, ConditionCode, Effect, Operand, Operation, Pair, Size, Source, StopKind,
-    VectorLayout, Width, bytes, compared, extended, layout_bytes, leftmost, loaded, operate,
-    ordered, signed_division, unsigned_division, vector_stored, whole, wide_product,
+    VectorLayout, Width, bytes, compare_code, extended_bits, in_byte_order, layout_bytes, leftmost,
+    modulus, operate, register_after_load, signed_division, unsigned_division, vector_stored,
+    wide_product,
 };
 
 /// Whether the mask has the condition code's bit, the leftmost one for code 0.
@@ -47,15 +48,21 @@ pub fn raw<M: Memory>(memory: &M, source: Source, width: Width) -> u64
 }
 
 /// An operand's value at a size.
-fn taken<M: Memory>(memory: &M, size: Size, y: Operand) -> u64
+fn operand_value<M: Memory>(memory: &M, size: Size, y: Operand) -> u64
     requires within { IsWithin y.width size }
     requires there { IsTrue
         (is_reached (source_access y.source (bytes y.width)) (M.held memory.now)) }
-    ensures value { result ≡ taken size y (memory_of (M.held memory.now) (M.byte memory.now)) }
-    ensures below { result < whole size }
+    ensures value { result
+        ≡ operand_value size y (memory_of (M.held memory.now) (M.byte memory.now)) }
+    ensures below { result < modulus size }
 {
     let bits = raw(memory, y.source, y.width);
-    extended(y.sign, y.width, size, ordered(y.reversed, y.width, bits))
+    extended_bits(
+        y.sign,
+        y.width,
+        size,
+        in_byte_order(y.reversed, y.width, bits),
+    )
 }
 
 /// The stop of a division without a result.
@@ -69,9 +76,9 @@ fn divide_stop(pair: Option<Pair>) -> Option<StopKind>
 }
 
 /// The stop that the values bring about.
-fn refused(effect: &Effect) -> Option<StopKind>
+fn stop_of_effect(effect: &Effect) -> Option<StopKind>
     requires { IsSound effect.now }
-    ensures { result ≡ refused effect.now }
+    ensures { result ≡ stop_of_effect effect.now }
 {
     match *effect {
         Effect::CompareAndTrap {
@@ -81,7 +88,7 @@ fn refused(effect: &Effect) -> Option<StopKind>
             second,
             mask,
         } => {
-            if is_selected(mask, compared(sign, size, first, second)) {
+            if is_selected(mask, compare_code(sign, size, first, second)) {
                 Some(StopKind::CompareTrap)
             } else {
                 None
@@ -99,7 +106,7 @@ fn refused(effect: &Effect) -> Option<StopKind>
             divisor,
             ..
         } => {
-            let n = high as u128 * whole(size) + low as u128;
+            let n = high as u128 * modulus(size) + low as u128;
             divide_stop(unsigned_division(size, n, divisor))
         }
         Effect::ComputeVector {
@@ -138,9 +145,10 @@ fn overflows(effect: &Effect) -> bool
 pub fn vector_in<M: Memory>(memory: &M, layout: VectorLayout, old: u128, address: u64) -> u128
     requires { IsTrue (reaches (M.held memory.now) address (layout_bytes layout)) }
     ensures { result
-        ≡ loaded layout old (number_at (M.byte memory.now) address (layout_bytes layout)) }
+        ≡ register_after_load layout old
+        (number_at (M.byte memory.now) address (layout_bytes layout)) }
 {
-    loaded(
+    register_after_load(
         layout,
         old,
         memory.number(address, layout_bytes(layout) as u64),
@@ -181,7 +189,7 @@ fn put_results<M: Memory>(machine: &mut Machine, memory: &M, effect: &Effect)
             first,
             second,
         } => {
-            let y = taken(memory, size, second);
+            let y = operand_value(memory, size, second);
             machine.put_sized(size, target, operate(operator, size, first, y).0);
         }
         Effect::MultiplyPair {
@@ -206,7 +214,7 @@ fn put_results<M: Memory>(machine: &mut Machine, memory: &M, effect: &Effect)
             low,
             divisor,
         } => {
-            let n = high as u128 * whole(size) + low as u128;
+            let n = high as u128 * modulus(size) + low as u128;
             machine.put_divided(size, pair, unsigned_division(size, n, divisor));
         }
         Effect::FindLeftmostOne { pair, value } => {
@@ -218,7 +226,7 @@ fn put_results<M: Memory>(machine: &mut Machine, memory: &M, effect: &Effect)
             address,
             ..
         } => {
-            machine.put_sized(size, target, found(memory, size, address));
+            machine.put_sized(size, target, number_in_memory(memory, size, address));
         }
         Effect::CompareAndSwap {
             size,
@@ -226,7 +234,7 @@ fn put_results<M: Memory>(machine: &mut Machine, memory: &M, effect: &Effect)
             address,
             ..
         } => {
-            machine.put_sized(size, target, found(memory, size, address));
+            machine.put_sized(size, target, number_in_memory(memory, size, address));
         }
         Effect::LoadMultiple {
             first_register,
@@ -296,19 +304,19 @@ fn effect_code<M: Memory>(machine: &Machine, memory: &M, effect: &Effect) -> Con
             first,
             second,
             ..
-        } => { operate(operator, size, first, taken(memory, size, second)).1 }
+        } => { operate(operator, size, first, operand_value(memory, size, second)).1 }
         Effect::Test {
             operator,
             size,
             first,
             second,
-        } => { operate(operator, size, first, taken(memory, size, second)).1 }
+        } => { operate(operator, size, first, operand_value(memory, size, second)).1 }
         Effect::Compare {
             sign,
             size,
             first,
             second,
-        } => { compared(sign, size, first, taken(memory, size, second)) }
+        } => { compare_code(sign, size, first, operand_value(memory, size, second)) }
         Effect::FindLeftmostOne { value, .. } => {
             if value == 0 {
                 ConditionCode::Code0
@@ -322,14 +330,22 @@ fn effect_code<M: Memory>(machine: &Machine, memory: &M, effect: &Effect) -> Con
             second,
             address,
             ..
-        } => { operate(operator, size, found(memory, size, address), second).1 }
+        } => {
+            operate(
+                operator,
+                size,
+                number_in_memory(memory, size, address),
+                second,
+            )
+            .1
+        }
         Effect::CompareAndSwap {
             size,
             expected,
             address,
             ..
         } => {
-            if found(memory, size, address) == expected {
+            if number_in_memory(memory, size, address) == expected {
                 ConditionCode::Code0
             } else {
                 ConditionCode::Code1
@@ -409,7 +425,13 @@ fn put_stored<M: Memory>(memory: &mut M, effect: &Effect)
             address,
             ..
         } => {
-            let value = operate(operator, size, found(memory, size, address), second).0;
+            let value = operate(
+                operator,
+                size,
+                number_in_memory(memory, size, address),
+                second,
+            )
+            .0;
             memory.put_number(address, size_in_bytes(size), value as u128);
         }
         Effect::CompareAndSwap {
@@ -419,7 +441,7 @@ fn put_stored<M: Memory>(memory: &mut M, effect: &Effect)
             address,
             ..
         } => {
-            if found(memory, size, address) == expected {
+            if number_in_memory(memory, size, address) == expected {
                 memory.put_number(address, size_in_bytes(size), replacement as u128);
             }
         }
@@ -480,7 +502,7 @@ pub fn perform<M: Memory>(machine: &mut Machine, memory: &mut M, op: &Operation)
     if fault.is_some() {
         return fault;
     }
-    let stop = refused(&op.effect);
+    let stop = stop_of_effect(&op.effect);
     if stop.is_some() {
         return stop;
     }

@@ -12,7 +12,8 @@ use crate::perform::is_selected;
 use s390x_format::{Fields, RowSemantics, SecondOperand};
 use s390x_lanes::Signedness;
 use s390x_operations::{
-    CodeRule, Effect, Operator, SelectedBitsOperator, Size, Width, extended, rotated, selection,
+    CodeRule, Effect, Operator, SelectedBitsOperator, Size, Width, extended_bits, rotate_value,
+    selection,
 };
 
 /// Register r1 gets an operator's value.
@@ -141,7 +142,11 @@ pub fn rotate_then(
     let target = fields.regs[0];
     let first = machine.general(target);
     let amount = fields.masks[2] as u32;
-    let second = whole_operand(rotated(Size::Doubleword, machine.general(fields.regs[1]), amount));
+    let second = whole_operand(rotate_value(
+        Size::Doubleword,
+        machine.general(fields.regs[1]),
+        amount,
+    ));
     let size = Size::Doubleword;
     if start < 64 {
         let operator = Operator::SelectedBits(operator, selection(start, end));
@@ -221,7 +226,7 @@ pub fn divide_signed(machine: &Machine, fields: &Fields, width: Width) -> Action
         Effect::DividePair {
             pair: fields.regs[0],
             dividend: machine.general(fields.regs[0] + 1),
-            divisor: extended(Signedness::Signed, width, Size::Doubleword, divisor),
+            divisor: extended_bits(Signedness::Signed, width, Size::Doubleword, divisor),
         },
     )
 }
@@ -285,7 +290,7 @@ pub fn compare_immediate_and_trap(
             sign,
             size,
             first: value_in(machine, size, fields.regs[0]),
-            second: extended(sign, Width::Bits16, size, immediate(fields)),
+            second: extended_bits(sign, Width::Bits16, size, immediate(fields)),
             mask: fields.masks[0],
         },
     )

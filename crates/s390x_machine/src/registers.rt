@@ -1,10 +1,10 @@
 //! Making a machine, and reading and changing its registers.
 
 ghost use Rattle.std.specs.Prelude.{◌≡◌, ◌<◌, Option};
-ghost use Rattle.s390x_operations.specs.Numbers.{whole};
+ghost use Rattle.s390x_operations.specs.Numbers.{modulus};
 ghost use Rattle.s390x_operations.specs.Unsigned.{IsPairBelow};
 ghost use Rattle.s390x_operations.specs.State.{set_general, set_vector, with_code};
-ghost use Rattle.s390x_operations.specs.Effects.{merged, set_sized, set_pair, set_divided};
+ghost use Rattle.s390x_operations.specs.Effects.{with_low_part, set_sized, set_pair, set_divided};
 ghost use Rattle.s390x_machine.specs.State.{registers_of, fresh_registers};
 
 use crate::machine::Machine;
@@ -71,12 +71,12 @@ impl Machine {
     /// A general register, or its rightmost part, gets a number of the size.
     pub fn put_sized(&mut self, size: Size, target: u8, value: u64)
         requires there { target < 16 }
-        requires below { value < whole size }
+        requires below { value < modulus size }
         ensures registers { registers_of self.new
             ≡ set_sized size (registers_of self.old) target value }
         ensures place { self.new.place ≡ self.old.place }
     {
-        self.regs[target as usize] = merged(size, self.regs[target as usize], value);
+        self.regs[target as usize] = with_low_part(size, self.regs[target as usize], value);
     }
 
     /// What a vector register holds.
@@ -100,8 +100,8 @@ impl Machine {
     /// An even-odd pair gets two numbers of the size.
     pub fn put_pair(&mut self, size: Size, pair: u8, values: Pair)
         requires there { pair < 15 }
-        requires high_below { values.high < whole size }
-        requires low_below { values.low < whole size }
+        requires high_below { values.high < modulus size }
+        requires low_below { values.low < modulus size }
         ensures registers { registers_of self.new
             ≡ set_pair size (registers_of self.old) pair values }
         ensures place { self.new.place ≡ self.old.place }
@@ -125,9 +125,9 @@ impl Machine {
 }
 
 /// A part of a register leaves the other bits.
-fn merged(size: Size, old: u64, value: u64) -> u64
-    requires { value < whole size }
-    ensures { result ≡ merged size old value }
+fn with_low_part(size: Size, old: u64, value: u64) -> u64
+    requires { value < modulus size }
+    ensures { result ≡ with_low_part size old value }
 {
     match size {
         Size::Halfword => old / 65536 * 65536 + value,

@@ -7,10 +7,10 @@ ghost use Rattle.s390x_machine.specs.State.{registers_of};
 ghost use Rattle.s390x_machine.specs.Sound.{FieldsFit, IsSoundAction};
 
 use crate::action_type::Action;
-use crate::field_values::{based, immediate, performs, source, value_in};
+use crate::field_values::{address_by_base, immediate, performs, source, value_in};
 use crate::machine::Machine;
 use s390x_format::{Fields, RowSemantics, SecondOperand};
-use s390x_operations::{CodeRule, Effect, Operator, Size, Source, Width, ordered};
+use s390x_operations::{CodeRule, Effect, Operator, Size, Source, Width, in_byte_order};
 
 /// How many registers there are from one to another, register 0 after 15.
 fn register_count(first: u8, last: u8) -> u8
@@ -60,7 +60,7 @@ pub fn store(machine: &Machine, fields: &Fields, destination: SecondOperand) -> 
         CodeRule::Kept,
         Effect::Store {
             width: destination.width,
-            value: ordered(destination.reversed, destination.width, value),
+            value: in_byte_order(destination.reversed, destination.width, value),
             destination: source(machine, destination.operand_source, fields),
         },
     )
@@ -78,7 +78,7 @@ pub fn store_byte(machine: &Machine, fields: &Fields) -> Action
         Effect::Store {
             width: Width::Bits8,
             value: fields.masks[0] as u64,
-            destination: Source::Memory(based(machine, fields.regs[0], fields.disp)),
+            destination: Source::Memory(address_by_base(machine, fields.regs[0], fields.disp)),
         },
     )
 }
@@ -96,7 +96,7 @@ pub fn store_immediate(machine: &Machine, fields: &Fields, width: Width) -> Acti
         Effect::Store {
             width,
             value: immediate(fields),
-            destination: Source::Memory(based(machine, fields.regs[0], fields.disp)),
+            destination: Source::Memory(address_by_base(machine, fields.regs[0], fields.disp)),
         },
     )
 }
@@ -113,7 +113,7 @@ pub fn load_multiple(machine: &Machine, fields: &Fields) -> Action
         Effect::LoadMultiple {
             first_register: fields.regs[0],
             count: register_count(fields.regs[0], fields.regs[1]),
-            address: based(machine, fields.regs[2], fields.disp),
+            address: address_by_base(machine, fields.regs[2], fields.disp),
         },
     )
 }
@@ -131,7 +131,7 @@ pub fn store_multiple(machine: &Machine, fields: &Fields) -> Action
         Effect::StoreMultiple {
             values: values_from(machine, fields.regs[0]),
             count: register_count(fields.regs[0], fields.regs[1]),
-            address: based(machine, fields.regs[2], fields.disp),
+            address: address_by_base(machine, fields.regs[2], fields.disp),
         },
     )
 }
@@ -156,7 +156,7 @@ pub fn load_and_operate(
             size,
             target: fields.regs[0],
             second: value_in(machine, size, fields.regs[1]),
-            address: based(machine, fields.regs[2], fields.disp),
+            address: address_by_base(machine, fields.regs[2], fields.disp),
         },
     )
 }
@@ -176,7 +176,7 @@ pub fn compare_and_swap(machine: &Machine, fields: &Fields, size: Size) -> Actio
             target: fields.regs[0],
             expected: value_in(machine, size, fields.regs[0]),
             replacement: value_in(machine, size, fields.regs[1]),
-            address: based(machine, fields.regs[2], fields.disp),
+            address: address_by_base(machine, fields.regs[2], fields.disp),
         },
     )
 }

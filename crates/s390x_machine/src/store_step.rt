@@ -15,7 +15,7 @@ use crate::memory::Memory;
 use crate::perform::store_value;
 use crate::step::StepEnd;
 use s390x_format::{Decoded, RowSemantics, SecondOperand, length};
-use s390x_operations::{Source, ordered};
+use s390x_operations::{Source, in_byte_order};
 
 /// The step at a row that was fetched, which stores a register where no access has a fault.
 pub fn store_step<M: Memory>(
@@ -37,7 +37,7 @@ pub fn store_step<M: Memory>(
         (state_of machine.new (M.held memory.new) (M.byte memory.new)) }
 {
     let register = machine.general(decoded.fields.regs[0]);
-    let value = ordered(second.reversed, second.width, register);
+    let value = in_byte_order(second.reversed, second.width, register);
     store_value(memory, destination, second.width, value);
     machine.place = machine
         .place

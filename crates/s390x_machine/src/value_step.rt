@@ -1,7 +1,7 @@
 //! The steps at rows whose operators and comparisons have both values before them. They are frequent, and build no operation.
 
 ghost use Rattle.std.specs.Prelude.{◌≡◌, ◌<◌, ℕ, Bool, Some, IfSome};
-ghost use Rattle.s390x_operations.specs.Numbers.{whole};
+ghost use Rattle.s390x_operations.specs.Numbers.{modulus};
 ghost use Rattle.s390x_operations.specs.Values.{code_of_value, value};
 ghost use Rattle.s390x_operations.specs.State.{with_code};
 ghost use Rattle.s390x_operations.specs.Effects.{set_sized};
@@ -19,7 +19,9 @@ use crate::perform::raw;
 use crate::step::StepEnd;
 use s390x_format::{Decoded, Fields, RowSemantics, SecondOperand, length};
 use s390x_lanes::Signedness;
-use s390x_operations::{CodeRule, Operator, Size, bytes, compared, extended, operate, ordered};
+use s390x_operations::{
+    CodeRule, Operator, Size, bytes, compare_code, extended_bits, in_byte_order, operate,
+};
 
 /// The bits of a row's second operand; `None` where its access has a fault.
 #[inline(always)]
@@ -55,8 +57,8 @@ pub struct Computation {
 /// A register gets an operator's value of two numbers, and the condition code becomes that of the value where the rule sets it.
 fn compute(machine: &mut Machine, computation: Computation, target: u8, first: u64, second: u64)
     requires there { target < 16 }
-    requires first_below { first < whole computation.size }
-    requires second_below { second < whole computation.size }
+    requires first_below { first < modulus computation.size }
+    requires second_below { second < modulus computation.size }
     ensures registers { registers_of machine.new
         ≡ with_code
         (code_under computation.rule
@@ -100,8 +102,8 @@ pub fn value_step(
         computation.size,
         first_register(second.operand_source, fields),
     );
-    let bits = ordered(second.reversed, second.width, bits);
-    let other = extended(second.sign, second.width, computation.size, bits);
+    let bits = in_byte_order(second.reversed, second.width, bits);
+    let other = extended_bits(second.sign, second.width, computation.size, bits);
     compute(machine, computation, fields.regs[0], first, other);
     machine.place = machine
         .place
@@ -130,9 +132,9 @@ pub fn compare_step(
 {
     let fields = &decoded.fields;
     let first = value_in(machine, size, first_register(second.operand_source, fields));
-    let bits = ordered(second.reversed, second.width, bits);
-    let other = extended(second.sign, second.width, size, bits);
-    let code = compared(sign, size, first, other);
+    let bits = in_byte_order(second.reversed, second.width, bits);
+    let other = extended_bits(second.sign, second.width, size, bits);
+    let code = compare_code(sign, size, first, other);
     machine.set_condition_code(code);
     machine.place = machine
         .place

@@ -4,17 +4,17 @@ ghost use Rattle.std.specs.Prelude.{◌≡◌, ◌<◌, ◌≤◌, ◌+◌, ◌*
 ghost use Rattle.s390x_lanes.specs.Size.{element_bits, lane_count};
 ghost use Rattle.s390x_lanes.specs.Lanes.{lane};
 ghost use Rattle.s390x_lanes.specs.Rows.{is_operation};
-ghost use Rattle.s390x_operations.specs.Vectors.{layout_bytes, loaded};
+ghost use Rattle.s390x_operations.specs.Vectors.{layout_bytes, register_after_load};
 ghost use Rattle.s390x_machine.specs.Semantics.{register_field, performs, element_size, left_bits, vector_layout_of, on_elements, moves_value, action};
 ghost use Rattle.s390x_machine.specs.State.{registers_of};
 ghost use Rattle.s390x_machine.specs.Sound.{FieldsFit, IsSoundAction, is_free, is_uncomputed, shift_amount};
 
 use crate::action_type::Action;
-use crate::field_values::{based, indexed_address, performs, value_in, whole_operand};
+use crate::field_values::{address_by_base, indexed_address, performs, value_in, whole_operand};
 use crate::machine::Machine;
 use s390x_format::{Fields, RowSemantics, VectorStorage};
 use s390x_lanes::{ElementSize, VectorOperation, VectorRow, element, operation, size_from};
-use s390x_operations::{CodeRule, Effect, Operator, Size, VectorLayout, loaded};
+use s390x_operations::{CodeRule, Effect, Operator, Size, VectorLayout, register_after_load};
 
 /// The element size that the first mask tells.
 fn element_size(fields: &Fields) -> ElementSize
@@ -121,7 +121,7 @@ pub fn shift_amount(machine: &Machine, fields: &Fields) -> i64
     requires { register_field fields.now 1 < 16 }
     ensures { result ≡ shift_amount fields.now (registers_of machine.now) }
 {
-    (based(machine, fields.regs[1], fields.disp) % 64) as i64
+    (address_by_base(machine, fields.regs[1], fields.disp) % 64) as i64
 }
 
 /// Vector register r1 becomes r3 with its elements shifted by the amount at base r2 plus a displacement.
@@ -239,7 +239,7 @@ pub fn move_left(machine: &Machine, fields: &Fields, size: ElementSize) -> Actio
 }
 
 /// Two doublewords, one behind the other.
-fn joined(high: u64, low: u64) -> u128
+fn doubleword_pair(high: u64, low: u64) -> u128
     ensures value { result ≡ high * 2 ^ 64 + low }
     ensures fits { result < 2 ^ 128 }
 {
@@ -272,7 +272,7 @@ pub fn register_to_left(machine: &Machine, fields: &Fields) -> Action
         machine.now.place }
     ensures sound { IsSoundAction result }
 {
-    let value = joined(machine.general(fields.regs[1]), 0);
+    let value = doubleword_pair(machine.general(fields.regs[1]), 0);
     puts_vector(fields.regs[0], left_bits(ElementSize::Doubleword), value)
 }
 
@@ -305,7 +305,7 @@ pub fn join_registers(machine: &Machine, fields: &Fields) -> Action
         machine.now.place }
     ensures sound { IsSoundAction result }
 {
-    let value = joined(
+    let value = doubleword_pair(
         machine.general(fields.regs[1]),
         machine.general(fields.regs[2]),
     );
@@ -327,13 +327,14 @@ fn low_bits(size: ElementSize, x: u64) -> u128
 }
 
 /// A register that held `old`, with a number at one place.
-fn inserted(size: ElementSize, old: u128, index: u64, x: u64) -> u128
+fn with_element(size: ElementSize, old: u128, index: u64, x: u64) -> u128
     requires { index < lane_count size }
     ensures value { result
-        ≡ loaded (VectorLayout.Element size index false) old (x % 2 ^ element_bits size) }
+        ≡ register_after_load (VectorLayout.Element size index false) old
+        (x % 2 ^ element_bits size) }
     ensures fits { result < 2 ^ 128 }
 {
-    loaded(
+    register_after_load(
         VectorLayout::Element(size, index as u8, false),
         old,
         low_bits(size, x),
@@ -350,13 +351,13 @@ pub fn insert_element(machine: &Machine, fields: &Fields) -> Action
 {
     let size = element_size(fields);
     let target = fields.regs[0];
-    let index = based(machine, fields.regs[1], fields.disp);
+    let index = address_by_base(machine, fields.regs[1], fields.disp);
     let x = machine.general(fields.regs[2]);
     if index < size.lane_count() as u64 {
         puts_vector(
             target,
             u128::MAX,
-            inserted(size, machine.vector(target), index, x),
+            with_element(size, machine.vector(target), index, x),
         )
     } else {
         puts_vector(target, 0, 0)
@@ -372,7 +373,7 @@ pub fn extract_element(machine: &Machine, fields: &Fields) -> Action
     ensures sound { IsSoundAction result }
 {
     let size = element_size(fields);
-    let index = based(machine, fields.regs[1], fields.disp);
+    let index = address_by_base(machine, fields.regs[1], fields.disp);
     if index < size.lane_count() as u64 {
         let value = element_of(size, machine.vector(fields.regs[2]), index as u32);
         moves_value(machine, fields, value)

@@ -19,7 +19,7 @@ use Rattle.s390x_operands.specs.declared.constraint.OperandKind.TheVariants.{Def
 use Rattle.s390x_operands.specs.declared.constraint.OperandPos.TheVariants.{Early, Late}
 use Rattle.s390x_operands.specs.declared.constraint.Reported.{Reported}
 use Rattle.s390x_operands.specs.declared.constraint.Reported.TheVariants.{Operand, Clobbers}
-use Rattle.s390x_operands.specs.Requests.{used}
+use Rattle.s390x_operands.specs.Requests.{reported_use}
 
 -- an input in a register that has to be real
 abbrev pub placed_use : Reg → Reg → Option Reported
@@ -34,7 +34,7 @@ placed_def r (Virtual n c) = None
 -- the target of a call
 abbrev pub destination_requests : CallInstDest → List (Option Reported)
 destination_requests (Direct name) = []
-destination_requests (Indirect reg) = used reg ∷ []
+destination_requests (Indirect reg) = reported_use reg ∷ []
 
 -- an argument of a call
 abbrev pub argument : CallArgPair → Option Reported
@@ -49,21 +49,21 @@ abbrev pub call_result : CallRetPair → Option Reported
 call_result x = result_in x.vreg x.location
 
 -- an argument of the function
-abbrev pub incoming : ArgPair → Option Reported
-incoming x = placed_def x.vreg x.preg
+abbrev pub reported_argument : ArgPair → Option Reported
+reported_argument x = placed_def x.vreg x.preg
 
 -- a result of the function
-abbrev pub outgoing : RetPair → Option Reported
-outgoing x = placed_use x.vreg x.preg
+abbrev pub reported_result : RetPair → Option Reported
+reported_result x = placed_use x.vreg x.preg
 
 -- the registers that a call overwrites, with its link
-abbrev pub clobbered : PRegSet → Reg → Option Reported
-clobbered s (Real p) = Some (Clobbers (with_register s p))
-clobbered s (Virtual n c) = None
+abbrev pub reported_clobbers : PRegSet → Reg → Option Reported
+reported_clobbers s (Real p) = Some (Clobbers (with_register s p))
+reported_clobbers s (Virtual n c) = None
 
 -- a call: its target, its arguments, its results, and what it overwrites
 abbrev pub call_requests : Reg → CallInfo → List (Option Reported)
-call_requests link info = destination_requests info.dest ++ (map argument info.uses.items ++ (map call_result info.defs.items ++ clobbered info.clobbers link ∷ []))
+call_requests link info = destination_requests info.dest ++ (map argument info.uses.items ++ (map call_result info.defs.items ++ reported_clobbers info.clobbers link ∷ []))
 
 -- a tail call: its target and its arguments
 abbrev pub return_call_requests : ReturnCallInfo CallInstDest → List (Option Reported)

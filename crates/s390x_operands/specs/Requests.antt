@@ -56,16 +56,16 @@ abbrev pub Reports : (denied : Bool) → List (Option Reported) → (before afte
 Reports denied xs before after denies denies' r = MatchResult r (λ _. Passes denied xs before after denies denies') (λ e. Refuses denied xs before after denies denies' e)
 
 -- an input
-abbrev pub used : Reg → Option Reported
-used r = Some (placed_or InRegister Use Early r)
+abbrev pub reported_use : Reg → Option Reported
+reported_use r = Some (placed_or InRegister Use Early r)
 
 -- an output
-abbrev pub defined : Reg → Option Reported
-defined r = Some (placed_or InRegister Def Late r)
+abbrev pub reported_def : Reg → Option Reported
+reported_def r = Some (placed_or InRegister Def Late r)
 
 -- an output that has to be the operand with index 1
-abbrev pub reused : Reg → Option Reported
-reused r = Some (placed_or (Reuse 1) Def Late r)
+abbrev pub reported_reuse : Reg → Option Reported
+reported_reuse r = Some (placed_or (Reuse 1) Def Late r)
 
 -- the register that emission may overwrite
 abbrev pub scratch_request : Option Reported
@@ -81,9 +81,9 @@ fixed_def r n = Some (Operand r (FixedReg (general n)) Def Late)
 
 -- the registers of a memory operand, and the one that an address may need
 abbrev pub memory_requests : MemArg → List (Option Reported)
-memory_requests (BXD12 base index disp flags) = used base ∷ used index ∷ scratch_request ∷ []
-memory_requests (BXD20 base index disp flags) = used base ∷ used index ∷ scratch_request ∷ []
-memory_requests (RegOffset reg off flags) = used reg ∷ scratch_request ∷ []
+memory_requests (BXD12 base index disp flags) = reported_use base ∷ reported_use index ∷ scratch_request ∷ []
+memory_requests (BXD20 base index disp flags) = reported_use base ∷ reported_use index ∷ scratch_request ∷ []
+memory_requests (RegOffset reg off flags) = reported_use reg ∷ scratch_request ∷ []
 memory_requests _ = scratch_request ∷ []
 
 -- the general register of a number

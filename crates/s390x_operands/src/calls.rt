@@ -3,7 +3,7 @@
 
 ghost use Rattle.std.specs.Prelude.{◌++◌, ◌∷◌, [], map};
 ghost use Rattle.s390x_operands.specs.Requests.{Reports};
-ghost use Rattle.s390x_operands.specs.Calls.{placed_use, placed_def, destination_requests, argument, call_result, incoming, outgoing, clobbered, call_requests, return_call_requests};
+ghost use Rattle.s390x_operands.specs.Calls.{placed_use, placed_def, destination_requests, argument, call_result, reported_argument, reported_result, reported_clobbers, call_requests, return_call_requests};
 
 use crate::constraint::OperandError;
 use crate::report::{report_nothing, report_use};
@@ -78,7 +78,7 @@ pub fn report_incoming<V: OperandVisitor>(
     denied: bool,
     pair: &ArgPair,
 ) -> Result<(), OperandError>
-    ensures { Reports denied (incoming pair.now ∷ []) (V.items v.old) (V.items v.new)
+    ensures { Reports denied (reported_argument pair.now ∷ []) (V.items v.old) (V.items v.new)
         (V.denies v.old) (V.denies v.new) result }
 {
     report_placed_def(v, denied, &pair.vreg, &pair.preg)
@@ -90,7 +90,7 @@ pub fn report_outgoing<V: OperandVisitor>(
     denied: bool,
     pair: &RetPair,
 ) -> Result<(), OperandError>
-    ensures { Reports denied (outgoing pair.now ∷ []) (V.items v.old) (V.items v.new)
+    ensures { Reports denied (reported_result pair.now ∷ []) (V.items v.old) (V.items v.new)
         (V.denies v.old) (V.denies v.new) result }
 {
     report_placed_use(v, denied, &pair.vreg, &pair.preg)
@@ -132,7 +132,7 @@ pub fn report_arguments<V: OperandVisitor>(
     denied: bool,
     pairs: &[ArgPair],
 ) -> Result<(), OperandError>
-    ensures { Reports denied (map incoming pairs.now) (V.items v.old) (V.items v.new)
+    ensures { Reports denied (map reported_argument pairs.now) (V.items v.old) (V.items v.new)
         (V.denies v.old) (V.denies v.new) result }
 {
     for pair in pairs {
@@ -147,7 +147,7 @@ pub fn report_results<V: OperandVisitor>(
     denied: bool,
     pairs: &[RetPair],
 ) -> Result<(), OperandError>
-    ensures { Reports denied (map outgoing pairs.now) (V.items v.old) (V.items v.new)
+    ensures { Reports denied (map reported_result pairs.now) (V.items v.old) (V.items v.new)
         (V.denies v.old) (V.denies v.new) result }
 {
     for pair in pairs {
@@ -178,8 +178,8 @@ pub fn report_clobbers<V: OperandVisitor>(
     clobbers: &PRegSet,
     link: &Reg,
 ) -> Result<(), OperandError>
-    ensures { Reports denied (clobbered clobbers.now link.now ∷ []) (V.items v.old) (V.items v.new)
-        (V.denies v.old) (V.denies v.new) result }
+    ensures { Reports denied (reported_clobbers clobbers.now link.now ∷ []) (V.items v.old)
+        (V.items v.new) (V.denies v.old) (V.denies v.new) result }
 {
     match link {
         Reg::Real(preg) => {

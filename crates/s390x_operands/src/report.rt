@@ -5,7 +5,7 @@
 
 ghost use Rattle.std.specs.Prelude.{◌≡◌, ◌<◌, ◌++◌, ◌∷◌, [], Some, map};
 ghost use Rattle.s390x_operands.specs.declared.constraint.Reported.TheVariants.{Fixed};
-ghost use Rattle.s390x_operands.specs.Requests.{Reports, used, defined, reused, scratch_request, fixed_use, fixed_def, memory_requests};
+ghost use Rattle.s390x_operands.specs.Requests.{Reports, reported_use, reported_def, reported_reuse, scratch_request, fixed_use, fixed_def, memory_requests};
 
 use crate::constraint::OperandError;
 use crate::visitor::OperandVisitor;
@@ -14,8 +14,8 @@ use s390x_inst::MemArg;
 
 /// Reports a register that is read.
 pub fn report_use<V: OperandVisitor>(v: &mut V, denied: bool, reg: &Reg) -> Result<(), OperandError>
-    ensures { Reports denied (used reg.now ∷ []) (V.items v.old) (V.items v.new) (V.denies v.old)
-        (V.denies v.new) result }
+    ensures { Reports denied (reported_use reg.now ∷ []) (V.items v.old) (V.items v.new)
+        (V.denies v.old) (V.denies v.new) result }
 {
     v.reg_use(*reg)
 }
@@ -26,8 +26,8 @@ pub fn report_def<V: OperandVisitor>(
     denied: bool,
     reg: &Writable<Reg>,
 ) -> Result<(), OperandError>
-    ensures { Reports denied (defined reg.now ∷ []) (V.items v.old) (V.items v.new) (V.denies v.old)
-        (V.denies v.new) result }
+    ensures { Reports denied (reported_def reg.now ∷ []) (V.items v.old) (V.items v.new)
+        (V.denies v.old) (V.denies v.new) result }
 {
     v.reg_def(*reg)
 }
@@ -38,8 +38,8 @@ pub fn report_reuse<V: OperandVisitor>(
     denied: bool,
     reg: &Writable<Reg>,
 ) -> Result<(), OperandError>
-    ensures { Reports denied (reused reg.now ∷ []) (V.items v.old) (V.items v.new) (V.denies v.old)
-        (V.denies v.new) result }
+    ensures { Reports denied (reported_reuse reg.now ∷ []) (V.items v.old) (V.items v.new)
+        (V.denies v.old) (V.denies v.new) result }
 {
     match reg.to_reg() {
         Reg::Virtual { .. } if denied => Err(OperandError::ReuseInLoop),
@@ -109,8 +109,8 @@ pub fn report_uses<V: OperandVisitor>(
     denied: bool,
     uses: &[Reg],
 ) -> Result<(), OperandError>
-    ensures { Reports denied (map used uses.now) (V.items v.old) (V.items v.new) (V.denies v.old)
-        (V.denies v.new) result }
+    ensures { Reports denied (map reported_use uses.now) (V.items v.old) (V.items v.new)
+        (V.denies v.old) (V.denies v.new) result }
 {
     for reg in uses {
         report_use(v, denied, reg)?;
@@ -124,8 +124,8 @@ pub fn report_address<V: OperandVisitor>(
     denied: bool,
     registers: &[Reg],
 ) -> Result<(), OperandError>
-    ensures { Reports denied (map used registers.now ++ scratch_request ∷ []) (V.items v.old)
-        (V.items v.new) (V.denies v.old) (V.denies v.new) result }
+    ensures { Reports denied (map reported_use registers.now ++ scratch_request ∷ [])
+        (V.items v.old) (V.items v.new) (V.denies v.old) (V.denies v.new) result }
 {
     report_uses(v, denied, registers)?;
     report_scratch(v, denied)
@@ -156,7 +156,7 @@ pub fn report_inputs<V: OperandVisitor>(
     uses: &[Reg],
     mem: &MemArg,
 ) -> Result<(), OperandError>
-    ensures { Reports denied (map used uses.now ++ memory_requests mem.now) (V.items v.old)
+    ensures { Reports denied (map reported_use uses.now ++ memory_requests mem.now) (V.items v.old)
         (V.items v.new) (V.denies v.old) (V.denies v.new) result }
 {
     report_uses(v, denied, uses)?;
@@ -170,8 +170,8 @@ pub fn report_output<V: OperandVisitor>(
     rd: &Writable<Reg>,
     uses: &[Reg],
 ) -> Result<(), OperandError>
-    ensures { Reports denied (defined rd.now ∷ map used uses.now) (V.items v.old) (V.items v.new)
-        (V.denies v.old) (V.denies v.new) result }
+    ensures { Reports denied (reported_def rd.now ∷ map reported_use uses.now) (V.items v.old)
+        (V.items v.new) (V.denies v.old) (V.denies v.new) result }
 {
     report_def(v, denied, rd)?;
     report_uses(v, denied, uses)
@@ -185,7 +185,8 @@ pub fn report_output_from<V: OperandVisitor>(
     uses: &[Reg],
     mem: &MemArg,
 ) -> Result<(), OperandError>
-    ensures { Reports denied (defined rd.now ∷ (map used uses.now ++ memory_requests mem.now))
+    ensures { Reports denied
+        (reported_def rd.now ∷ (map reported_use uses.now ++ memory_requests mem.now))
         (V.items v.old) (V.items v.new) (V.denies v.old) (V.denies v.new) result }
 {
     report_def(v, denied, rd)?;
@@ -199,8 +200,8 @@ pub fn report_reused<V: OperandVisitor>(
     rd: &Writable<Reg>,
     uses: &[Reg],
 ) -> Result<(), OperandError>
-    ensures { Reports denied (reused rd.now ∷ map used uses.now) (V.items v.old) (V.items v.new)
-        (V.denies v.old) (V.denies v.new) result }
+    ensures { Reports denied (reported_reuse rd.now ∷ map reported_use uses.now) (V.items v.old)
+        (V.items v.new) (V.denies v.old) (V.denies v.new) result }
 {
     report_reuse(v, denied, rd)?;
     report_uses(v, denied, uses)
@@ -214,7 +215,8 @@ pub fn report_reused_from<V: OperandVisitor>(
     uses: &[Reg],
     mem: &MemArg,
 ) -> Result<(), OperandError>
-    ensures { Reports denied (reused rd.now ∷ (map used uses.now ++ memory_requests mem.now))
+    ensures { Reports denied
+        (reported_reuse rd.now ∷ (map reported_use uses.now ++ memory_requests mem.now))
         (V.items v.old) (V.items v.new) (V.denies v.old) (V.denies v.new) result }
 {
     report_reuse(v, denied, rd)?;
@@ -242,7 +244,7 @@ pub fn report_pair<V: OperandVisitor>(
     uses: &[Reg],
 ) -> Result<(), OperandError>
     ensures { Reports denied
-        (map used uses.now ++ fixed_def pair.now.hi 2 ∷ fixed_def pair.now.lo 3 ∷ [])
+        (map reported_use uses.now ++ fixed_def pair.now.hi 2 ∷ fixed_def pair.now.lo 3 ∷ [])
         (V.items v.old) (V.items v.new) (V.denies v.old) (V.denies v.new) result }
 {
     report_uses(v, denied, uses)?;
@@ -258,8 +260,9 @@ pub fn report_pair_low<V: OperandVisitor>(
     rn: &Reg,
 ) -> Result<(), OperandError>
     ensures { Reports denied
-        (used rn.now ∷ fixed_def pair.now.hi 2 ∷ fixed_def pair.now.lo 3 ∷ fixed_use low.now 3 ∷ [])
-        (V.items v.old) (V.items v.new) (V.denies v.old) (V.denies v.new) result }
+        (reported_use rn.now ∷ fixed_def pair.now.hi 2 ∷ fixed_def pair.now.lo 3
+        ∷ fixed_use low.now 3 ∷ []) (V.items v.old) (V.items v.new) (V.denies v.old)
+        (V.denies v.new) result }
 {
     report_use(v, denied, rn)?;
     report_halves(v, denied, pair)?;
@@ -288,9 +291,9 @@ pub fn report_pair_whole<V: OperandVisitor>(
     rn: &Reg,
 ) -> Result<(), OperandError>
     ensures { Reports denied
-        (used rn.now ∷ fixed_def pair.now.hi 2 ∷ fixed_def pair.now.lo 3 ∷ fixed_use whole.now.hi 2
-        ∷ fixed_use whole.now.lo 3 ∷ []) (V.items v.old) (V.items v.new) (V.denies v.old)
-        (V.denies v.new) result }
+        (reported_use rn.now ∷ fixed_def pair.now.hi 2 ∷ fixed_def pair.now.lo 3
+        ∷ fixed_use whole.now.hi 2 ∷ fixed_use whole.now.lo 3 ∷ []) (V.items v.old)
+        (V.items v.new) (V.denies v.old) (V.denies v.new) result }
 {
     report_use(v, denied, rn)?;
     report_halves(v, denied, pair)?;
@@ -304,7 +307,7 @@ pub fn report_output_fixed<V: OperandVisitor>(
     rd: &Writable<Reg>,
     preg: PReg,
 ) -> Result<(), OperandError>
-    ensures { Reports denied (defined rd.now ∷ Some (Fixed preg) ∷ []) (V.items v.old)
+    ensures { Reports denied (reported_def rd.now ∷ Some (Fixed preg) ∷ []) (V.items v.old)
         (V.items v.new) (V.denies v.old) (V.denies v.new) result }
 {
     report_def(v, denied, rd)?;
@@ -317,8 +320,8 @@ pub fn report_output_scratch<V: OperandVisitor>(
     denied: bool,
     rd: &Writable<Reg>,
 ) -> Result<(), OperandError>
-    ensures { Reports denied (defined rd.now ∷ scratch_request ∷ []) (V.items v.old) (V.items v.new)
-        (V.denies v.old) (V.denies v.new) result }
+    ensures { Reports denied (reported_def rd.now ∷ scratch_request ∷ []) (V.items v.old)
+        (V.items v.new) (V.denies v.old) (V.denies v.new) result }
 {
     report_def(v, denied, rd)?;
     report_scratch(v, denied)
@@ -330,8 +333,8 @@ pub fn report_use_scratch<V: OperandVisitor>(
     denied: bool,
     reg: &Reg,
 ) -> Result<(), OperandError>
-    ensures { Reports denied (used reg.now ∷ scratch_request ∷ []) (V.items v.old) (V.items v.new)
-        (V.denies v.old) (V.denies v.new) result }
+    ensures { Reports denied (reported_use reg.now ∷ scratch_request ∷ []) (V.items v.old)
+        (V.items v.new) (V.denies v.old) (V.denies v.new) result }
 {
     report_use(v, denied, reg)?;
     report_scratch(v, denied)

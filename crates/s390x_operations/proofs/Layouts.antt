@@ -5,7 +5,7 @@ use Rattle.s390x_lanes.specs.Lanes.{lane, from_lanes}
 use Rattle.s390x_lanes.specs.declared.size.ElementSize.{ElementSize}
 use Rattle.s390x_lanes.specs.declared.size.ElementSize.TheVariants.{Byte, Halfword, Word, Doubleword, Quadword}
 use Rattle.s390x_lanes.proofs.Building.{build_one}
-use Rattle.s390x_operations.specs.Vectors.{loaded}
+use Rattle.s390x_operations.specs.Vectors.{register_after_load}
 use Rattle.s390x_operations.specs.declared.effect.VectorLayout.{VectorLayout}
 use Rattle.s390x_operations.specs.declared.effect.VectorLayout.TheVariants.{Whole, ReversedBytes, ReversedElements, Replicated, Element}
 use Rattle.s390x_operations.specs.Layouts.{layout_size, loaded_lane}
@@ -35,7 +35,7 @@ last_lane Doubleword x i l = let e : 128 - 64 * (i + 1) ≡ 0 = omega arith in a
 last_lane Quadword x i l = let e : 128 - 128 * (i + 1) ≡ 0 = omega arith in ap (λ k. x / 2 ^ k % 2 ^ 128) e
 
 -- a load, lane by lane
-pub loaded_is : (layout : VectorLayout) (old x : ℕ) → loaded layout old x ≡ from_lanes (element_bits (layout_size layout)) (lane_count (layout_size layout)) (loaded_lane layout old x)
+pub loaded_is : (layout : VectorLayout) (old x : ℕ) → register_after_load layout old x ≡ from_lanes (element_bits (layout_size layout)) (lane_count (layout_size layout)) (loaded_lane layout old x)
 loaded_is Whole old x = sym (build_one 128 (λ i. x))
 loaded_is (ReversedBytes size) old x = refl
 loaded_is (ReversedElements size) old x = refl

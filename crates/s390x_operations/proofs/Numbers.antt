@@ -4,19 +4,19 @@ use Rattle.std.specs.Prelude.{bit_xor}
 use Rattle.std.proofs.lemmas.Nat.{or_lt, xor_lt, pow_pos, pow_below, one_shl, leading_top, leading_length, and_le_l}
 use Rattle.std.proofs.Math.Nat.{pow-le-pow_right, pow-succ'}
 use Rattle.std.specs.Int.{leading_zeros, w64}
-use Rattle.s390x_operations.specs.Numbers.{whole}
+use Rattle.s390x_operations.specs.Numbers.{modulus}
 use Rattle.s390x_operations.specs.declared.size.Size.{Size}
 use Rattle.s390x_operations.specs.declared.size.Size.TheVariants.{Halfword, Word, Doubleword}
 
-pub or_below : (size : Size) (a b : ℕ) → a < whole size → b < whole size → bit_or a b < whole size
+pub or_below : (size : Size) (a b : ℕ) → a < modulus size → b < modulus size → bit_or a b < modulus size
 or_below Halfword a b l m = or_lt 16 a b l m
 or_below Word a b l m = or_lt 32 a b l m
 or_below Doubleword a b l m = or_lt 64 a b l m
 
-pub and_below : (size : Size) (a b : ℕ) → a < whole size → bit_and a b < whole size
+pub and_below : (size : Size) (a b : ℕ) → a < modulus size → bit_and a b < modulus size
 and_below size a b l = let m = and_le_l a b in omega arith
 
-pub xor_below : (size : Size) (a b : ℕ) → a < whole size → b < whole size → bit_xor a b < whole size
+pub xor_below : (size : Size) (a b : ℕ) → a < modulus size → b < modulus size → bit_xor a b < modulus size
 xor_below Halfword a b l m = xor_lt 16 a b l m
 xor_below Word a b l m = xor_lt 32 a b l m
 xor_below Doubleword a b l m = xor_lt 64 a b l m

@@ -13,9 +13,9 @@ pub data Change : Type 0 where
   Operates : Operator → Size → (second : ℕ) → Change
 
 -- what is stored where this number is found; none where the swap finds another number
-abbrev pub changed : Change → ℕ → Option ℕ
-changed (Swaps expected replacement) x = if x == expected then Some replacement else None
-changed (Operates operator size second) x = Some (value operator size x second)
+abbrev pub change_result : Change → ℕ → Option ℕ
+change_result (Swaps expected replacement) x = if x == expected then Some replacement else None
+change_result (Operates operator size second) x = Some (value operator size x second)
 
 -- size bytes from an address; a locked access reads and stores them with no other access between
 pub data Access : Type 0 where
@@ -49,7 +49,7 @@ abbrev pub store_event : Access → Memory → Option StoreEvent
 store_event Untouched m = None
 store_event (Reads aligned a n) m = None
 store_event (Stores aligned a n v) m = store_event_at a n (Some v)
-store_event (Locks a n change) m = store_event_at a n (changed change (number_at m.get a n))
+store_event (Locks a n change) m = store_event_at a n (change_result change (number_at m.get a n))
 
 -- the operand of a store or of a locked access has a byte of the image
 abbrev pub stores_into : CodeImage → Access → Bool

@@ -1,7 +1,7 @@
 -- The operators on bits.
 use Rattle.std.specs.Prelude.{ℕ, zero, suc, ◌+◌, ◌-◌, ◌*◌, ◌/◌, ◌%◌, ◌^◌, ◌≤◌, if◌then◌else◌, ◌==◌, nat_lt, nat_le, bit_and, bit_or, bit_xor, count_ones}
 use Rattle.std.specs.Int.{int_shr, w16, w32, w64, rotate_left, leading_zeros}
-use Rattle.s390x_operations.specs.Numbers.{whole, signed, low}
+use Rattle.s390x_operations.specs.Numbers.{modulus, signed_number, low}
 use Rattle.s390x_operations.specs.Signed.{code_s}
 use Rattle.s390x_operations.specs.declared.size.Size.{Size}
 use Rattle.s390x_operations.specs.declared.size.Size.TheVariants.{Halfword, Word, Doubleword}
@@ -25,7 +25,7 @@ code_z x = if x == 0 then Code0 else Code1
 
 -- every bit inverted
 abbrev pub complement : Size → ℕ → ℕ
-complement size x = whole size - 1 - x
+complement size x = modulus size - 1 - x
 
 -- the value of an operator on the bits of two numbers of a size
 abbrev pub bit_value : BitOperator → Size → ℕ → ℕ → ℕ
@@ -39,40 +39,40 @@ bit_value AndNot size x y = bit_and x (complement size y)
 bit_value OrNot size x y = bit_or x (complement size y)
 
 -- a number of a size, rotated to the left by k bits
-abbrev pub rotated : Size → ℕ → ℕ → ℕ
-rotated Halfword x k = rotate_left w16 x k
-rotated Word x k = rotate_left w32 x k
-rotated Doubleword x k = rotate_left w64 x k
+abbrev pub rotate_value : Size → ℕ → ℕ → ℕ
+rotate_value Halfword x k = rotate_left w16 x k
+rotate_value Word x k = rotate_left w32 x k
+rotate_value Doubleword x k = rotate_left w64 x k
 
 -- a number of a size, shifted or rotated by k bits
-abbrev pub shifted : ShiftOperator → Size → ℕ → ℕ → ℕ
-shifted RotateLeft size x k = rotated size x k
-shifted ShiftLeft size x k = (x * 2 ^ k) % whole size
-shifted ShiftRightLogical size x k = x / 2 ^ k
-shifted ShiftRightArithmetic size x k = low size (int_shr (signed size x) k)
+abbrev pub shift_value : ShiftOperator → Size → ℕ → ℕ → ℕ
+shift_value RotateLeft size x k = rotate_value size x k
+shift_value ShiftLeft size x k = (x * 2 ^ k) % modulus size
+shift_value ShiftRightLogical size x k = x / 2 ^ k
+shift_value ShiftRightArithmetic size x k = low size (int_shr (signed_number size x) k)
 
 -- the code of a shift to the right with the sign
 abbrev pub shift_code : Size → ℕ → ℕ → ConditionCode
-shift_code size x k = code_s size (int_shr (signed size x) k)
+shift_code size x k = code_s size (int_shr (signed_number size x) k)
 
 -- ones from bit start to bit end, numbered from the left, wrapping
 abbrev pub selection : ℕ → ℕ → ℕ
 selection start end = if nat_le start end then 2 ^ (64 - start) - 2 ^ (63 - end) else (2 ^ 64 - 2 ^ (63 - end)) + (2 ^ (64 - start) - 1)
 
 -- what the operator makes of all bits, as if each was selected
-abbrev pub combined : SelectedBitsOperator → ℕ → ℕ → ℕ
-combined Select.Insert x y = y
-combined Select.And x y = bit_and x y
-combined Select.Or x y = bit_or x y
-combined Select.Xor x y = bit_xor x y
+abbrev pub combined_bits : SelectedBitsOperator → ℕ → ℕ → ℕ
+combined_bits Select.Insert x y = y
+combined_bits Select.And x y = bit_and x y
+combined_bits Select.Or x y = bit_or x y
+combined_bits Select.Xor x y = bit_xor x y
 
 -- the combined bits that are selected, the bits of x elsewhere
 abbrev pub select_value : SelectedBitsOperator → ℕ → ℕ → ℕ → ℕ
-select_value op mask x y = bit_or (bit_and (combined op x y) mask) (bit_and x (complement Doubleword mask))
+select_value op mask x y = bit_or (bit_and (combined_bits op x y) mask) (bit_and x (complement Doubleword mask))
 
 -- code Z of the combined bits that are selected
 abbrev pub select_code : SelectedBitsOperator → ℕ → ℕ → ℕ → ConditionCode
-select_code op mask x y = code_z (bit_and (combined op x y) mask)
+select_code op mask x y = code_z (bit_and (combined_bits op x y) mask)
 
 -- the ones of each of the lowest n bytes
 unfoldable pub ones_by_byte : ℕ → ℕ → ℕ
@@ -85,8 +85,8 @@ reversed_onto zero x a = a
 reversed_onto (suc n) x a = reversed_onto n (x / 256) (a * 256 + x % 256)
 
 -- the lowest n bytes of a number in reverse order
-abbrev pub reversed : ℕ → ℕ → ℕ
-reversed n x = reversed_onto n x 0
+abbrev pub bytes_in_reverse : ℕ → ℕ → ℕ
+bytes_in_reverse n x = reversed_onto n x 0
 
 -- how many zeros stand leftmost, and the rest without its leftmost one
 abbrev pub leftmost : ℕ → Pair
@@ -107,10 +107,10 @@ bytes Bits32 = 4
 bytes Bits64 = 8
 
 -- the lowest bits of a number, extended to a size with zeros or with their sign
-abbrev pub extended : Signedness → Width → Size → ℕ → ℕ
-extended Unsigned width size x = x % 2 ^ bits_of_width width
-extended Signed width size x = if nat_lt (x % 2 ^ bits_of_width width) (2 ^ (bits_of_width width - 1)) then x % 2 ^ bits_of_width width else x % 2 ^ bits_of_width width + (whole size - 2 ^ bits_of_width width)
+abbrev pub extended_bits : Signedness → Width → Size → ℕ → ℕ
+extended_bits Unsigned width size x = x % 2 ^ bits_of_width width
+extended_bits Signed width size x = if nat_lt (x % 2 ^ bits_of_width width) (2 ^ (bits_of_width width - 1)) then x % 2 ^ bits_of_width width else x % 2 ^ bits_of_width width + (modulus size - 2 ^ bits_of_width width)
 
 -- the size has that many bits or more
 abbrev pub IsWithin : Width → Size → Type 0
-IsWithin width size = 2 ^ bits_of_width width ≤ whole size
+IsWithin width size = 2 ^ bits_of_width width ≤ modulus size

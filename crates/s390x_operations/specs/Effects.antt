@@ -4,12 +4,12 @@
 use Rattle.std.specs.Prelude.{◌≡◌, ℕ, zero, suc, ◌+◌, ◌*◌, ◌/◌, ◌%◌, ◌^◌, ◌<◌, ◌⊎◌, Bool, true, false, ◌==◌, if◌then◌else◌, bit_and, Option, Some, None, IsTrue, List, slice_index}
 use Rattle.s390x_base.specs.Conditions.{selects}
 use Rattle.s390x_lanes.specs.Relation.{Gives, code_of as vector_code_of, divides_by_zero, division_overflows}
-use Rattle.s390x_operations.specs.Numbers.{whole, signed}
-use Rattle.s390x_operations.specs.Unsigned.{compared, wide_product, signed_division, unsigned_division}
+use Rattle.s390x_operations.specs.Numbers.{modulus, signed_number}
+use Rattle.s390x_operations.specs.Unsigned.{compare_code, wide_product, signed_division, unsigned_division}
 use Rattle.s390x_operations.specs.Bits.{bytes, leftmost}
 use Rattle.s390x_operations.specs.State.{Registers, Memory, Core, set_general, set_vector, with_code, number_at, wrapping_add64, after_store}
-use Rattle.s390x_operations.specs.Values.{value, code_of_value, taken, width_of}
-use Rattle.s390x_operations.specs.Vectors.{layout_bytes, loaded, vector_stored}
+use Rattle.s390x_operations.specs.Values.{value, code_of_value, operand_value, width_of}
+use Rattle.s390x_operations.specs.Vectors.{layout_bytes, register_after_load, vector_stored}
 use Rattle.s390x_operations.specs.Access.{Access, Untouched, Reads, Stores, Locks, Swaps, Operates, fault, store_event}
 use Rattle.s390x_operations.specs.declared.size.Size.{Size}
 use Rattle.s390x_operations.specs.declared.size.Size.TheVariants.{Halfword, Word, Doubleword}
@@ -87,12 +87,12 @@ divide_stop None = Some DivideStop
 divide_stop (Some p) = None
 
 -- the stop that the values bring about
-abbrev pub refused : Effect → Option StopKind
-refused (CompareAndTrap sign size first second mask) = if is_selected mask (compared sign size first second) then Some CompareTrap else None
-refused (DividePair pair dividend divisor) = divide_stop (signed_division (signed Doubleword dividend) (signed Doubleword divisor))
-refused (DivideLogicalPair size pair high low divisor) = divide_stop (unsigned_division size (high * whole size + low) divisor)
-refused (ComputeVector operation target first second third fourth) = if divides_by_zero operation third then Some DivideStop else None
-refused _ = None
+abbrev pub stop_of_effect : Effect → Option StopKind
+stop_of_effect (CompareAndTrap sign size first second mask) = if is_selected mask (compare_code sign size first second) then Some CompareTrap else None
+stop_of_effect (DividePair pair dividend divisor) = divide_stop (signed_division (signed_number Doubleword dividend) (signed_number Doubleword divisor))
+stop_of_effect (DivideLogicalPair size pair high low divisor) = divide_stop (unsigned_division size (high * modulus size + low) divisor)
+stop_of_effect (ComputeVector operation target first second third fourth) = if divides_by_zero operation third then Some DivideStop else None
+stop_of_effect _ = None
 
 -- a stop that the values allow and don't bring about: a lane's quotient that doesn't fit
 abbrev pub MayRefuse : Effect → StopKind → Type 0
@@ -102,14 +102,14 @@ MayRefuse _ kind = ⊥
 -- ---- results
 
 -- a part of a register leaves the other bits
-abbrev pub merged : Size → ℕ → ℕ → ℕ
-merged Halfword old x = old / 2 ^ 16 * 2 ^ 16 + x
-merged Word old x = old / 2 ^ 32 * 2 ^ 32 + x
-merged Doubleword old x = x
+abbrev pub with_low_part : Size → ℕ → ℕ → ℕ
+with_low_part Halfword old x = old / 2 ^ 16 * 2 ^ 16 + x
+with_low_part Word old x = old / 2 ^ 32 * 2 ^ 32 + x
+with_low_part Doubleword old x = x
 
 -- a general register gets a value of a size
 abbrev pub set_sized : Size → Registers → ℕ → ℕ → Registers
-set_sized size r target x = set_general r target (merged size (r.general target) x)
+set_sized size r target x = set_general r target (with_low_part size (r.general target) x)
 
 -- an even-odd pair gets its two values
 abbrev pub set_pair : Size → Registers → ℕ → Pair → Registers
@@ -126,18 +126,18 @@ set_multiple r f first address zero = r
 set_multiple r f first address (suc n) = set_general (set_multiple r f first address n) ((first + n) % 16) (number_at f (wrapping_add64 address (8 * n)) 8)
 
 -- the number that a sized access finds
-abbrev pub found : Size → Memory → ℕ → ℕ
-found size m address = number_at m.get address (bytes (width_of size))
+abbrev pub number_in_memory : Size → Memory → ℕ → ℕ
+number_in_memory size m address = number_at m.get address (bytes (width_of size))
 
 -- the registers after it, but for the condition code, where nothing is free
 abbrev pub results : Effect → Core → Registers
-results (Compute operator size target first second) c = set_sized size c.registers target (value operator size first (taken size second c.memory))
+results (Compute operator size target first second) c = set_sized size c.registers target (value operator size first (operand_value size second c.memory))
 results (MultiplyPair sign pair first second) c = set_pair Doubleword c.registers pair (wide_product sign first second)
-results (DividePair pair dividend divisor) c = set_divided Doubleword c.registers pair (signed_division (signed Doubleword dividend) (signed Doubleword divisor))
-results (DivideLogicalPair size pair high low divisor) c = set_divided size c.registers pair (unsigned_division size (high * whole size + low) divisor)
+results (DividePair pair dividend divisor) c = set_divided Doubleword c.registers pair (signed_division (signed_number Doubleword dividend) (signed_number Doubleword divisor))
+results (DivideLogicalPair size pair high low divisor) c = set_divided size c.registers pair (unsigned_division size (high * modulus size + low) divisor)
 results (FindLeftmostOne pair x) c = set_pair Doubleword c.registers pair (leftmost x)
-results (LoadAndOperate operator size target second address) c = set_sized size c.registers target (found size c.memory address)
-results (CompareAndSwap size target expected replacement address) c = set_sized size c.registers target (found size c.memory address)
+results (LoadAndOperate operator size target second address) c = set_sized size c.registers target (number_in_memory size c.memory address)
+results (CompareAndSwap size target expected replacement address) c = set_sized size c.registers target (number_in_memory size c.memory address)
 results (LoadMultiple first_register count address) c = set_multiple c.registers c.memory.get first_register address count
 results _ c = c.registers
 
@@ -148,7 +148,7 @@ Results (ComputeVector operation target first second third fourth) c r =
     (x : ℕ) × Gives operation first second third fourth x (vector_code_of operation first second third) × (r ≡ with_code r.code (set_vector c.registers target x))
 Results (PutVector target known x) c r = (y : ℕ) × (y < 2 ^ 128) × (bit_and y known ≡ bit_and x known) × (r ≡ with_code r.code (set_vector c.registers target y))
 Results (LoadVector layout target old known address) c r =
-    (y : ℕ) × (y < 2 ^ 128) × (bit_and y known ≡ bit_and (loaded layout old (number_at c.memory.get address (layout_bytes layout))) known) × (r ≡ with_code r.code (set_vector c.registers target y))
+    (y : ℕ) × (y < 2 ^ 128) × (bit_and y known ≡ bit_and (register_after_load layout old (number_at c.memory.get address (layout_bytes layout))) known) × (r ≡ with_code r.code (set_vector c.registers target y))
 Results effect c r = r ≡ with_code r.code (results effect c)
 
 -- ---- condition codes
@@ -160,12 +160,12 @@ vector_code code (Some n) = code_numbered n
 
 -- the condition code of an effect
 abbrev pub effect_code : Effect → Core → ConditionCode
-effect_code (Compute operator size target first second) c = code_of_value operator size first (taken size second c.memory)
-effect_code (Test operator size first second) c = code_of_value operator size first (taken size second c.memory)
-effect_code (Compare sign size first second) c = compared sign size first (taken size second c.memory)
+effect_code (Compute operator size target first second) c = code_of_value operator size first (operand_value size second c.memory)
+effect_code (Test operator size first second) c = code_of_value operator size first (operand_value size second c.memory)
+effect_code (Compare sign size first second) c = compare_code sign size first (operand_value size second c.memory)
 effect_code (FindLeftmostOne pair x) c = if x == 0 then Code0 else Code2
-effect_code (LoadAndOperate operator size target second address) c = code_of_value operator size (found size c.memory address) second
-effect_code (CompareAndSwap size target expected replacement address) c = if found size c.memory address == expected then Code0 else Code1
+effect_code (LoadAndOperate operator size target second address) c = code_of_value operator size (number_in_memory size c.memory address) second
+effect_code (CompareAndSwap size target expected replacement address) c = if number_in_memory size c.memory address == expected then Code0 else Code1
 effect_code (ComputeVector operation target first second third fourth) c = vector_code c.registers.code (vector_code_of operation first second third)
 effect_code _ c = c.registers.code
 
@@ -180,19 +180,19 @@ CodeAfter Unspecified effect c code = Unit {0}
 -- it may go from one core to the other
 pub record MayExecute (op : Operation) (c t : Core) : Type 0 where
   pub reached : fault (access op.effect) c.memory.has ≡ None
-  pub allowed : refused op.effect ≡ None
+  pub allowed : stop_of_effect op.effect ≡ None
   pub results : Results op.effect c t.registers
   pub code : CodeAfter op.rule op.effect c t.registers.code
   pub memory : t.memory ≡ after_store (store_event (access op.effect) c.memory) c.memory
 
 -- it may stop: the access's fault comes first, then what the values bring about. The bytes in memory don't count
 abbrev pub MayInterrupt : Operation → (ℕ → Bool) → StopKind → Type 0
-MayInterrupt op has kind = (fault (access op.effect) has ≡ Some kind) ⊎ ((fault (access op.effect) has ≡ None) × ((refused op.effect ≡ Some kind) ⊎ MayRefuse op.effect kind))
+MayInterrupt op has kind = (fault (access op.effect) has ≡ Some kind) ⊎ ((fault (access op.effect) has ≡ None) × ((stop_of_effect op.effect ≡ Some kind) ⊎ MayRefuse op.effect kind))
 
 -- what the first operation does, the second allows: the same access and stops, and as free or freer results and codes
 pub record Refines (m op : Operation) : Type 0 where
   pub access : access m.effect ≡ access op.effect
-  pub refused : refused m.effect ≡ refused op.effect
+  pub refused : stop_of_effect m.effect ≡ stop_of_effect op.effect
   pub may_refuse : (kind : StopKind) → MayRefuse m.effect kind → MayRefuse op.effect kind
   pub results : (c : Core) (r : Registers) → Results m.effect c r → Results op.effect c r
   pub code : (c : Core) (code : ConditionCode) → CodeAfter m.rule m.effect c code → CodeAfter op.rule op.effect c code

@@ -65,8 +65,8 @@ write_get [] f = f
 write_get (w ∷ ws) f = write_get ws (update f w.address w.byte)
 
 -- the core after others' writes
-abbrev pub written : List Write → Core → Core
-written ws c = record {
+abbrev pub core_after_writes : List Write → Core → Core
+core_after_writes ws c = record {
   registers = c.registers;
   memory = record { has = c.memory.has; get = write_get ws c.memory.get };
 }

@@ -3,7 +3,7 @@ use Rattle.std.specs.Prelude.{ℕ, ◌%◌, Bool, if◌then◌else◌, count_one
 use Rattle.std.specs.Int.{w64, leading_zeros, trailing_zeros}
 use Rattle.s390x_operations.specs.Signed.{signed_value, signed_code}
 use Rattle.s390x_operations.specs.Unsigned.{logical_value, logical_code}
-use Rattle.s390x_operations.specs.Bits.{code_z, bit_value, shifted, shift_code, select_value, select_code, ones_by_byte, reversed, bytes, extended}
+use Rattle.s390x_operations.specs.Bits.{code_z, bit_value, shift_value, shift_code, select_value, select_code, ones_by_byte, bytes_in_reverse, bytes, extended_bits}
 use Rattle.s390x_operations.specs.State.{Memory, number_at}
 use Rattle.s390x_operations.specs.declared.size.Size.{Size}
 use Rattle.s390x_operations.specs.declared.size.Size.TheVariants.{Halfword, Word, Doubleword}
@@ -22,7 +22,7 @@ abbrev pub value : Operator → Size → ℕ → ℕ → ℕ
 value (Signed op) size x y = signed_value op size x y
 value (Logical op) size x y = logical_value op size x y
 value (Bit op) size x y = bit_value op size x y
-value (Shift op) size x y = shifted op size x (y % 64)
+value (Shift op) size x y = shift_value op size x (y % 64)
 value (SelectedBits op mask) size x y = select_value op mask x y
 value Move size x y = y
 value PopulationCountByByte size x y = ones_by_byte 8 y
@@ -50,12 +50,12 @@ raw (InMemory a) width m = number_at m.get a (bytes width)
 raw (AlignedMemory a) width m = number_at m.get a (bytes width)
 
 -- an operand's bits, its bytes in reverse order where the flag says so
-abbrev pub ordered : Bool → Width → ℕ → ℕ
-ordered backwards width x = if backwards then reversed (bytes width) x else x
+abbrev pub in_byte_order : Bool → Width → ℕ → ℕ
+in_byte_order backwards width x = if backwards then bytes_in_reverse (bytes width) x else x
 
 -- an operand's value at a size
-abbrev pub taken : Size → Operand → Memory → ℕ
-taken size y m = extended y.sign y.width size (ordered y.reversed y.width (raw y.source y.width m))
+abbrev pub operand_value : Size → Operand → Memory → ℕ
+operand_value size y m = extended_bits y.sign y.width size (in_byte_order y.reversed y.width (raw y.source y.width m))
 
 -- the width of a whole number of a size
 abbrev pub width_of : Size → Width

@@ -3,13 +3,13 @@ use Rattle.std.specs.Prelude.{ℕ, ◌-◌, ◌/◌, ◌==◌, if◌then◌else�
 use Rattle.s390x_lanes.specs.Size.{element_bits, lane_count}
 use Rattle.s390x_lanes.specs.Lanes.{lane, from_lanes}
 use Rattle.s390x_lanes.specs.declared.size.ElementSize.{ElementSize}
-use Rattle.s390x_operations.specs.Bits.{reversed}
+use Rattle.s390x_operations.specs.Bits.{bytes_in_reverse}
 use Rattle.s390x_operations.specs.declared.effect.VectorLayout.{VectorLayout}
 use Rattle.s390x_operations.specs.declared.effect.VectorLayout.TheVariants.{Whole, ReversedBytes, ReversedElements, Replicated, Element}
 
 -- an element, its bytes reversed where the flag says so
 abbrev pub element_value : Bool → ElementSize → ℕ → ℕ
-element_value true size x = reversed (element_bits size / 8) x
+element_value true size x = bytes_in_reverse (element_bits size / 8) x
 element_value false size x = x
 
 -- how many bytes lie in memory
@@ -29,12 +29,12 @@ abbrev pub with_reversed_elements : ElementSize → ℕ → ℕ
 with_reversed_elements size x = from_lanes (element_bits size) (lane_count size) (λ i. lane (element_bits size) x (lane_count size - 1 - i))
 
 -- a register that held `old`, after a load of the number x
-abbrev pub loaded : VectorLayout → ℕ → ℕ → ℕ
-loaded Whole old x = x
-loaded (ReversedBytes size) old x = with_reversed_bytes size x
-loaded (ReversedElements size) old x = with_reversed_elements size x
-loaded (Replicated size backwards) old x = from_lanes (element_bits size) (lane_count size) (λ i. element_value backwards size x)
-loaded (Element size index backwards) old x =
+abbrev pub register_after_load : VectorLayout → ℕ → ℕ → ℕ
+register_after_load Whole old x = x
+register_after_load (ReversedBytes size) old x = with_reversed_bytes size x
+register_after_load (ReversedElements size) old x = with_reversed_elements size x
+register_after_load (Replicated size backwards) old x = from_lanes (element_bits size) (lane_count size) (λ i. element_value backwards size x)
+register_after_load (Element size index backwards) old x =
     from_lanes (element_bits size) (lane_count size) (λ i. if i == index then element_value backwards size x else lane (element_bits size) old i)
 
 -- the number that a store of a register's value puts into memory; nothing stores a replicated element

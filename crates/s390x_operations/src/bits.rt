@@ -1,11 +1,13 @@
 //! The operators on bits.
 
 ghost use Rattle.std.specs.Prelude.{◌≡◌, ◌<◌, ◌≤◌, ◌-◌, ◌^◌};
-ghost use Rattle.s390x_operations.specs.Numbers.{whole, half, signed, low};
-ghost use Rattle.s390x_operations.specs.Bits.{code_z, complement, bit_value, rotated, shifted, shift_code, selection, combined, select_value, select_code, ones_by_byte, reversed, leftmost};
+ghost use Rattle.s390x_operations.specs.Numbers.{modulus, half, signed_number, low};
+ghost use Rattle.s390x_operations.specs.Bits.{code_z, complement, bit_value, rotate_value, shift_value, shift_code, selection, combined_bits, select_value, select_code, ones_by_byte, bytes_in_reverse, leftmost};
 
-use crate::unsigned::kept;
-use crate::{BitOperator, ConditionCode, Pair, SelectedBitsOperator, Size, code_s, low, signed};
+use crate::unsigned::residue;
+use crate::{
+    BitOperator, ConditionCode, Pair, SelectedBitsOperator, Size, code_s, low, signed_number,
+};
 use s390x_lanes::ShiftOperator;
 
 /// ConditionCode Z.
@@ -21,9 +23,9 @@ pub fn code_z(x: u64) -> ConditionCode
 
 /// Every bit inverted.
 pub fn complement(size: Size, x: u64) -> u64
-    requires { x < whole size }
+    requires { x < modulus size }
     ensures value { result ≡ complement size x }
-    ensures below { result < whole size }
+    ensures below { result < modulus size }
 {
     match size {
         Size::Halfword => 0xffff - x,
@@ -35,10 +37,10 @@ pub fn complement(size: Size, x: u64) -> u64
 /// The value of an operator on the bits of two numbers.
 #[tactic(auto, using(crate::proofs::Numbers::or_below, crate::proofs::Numbers::xor_below))]
 pub fn bit_op(op: BitOperator, size: Size, x: u64, y: u64) -> u64
-    requires x_below { x < whole size }
-    requires y_below { y < whole size }
+    requires x_below { x < modulus size }
+    requires y_below { y < modulus size }
     ensures value { result ≡ bit_value op size x y }
-    ensures below { result < whole size }
+    ensures below { result < modulus size }
 {
     match op {
         BitOperator::And => x & y,
@@ -53,10 +55,10 @@ pub fn bit_op(op: BitOperator, size: Size, x: u64, y: u64) -> u64
 }
 
 /// The number, rotated to the left by so many bits.
-pub fn rotated(size: Size, x: u64, k: u32) -> u64
-    requires { x < whole size }
-    ensures value { result ≡ rotated size x k }
-    ensures below { result < whole size }
+pub fn rotate_value(size: Size, x: u64, k: u32) -> u64
+    requires { x < modulus size }
+    ensures value { result ≡ rotate_value size x k }
+    ensures below { result < modulus size }
 {
     match size {
         Size::Halfword => (x as u16).rotate_left(k) as u64,
@@ -66,27 +68,27 @@ pub fn rotated(size: Size, x: u64, k: u32) -> u64
 }
 
 /// The number, shifted or rotated by so many bits.
-pub fn shifted(op: ShiftOperator, size: Size, x: u64, k: u32) -> u64
-    requires x_below { x < whole size }
+pub fn shift_value(op: ShiftOperator, size: Size, x: u64, k: u32) -> u64
+    requires x_below { x < modulus size }
     requires k_below { k < 64 }
-    ensures value { result ≡ shifted op size x k }
-    ensures below { result < whole size }
+    ensures value { result ≡ shift_value op size x k }
+    ensures below { result < modulus size }
 {
     match op {
-        ShiftOperator::RotateLeft => rotated(size, x, k),
-        ShiftOperator::ShiftLeft => kept(size, (x as u128) << k),
+        ShiftOperator::RotateLeft => rotate_value(size, x, k),
+        ShiftOperator::ShiftLeft => residue(size, (x as u128) << k),
         ShiftOperator::ShiftRightLogical => x >> k,
-        ShiftOperator::ShiftRightArithmetic => low(size, signed(size, x) >> k),
+        ShiftOperator::ShiftRightArithmetic => low(size, signed_number(size, x) >> k),
     }
 }
 
 /// The code of a shift to the right with the sign.
 pub fn shift_code(size: Size, x: u64, k: u32) -> ConditionCode
-    requires x_below { x < whole size }
+    requires x_below { x < modulus size }
     requires k_below { k < 64 }
     ensures { result ≡ shift_code size x k }
 {
-    code_s(size, signed(size, x) >> k)
+    code_s(size, signed_number(size, x) >> k)
 }
 
 /// A power of two.
@@ -113,11 +115,11 @@ pub fn selection(start: u8, end: u8) -> u64
 
 /// What the operator makes of all bits, as if each was selected.
 #[tactic(auto, using(crate::proofs::Numbers::and_below, crate::proofs::Numbers::or_below, crate::proofs::Numbers::xor_below))]
-fn combined(op: SelectedBitsOperator, size: Size, x: u64, y: u64) -> u64
-    requires x_below { x < whole size }
-    requires y_below { y < whole size }
-    ensures value { result ≡ combined op x y }
-    ensures below { result < whole size }
+fn combined_bits(op: SelectedBitsOperator, size: Size, x: u64, y: u64) -> u64
+    requires x_below { x < modulus size }
+    requires y_below { y < modulus size }
+    ensures value { result ≡ combined_bits op x y }
+    ensures below { result < modulus size }
 {
     match op {
         SelectedBitsOperator::Insert => y,
@@ -136,13 +138,13 @@ pub fn select_op(
     x: u64,
     y: u64,
 ) -> (u64, ConditionCode)
-    requires x_below { x < whole size }
-    requires y_below { y < whole size }
+    requires x_below { x < modulus size }
+    requires y_below { y < modulus size }
     ensures value { result.0 ≡ select_value op mask x y }
     ensures code { result.1 ≡ select_code op mask x y }
-    ensures below { result.0 < whole size }
+    ensures below { result.0 < modulus size }
 {
-    let taken = combined(op, size, x, y) & mask;
+    let taken = combined_bits(op, size, x, y) & mask;
     (
         taken | (x & complement(Size::Doubleword, mask)),
         code_z(taken),

@@ -1,10 +1,10 @@
 //! Numbers as bytes.
 
 ghost use Rattle.std.specs.Prelude.{◌≡◌, ◌<◌, ◌≤◌, ◌-◌, ◌+◌, ◌*◌, ◌%◌, ◌^◌};
-ghost use Rattle.s390x_operations.specs.Numbers.{whole};
-ghost use Rattle.s390x_operations.specs.Bits.{ones_by_byte, reversed, bits_of_width, bytes, extended, IsWithin};
+ghost use Rattle.s390x_operations.specs.Numbers.{modulus};
+ghost use Rattle.s390x_operations.specs.Bits.{ones_by_byte, bytes_in_reverse, bits_of_width, bytes, extended_bits, IsWithin};
 
-use crate::unsigned::whole;
+use crate::unsigned::modulus;
 use crate::{Size, Width};
 use s390x_lanes::Signedness;
 
@@ -24,9 +24,9 @@ pub fn ones_by_byte(n: u8, x: u64) -> u64
 
 /// The lowest bytes of a number in reverse order.
 #[tactic(auto, using(crate::proofs::Runs::reversed_none, crate::proofs::Runs::reversed_more, crate::proofs::Numbers::room))]
-pub fn reversed(n: u8, x: u64) -> u64
+pub fn bytes_in_reverse(n: u8, x: u64) -> u64
     requires { n ≤ 8 }
-    ensures { result ≡ reversed n x }
+    ensures { result ≡ bytes_in_reverse n x }
 {
     let mut rest = x;
     let mut done: u64 = 0;
@@ -89,10 +89,10 @@ fn low_bits(width: Width, x: u64) -> u64
 }
 
 /// The lowest bits, extended to a size.
-pub fn extended(sign: Signedness, width: Width, size: Size, x: u64) -> u64
+pub fn extended_bits(sign: Signedness, width: Width, size: Size, x: u64) -> u64
     requires { IsWithin width size }
-    ensures value { result ≡ extended sign width size x }
-    ensures below { result < whole size }
+    ensures value { result ≡ extended_bits sign width size x }
+    ensures below { result < modulus size }
 {
     let kept = low_bits(width, x) as u128;
     match sign {
@@ -101,7 +101,7 @@ pub fn extended(sign: Signedness, width: Width, size: Size, x: u64) -> u64
             if kept < half_count(width) {
                 kept as u64
             } else {
-                (kept + (whole(size) - count(width))) as u64
+                (kept + (modulus(size) - count(width))) as u64
             }
         }
     }

@@ -1,11 +1,11 @@
 //! Operators, and how operands are read.
 
 ghost use Rattle.std.specs.Prelude.{◌≡◌, ◌<◌};
-ghost use Rattle.s390x_operations.specs.Numbers.{whole};
-ghost use Rattle.s390x_operations.specs.Values.{value, code_of_value, ordered, width_of};
+ghost use Rattle.s390x_operations.specs.Numbers.{modulus};
+ghost use Rattle.s390x_operations.specs.Values.{value, code_of_value, in_byte_order, width_of};
 
-use crate::bits::{bit_op, code_z, select_op, shift_code, shifted};
-use crate::byte_values::{bytes, ones_by_byte, reversed};
+use crate::bits::{bit_op, code_z, select_op, shift_code, shift_value};
+use crate::byte_values::{bytes, bytes_in_reverse, ones_by_byte};
 use crate::unsigned::logical_op;
 use crate::{ConditionCode, Operator, Size, Width, signed_op};
 
@@ -21,11 +21,11 @@ pub fn width_of(size: Size) -> Width
 }
 
 /// The number, its bytes in reverse order where the flag says so.
-pub fn ordered(backwards: bool, width: Width, x: u64) -> u64
-    ensures { result ≡ ordered backwards width x }
+pub fn in_byte_order(backwards: bool, width: Width, x: u64) -> u64
+    ensures { result ≡ in_byte_order backwards width x }
 {
     if backwards {
-        reversed(bytes(width), x)
+        bytes_in_reverse(bytes(width), x)
     } else {
         x
     }
@@ -33,11 +33,11 @@ pub fn ordered(backwards: bool, width: Width, x: u64) -> u64
 
 /// The value and the condition code of an operator on two numbers of a size.
 pub fn operate(op: Operator, size: Size, x: u64, y: u64) -> (u64, ConditionCode)
-    requires x_below { x < whole size }
-    requires y_below { y < whole size }
+    requires x_below { x < modulus size }
+    requires y_below { y < modulus size }
     ensures value { result.0 ≡ value op size x y }
     ensures code { result.1 ≡ code_of_value op size x y }
-    ensures below { result.0 < whole size }
+    ensures below { result.0 < modulus size }
 {
     match op {
         Operator::Signed(op) => signed_op(op, size, x, y),
@@ -47,7 +47,7 @@ pub fn operate(op: Operator, size: Size, x: u64, y: u64) -> (u64, ConditionCode)
             (z, code_z(z))
         }
         Operator::Shift(op) => (
-            shifted(op, size, x, (y % 64) as u32),
+            shift_value(op, size, x, (y % 64) as u32),
             shift_code(size, x, (y % 64) as u32),
         ),
         Operator::SelectedBits(op, mask) => select_op(op, mask, size, x, y),

@@ -1,15 +1,15 @@
 //! The operators on numbers without signs, comparisons, and pairs.
 
 ghost use Rattle.std.specs.Prelude.{◌≡◌, ◌<◌, ◌%◌, ◌^◌, pos, neg_ℤ, ◌≤ℤ◌, ◌<ℤ◌, ◌≢◌, int_div, int_rem, Option};
-ghost use Rattle.s390x_operations.specs.Numbers.{whole, half, signed, low};
-ghost use Rattle.s390x_operations.specs.Unsigned.{code_a, code_b, code_c, logical_value, logical_code, read, compared, wide_product, signed_division, unsigned_division, IsPairBelow};
+ghost use Rattle.s390x_operations.specs.Numbers.{modulus, half, signed_number, low};
+ghost use Rattle.s390x_operations.specs.Unsigned.{code_a, code_b, code_c, logical_value, logical_code, read, compare_code, wide_product, signed_division, unsigned_division, IsPairBelow};
 
-use crate::{ConditionCode, LogicalOperator, Pair, Size, fits, low, signed};
+use crate::{ConditionCode, LogicalOperator, Pair, Size, fits, low, signed_number};
 use s390x_lanes::Signedness;
 
 /// How many numbers have the size.
-pub fn whole(size: Size) -> u128
-    ensures { result ≡ whole size }
+pub fn modulus(size: Size) -> u128
+    ensures { result ≡ modulus size }
 {
     match size {
         Size::Halfword => 65536,
@@ -19,9 +19,9 @@ pub fn whole(size: Size) -> u128
 }
 
 /// What of a number without a sign is kept.
-pub fn kept(size: Size, x: u128) -> u64
-    ensures value { result ≡ x % whole size }
-    ensures below { result < whole size }
+pub fn residue(size: Size, x: u128) -> u64
+    ensures value { result ≡ x % modulus size }
+    ensures below { result < modulus size }
 {
     match size {
         Size::Halfword => (x % 65536) as u64,
@@ -34,13 +34,13 @@ pub fn kept(size: Size, x: u128) -> u64
 fn code_a(size: Size, sum: u128) -> ConditionCode
     ensures { result ≡ code_a size sum }
 {
-    if sum < whole(size) {
+    if sum < modulus(size) {
         if sum == 0 {
             ConditionCode::Code0
         } else {
             ConditionCode::Code1
         }
-    } else if kept(size, sum) == 0 {
+    } else if residue(size, sum) == 0 {
         ConditionCode::Code2
     } else {
         ConditionCode::Code3
@@ -62,31 +62,31 @@ fn code_b(x: u64, y: u64) -> ConditionCode
 
 /// The value and the code of an operator.
 pub fn logical_op(op: LogicalOperator, size: Size, x: u64, y: u64) -> (u64, ConditionCode)
-    requires x_below { x < whole size }
-    requires y_below { y < whole size }
+    requires x_below { x < modulus size }
+    requires y_below { y < modulus size }
     ensures value { result.0 ≡ logical_value op size x y }
     ensures code { result.1 ≡ logical_code op size x y }
-    ensures below { result.0 < whole size }
+    ensures below { result.0 < modulus size }
 {
     match op {
         LogicalOperator::Add => {
             let sum = x as u128 + y as u128;
-            (kept(size, sum), code_a(size, sum))
+            (residue(size, sum), code_a(size, sum))
         }
         LogicalOperator::Subtract => {
-            let sum = x as u128 + (whole(size) - y as u128);
-            (kept(size, sum), code_b(x, y))
+            let sum = x as u128 + (modulus(size) - y as u128);
+            (residue(size, sum), code_b(x, y))
         }
     }
 }
 
 /// The number, read with or without its sign.
 pub fn read(sign: Signedness, size: Size, x: u64) -> i128
-    requires { x < whole size }
+    requires { x < modulus size }
     ensures { result ≡ read sign size x }
 {
     match sign {
-        Signedness::Signed => signed(size, x),
+        Signedness::Signed => signed_number(size, x),
         Signedness::Unsigned => x as i128,
     }
 }
@@ -105,10 +105,10 @@ fn code_c(x: i128, y: i128) -> ConditionCode
 }
 
 /// Code C of two numbers, read with or without their signs.
-pub fn compared(sign: Signedness, size: Size, x: u64, y: u64) -> ConditionCode
-    requires x_below { x < whole size }
-    requires y_below { y < whole size }
-    ensures { result ≡ compared sign size x y }
+pub fn compare_code(sign: Signedness, size: Size, x: u64, y: u64) -> ConditionCode
+    requires x_below { x < modulus size }
+    requires y_below { y < modulus size }
+    ensures { result ≡ compare_code sign size x y }
 {
     code_c(read(sign, size, x), read(sign, size, y))
 }
@@ -119,7 +119,7 @@ pub fn wide_product(sign: Signedness, x: u64, y: u64) -> Pair
 {
     match sign {
         Signedness::Signed => {
-            let z = signed(Size::Doubleword, x) * signed(Size::Doubleword, y);
+            let z = signed_number(Size::Doubleword, x) * signed_number(Size::Doubleword, y);
             Pair {
                 high: low(Size::Doubleword, z >> 64),
                 low: low(Size::Doubleword, z),
@@ -156,7 +156,7 @@ fn remainder(x: i128, y: i128) -> i128
 }
 
 /// The remainder and the quotient of two numbers with signs.
-fn divided(x: i128, y: i128) -> Option<Pair>
+fn division_pair(x: i128, y: i128) -> Option<Pair>
     requires x_least { neg_ℤ (pos (2 ^ 63)) ≤ℤ x }
     requires x_most { x <ℤ pos (2 ^ 63) }
     requires y_least { neg_ℤ (pos (2 ^ 63)) ≤ℤ y }
@@ -179,14 +179,18 @@ fn divided(x: i128, y: i128) -> Option<Pair>
 
 /// The remainder and the quotient of two numbers read with their signs; none where the divisor is zero or the quotient doesn't fit.
 pub fn signed_division(x: u64, y: u64) -> Option<Pair>
-    ensures { result ≡ signed_division (signed Size.Doubleword x) (signed Size.Doubleword y) }
+    ensures { result
+        ≡ signed_division (signed_number Size.Doubleword x) (signed_number Size.Doubleword y) }
 {
-    divided(signed(Size::Doubleword, x), signed(Size::Doubleword, y))
+    division_pair(
+        signed_number(Size::Doubleword, x),
+        signed_number(Size::Doubleword, y),
+    )
 }
 
 /// The remainder and the quotient of the number in two parts; none where the divisor is zero or the quotient doesn't fit.
 pub fn unsigned_division(size: Size, n: u128, y: u64) -> Option<Pair>
-    requires { y < whole size }
+    requires { y < modulus size }
     ensures value { result ≡ unsigned_division size n y }
     ensures below { IsPairBelow size result }
 {
@@ -194,7 +198,7 @@ pub fn unsigned_division(size: Size, n: u128, y: u64) -> Option<Pair>
     if y == 0 {
         return None;
     }
-    if n / y < whole(size) {
+    if n / y < modulus(size) {
         Some(Pair {
             high: (n % y) as u64,
             low: (n / y) as u64,

@@ -3,8 +3,8 @@
 ghost use Rattle.std.specs.Prelude.{◌≡◌, ℕ, ◌+◌, ◌-◌, ◌*◌, ◌<◌, ◌≤◌, ◌^◌, ◌==◌, if◌then◌else◌};
 ghost use Rattle.s390x_lanes.specs.Size.{element_bits, lane_count};
 ghost use Rattle.s390x_lanes.specs.Lanes.{lane};
-ghost use Rattle.s390x_operations.specs.Bits.{reversed};
-ghost use Rattle.s390x_operations.specs.Vectors.{element_value, layout_bytes, loaded, vector_stored};
+ghost use Rattle.s390x_operations.specs.Bits.{bytes_in_reverse};
+ghost use Rattle.s390x_operations.specs.Vectors.{element_value, layout_bytes, register_after_load, vector_stored};
 ghost use Rattle.s390x_operations.specs.Layouts.{layout_size, loaded_lane};
 
 use crate::VectorLayout;
@@ -14,7 +14,7 @@ use s390x_lanes::{ElementSize, append, element};
 #[tactic(auto, using(crate::proofs::Runs::reversed_none, crate::proofs::Runs::reversed_more, crate::proofs::Numbers::wide_room))]
 pub fn reversed_wide(n: u32, x: u128) -> u128
     requires { n ≤ 16 }
-    ensures value { result ≡ reversed n x }
+    ensures value { result ≡ bytes_in_reverse n x }
     ensures below { result < 256 ^ n }
 {
     let mut rest = x;
@@ -101,9 +101,9 @@ fn loaded_lane(layout: VectorLayout, old: u128, x: u128, i: u32) -> u128
 }
 
 /// A register that held `old`, after a load of the number x.
-pub fn loaded(layout: VectorLayout, old: u128, x: u128) -> u128
+pub fn register_after_load(layout: VectorLayout, old: u128, x: u128) -> u128
     requires { x < 2 ^ (8 * layout_bytes layout) }
-    ensures { result ≡ loaded layout old x }
+    ensures { result ≡ register_after_load layout old x }
 {
     if let VectorLayout::Whole = layout {
         return x;
@@ -139,8 +139,8 @@ pub fn vector_stored(layout: VectorLayout, x: u128) -> u128
 {
     match layout {
         VectorLayout::Whole => x,
-        VectorLayout::ReversedBytes(_) => loaded(layout, 0, x),
-        VectorLayout::ReversedElements(_) => loaded(layout, 0, x),
+        VectorLayout::ReversedBytes(_) => register_after_load(layout, 0, x),
+        VectorLayout::ReversedElements(_) => register_after_load(layout, 0, x),
         VectorLayout::Replicated(size, backwards) => {
             element_value(backwards, size, element_at(size, x, 0))
         }

@@ -2,7 +2,7 @@
 ghost use Rattle.std.specs.Prelude.{◌≡◌, ℕ, ◌+◌, ◌*◌, ◌/◌, ◌%◌, ◌^◌, ◌<◌, length, slice_index};
 
 /// The numbers of these halves.
-pub fn joined(high: &[u64; 32], low: &[u64; 32]) -> [u128; 32]
+pub fn numbers_of_halves(high: &[u64; 32], low: &[u64; 32]) -> [u128; 32]
     ensures long { length result ≡ 32 }
     ensures halves { (length high.now ≡ 32) × (length low.now ≡ 32) }
     ensures each { (i : ℕ) → i < 32

@@ -41,7 +41,7 @@ pub extern "C" fn s390x_page_decode(bytes: &[u8], out: &mut Instruction) -> bool
 {
     match locate(bytes) {
         Some(located) => {
-            *out = described(located);
+            *out = instruction_of(located);
             true
         }
         None => false,
@@ -49,7 +49,7 @@ pub extern "C" fn s390x_page_decode(bytes: &[u8], out: &mut Instruction) -> bool
 }
 
 // What was found, for the page.
-fn described(located: Located) -> Instruction
+fn instruction_of(located: Located) -> Instruction
     ensures { Describes located result }
 {
     let decoded = located.decoded;

@@ -4,7 +4,7 @@ ghost use Rattle.s390x_operations.specs.Effects.{code_numbered};
 ghost use Rattle.s390x_machine.specs.State.{registers_of};
 ghost use Rattle.s390x_page.specs.Stepping.{registers_in};
 
-use crate::halves::{high_halves, joined, low_halves};
+use crate::halves::{high_halves, low_halves, numbers_of_halves};
 use s390x_machine::Machine;
 
 /// The registers of a machine.
@@ -32,7 +32,7 @@ pub fn machine_of(registers: &Registers) -> Machine
     let aregs = registers.access;
     Machine {
         regs,
-        vregs: joined(&registers.high, &registers.low),
+        vregs: numbers_of_halves(&registers.high, &registers.low),
         aregs,
         cc: code(registers.code),
         place: registers.place,

@@ -2,7 +2,7 @@
 ghost use Rattle.std.specs.Prelude.{◌≡◌, true, false};
 ghost use Rattle.s390x_format.specs.Fetch.{IsFetch};
 ghost use Rattle.s390x_format.specs.declared.decoder.Decoded.{Decoded};
-ghost use Rattle.s390x_disassembler.specs.Fitted.{fitting};
+ghost use Rattle.s390x_disassembler.specs.Fitted.{fitting_text};
 ghost use Rattle.s390x_page.specs.Texts.{Holds, IsTextOf};
 
 use s390x_disassembler::{Text, located_text};
@@ -28,7 +28,7 @@ pub extern "C" fn s390x_page_text(address: u64, bytes: &[u8], out: &mut Instruct
     match locate(bytes) {
         Some(located) => {
             let text = located_text(address, &located);
-            *out = copied(&text);
+            *out = copy_of_text(&text);
             true
         }
         None => false,
@@ -36,8 +36,8 @@ pub extern "C" fn s390x_page_text(address: u64, bytes: &[u8], out: &mut Instruct
 }
 
 // The text's bytes.
-fn copied(text: &Text) -> InstructionText
-    ensures { Holds result (fitting text.now.items) }
+fn copy_of_text(text: &Text) -> InstructionText
+    ensures { Holds result (fitting_text text.now.items) }
 {
     let mut bytes = [0u8; 96];
     for i in 0..text.len() {

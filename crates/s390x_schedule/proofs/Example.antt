@@ -27,7 +27,7 @@ use Rattle.s390x_machine.specs.declared.instruction_fetch.Fetched.TheVariants.{F
 use Rattle.s390x_machine.specs.Functions.{StandsAsCode}
 use Rattle.s390x_machine.specs.Layout.{Layout}
 use Rattle.s390x_machine.specs.Machine.{Executed, FetchedStep, MachineStep, Run}
-use Rattle.s390x_machine.specs.Match.{concatenated, return_address}
+use Rattle.s390x_machine.specs.Match.{concatenation, return_address}
 use Rattle.s390x_machine.specs.Semantics.{semantics_in, semantics_of}
 use Rattle.s390x_machine.specs.Typed.{Returned, Called, At, Ended, goes_on}
 use Rattle.s390x_machine.proofs.Checked.{checked_steps}
@@ -37,7 +37,7 @@ use Rattle.s390x_machine.proofs.Functions.{function_placed}
 use Rattle.s390x_machine.proofs.Rows.{fits_rr, fits_rre, fits_ril_b, agr_listed, bcr_listed}
 use Rattle.s390x_schedule.specs.Joint.{IsMember, AreMembers, GoesOn, Running, Finished}
 use Rattle.s390x_schedule.specs.JointMatch.{JointRun}
-use Rattle.s390x_schedule.specs.Example.{image, caller_image, callee_image, environment, keeps, calls, adds, caller_trees, callee_trees, caller, callee, members, core, kept, called, summed, transition, groups, CallsAndReturns}
+use Rattle.s390x_schedule.specs.Example.{image, caller_image, callee_image, environment, keeps, calls, adds, caller_trees, callee_trees, caller, callee, members, core, core_after_save, core_after_call, core_after_sum, transition, groups, CallsAndReturns}
 
 -- ---- the members
 
@@ -195,17 +195,17 @@ back_step s t memory at acts = step_at (rr opcodes.BCR 15 14) 20 s t refl memory
 last_step : (s t : State) → s.core.memory ≡ core.memory → s.address ≡ 4106 → FetchedStep (Found (decoded_of Rr (rr opcodes.BCR 15 6).slots)) s (Executed None) t → MachineStep s (Executed None) t
 last_step s t memory at acts = step_at (rr opcodes.BCR 15 6) 10 s t refl memory at last_stands (fits_rr opcodes.BCR 15 6 (omega arith) (omega arith) (omega arith)) (bcr_listed 15 6) acts
 
-run : Run image (record { core = core; address = 4096 }) (concatenated groups)
+run : Run image (record { core = core; address = 4096 }) (concatenation groups)
 unfolding length_of semantics_in semantics_of
 run = (
-  record { may = tt; goes = lgr_step (record { core = core; address = 4096 }) (record { core = kept; address = 4100 }) refl refl (record { reached = refl; allowed = refl; results = refl; code = refl; memory = refl }, refl, refl) },
+  record { may = tt; goes = lgr_step (record { core = core; address = 4096 }) (record { core = core_after_save; address = 4100 }) refl refl (record { reached = refl; allowed = refl; results = refl; code = refl; memory = refl }, refl, refl) },
   (
-    record { may = tt; goes = brasl_step (record { core = kept; address = 4100 }) (record { core = called; address = 4112 }) refl refl (refl, refl) },
+    record { may = tt; goes = brasl_step (record { core = core_after_save; address = 4100 }) (record { core = core_after_call; address = 4112 }) refl refl (refl, refl) },
     (
-      record { may = tt; goes = agr_step (record { core = called; address = 4112 }) (record { core = summed; address = 4116 }) refl refl (record { reached = refl; allowed = refl; results = refl; code = refl; memory = refl }, refl, refl) },
+      record { may = tt; goes = agr_step (record { core = core_after_call; address = 4112 }) (record { core = core_after_sum; address = 4116 }) refl refl (record { reached = refl; allowed = refl; results = refl; code = refl; memory = refl }, refl, refl) },
       (
-        record { may = tt; goes = back_step (record { core = summed; address = 4116 }) (record { core = summed; address = 4106 }) refl refl (refl, refl, refl) },
-        (record { may = tt; goes = last_step (record { core = summed; address = 4106 }) (record { core = summed; address = 8192 }) refl refl (refl, refl, refl) }, tt),
+        record { may = tt; goes = back_step (record { core = core_after_sum; address = 4116 }) (record { core = core_after_sum; address = 4106 }) refl refl (refl, refl, refl) },
+        (record { may = tt; goes = last_step (record { core = core_after_sum; address = 4106 }) (record { core = core_after_sum; address = 8192 }) refl refl (refl, refl, refl) }, tt),
       ),
     ),
   ),
@@ -239,35 +239,35 @@ no_return (suc (suc m)) k L c listed at is = absurd (cc)
 nowhere : (m k : ℕ) → GoesOn members (Returned 8192) m k → ⊥
 nowhere m k leads = let x = leads.1 in no_return m leads.0 x.layout x.calling x.listed x.calls x.is
 
-joint : JointRun members (Running 0 0) core groups (Finished 0 (Returned 8192)) summed
+joint : JointRun members (Running 0 0) core groups (Finished 0 (Returned 8192)) core_after_sum
 unfolding length_of
 joint = (
   Running 0 1,
-  kept,
+  core_after_save,
   record { layout = caller; listed = refl; own = At 1; steps = goes_on 0 (record { reached = refl; allowed = refl; results = refl; code = refl; memory = refl }) refl; continues = refl },
-  (omega arith, inr ((λ none. absurd (omega (arith, none))), record { before = []; last = transition kept 4100; is = refl; nothing = tt; stores = refl }), refl),
+  (omega arith, inr ((λ none. absurd (omega (arith, none))), record { before = []; last = transition core_after_save 4100; is = refl; nothing = tt; stores = refl }), refl),
   (caller, refl, refl),
   (
     Running 1 0,
-    called,
+    core_after_call,
     record { layout = caller; listed = refl; own = Ended (Called 4112); steps = (refl, refl); continues = (record { layout = callee; listed = refl; is = refl }, refl) },
     (omega arith, (refl, tt), omega arith),
     (callee, refl, refl),
     (
       Running 1 1,
-      summed,
+      core_after_sum,
       record { layout = callee; listed = refl; own = At 1; steps = goes_on 0 (record { reached = refl; allowed = refl; results = refl; code = refl; memory = refl }) refl; continues = refl },
-      (omega arith, inr ((λ none. absurd (omega (arith, none))), record { before = []; last = transition summed 4116; is = refl; nothing = tt; stores = refl }), refl),
+      (omega arith, inr ((λ none. absurd (omega (arith, none))), record { before = []; last = transition core_after_sum 4116; is = refl; nothing = tt; stores = refl }), refl),
       (callee, refl, refl),
       (
         Running 0 2,
-        summed,
+        core_after_sum,
         record { layout = callee; listed = refl; own = Ended (Returned 4106); steps = (refl, refl); continues = (1, record { layout = caller; listed = refl; calling = calls; calls = refl; is = refl }, refl) },
         (omega arith, (refl, tt), omega arith),
         (caller, refl, refl),
         (
           Finished 0 (Returned 8192),
-          summed,
+          core_after_sum,
           record { layout = caller; listed = refl; own = Ended (Returned 8192); steps = (refl, refl); continues = (refl, refl, nowhere) },
           (omega arith, (refl, tt), omega arith),
           tt,

@@ -7,7 +7,7 @@ use Rattle.s390x_machine.specs.Step.{Steps}
 use Rattle.s390x_machine.specs.declared.step.StepEnd.TheVariants as step
 use Rattle.s390x_schedule.specs.declared.schedule.ScheduleEnd.{ScheduleEnd}
 use Rattle.s390x_schedule.specs.declared.schedule.ScheduleEnd.TheVariants.{Done, Stopped, NoRow}
-use Rattle.s390x_schedule.specs.Schedule.{World, AllGo, EndsAs, Goes, NameMachines, Taken, Tick, after_step, after_tick, taken, view}
+use Rattle.s390x_schedule.specs.Schedule.{World, AllGo, EndsAs, Goes, NameMachines, Taken, Tick, after_step, after_tick, steps_taken, view}
 use Rattle.s390x_operations.specs.declared.stop.StopKind.{StopKind}
 use Rattle.s390x_schedule.proofs.Storing.{stop_changes_nothing}
 use Rattle.s390x_schedule.proofs.Worlds.{same_world}
@@ -65,7 +65,7 @@ then_stops w v (p ∷ ps) (suc i) t lt (s, goes, rest) who steps halts u is =
     let r = then_stops (after_step w p s) v ps i t (omega (arith, lt)) rest who steps halts u is in
     record { ticks = record { processor = p; event = Executed e.stored; after = s } ∷ r.ticks; scheduled = (refl, e.goes, inr (tt, r.scheduled)); is = r.is }
 
-pub end_taken : (w v : World) (ps : List ℕ) (end : ScheduleEnd) → EndsAs w ps end v → Taken w (taken ps end) v
+pub end_taken : (w v : World) (ps : List ℕ) (end : ScheduleEnd) → EndsAs w ps end v → Taken w (steps_taken ps end) v
 end_taken w v ps Done h = all_taken w v ps h
 end_taken w v ps (Stopped at kind address) h =
     let p = get_or ps at 0 in

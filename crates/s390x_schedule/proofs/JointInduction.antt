@@ -1,10 +1,10 @@
 -- From each step alone to every joint run.
 use Rattle.std.proofs.Common.{◌≡◌, ℕ, zero, suc, ◌+◌, ◌%◌, ◌^◌, ◌<◌, ◌≤◌, ◌⊎◌, inl, inr, List, [], ◌∷◌, ◌++◌, length, Option, Some, None, Bool, true, false, refl, sym, ap, ◌∙◌, subst, arith, append-nil, append_assoc, length-append, slice_get}
 use Rattle.s390x_typed_steps.specs.Steps.{Step}
-use Rattle.s390x_operations.specs.State.{Core, State, CodeImage, written, wrapping_add64, IsLoaded}
+use Rattle.s390x_operations.specs.State.{Core, State, CodeImage, core_after_writes, wrapping_add64, IsLoaded}
 use Rattle.s390x_machine.specs.Layout.{Layout, step_address}
 use Rattle.s390x_machine.specs.Machine.{Transition, Run, after_all, all_writes}
-use Rattle.s390x_machine.specs.Match.{concatenated, start, StoreNothing, HasNoBytes, EndsAt, IsGroup, IsUnderWay, EndsMatch}
+use Rattle.s390x_machine.specs.Match.{concatenation, start, StoreNothing, HasNoBytes, EndsAt, IsGroup, IsUnderWay, EndsMatch}
 use Rattle.s390x_machine.specs.OneStep.{Runs, waits, silent, goes, stops, ends, stuck}
 use Rattle.s390x_machine.specs.Typed.{Ending, Returned, Called, TailCalled, Trapped, DebugStopped, Position, At, Ended, TypedStep, kind_of_step, kind_at}
 use Rattle.s390x_machine.proofs.Calls.{returns_to}
@@ -23,21 +23,21 @@ use Rattle.s390x_schedule.proofs.Continuing.{goes_on_or_ends}
 data JointOneStep (whole : CodeImage) (members : List Layout) (m : ℕ) (L : Layout) (k : ℕ) (c : Core) (trace : List Transition) : Type 0 where
   here : JointlyAllowed whole members m k (start L k c) trace → JointOneStep whole members m L k c trace
   idle : TypedStep L k c (At (suc k)) c → HasNoBytes L k → suc k ≤ length L.steps → JointOneStep whole members m L k c trace
-  on : (g rest : List Transition) → trace ≡ g ++ rest → 1 ≤ length g → (own : Position) (t : Core) → TypedStep L k (written (all_writes g) c) own t → IsGroup L k c g own t →
+  on : (g rest : List Transition) → trace ≡ g ++ rest → 1 ≤ length g → (own : Position) (t : Core) → TypedStep L k (core_after_writes (all_writes g) c) own t → IsGroup L k c g own t →
       (n j : ℕ) (next : Layout) → slice_get members n ≡ Some next → Continues members m own (Running n j) → after_all (start L k c) g ≡ start next j t → IsLoaded whole t.memory → JointOneStep whole members m L k c trace
 
 -- a step, and what is allowed after it
 step_then : (whole : CodeImage) (members : List Layout) (m : ℕ) (L : Layout) → slice_get members m ≡ Some L → (k : ℕ) (c : Core) (trace g rest : List Transition) → trace ≡ g ++ rest → (own : Position) (t : Core) →
-    TypedStep L k (written (all_writes g) c) own t → IsGroup L k c g own t → (n j : ℕ) (next : Layout) → slice_get members n ≡ Some next → Continues members m own (Running n j) → after_all (start L k c) g ≡ start next j t →
+    TypedStep L k (core_after_writes (all_writes g) c) own t → IsGroup L k c g own t → (n j : ℕ) (next : Layout) → slice_get members n ≡ Some next → Continues members m own (Running n j) → after_all (start L k c) g ≡ start next j t →
     JointlyAllowed whole members n j (start next j t) rest → JointlyAllowed whole members m k (start L k c) trace
 step_then whole members m L listed k c trace g rest split own t step group n j next at continues lands a = record {
   groups = g ∷ a.groups;
   rest = a.rest;
-  split = split ∙ ap (λ l. g ++ l) a.split ∙ sym (append_assoc g (concatenated a.groups) a.rest);
+  split = split ∙ ap (λ l. g ++ l) a.split ∙ sym (append_assoc g (concatenation a.groups) a.rest);
   position = a.position;
   core = a.core;
   run = (Running n j, t, record { layout = L; listed = listed; own = own; steps = step; continues = continues }, group, (next, at, lands), a.run);
-  ends_match = subst (λ s. JointEndsMatch whole members a.position a.core s a.rest) (sym (after_append (start L k c) g (concatenated a.groups) ∙ ap (λ s. after_all s (concatenated a.groups)) lands)) a.ends_match;
+  ends_match = subst (λ s. JointEndsMatch whole members a.position a.core s a.rest) (sym (after_append (start L k c) g (concatenation a.groups) ∙ ap (λ s. after_all s (concatenation a.groups)) lands)) a.ends_match;
 }
 
 -- the run stays at a step
@@ -54,7 +54,7 @@ stays whole members m L listed k c trace w = record {
 
 -- the run ends with a step
 finishes : (whole : CodeImage) (members : List Layout) (m : ℕ) (L : Layout) → slice_get members m ≡ Some L → (k : ℕ) (c : Core) (trace g rest : List Transition) → trace ≡ g ++ rest → (e : Ending) (t : Core) →
-    TypedStep L k (written (all_writes g) c) (Ended e) t → IsGroup L k c g (Ended e) t → ((n j : ℕ) → GoesOn members e n j → ⊥) → EndsMatch L (Ended e) t (after_all (start L k c) g) rest → JointlyAllowed whole members m k (start L k c) trace
+    TypedStep L k (core_after_writes (all_writes g) c) (Ended e) t → IsGroup L k c g (Ended e) t → ((n j : ℕ) → GoesOn members e n j → ⊥) → EndsMatch L (Ended e) t (after_all (start L k c) g) rest → JointlyAllowed whole members m k (start L k c) trace
 finishes whole members m L listed k c trace g rest split e t step group nowhere ends_match = record {
   groups = g ∷ [];
   rest = rest;
@@ -101,7 +101,7 @@ module _ (whole : CodeImage) (members : List Layout) (are : AreMembers whole mem
     stay w = here (stays whole members m L listed k c trace w)
 
     -- a step that ends the member's own run
-    ended : (g rest : List Transition) → trace ≡ g ++ rest → (e : Ending) (t : Core) → TypedStep L k (written (all_writes g) c) (Ended e) t → IsGroup L k c g (Ended e) t → EndsMatch L (Ended e) t (after_all (start L k c) g) rest →
+    ended : (g rest : List Transition) → trace ≡ g ++ rest → (e : Ending) (t : Core) → TypedStep L k (core_after_writes (all_writes g) c) (Ended e) t → IsGroup L k c g (Ended e) t → EndsMatch L (Ended e) t (after_all (start L k c) g) rest →
         ((n j : ℕ) × GoesOn members e n j) ⊎ ((n j : ℕ) → GoesOn members e n j → ⊥) → JointOneStep whole members m L k c trace
     ended g rest split e t step group ends_match (inr nowhere) = here (finishes whole members m L listed k c trace g rest split e t step group nowhere ends_match)
     ended g rest split e t step group ends_match (inl x) =
@@ -111,7 +111,7 @@ module _ (whole : CodeImage) (members : List Layout) (are : AreMembers whole mem
         on g rest split (took_some members L k e g (after_all (start L k c) g) x.0 x.1 x.2 group.2) (Ended e) t step group x.0 x.1 s.0 s.1 x.2 s.2 (subst (λ (z : State). IsLoaded whole z.core.memory) s.2 still)
 
     -- a step that goes on in the member, and stores nothing into the whole image
-    gone : (h rest : List Transition) (t : Transition) → trace ≡ h ++ t ∷ rest → StoreNothing h → (j : ℕ) (x : Core) → TypedStep L k (written (all_writes (h ++ t ∷ [])) c) (At j) x → IsGroup L k c (h ++ t ∷ []) (At j) x →
+    gone : (h rest : List Transition) (t : Transition) → trace ≡ h ++ t ∷ rest → StoreNothing h → (j : ℕ) (x : Core) → TypedStep L k (core_after_writes (all_writes (h ++ t ∷ [])) c) (At j) x → IsGroup L k c (h ++ t ∷ []) (At j) x →
         LeavesImage whole t.event → t.after ≡ start L j x → JointOneStep whole members m L k c trace
     gone h rest t split nothing j x step group leaves lands =
         let s = start L k c in

@@ -1,6 +1,6 @@
 -- The whole image stays in memory, and a run past it is one past each part.
 use Rattle.std.proofs.Common.{List, [], ◌∷◌, ◌++◌, Option, Some, None, Bool, false, IsTrue, IsFalse, sym, subst, true≢false}
-use Rattle.s390x_operations.specs.State.{Core, State, Write, CodeImage, written, IsLoaded, IsDisjoint}
+use Rattle.s390x_operations.specs.State.{Core, State, Write, CodeImage, core_after_writes, IsLoaded, IsDisjoint}
 use Rattle.s390x_operations.specs.Access.{stores_into}
 use Rattle.s390x_operations.specs.Effects.{access}
 use Rattle.s390x_machine.specs.Layout.{Layout}
@@ -34,11 +34,11 @@ run_behind image s (t ∷ g) rest r = run_behind image t.after g rest r.1
 pub loaded_behind : (image : CodeImage) (s : State) (t : Transition) → IsLoaded image s.core.memory → TransitionStep image s t → LeavesImage image t.event → IsLoaded image t.after.core.memory
 loaded_behind image s t loaded step leaves = by_event t.event leaves (step_stores (after_writes s t) t.event t.after step.goes)
   where
-    here : IsLoaded image (written t.writes s.core).memory
+    here : IsLoaded image (core_after_writes t.writes s.core).memory
     here = lies_written image s.core.memory.has s.core.memory.get t.writes loaded step.may
 
     by_event : (event : Event) → LeavesImage image event → StoresAs (after_writes s t) event t.after → IsLoaded image t.after.core.memory
-    by_event (Executed x) out stores = subst (λ m. IsLoaded image m) (sym stores.memory) (loaded_after_store image x (written t.writes s.core).memory here out)
+    by_event (Executed x) out stores = subst (λ m. IsLoaded image m) (sym stores.memory) (loaded_after_store image x (core_after_writes t.writes s.core).memory here out)
     by_event (Interrupted kind) out stores = subst (λ m. IsLoaded image m) (sym stores.memory) here
 
 -- so do transitions that store nothing at all
@@ -59,8 +59,8 @@ wrong_into whole L (Some (Performs needs operation code)) c e = touches_image e
 wrong_into whole L (Some _) c e = absurd (true≢false (sym e))
 wrong_into whole L None c e = tt
 
-pub apart_form : (image : CodeImage) (o : Option StepKind) (c : Core) (ws : List Write) → IsFalse (form_into image o c) → IsDisjoint image (store_event_of_kind o (written ws c))
-apart_form image (Some (Performs needs operation code)) c ws e = apart_of image (access (operation c.registers).effect) (written ws c).memory e
+pub apart_form : (image : CodeImage) (o : Option StepKind) (c : Core) (ws : List Write) → IsFalse (form_into image o c) → IsDisjoint image (store_event_of_kind o (core_after_writes ws c))
+apart_form image (Some (Performs needs operation code)) c ws e = apart_of image (access (operation c.registers).effect) (core_after_writes ws c).memory e
 apart_form image (Some _) c ws e = tt
 apart_form image None c ws e = tt
 

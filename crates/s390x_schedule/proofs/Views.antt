@@ -1,7 +1,7 @@
 -- A schedule as one of its processors sees it: a run under others' writes.
 use Rattle.std.proofs.Common.{◌≡◌, ℕ, List, [], ◌∷◌, ◌++◌, ◌⊎◌, Bool, true, false, cond, ◌==◌, IsFalse, inl, inr, refl, sym, ap, ◌∙◌, subst, eqb-true}
 use Rattle.std.proofs.lemmas.Bool.{eqb-false}
-use Rattle.s390x_operations.specs.State.{Memory, State, Write, CodeImage, MayWrite, write_get, written}
+use Rattle.s390x_operations.specs.State.{Memory, State, Write, CodeImage, MayWrite, write_get, core_after_writes}
 use Rattle.s390x_machine.specs.Machine.{MachineStep, Run, TransitionStep}
 use Rattle.s390x_machine.proofs.Frame.{written_append}
 use Rattle.s390x_schedule.specs.Schedule.{Processor, World, Goes, LeavesImage, OthersLeaveImage, Scheduled, Tick, after_tick, stored_writes, transitions_of, view}
@@ -13,7 +13,7 @@ may_append image has (w ∷ ws) vs h g = (h.0, h.1, h.2, may_append image has ws
 
 -- a state with the writes of others
 abbrev with_writes : List Write → State → State
-with_writes ws s = record { core = written ws s.core; address = s.address }
+with_writes ws s = record { core = core_after_writes ws s.core; address = s.address }
 
 -- what a processor has of its own, with a memory
 abbrev seen : Processor → Memory → State

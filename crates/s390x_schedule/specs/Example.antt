@@ -15,7 +15,7 @@ use Rattle.s390x_operations.specs.declared.stop.ConditionCode.TheVariants.{Code0
 use Rattle.s390x_machine.specs.Functions.{function_layout}
 use Rattle.s390x_machine.specs.Layout.{Layout, block_address}
 use Rattle.s390x_machine.specs.Machine.{Executed, Transition, Run}
-use Rattle.s390x_machine.specs.Match.{concatenated}
+use Rattle.s390x_machine.specs.Match.{concatenation}
 use Rattle.s390x_machine.specs.Typed.{Returned}
 use Rattle.s390x_schedule.specs.Joint.{AreMembers, Running, Finished}
 use Rattle.s390x_schedule.specs.JointMatch.{JointRun, JointEndsMatch}
@@ -79,16 +79,16 @@ abbrev pub core : Core
 core = record { registers = registers; memory = record { has = λ a. is_within image a; get = λ a. slice_index image.bytes (a - 4096) } }
 
 -- `%r6` is the return address
-abbrev pub kept : Core
-kept = record { registers = set_general registers 6 8192; memory = core.memory }
+abbrev pub core_after_save : Core
+core_after_save = record { registers = set_general registers 6 8192; memory = core.memory }
 
 -- `%r14` is the call's return place
-abbrev pub called : Core
-called = record { registers = set_general kept.registers 14 4106; memory = core.memory }
+abbrev pub core_after_call : Core
+core_after_call = record { registers = set_general core_after_save.registers 14 4106; memory = core.memory }
 
 -- the sum is 3
-abbrev pub summed : Core
-summed = record { registers = with_code Code2 (set_general called.registers 2 3); memory = core.memory }
+abbrev pub core_after_sum : Core
+core_after_sum = record { registers = with_code Code2 (set_general core_after_call.registers 2 3); memory = core.memory }
 
 -- a transition without writes of others that stores nothing, after which the core and the address are these
 abbrev pub transition : Core → ℕ → Transition
@@ -96,12 +96,12 @@ transition c address = record { writes = []; event = Executed None; after = reco
 
 -- each transition is a group
 abbrev pub groups : List (List Transition)
-groups = (transition kept 4100 ∷ []) ∷ (transition called 4112 ∷ []) ∷ (transition summed 4116 ∷ []) ∷ (transition summed 4106 ∷ []) ∷ (transition summed 8192 ∷ []) ∷ []
+groups = (transition core_after_save 4100 ∷ []) ∷ (transition core_after_call 4112 ∷ []) ∷ (transition core_after_sum 4116 ∷ []) ∷ (transition core_after_sum 4106 ∷ []) ∷ (transition core_after_sum 8192 ∷ []) ∷ []
 
 -- the two functions lie in the image, which lies in memory; the machine runs so from the first one's block, through the second one and back; and so do the joint steps
 pub record CallsAndReturns : Type 0 where
   pub are : AreMembers image members
   pub lies : IsLoaded image core.memory
-  pub run : Run image (record { core = core; address = block_address caller 0 }) (concatenated groups)
-  pub joint : JointRun members (Running 0 0) core groups (Finished 0 (Returned 8192)) summed
-  pub ends : JointEndsMatch image members (Finished 0 (Returned 8192)) summed (record { core = summed; address = 8192 }) []
+  pub run : Run image (record { core = core; address = block_address caller 0 }) (concatenation groups)
+  pub joint : JointRun members (Running 0 0) core groups (Finished 0 (Returned 8192)) core_after_sum
+  pub ends : JointEndsMatch image members (Finished 0 (Returned 8192)) core_after_sum (record { core = core_after_sum; address = 8192 }) []

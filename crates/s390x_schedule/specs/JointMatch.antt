@@ -2,11 +2,11 @@
 use Rattle.std.specs.Prelude.{◌≡◌, ℕ, suc, ◌⊎◌, List, [], ◌∷◌, ◌++◌, Some, slice_get}
 use Rattle.s390x_typed_steps.specs.StepBody.{Calling}
 use Rattle.s390x_typed_steps.specs.Steps.{CallingStep}
-use Rattle.s390x_operations.specs.State.{Core, State, CodeImage, written, IsLoaded}
+use Rattle.s390x_operations.specs.State.{Core, State, CodeImage, core_after_writes, IsLoaded}
 use Rattle.s390x_machine.specs.CodeAt.{IsBlock}
 use Rattle.s390x_machine.specs.Layout.{Layout, block_address, step_address}
 use Rattle.s390x_machine.specs.Machine.{Transition, Run, after_all, all_writes}
-use Rattle.s390x_machine.specs.Match.{concatenated, start, IsGroup, IsUnderWay, EndsMatch, return_address}
+use Rattle.s390x_machine.specs.Match.{concatenation, start, IsGroup, IsUnderWay, EndsMatch, return_address}
 use Rattle.s390x_machine.specs.Typed.{Ended}
 use Rattle.s390x_schedule.specs.Joint.{JointPosition, Running, Finished, JointStep, WrongIn}
 
@@ -20,7 +20,7 @@ abbrev pub JointRun : List Layout → JointPosition → Core → List (List Tran
 JointRun members position c [] position' t = (position' ≡ position) × (t ≡ c)
 JointRun members (Finished m e) c (g ∷ gs) position' t = ⊥
 JointRun members (Running m k) c (g ∷ gs) position' t =
-    (next : JointPosition) × (mid : Core) × (x : JointStep members m k (written (all_writes g) c) next mid) × IsGroup x.layout k c g x.own mid × StandsAt members next mid (after_all (start x.layout k c) g) × JointRun members next mid gs position' t
+    (next : JointPosition) × (mid : Core) × (x : JointStep members m k (core_after_writes (all_writes g) c) next mid) × IsGroup x.layout k c g x.own mid × StandsAt members next mid (after_all (start x.layout k c) g) × JointRun members next mid gs position' t
 
 -- how it ends: where the joint run stands, the machine's state there, and the rest of the machine's run
 abbrev pub JointEndsMatch : CodeImage → List Layout → JointPosition → Core → State → List Transition → Type 0
@@ -32,11 +32,11 @@ JointEndsMatch whole members (Finished m e) t s rest = (L : Layout) × (slice_ge
 pub record JointlyAllowed (whole : CodeImage) (members : List Layout) (m k : ℕ) (s : State) (trace : List Transition) : Type 0 where
   pub groups : List (List Transition)
   pub rest : List Transition
-  pub split : trace ≡ concatenated groups ++ rest
+  pub split : trace ≡ concatenation groups ++ rest
   pub position : JointPosition
   pub core : Core
   pub run : JointRun members (Running m k) s.core groups position core
-  pub ends_match : JointEndsMatch whole members position core (after_all s (concatenated groups)) rest
+  pub ends_match : JointEndsMatch whole members position core (after_all s (concatenation groups)) rest
 
 -- Every machine run from an address, of any length, in every state in which the whole image lies in memory, is allowed by the joint steps from step k of a
 -- member. The transitions have others' writes before each step, none of them into the whole image, so this is over every list of them

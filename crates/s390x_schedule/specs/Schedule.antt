@@ -119,7 +119,7 @@ EndsAs w ps (Stopped at kind address) v = (at < length ps) × AllGo w (take at p
 EndsAs w ps (NoRow at) v = (at < length ps) × AllGo w (take at ps) v × Steps (view v (get_or ps at 0)) step.NoRow (view v (get_or ps at 0))
 
 -- the numbers whose steps are taken: a step that is open isn't one
-abbrev pub taken : List ℕ → ScheduleEnd → List ℕ
-taken ps Done = ps
-taken ps (Stopped at kind address) = ps
-taken ps (NoRow at) = take at ps
+abbrev pub steps_taken : List ℕ → ScheduleEnd → List ℕ
+steps_taken ps Done = ps
+steps_taken ps (Stopped at kind address) = ps
+steps_taken ps (NoRow at) = take at ps

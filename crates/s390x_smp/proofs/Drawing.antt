@@ -3,18 +3,18 @@ use Rattle.std.proofs.Common.{◌≡◌, ℕ, zero, suc, ◌+◌, ◌-◌, ◌/�
 use Rattle.std.proofs.lemmas.List.{drop_more}
 use Rattle.std.proofs.lemmas.Nat.{mod_below}
 use Rattle.s390x_schedule.specs.Schedule.{NameMachines}
-use Rattle.s390x_smp.specs.Drawn.{addends_to, drawn, next_number}
+use Rattle.s390x_smp.specs.Drawn.{addends_to, drawn_numbers, next_number}
 use Rattle.s390x_smp.specs.Report.{count_line, count_lines}
 
 -- one more number of a schedule
-pub drawn_more : (n steps i x y : ℕ) (ps pushed all : List ℕ) → i < steps → y ≡ next_number x → pushed ≡ ps ++ (y / 65536 % n) ∷ [] → ps ++ drawn n (steps - i) x ≡ all → pushed ++ drawn n (steps - (i + 1)) y ≡ all
+pub drawn_more : (n steps i x y : ℕ) (ps pushed all : List ℕ) → i < steps → y ≡ next_number x → pushed ≡ ps ++ (y / 65536 % n) ∷ [] → ps ++ drawn_numbers n (steps - i) x ≡ all → pushed ++ drawn_numbers n (steps - (i + 1)) y ≡ all
 drawn_more n steps i x y ps pushed all lt next push h =
-    let rest = drawn n (steps - (i + 1)) in
+    let rest = drawn_numbers n (steps - (i + 1)) in
     let left : steps - i ≡ suc (steps - (i + 1)) = omega (arith, lt) in
     ap (λ l. l ++ rest y) push
     ∙ append_assoc ps ((y / 65536 % n) ∷ []) (rest y)
     ∙ ap (λ z. ps ++ ((z / 65536 % n) ∷ rest z)) next
-    ∙ ap (λ m. ps ++ drawn n m x) (sym left)
+    ∙ ap (λ m. ps ++ drawn_numbers n m x) (sym left)
     ∙ h
 
 -- one more addend
@@ -27,7 +27,7 @@ addend_more count i xs pushed all lt push h =
     ∙ h
 
 -- what is drawn names processors
-pub drawn_named : (n steps x : ℕ) → 0 < n → NameMachines n (drawn n steps x)
+pub drawn_named : (n steps x : ℕ) → 0 < n → NameMachines n (drawn_numbers n steps x)
 drawn_named n zero x some = tt
 drawn_named n (suc steps) x some = (mod_below (next_number x / 65536) n some, drawn_named n steps (next_number x) some)
 

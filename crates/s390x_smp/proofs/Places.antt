@@ -8,8 +8,8 @@ use Rattle.s390x_rows.specs.declared.opcodes.TheConstants as opcodes
 use mir.Syntax.{w32}
 use Rattle.s390x_format.specs.Formats.{length_of}
 use Rattle.s390x_operations.specs.Access.{Reads, fault, store_event_at}
-use Rattle.s390x_operations.specs.Effects.{MayInterrupt, MayRefuse, access, is_selected, refused}
-use Rattle.s390x_operations.specs.Numbers.{low, signed}
+use Rattle.s390x_operations.specs.Effects.{MayInterrupt, MayRefuse, access, is_selected, stop_of_effect}
+use Rattle.s390x_operations.specs.Numbers.{low, signed_number}
 use Rattle.s390x_operations.specs.State.{Core, Memory, Registers, State, StoreEvent, after_store, number_at, wrapping_add64}
 use Rattle.s390x_operations.specs.declared.effect.CodeRule.TheVariants.{Set}
 use Rattle.s390x_operations.specs.declared.effect.Effect.TheVariants.{Compute, CompareAndSwap, LoadAndOperate}
@@ -121,7 +121,7 @@ low_word : (n k m : ℕ) → n + k * 4294967296 ≡ m → m % 2 ^ 32 ≡ n % 2 ^
 low_word n k m e = omega (arith, e)
 
 -- a signed sum keeps the low bits of the sum
-sum_low : (x y : ℕ) → x < 2 ^ 32 → y < 2 ^ 32 → low Word (signed Word x +ℤ signed Word y) ≡ (x + y) % 2 ^ 32
+sum_low : (x y : ℕ) → x < 2 ^ 32 → y < 2 ^ 32 → low Word (signed_number Word x +ℤ signed_number Word y) ≡ (x + y) % 2 ^ 32
 sum_low x y lx ly = go (nat_lt x 2147483648) (nat_lt y 2147483648)
   where
     go : (a b : Bool) → low Word (cond a (pos x) (pos x -ℤ pos 4294967296) +ℤ cond b (pos y) (pos y -ℤ pos 4294967296)) ≡ (x + y) % 2 ^ 32
@@ -156,7 +156,7 @@ none_stored o four sixteen Code3 = sixteen
 never : (kind : StopKind) → None ≡ Some kind → ⊥
 never kind e = absurd (cc)
 
-no_interrupt : (op : Operation) (has : ℕ → Bool) (kind : StopKind) → fault (access op.effect) has ≡ None → refused op.effect ≡ None → (MayRefuse op.effect kind → ⊥) → MayInterrupt op has kind → ⊥
+no_interrupt : (op : Operation) (has : ℕ → Bool) (kind : StopKind) → fault (access op.effect) has ≡ None → stop_of_effect op.effect ≡ None → (MayRefuse op.effect kind → ⊥) → MayInterrupt op has kind → ⊥
 no_interrupt op has kind none allowed may (inl h) = never kind (sym none ∙ h)
 no_interrupt op has kind none allowed may (inr (_, inl h)) = never kind (sym allowed ∙ h)
 no_interrupt op has kind none allowed may (inr (_, inr h)) = may h
@@ -217,7 +217,7 @@ module _ (base word addend : ℕ) (even : Bool) (u : Usable base word) (below : 
       let r2 = s.core.registers.general 2 in
       let r3 = s.core.registers.general 3 in
       let register = λ (k : ℕ). ap (λ (r : Registers). r.general k) h.0.results in
-      let sum = in_register (t.core.registers.general 4) (s.core.registers.general 4) (low Word (signed Word (r2 % 2 ^ 32) +ℤ signed Word (r3 % 2 ^ 32))) r2 addend r3 (register 4) (sum_low (r2 % 2 ^ 32) (r3 % 2 ^ 32) (omega arith) (omega arith)) adding.addend_is in
+      let sum = in_register (t.core.registers.general 4) (s.core.registers.general 4) (low Word (signed_number Word (r2 % 2 ^ 32) +ℤ signed_number Word (r3 % 2 ^ 32))) r2 addend r3 (register 4) (sum_low (r2 % 2 ^ 32) (r3 % 2 ^ 32) (omega arith) (omega arith)) adding.addend_is in
       let two : t.core.registers.general 2 ≡ r2 = register 2 in
       record {
         offset = 0;

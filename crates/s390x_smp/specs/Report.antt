@@ -3,7 +3,7 @@ use Rattle.std.specs.Prelude.{◌≡◌, ℕ, ◌+◌, List, [], ◌∷◌, ◌+
 use Rattle.std.specs.Fmt.{decimal}
 use Rattle.s390x_smp.specs.Simulation.{IsStart, Simulation, word_of}
 use Rattle.s390x_smp.specs.Stores.{RunsAs}
-use Rattle.s390x_smp.specs.Drawn.{addends_to, drawn}
+use Rattle.s390x_smp.specs.Drawn.{addends_to, drawn_numbers}
 
 -- `word V`
 abbrev pub word_line : ℕ → List ℕ
@@ -23,5 +23,5 @@ pub record IsSimulated (base word count steps start : ℕ) (text : List ℕ) : T
   pub first : Simulation
   pub last : Simulation
   pub starts : IsStart base word (addends_to 0 count) first
-  pub runs : RunsAs first (drawn count steps start) last
+  pub runs : RunsAs first (drawn_numbers count steps start) last
   pub spelled : text ≡ word_line (word_of last) ++ count_lines 0 last.stores

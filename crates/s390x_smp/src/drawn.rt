@@ -1,6 +1,6 @@
 //! Schedules that are drawn, and the addends of a simulation.
 ghost use Rattle.std.specs.Prelude.{◌≡◌, ◌<◌, IfOk};
-ghost use Rattle.s390x_smp.specs.Drawn.{addends_to, drawn, next_number};
+ghost use Rattle.s390x_smp.specs.Drawn.{addends_to, drawn_numbers, next_number};
 
 use std::alloc::{AllocError, Global};
 
@@ -14,7 +14,7 @@ pub fn drawn_schedule(
     start: u32,
 ) -> Result<Vec<u32>, AllocError>
     requires { 0 < count }
-    ensures { IfOk result (λ schedule. schedule.items ≡ drawn count steps start) }
+    ensures { IfOk result (λ schedule. schedule.items ≡ drawn_numbers count steps start) }
 {
     let mut schedule = Vec::new(alloc);
     let mut drawn = start;
@@ -27,7 +27,7 @@ pub fn drawn_schedule(
 
 // The next number of the sequence.
 fn next_number(drawn: u32) -> u32
-    ensures { result ≡ next_number drawn }
+    ensures { result ≡ next_number drawn_numbers }
 {
     let next = (u64::from(drawn) * 1664525 + 1013904223) % 4294967296;
     next as u32

@@ -52,7 +52,7 @@ use Rattle.s390x_typed_steps.specs.VectorOpcodes.{binary_row, unary_row as vecto
 use Rattle.s390x_typed_steps.specs.declared.move_rows.TheConstants.{INSERT_HALVES, INSERT_PARTS, LOAD_HALVES, LOAD_PARTS}
 use Rattle.s390x_typed_steps.specs.declared.operator_rows.PartRows.{PartRows}
 use Rattle.s390x_typed_steps.specs.declared.operator_rows.PartRows.TheVariants.{Lacking, One, Two, Four}
-use Rattle.s390x_step_laws.specs.Available.{AllowsForm, AllowsMemory, AllowsOpcode, AllowsOpcodeWhere, AllowsSingle, has_needed, needed}
+use Rattle.s390x_step_laws.specs.Available.{AllowsForm, AllowsMemory, AllowsOpcode, AllowsOpcodeWhere, AllowsSingle, has_needed, needed_facility}
 
 -- the facility that is needed is the one that is asked for, or the base
 abbrev is_asked : Facility → InstructionSet → Bool
@@ -99,7 +99,7 @@ opcode_asked asked None = true
 opcode_asked asked (Some opcode) = always_asked (row_for machine_rows opcode).facility asked
 
 abbrev IsAsked : InstructionSet → MachineInstruction → Type 0
-IsAsked asked x = is_asked (needed x) asked ≡ true
+IsAsked asked x = is_asked (needed_facility x) asked ≡ true
 
 abbrev IsAskedWhere : InstructionSet → Option MachineInstruction → Type 0
 IsAskedWhere asked None = Unit {0}
@@ -524,7 +524,7 @@ each_asked i = tt
 
 asked_is_allowed : (f : IsaFlags) (asked : InstructionSet) (o : Option SingleInstruction) → IsSingleAsked asked o → has_facility f asked ≡ true → AllowsSingle f o
 asked_is_allowed f asked None is has = tt
-asked_is_allowed f asked (Some x) is has = asked_is_had f (needed x.row) asked is has
+asked_is_allowed f asked (Some x) is has = asked_is_had f (needed_facility x.row) asked is has
 
 pub single_is_allowed : (f : IsaFlags) (i : Inst) → has_facility f (facility_of i) ≡ true → AllowsSingle f (single_instruction i)
 single_is_allowed f i has = asked_is_allowed f (facility_of i) (single_instruction i) (each_asked i) has

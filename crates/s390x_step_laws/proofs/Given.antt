@@ -19,7 +19,7 @@ use Rattle.s390x_inst.specs.declared.store.StoreOp.TheVariants as StoreOps
 use Rattle.s390x_inst.specs.Stores.{as_store, store_instruction, by_store}
 use Rattle.s390x_inst.specs.declared.state.IsaFlags.{IsaFlags}
 use Rattle.s390x_typed_steps.specs.Baseline.{whole_or_loaded, body_for, tree_for}
-use Rattle.s390x_typed_steps.specs.Folding.{folded, fold, shortened, remainder, branches_of, folded_before, folded_from, folded_trees, next_block}
+use Rattle.s390x_typed_steps.specs.Folding.{folded_members, fold, body_with_remainder, remainder, branches_of, folded_before, folded_from, folded_trees, next_block}
 use Rattle.s390x_typed_steps.specs.Memory.{StorageForm, RxForm, MemoryInstruction, memory, load_memory, store_memory, other_memory, accesses_relative, has_relative_row, other_rows, with_rows, without_relative}
 use Rattle.s390x_typed_steps.specs.Operands.{is_relative}
 use Rattle.s390x_typed_steps.specs.Steps.{Step, Plain, LoadedStep, Opening, Back, step_of, steps_of, steps_from, step_count, first_step, function_steps}
@@ -31,7 +31,7 @@ use Rattle.s390x_typed_steps.proofs.RelativeRows.{alu_none, locked_none, vector_
 use Rattle.s390x_operations.specs.State.{Registers}
 use Rattle.s390x_machine.specs.Layout.{Layout}
 use Rattle.s390x_machine.specs.Storage.{OperandStep, operand_address, operand_step, loaded_step, is_relative_access, needs_scratch, aligned_where}
-use Rattle.s390x_machine.specs.StepKinds.{Performs, Unsupported, performed, performed_at, performed_by, kind_or, branch_kind, fault_codes, step_kind}
+use Rattle.s390x_machine.specs.StepKinds.{Performs, Unsupported, single_operation, performed_at, performed_by, kind_or, branch_kind, fault_codes, step_kind}
 use Rattle.s390x_step_laws.specs.Given.{given_trees, given_alone, flagged_tree, emitted_trees, emitted_alone, DoesAsGiven, same, loads_address, StepByStep}
 
 -- ---- an access of an operand that is relative to the instruction
@@ -40,7 +40,7 @@ use Rattle.s390x_step_laws.specs.Given.{given_trees, given_alone, flagged_tree, 
 record IsRelativeStep (L : Layout) (i : Inst) : Type 0 where
   pub x : OperandStep
   pub is : operand_step i ≡ Some x
-  pub alone : performed L i ≡ None
+  pub alone : single_operation L i ≡ None
   pub relative : is_relative x.operand ≡ true
 
 -- what has no other rows has none relative to the instruction
@@ -195,11 +195,11 @@ tree_as_given flags L k after (loop_node mask members rest) =
 
 -- ---- the ends of blocks
 
-jump_kept : (L : Layout) (after : ℕ) (o : Option Remainder) (d : MachLabel) → step_kind L (step_of after (shortened o (Jump d))) ≡ step_kind L (step_of after (Whole (Jump d)))
+jump_kept : (L : Layout) (after : ℕ) (o : Option Remainder) (d : MachLabel) → step_kind L (step_of after (body_with_remainder o (Jump d))) ≡ step_kind L (step_of after (Whole (Jump d)))
 jump_kept L after None d = refl
 jump_kept L after (Some r) d = refl
 
-choice_kept : (L : Layout) (after : ℕ) (o : Option Remainder) (t n : MachLabel) (m : ℕ) → step_kind L (step_of after (shortened o (CondBr t n m))) ≡ step_kind L (step_of after (Whole (CondBr t n m)))
+choice_kept : (L : Layout) (after : ℕ) (o : Option Remainder) (t n : MachLabel) (m : ℕ) → step_kind L (step_of after (body_with_remainder o (CondBr t n m))) ≡ step_kind L (step_of after (Whole (CondBr t n m)))
 choice_kept L after None t n m = refl
 choice_kept L after (Some r) t n m = refl
 
@@ -209,7 +209,7 @@ fold_kept L after next (Whole (Jump d)) = jump_kept L after (remainder next (bra
 fold_kept L after next (Whole (CondBr t n m)) = choice_kept L after (remainder next (branches_of (CondBr t n m))) t n m
 fold_kept L after next b = refl
 
-folded_kept : (L : Layout) (next k after : ℕ) (t : Tree) → SameKinds L (steps_of k after (folded next t)) (steps_of k after t)
+folded_kept : (L : Layout) (next k after : ℕ) (t : Tree) → SameKinds L (steps_of k after (folded_members next t)) (steps_of k after t)
 folded_kept L next k after empty = tt
 folded_kept L next k after (leaf b empty) = (fold_kept L after next b, tt)
 folded_kept L next k after (leaf b (leaf c rest)) = (refl, folded_kept L next (k + 1) after (leaf c rest))
@@ -217,7 +217,7 @@ folded_kept L next k after (leaf b (loop_node mask members rest)) = (refl, folde
 folded_kept L next k after (loop_node mask members rest) =
     let inner = steps_of (k + 1) (k + 2 + step_count members) members in (
       refl,
-      each_append (λ s t. step_kind L s ≡ step_kind L t) inner inner (Back mask (k + 1) ∷ steps_of (k + 2 + step_count members) after (folded next rest)) (Back mask (k + 1) ∷ steps_of (k + 2 + step_count members) after rest)
+      each_append (λ s t. step_kind L s ≡ step_kind L t) inner inner (Back mask (k + 1) ∷ steps_of (k + 2 + step_count members) after (folded_members next rest)) (Back mask (k + 1) ∷ steps_of (k + 2 + step_count members) after rest)
           (alike L inner) (refl, folded_kept L next (k + 2 + step_count members) after rest),
     )
 

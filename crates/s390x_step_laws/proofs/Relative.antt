@@ -24,10 +24,10 @@ use Rattle.s390x_inst.specs.declared.vec_inst.VecInst.{VecInst}
 use Rattle.s390x_inst.specs.declared.vec_inst.VecInst.TheVariants.{VecLoadReplicate, VecLoadReplicateRev, VecLoadLane, VecLoadLaneRev, VecLoadLaneUndef, VecLoadLaneRevUndef, VecStoreLane, VecStoreLaneRev}
 use Rattle.s390x_rows.specs.declared.opcodes.TheConstants as opcodes
 use Rattle.s390x_typed_steps.specs.Baseline.{whole_or_loaded, body_for, tree_for}
-use Rattle.s390x_typed_steps.specs.Folding.{folded, fold, shortened, remainder, branches_of, folded_before, folded_from, next_block}
+use Rattle.s390x_typed_steps.specs.Folding.{folded_members, fold, body_with_remainder, remainder, branches_of, folded_before, folded_from, next_block}
 use Rattle.s390x_typed_steps.specs.MachineInstruction.{MachineInstruction}
 use Rattle.s390x_typed_steps.specs.Memory.{StorageForm, RxForm, VrxForm, MemoryInstruction, memory, load_memory, store_memory, whole_memory, other_memory, accesses_relative, has_relative_row, other_rows, with_rows, without_relative, address_form, storage_row, type_of, fault_code, operate, load_and_operate, access_vector, access_elements, access_lane, vector_memory, load_left, store_left, is_left_lane, load_lane_opcode, load_reversed_opcode, store_lane_opcode, store_reversed_opcode, reversed_code}
-use Rattle.s390x_typed_steps.specs.Operands.{Finalized, finalized, displaced, addressed, widened, needs_address, is_relative, fits_12, fits_20, fits_32}
+use Rattle.s390x_typed_steps.specs.Operands.{Finalized, finalized_operand, with_displacement, with_address_loaded, with_long_displacement, needs_address, is_relative, fits_12, fits_20, fits_32}
 use Rattle.s390x_typed_steps.specs.Parts.{CodePart, step_parts, instruction_parts, parts_or, row_part, memory_or, memory_parts, helpers_parts, helper_parts, operand_parts, relative_parts, relative_part, access_parts, trap_here, branch_parts, table_words, row_parts, site_parts, call_part, tail_part, remainder_parts}
 use Rattle.s390x_typed_steps.specs.SingleInstruction.{SingleInstruction, single_instruction, stop_code}
 use Rattle.s390x_typed_steps.specs.StepBody.{Site, AtCall, Remainder, NothingLeft, BranchLeft}
@@ -108,7 +108,7 @@ one_of_four false true c f g h k p q r s = q
 one_of_four false false true f g h k p q r s = r
 one_of_four false false false f g h k p q r s = s
 
-displaced_stays : (m : MemArg) → is_relative m ≡ false → is_relative (displaced m).operand ≡ false
+displaced_stays : (m : MemArg) → is_relative m ≡ false → is_relative (with_displacement m).operand ≡ false
 displaced_stays (RegOffset reg off flags) e = one_of_four (fits_12 off) (fits_20 off) (fits_32 off) _ _ _ _ refl refl refl refl
 displaced_stays m e = e
 
@@ -116,7 +116,7 @@ either_operand : (t : Bool) (m n : MemArg) → is_relative m ≡ false → is_re
 either_operand true m n p q = p
 either_operand false m n p q = q
 
-widened_stays : (mi : MemInstType) (m : MemArg) → is_relative m ≡ false → is_relative (widened mi m) ≡ false
+widened_stays : (mi : MemInstType) (m : MemArg) → is_relative m ≡ false → is_relative (with_long_displacement mi m) ≡ false
 widened_stays mi (BXD12 base index disp flags) e = either_operand (not mi.have_d12 && mi.have_d20) _ _ refl refl
 widened_stays mi m e = e
 
@@ -124,11 +124,11 @@ either_stays : (t : Bool) (f g : Finalized) → is_relative f.operand ≡ false 
 either_stays true f g p q = p
 either_stays false f g p q = q
 
-addressed_stays : (mi : MemInstType) (f : Finalized) → is_relative f.operand ≡ false → is_relative (addressed mi f).operand ≡ false
+addressed_stays : (mi : MemInstType) (f : Finalized) → is_relative f.operand ≡ false → is_relative (with_address_loaded mi f).operand ≡ false
 addressed_stays mi f e = either_stays (needs_address mi f.operand) _ f refl e
 
-finalized_stays : (mi : MemInstType) (m : MemArg) → is_relative m ≡ false → is_relative (finalized mi m).operand ≡ false
-finalized_stays mi m e = widened_stays mi (addressed mi (displaced m)).operand (addressed_stays mi (displaced m) (displaced_stays m e))
+finalized_stays : (mi : MemInstType) (m : MemArg) → is_relative m ≡ false → is_relative (finalized_operand mi m).operand ≡ false
+finalized_stays mi m e = widened_stays mi (with_address_loaded mi (with_displacement m)).operand (addressed_stays mi (with_displacement m) (displaced_stays m e))
 
 -- an instruction that accesses its operand, or whose row is LOAD ADDRESS
 abbrev MayAccess : Option MemoryInstruction → Type 0
@@ -138,10 +138,10 @@ MayAccess (Some x) = (x.accesses ≡ true) ⊎ ((rd : Reg) × (x.form ≡ addres
 -- where it isn't by a row relative to it
 accessing_fine : (x : MemoryInstruction) → MayAccess (Some x) → accesses_relative (Some x) ≡ false → AccessNothingRelative (memory_parts x)
 accessing_fine x (inr h) e =
-    let f = finalized (type_of x.form x.accesses) x.operand in
+    let f = finalized_operand (type_of x.form x.accesses) x.operand in
     both (helpers_parts f.helpers) (operand_parts x.form (fault_code x) f.operand) (helpers_fine f.helpers) (subst (λ form. AccessNothingRelative (operand_parts form (fault_code x) f.operand)) (sym h.1) (address_parts_fine h.0 (fault_code x) f.operand))
 accessing_fine x (inl does) e =
-    let f = finalized (type_of x.form x.accesses) x.operand in
+    let f = finalized_operand (type_of x.form x.accesses) x.operand in
     both (helpers_parts f.helpers) (operand_parts x.form (fault_code x) f.operand) (helpers_fine f.helpers)
     (by_operand x.form (fault_code x) f.operand (λ is. unrelated_fine x.form (fault_code x) f.operand (go (has_relative_row x.form) x.accesses (is_relative x.operand) does e (λ not_so. true≢false (sym is ∙ finalized_stays (type_of x.form x.accesses) x.operand not_so)))))
   where
@@ -263,7 +263,7 @@ loaded_fine (Some x) = go x.form x.accesses
     go : (form : StorageForm) (accesses : Bool) → AccessNothingRelative (memory_or (option_map (with_rows x) (other_rows form accesses)) [])
     go (RxForm register rx_opcode rxy_opcode (Some opcode)) true =
         let y = with_rows x (RxForm register rx_opcode rxy_opcode None) in
-        let f = finalized (type_of y.form y.accesses) y.operand in
+        let f = finalized_operand (type_of y.form y.accesses) y.operand in
         both (helpers_parts f.helpers) (operand_parts y.form (fault_code y) f.operand) (helpers_fine f.helpers) (by_operand y.form (fault_code y) f.operand (λ is. tt))
     go (RxForm register rx_opcode rxy_opcode (Some opcode)) false = tt
     go (RxForm register rx_opcode rxy_opcode None) accesses = tt
@@ -308,7 +308,7 @@ body_fine flags (TailJump target) lacks after = tail_fine target
 fold_fine : (next : ℕ) (b : StepBody) → BodyFine b → BodyFine (fold next b)
 fold_fine next (Whole i) h = go (remainder next (branches_of i))
   where
-    go : (o : Option Remainder) → BodyFine (shortened o i)
+    go : (o : Option Remainder) → BodyFine (body_with_remainder o i)
     go None = h
     go (Some r) = λ after. remainder_fine r
 fold_fine next b h = h
@@ -325,7 +325,7 @@ for_fine flags empty lacks = tt
 for_fine flags (leaf b rest) lacks = (body_fine flags b lacks, for_fine flags rest lacks)
 for_fine flags (loop_node mask members rest) lacks = (for_fine flags members lacks, for_fine flags rest lacks)
 
-folded_fine : (next : ℕ) (t : Tree) → TreeFine t → TreeFine (folded next t)
+folded_fine : (next : ℕ) (t : Tree) → TreeFine t → TreeFine (folded_members next t)
 folded_fine next empty h = tt
 folded_fine next (leaf b empty) h = (fold_fine next b h.0, tt)
 folded_fine next (leaf b (leaf c rest)) h = (h.0, folded_fine next (leaf c rest) h.1)

@@ -15,8 +15,8 @@ use Rattle.s390x_typed_steps.specs.Memory.{MemoryInstruction, StorageForm, RxFor
 use Rattle.s390x_typed_steps.specs.SingleInstruction.{SingleInstruction, single_instruction}
 
 -- the facility that a machine instruction needs, by its row in the table
-abbrev pub needed : MachineInstruction → Facility
-needed x = facility_by (row_for machine_rows (slice_index x.slots 0)).facility (fields_of x.format x.slots)
+abbrev pub needed_facility : MachineInstruction → Facility
+needed_facility x = facility_by (row_for machine_rows (slice_index x.slots 0)).facility (fields_of x.format x.slots)
 
 -- whether the flags have it; the base always
 abbrev pub has_needed : Facility → IsaFlags → Bool
@@ -29,7 +29,7 @@ has_needed VxrsExt3 f = f.has_vxrs_ext3
 -- the flags have what the one machine instruction needs, where there is one
 abbrev pub AllowsSingle : IsaFlags → Option SingleInstruction → Type 0
 AllowsSingle f None = Unit {0}
-AllowsSingle f (Some x) = has_needed (needed x.row) f ≡ true
+AllowsSingle f (Some x) = has_needed (needed_facility x.row) f ≡ true
 
 -- of an instruction that is available and is one machine instruction on registers and immediates
 abbrev pub SinglesAreAllowed : Type 0

@@ -32,7 +32,7 @@ impl Contents {
     }
 
     /// A copy of the registers and regions.
-    pub fn copied(&self, alloc: Global) -> Result<Contents, AllocError> {
+    pub fn duplicate(&self, alloc: Global) -> Result<Contents, AllocError> {
         let machine = self.machine();
         let mut regions = Vec::new(alloc);
         for region in &self.regions {

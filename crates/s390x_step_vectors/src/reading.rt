@@ -11,7 +11,7 @@ use crate::region::Region;
 use s390x_case_runner::LineError;
 use s390x_format::Facility;
 use s390x_job_fields::bytes::{bytes, hex_number};
-use s390x_job_fields::number::{first, natural, tail};
+use s390x_job_fields::number::{first_byte, natural, tail};
 use s390x_job_fields::separators::{after_word, from_separator, until_separator, word};
 use s390x_machine::{Machine, StepEnd};
 use s390x_operations::StopKind;
@@ -75,7 +75,7 @@ pub fn read_step(alloc: Global, line: &[u8]) -> Result<KnownStep, LineError> {
     };
     put_region(&mut before, PLACE, code)?;
     let rest = read_words(alloc, &mut before, after_word(source))?;
-    if first(rest) != b' ' {
+    if first_byte(rest) != b' ' {
         return Err(LineError::Unreadable);
     }
     read_end(alloc, before, behind, after_word(rest))
@@ -88,7 +88,7 @@ fn read_end(
     behind: u64,
     told: &[u8],
 ) -> Result<KnownStep, LineError> {
-    let mut after = before.copied(alloc)?;
+    let mut after = before.duplicate(alloc)?;
     let stop = stop_of(word(told), before.machine.place);
     let told = match stop {
         Some(_) => after_word(told),
@@ -149,7 +149,7 @@ fn read_words<'a>(
             return Ok(rest);
         }
         let value = after_word(rest);
-        if first(rest) != b' ' || first(value) != b'=' {
+        if first_byte(rest) != b' ' || first_byte(value) != b'=' {
             return Err(LineError::Unreadable);
         }
         put_word(alloc, contents, word(rest), word(value))?;
@@ -166,7 +166,7 @@ fn put_word(
     value: &[u8],
 ) -> Result<(), LineError> {
     let number = tail(name, 1);
-    match first(name) {
+    match first_byte(name) {
         b'c' => {
             contents.machine.cc = below(value, 4)? as u8;
         }

@@ -19,7 +19,7 @@ use Rattle.s390x_typed_steps.specs.Resolved.{resolved_instruction}
 use Rattle.s390x_typed_steps.specs.Stack.{nominal_after, outgoing_after, outgoing_behind, state_after}
 use Rattle.s390x_typed_steps.specs.Tree.{Whole, block_tree, empty, prepend, row_tree}
 use Rattle.s390x_text.specs.Instructions.{after, inst_text, insts_after, insts_text, row_after, row_text}
-use Rattle.s390x_text_rows.specs.Texts.{first}
+use Rattle.s390x_text_rows.specs.Texts.{first_cause}
 use Rattle.s390x_text_rows.specs.declared.error.TextError.{TextError}
 use Rattle.s390x_text_rows.specs.declared.error.TextError.TheVariants.{NoRow}
 use Rattle.s390x_text.proofs.CallTexts.{call_fine, first_fine, tail_fine, takes_all}
@@ -109,7 +109,7 @@ mutual
 
 -- ---- texts
 
-nested : (b : Bool) (later : Option TextError) → unless b BadOperator ≡ None → later ≡ None → first (cond b None (Some NoRow)) later ≡ None
+nested : (b : Bool) (later : Option TextError) → unless b BadOperator ≡ None → later ≡ None → first_cause (cond b None (Some NoRow)) later ≡ None
 nested true later p q = q
 nested false later p q = absurd (cc)
 

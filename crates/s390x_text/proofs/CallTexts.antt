@@ -34,12 +34,12 @@ use Rattle.s390x_typed_steps.specs.StepBody.{Calling, StepBody}
 use Rattle.s390x_typed_steps.specs.Tree.{empty, leaves}
 use Rattle.s390x_text.specs.Calls.{epilogue_text, is_first_saved as has_epilogue, loaded_text, loads_text, plain_call_text, result_at, results_text, simple_texts, tail_call_text}
 use Rattle.s390x_text_rows.specs.Simple.{simple_text, unbuilt}
-use Rattle.s390x_text_rows.specs.Texts.{Text, first, fixed}
+use Rattle.s390x_text_rows.specs.Texts.{Text, first_cause, fixed_text}
 use Rattle.s390x_text_rows.specs.declared.error.TextError.{TextError}
 use Rattle.s390x_text.proofs.Leaves.{whole_fine}
 use Rattle.s390x_text.proofs.Mapless.{mapped}
 
-pub first_fine : (a b : Option TextError) → a ≡ None → b ≡ None → first a b ≡ None
+pub first_fine : (a b : Option TextError) → a ≡ None → b ≡ None → first_cause a b ≡ None
 first_fine None b p q = q
 first_fine (Some e) b p q = p
 
@@ -71,7 +71,7 @@ load_keeps e rd off ty m = refl
 -- a result, by those behind it
 result_fine : (flags : IsaFlags) (D : Declared) (n depth : ℕ) (e : Emission) (map : Option ℕ) (rd : Reg) (l : RetLocation) (rest : List StepBody) (others : Option TextError)
     → ((k : ℕ) → tree_cause flags D k e.nominal depth (leaves rest empty) ≡ None → others ≡ None)
-    → tree_cause flags D n e.nominal depth (leaves (load_before (mapped e map) rd l rest) empty) ≡ None → first (result_at e rd l).cause others ≡ None
+    → tree_cause flags D n e.nominal depth (leaves (load_before (mapped e map) rd l rest) empty) ≡ None → first_cause (result_at e rd l).cause others ≡ None
 result_fine flags D n depth e map rd (Stack off ty) rest others later h =
     let b = load_or (mapped e map) (load_of rd (OutgoingArgOffset off) ty) in
     let behind = first_right (body_cause flags D n e.nominal depth b) _ h in
@@ -98,7 +98,7 @@ results_fine flags D n depth e map (d ∷ ds) h =
 
 -- a call that may be patched shows no loads
 loads_fine : (flags : IsaFlags) (D : Declared) (n m depth : ℕ) (patchable : Bool) (loads : List StepBody) (t : Text) → (tree_cause flags D n m depth (leaves loads empty) ≡ None → t.cause ≡ None)
-    → tree_cause flags D n m depth (leaves (cond patchable [] loads) empty) ≡ None → (cond patchable (fixed []) t).cause ≡ None
+    → tree_cause flags D n m depth (leaves (cond patchable [] loads) empty) ≡ None → (cond patchable (fixed_text []) t).cause ≡ None
 loads_fine flags D n m depth true loads t fine h = refl
 loads_fine flags D n m depth false loads t fine h = fine h
 

@@ -24,7 +24,7 @@ use Rattle.s390x_typed_steps.specs.Baseline.{body_for, whole_or_loaded}
 use Rattle.s390x_typed_steps.specs.Causes.{Declared, body_cause, branch_cause, cause_or, facility_cause, leaf_cause, memory_cause_or}
 use Rattle.s390x_typed_steps.specs.General.{is_general}
 use Rattle.s390x_typed_steps.specs.Memory.{MemoryInstruction, accesses_relative, loaded_memory, memory}
-use Rattle.s390x_typed_steps.specs.Operands.{resolved}
+use Rattle.s390x_typed_steps.specs.Operands.{resolved_operand}
 use Rattle.s390x_typed_steps.specs.Resolved.{resolved_instruction, resolved_vector}
 use Rattle.s390x_typed_steps.specs.SingleInstruction.{single_instruction}
 use Rattle.s390x_typed_steps.specs.Storage.{alu_rx, alu_rxy, atomic_rsy}
@@ -106,12 +106,12 @@ fine has e D depth (StoreImm8 imm mem) a h m t = address_fine _ t
 fine has e D depth (StoreImm16 imm mem) a h m t = address_fine _ t
 fine has e D depth (StoreImm32SExt16 imm mem) a h m t = address_fine _ t
 fine has e D depth (StoreImm64SExt16 imm mem) a h m t = address_fine _ t
-fine has e D depth (AluRX op rd ri mem) a h m t = operator_fine D has op rd ri mem (resolved e mem) _ a.operators h t
-fine has e D depth (CmpRX op rn mem) a h m t = comparison_fine has op (resolved e mem) t
+fine has e D depth (AluRX op rd ri mem) a h m t = operator_fine D has op rd ri mem (resolved_operand e mem) _ a.operators h t
+fine has e D depth (CmpRX op rn mem) a h m t = comparison_fine has op (resolved_operand e mem) t
 fine has e D depth (LoadMultiple64 rt rt2 mem) a h m t = address_fine _ t
 fine has e D depth (StoreMultiple64 rt rt2 mem) a h m t = address_fine _ t
 fine has e D depth (LoadAddr rd mem) a h m t = address_fine _ t
-fine has e D depth (AtomicRmw op rd rn mem) a h m t = atomic_fine D has (atomic_name op) (atomic_rsy op) rd rn mem (resolved e mem) _ a.operators h t
+fine has e D depth (AtomicRmw op rd rn mem) a h m t = atomic_fine D has (atomic_name op) (atomic_rsy op) rd rn mem (resolved_operand e mem) _ a.operators h t
 fine has e D depth (AtomicCas32 rd ri rn mem) a h m t = address_fine _ t
 fine has e D depth (AtomicCas64 rd ri rn mem) a h m t = address_fine _ t
 fine has e D depth (Vector v) a h m t = vector_fine e D v h m
@@ -139,11 +139,11 @@ not_there None e s = absurd (cc)
 not_there (Some x) e s = absurd (cc)
 
 loaded_fine : (e : Emission) (i : Inst) → is_some (loaded_memory (resolved_instruction e i)) ≡ true → refusal_there false (memory (resolved_instruction e i)) ≡ None → (alone_text false e i).cause ≡ None
-loaded_fine e (CmpRX op rn mem) s t = comparison_fine false op (resolved e mem) t
+loaded_fine e (CmpRX op rn mem) s t = comparison_fine false op (resolved_operand e mem) t
 -- the others have no such row
 loaded_fine e (AluRX op rd ri mem) s t =
-    absurd (not_there (loaded_memory (AluRX op rd ri (resolved e mem))) (alu_none (is_some (alu_rx op) || is_some (alu_rxy op)) (alu_rx op) (alu_rxy op) rd ri (resolved e mem)) s)
-loaded_fine e (AtomicRmw op rd rn mem) s t = absurd (not_there (loaded_memory (AtomicRmw op rd rn (resolved e mem))) (locked_none (atomic_rsy op) rd rn (resolved e mem)) s)
+    absurd (not_there (loaded_memory (AluRX op rd ri (resolved_operand e mem))) (alu_none (is_some (alu_rx op) || is_some (alu_rxy op)) (alu_rx op) (alu_rxy op) rd ri (resolved_operand e mem)) s)
+loaded_fine e (AtomicRmw op rd rn mem) s t = absurd (not_there (loaded_memory (AtomicRmw op rd rn (resolved_operand e mem))) (locked_none (atomic_rsy op) rd rn (resolved_operand e mem)) s)
 loaded_fine e (Vector v) s t = absurd (not_there (loaded_memory (Vector (resolved_vector e v))) (vector_none (resolved_vector e v)) s)
 loaded_fine e i s t = transfer_or_refused e i (as_transfer i) s t
 

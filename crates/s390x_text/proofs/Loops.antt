@@ -12,17 +12,17 @@ use Rattle.s390x_inst.specs.declared.inst.Inst.TheOpen as O
 use Rattle.s390x_inst.specs.declared.inst.Inst.TheViews as V
 use denote.Hole.Carrier
 use Rattle.s390x_text_rows.proofs.Joined.{more_texts}
-use Rattle.s390x_text_rows.specs.Texts.{Text, first, both, RefusedBy}
+use Rattle.s390x_text_rows.specs.Texts.{Text, first_cause, both, RefusedBy}
 use Rattle.s390x_text_rows.specs.declared.error.TextError.{TextError}
 use Rattle.s390x_text_rows.specs.declared.error.TextError.TheVariants.{NoRow, Virtual, BadPair, Address, NoMemory}
-use Rattle.s390x_text.specs.Instructions.{leaf_text, leaf_after, after, row_after, insts_after, followed, has_none, inst_text, row_text, insts_text, looped}
+use Rattle.s390x_text.specs.Instructions.{leaf_text, leaf_after, after, row_after, insts_after, with_semicolon_between, has_none, inst_text, row_text, insts_text, text_of_loop}
 
 -- what is blamed on a text is blamed on it and what follows
-pub refused_first : (a b : Option TextError) (e : TextError) → RefusedBy a e → RefusedBy (first a b) e
-refused_first a b NoRow h = ap (λ q. first q b) h
-refused_first a b Virtual h = ap (λ q. first q b) h
-refused_first a b BadPair h = ap (λ q. first q b) h
-refused_first a b (Address c) h = ap (λ q. first q b) h
+pub refused_first : (a b : Option TextError) (e : TextError) → RefusedBy a e → RefusedBy (first_cause a b) e
+refused_first a b NoRow h = ap (λ q. first_cause q b) h
+refused_first a b Virtual h = ap (λ q. first_cause q b) h
+refused_first a b BadPair h = ap (λ q. first_cause q b) h
+refused_first a b (Address c) h = ap (λ q. first_cause q b) h
 refused_first a b NoMemory h = tt
 
 -- a loop that prints the text of each element of a list
@@ -35,7 +35,7 @@ more_item F g law xs i z d h e =
 
 pub more_causes : {X : Type 0} (F : List X → Text) (g : X → Text) → ((x : X) (xs : List X) → F (x ∷ xs) ≡ both (g x) (F xs)) → (xs : List X) (i : ℕ) (z d : X) (c : Option TextError) → i < length xs → d ≡ get_or xs i z → (g d).cause ≡ None → (F (drop i xs)).cause ≡ c → (F (drop (i + 1) xs)).cause ≡ c
 more_causes F g law xs i z d c h e n inv =
-    sym (ap (λ p. first p (F (drop (i + 1) xs)).cause) n) ∙ ap (λ t. t.cause) (sym (more_item F g law xs i z d h e)) ∙ inv
+    sym (ap (λ p. first_cause p (F (drop (i + 1) xs)).cause) n) ∙ ap (λ t. t.cause) (sym (more_item F g law xs i z d h e)) ∙ inv
 
 pub more_stops : {X : Type 0} (F : List X → Text) (g : X → Text) → ((x : X) (xs : List X) → F (x ∷ xs) ≡ both (g x) (F xs)) → (xs : List X) (i : ℕ) (z d : X) (c : Option TextError) (error : TextError) → i < length xs → d ≡ get_or xs i z → RefusedBy (g d).cause error → (F (drop i xs)).cause ≡ c → RefusedBy c error
 more_stops F g law xs i z d c error h e b inv =
@@ -61,7 +61,7 @@ cause_goes_on flags depth e f d is k c h q n a inv =
     let rest = drop (k + 1) is in
     let x = item d is k h q in
     ap (λ s. (insts_text flags depth s rest).cause) a
-    ∙ sym (ap (λ p. first p (insts_text flags depth (after e d) rest).cause) n)
+    ∙ sym (ap (λ p. first_cause p (insts_text flags depth (after e d) rest).cause) n)
     ∙ ap (λ l. (insts_text flags depth e l).cause) (sym x)
     ∙ inv
 
@@ -80,7 +80,7 @@ stops flags depth e d is k c error h q b inv =
 
 row_texts : (flags : IsaFlags) {n : _} (k : Row_of-Inst n) (depth : ℕ) (e : Emission) → row_text flags depth e k ≡ insts_text flags depth e (items-the_row-Inst n k)
 row_texts flags end_of-Inst depth e = refl
-row_texts flags (more_of-Inst i rest) depth e = ap (λ t. followed (inst_text flags depth e i) t) (row_texts flags rest depth (after e i))
+row_texts flags (more_of-Inst i rest) depth e = ap (λ t. with_semicolon_between (inst_text flags depth e i) t) (row_texts flags rest depth (after e i))
 
 has_none_items : {n : _} (k : Row_of-Inst n) → has_none k ≡ (length (items-the_row-Inst n k) == 0)
 has_none_items end_of-Inst = refl
@@ -92,18 +92,18 @@ row_afters (more_of-Inst i rest) e = row_afters rest (after e i)
 
 -- the text of a loop by the list of its members
 abbrev list_loop : IsaFlags → (depth : ℕ) → Emission → ℕ → List Inst → Text
-list_loop flags depth e c is = looped depth c (length is == 0) (insts_text flags (depth + 1) e is)
+list_loop flags depth e c is = text_of_loop depth c (length is == 0) (insts_text flags (depth + 1) e is)
 
 loop_text : (flags : IsaFlags) (depth : ℕ) (e : Emission) (c : ℕ) (v : Vec Inst Global) → inst_text flags depth e (V.Loop c v) ≡ list_loop flags depth e c v.items
 loop_text flags depth e c v =
-    ap (λ b. looped depth c b (row_text flags (depth + 1) e (hidden-the_row-Inst-0 v))) (has_none_items (hidden-the_row-Inst-0 v))
-    ∙ ap (looped depth c (length (items-the_row-Inst _ (hidden-the_row-Inst-0 v)) == 0)) (row_texts flags (hidden-the_row-Inst-0 v) (depth + 1) e)
+    ap (λ b. text_of_loop depth c b (row_text flags (depth + 1) e (hidden-the_row-Inst-0 v))) (has_none_items (hidden-the_row-Inst-0 v))
+    ∙ ap (text_of_loop depth c (length (items-the_row-Inst _ (hidden-the_row-Inst-0 v)) == 0)) (row_texts flags (hidden-the_row-Inst-0 v) (depth + 1) e)
     ∙ ap (list_loop flags depth e c) (items_hidden-the_row-Inst-0 v)
 
 loop_after : (e : Emission) (c : ℕ) (v : Vec Inst Global) → after e (V.Loop c v) ≡ insts_after e v.items
 loop_after e c v = row_afters (hidden-the_row-Inst-0 v) e ∙ ap (insts_after e) (items_hidden-the_row-Inst-0 v)
 
-pub whole_loop : (flags : IsaFlags) (depth : ℕ) (e : Emission) (i : Inst) (c : ℕ) (v : Vec Inst Global) (s : List Inst) → i ≡ V.Loop c v → s ≡ v.items → inst_text flags depth e i ≡ looped depth c (length s == 0) (insts_text flags (depth + 1) e s)
+pub whole_loop : (flags : IsaFlags) (depth : ℕ) (e : Emission) (i : Inst) (c : ℕ) (v : Vec Inst Global) (s : List Inst) → i ≡ V.Loop c v → s ≡ v.items → inst_text flags depth e i ≡ text_of_loop depth c (length s == 0) (insts_text flags (depth + 1) e s)
 whole_loop flags depth e i c v s p q = ap (inst_text flags depth e) p ∙ loop_text flags depth e c v ∙ ap (list_loop flags depth e c) (sym q)
 
 pub after_loop : (e : Emission) (i : Inst) (c : ℕ) (v : Vec Inst Global) (s : List Inst) → i ≡ V.Loop c v → s ≡ v.items → after e i ≡ insts_after e s

@@ -13,18 +13,18 @@ use Rattle.s390x_inst.specs.declared.inst.Inst.TheVariants.{AluRX, CmpRX}
 use Rattle.s390x_inst.specs.declared.inst.Inst.TheVariants.{StoreImm8, StoreImm16, StoreImm32SExt16, StoreImm64SExt16, LoadMultiple64, StoreMultiple64, LoadAddr, AtomicRmw, AtomicCas32, AtomicCas64, Vector}
 use Rattle.s390x_inst.specs.declared.vec_inst.VecInst.{VecInst}
 use Rattle.s390x_inst.specs.declared.vec_inst.VecInst.TheVariants.{VecLoadReplicate, VecLoadReplicateRev, VecLoadLane, VecLoadLaneRev, VecLoadLaneUndef, VecLoadLaneRevUndef, VecStoreLane, VecStoreLaneRev}
-use Rattle.s390x_typed_steps.specs.Operands.{resolved}
+use Rattle.s390x_typed_steps.specs.Operands.{resolved_operand}
 use Rattle.s390x_typed_steps.specs.Resolved.{resolved_instruction, resolved_vector}
 
 -- a state with another stack map
 abbrev pub mapped : Emission → Option ℕ → Emission
 mapped e map = record e { stack_map = map }
 
-same_operand : (e : Emission) (map : Option ℕ) (m : MemArg) → resolved (mapped e map) m ≡ resolved e m
+same_operand : (e : Emission) (map : Option ℕ) (m : MemArg) → resolved_operand (mapped e map) m ≡ resolved_operand e m
 same_operand e map (InitialSPOffset off) = refl
 same_operand e map m = refl
 
-same_whole : (e : Emission) (map : Option ℕ) (v : VecInst) (o : Option WholeAccess) → by_whole (λ w. whole_instruction w.direction w.layout w.rd (resolved (mapped e map) w.mem)) v o ≡ by_whole (λ w. whole_instruction w.direction w.layout w.rd (resolved e w.mem)) v o
+same_whole : (e : Emission) (map : Option ℕ) (v : VecInst) (o : Option WholeAccess) → by_whole (λ w. whole_instruction w.direction w.layout w.rd (resolved_operand (mapped e map) w.mem)) v o ≡ by_whole (λ w. whole_instruction w.direction w.layout w.rd (resolved_operand e w.mem)) v o
 same_whole e map v None = refl
 same_whole e map v (Some w) = ap (whole_instruction w.direction w.layout w.rd) (same_operand e map w.mem)
 
@@ -39,7 +39,7 @@ same_vector e map (VecStoreLane size rd mem lane) = ap (λ m. VecStoreLane size 
 same_vector e map (VecStoreLaneRev size rd mem lane) = ap (λ m. VecStoreLaneRev size rd m lane) (same_operand e map mem)
 same_vector e map v = same_whole e map v (as_whole v)
 
-same_transfer : (e : Emission) (map : Option ℕ) (i : Inst) (o : Option Transfer) → by_transfer (λ l. load_instruction l.op l.rd (resolved (mapped e map) l.mem)) (λ s. store_instruction s.op s.rd (resolved (mapped e map) s.mem)) i o ≡ by_transfer (λ l. load_instruction l.op l.rd (resolved e l.mem)) (λ s. store_instruction s.op s.rd (resolved e s.mem)) i o
+same_transfer : (e : Emission) (map : Option ℕ) (i : Inst) (o : Option Transfer) → by_transfer (λ l. load_instruction l.op l.rd (resolved_operand (mapped e map) l.mem)) (λ s. store_instruction s.op s.rd (resolved_operand (mapped e map) s.mem)) i o ≡ by_transfer (λ l. load_instruction l.op l.rd (resolved_operand e l.mem)) (λ s. store_instruction s.op s.rd (resolved_operand e s.mem)) i o
 same_transfer e map i None = refl
 same_transfer e map i (Some (LoadOf l)) = ap (load_instruction l.op l.rd) (same_operand e map l.mem)
 same_transfer e map i (Some (StoreOf s)) = ap (store_instruction s.op s.rd) (same_operand e map s.mem)

@@ -15,7 +15,7 @@ use Rattle.s390x_inst.specs.declared.inst.Inst.TheVariants.{Jump, CondBr, Indire
 use Rattle.s390x_typed_steps.specs.Causes.{first_emit_cause, labels_cause, table_cause, target_label_cause, unless}
 use Rattle.s390x_typed_steps.specs.General.{is_general, is_nonzero, is_scratch}
 use Rattle.s390x_typed_steps.specs.Memory.{memory, operate, load_and_operate}
-use Rattle.s390x_typed_steps.specs.Operands.{resolved}
+use Rattle.s390x_typed_steps.specs.Operands.{resolved_operand}
 use Rattle.s390x_typed_steps.specs.Resolved.{resolved_instruction}
 use Rattle.s390x_typed_steps.specs.SingleInstruction.{single_instruction}
 use Rattle.s390x_typed_steps.specs.Storage.{alu_rx, alu_rxy, atomic_rsy}
@@ -162,7 +162,7 @@ lock_stays (Some opcode) rd rn m n = refl
 
 -- resolving an operand changes no row; the last clause is a copy for each
 pub resolved_rows : (e : Emission) (blocks depth : ℕ) (i : Inst) → has_rows blocks depth (resolved_instruction e i) ≡ has_rows blocks depth i
-resolved_rows e b d (AluRX op rd ri mem) = ap (λ s. s || false) (operate_stays (is_some (alu_rx op) || is_some (alu_rxy op)) (alu_rx op) (alu_rxy op) rd ri (resolved e mem) mem)
-resolved_rows e b d (AtomicRmw op rd rn mem) = ap (λ s. s || false) (lock_stays (atomic_rsy op) rd rn (resolved e mem) mem)
+resolved_rows e b d (AluRX op rd ri mem) = ap (λ s. s || false) (operate_stays (is_some (alu_rx op) || is_some (alu_rxy op)) (alu_rx op) (alu_rxy op) rd ri (resolved_operand e mem) mem)
+resolved_rows e b d (AtomicRmw op rd rn mem) = ap (λ s. s || false) (lock_stays (atomic_rsy op) rd rn (resolved_operand e mem) mem)
 resolved_rows e b d (Vector v) = operands_stay e b d v
 resolved_rows e b d i = refl

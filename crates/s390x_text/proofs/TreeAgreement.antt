@@ -21,7 +21,7 @@ use Rattle.s390x_typed_steps.specs.Resolved.{resolved_instruction}
 use Rattle.s390x_typed_steps.specs.Stack.{state_after}
 use Rattle.s390x_typed_steps.specs.Tree.{StepBody, Tree, Whole, TailJump, empty, leaves, prepend, row_tree}
 use Rattle.s390x_text_rows.specs.Simple.{simple_text, unbuilt}
-use Rattle.s390x_text_rows.specs.Texts.{first, fixed}
+use Rattle.s390x_text_rows.specs.Texts.{first_cause, fixed_text}
 use Rattle.s390x_text_rows.specs.declared.error.TextError.{TextError}
 use Rattle.s390x_text_rows.specs.declared.error.TextError.TheVariants.{NoRow}
 use Rattle.s390x_text.specs.Agreement.{has_row_text}
@@ -45,7 +45,7 @@ never : AgreesInOrder None true
 never = exactly None true refl
 
 -- one before another
-in_order : (a b : Option TextError) (p q : Bool) → AgreesInOrder a p → AgreesInOrder b q → AgreesInOrder (first a b) (p && q)
+in_order : (a b : Option TextError) (p q : Bool) → AgreesInOrder a p → AgreesInOrder b q → AgreesInOrder (first_cause a b) (p && q)
 in_order None b true q h k = k
 in_order None b false q h k = absurd (true≢false (sym (h.refused refl)))
 in_order (Some e) b true q h k = record { only_there = λ n. absurd (true≢false (h.only_there n)); refused = λ n. refl }
@@ -97,7 +97,7 @@ module _ (blocks depth : ℕ) where
   loaded_agrees e before None = exactly (Some NoRow) false refl
   loaded_agrees e before (Some i) = whole_agrees true e before i
 
-  result_agrees : (e before : Emission) (rd : Reg) (l : RetLocation) (cause : Option TextError) (rest : List StepBody) → AgreesInOrder cause (bodies_have_rows blocks depth rest) → AgreesInOrder (first (result_at e rd l).cause cause) (bodies_have_rows blocks depth (load_before before rd l rest))
+  result_agrees : (e before : Emission) (rd : Reg) (l : RetLocation) (cause : Option TextError) (rest : List StepBody) → AgreesInOrder cause (bodies_have_rows blocks depth rest) → AgreesInOrder (first_cause (result_at e rd l).cause cause) (bodies_have_rows blocks depth (load_before before rd l rest))
   result_agrees e before rd (Stack off ty) cause rest h = in_order (loaded_text e (load_of rd (OutgoingArgOffset off) ty)).cause cause (body_has_rows blocks depth (load_or before (load_of rd (OutgoingArgOffset off) ty))) (bodies_have_rows blocks depth rest) (loaded_agrees e before (load_of rd (OutgoingArgOffset off) ty)) h
   result_agrees e before rd _ cause rest h = h
 
@@ -108,7 +108,7 @@ module _ (blocks depth : ℕ) where
   loads_agree : (e before : Emission) (info : CallInfo) → AgreesInOrder (loads_text e info).cause (bodies_have_rows blocks depth (result_bodies before info))
   loads_agree e before info = go info.patchable
     where
-      go : (t : Bool) → AgreesInOrder (cond t (fixed []) (results_text (record e { nominal = 0; outgoing = info.callee_pop_size }) info.defs.items)).cause (bodies_have_rows blocks depth (cond t [] (load_bodies (behind_call before info.callee_pop_size) info.defs.items)))
+      go : (t : Bool) → AgreesInOrder (cond t (fixed_text []) (results_text (record e { nominal = 0; outgoing = info.callee_pop_size }) info.defs.items)).cause (bodies_have_rows blocks depth (cond t [] (load_bodies (behind_call before info.callee_pop_size) info.defs.items)))
       go true = never
       go false = results_agree (record e { nominal = 0; outgoing = info.callee_pop_size }) (behind_call before info.callee_pop_size) info.defs.items
 
@@ -119,7 +119,7 @@ module _ (blocks depth : ℕ) where
   call_agrees : (e before : Emission) (link : Reg) (info : CallInfo) → AgreesInOrder (plain_call_text e link info).cause (bodies_have_rows blocks depth (call_bodies before link info))
   call_agrees e before link info =
       let loads = bodies_have_rows blocks depth (result_bodies before info) in
-      same_has (first (loads_text e info).cause None) (loads && true) (bodies_have_rows blocks depth (call_bodies before link info))
+      same_has (first_cause (loads_text e info).cause None) (loads && true) (bodies_have_rows blocks depth (call_bodies before link info))
       (ap (λ h. loads && h) (sym (continues info.try_call_info)) ∙ sym (append_rows blocks depth (result_bodies before info) (continuation_bodies info.try_call_info)))
       (in_order (loads_text e info).cause None loads true (loads_agree e before info) never)
 

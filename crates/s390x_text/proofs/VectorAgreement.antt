@@ -21,14 +21,14 @@ use Rattle.s390x_inst.specs.declared.vec_inst.VecInst.TheVariants.{VecLoadReplic
 use Rattle.s390x_rows.specs.declared.opcodes.TheConstants as opcodes
 use Rattle.s390x_typed_steps.specs.MachineInstruction.{MachineInstruction}
 use Rattle.s390x_typed_steps.specs.Memory.{MemoryInstruction, StorageForm, VrxForm, access_elements, access_lane, access_vector, is_left_lane, load_left, store_left, load_lane_opcode, load_reversed_opcode, store_lane_opcode, store_reversed_opcode, reversed_code}
-use Rattle.s390x_typed_steps.specs.Operands.{resolved}
+use Rattle.s390x_typed_steps.specs.Operands.{resolved_operand}
 use Rattle.s390x_typed_steps.specs.Resolved.{resolved_vector}
 use Rattle.s390x_typed_steps.specs.SingleInstruction.{single_with}
 use Rattle.s390x_typed_steps.specs.VectorComposite.{rows_cause}
 use Rattle.s390x_typed_steps.specs.VectorInstruction.{bit_mask_row, element_code, is_float_doubleword, is_lane, is_vector, lane_row, replicate_row, reuses_vector}
 use Rattle.s390x_text_rows.specs.Operands.{is_float, is_zero}
 use Rattle.s390x_text_rows.specs.Storage.{address_cause}
-use Rattle.s390x_text_rows.specs.Texts.{Text, fixed, row}
+use Rattle.s390x_text_rows.specs.Texts.{Text, fixed_text, row}
 use Rattle.s390x_text_rows.specs.Vector.{is_float_lane, lane_name, mask_name, reversed_name, vector_text}
 use Rattle.s390x_text_rows.specs.declared.error.TextError.TheVariants.{NoRow}
 use Rattle.s390x_text.specs.Agreement.{has_row_text}
@@ -167,7 +167,7 @@ mask_agrees b h f g size d start end =
     tested_name t (lane_name b h f g size 0) ∙ ap (λ n. t && n) (first_agrees b h f g size) ∙ sym (mask_some (element_code size) size d start end)
 
 -- a doubleword that goes alone is an element too
-either_text : (t : Bool) (s : List ℕ) (name : Option (List ℕ)) (xs : List (List ℕ)) → (t ≡ true → is_some name ≡ true) → has_row_text (cond t (fixed s) (row name xs)).cause ≡ has_row_text (row name xs).cause
+either_text : (t : Bool) (s : List ℕ) (name : Option (List ℕ)) (xs : List (List ℕ)) → (t ≡ true → is_some name ≡ true) → has_row_text (cond t (fixed_text s) (row name xs)).cause ≡ has_row_text (row name xs).cause
 either_text true s (Some name) xs h = refl
 either_text true s None xs h = absurd (true≢false (sym (h refl)))
 either_text false s name xs h = refl
@@ -205,7 +205,7 @@ valid_row true = refl
 valid_row false = refl
 
 reversal_agrees : (a b c d valid : Bool) (p q r s : List ℕ) (w x y z : List MachineInstruction) →
-    has_row_text (cond a (fixed p) (cond b (fixed q) (cond c (fixed r) (cond d (fixed s) (row None []))))).cause ≡ names_row (rows_cause (cond a (Some w) (cond b (Some x) (cond c (Some y) (cond d (Some z) None)))) valid)
+    has_row_text (cond a (fixed_text p) (cond b (fixed_text q) (cond c (fixed_text r) (cond d (fixed_text s) (row None []))))).cause ≡ names_row (rows_cause (cond a (Some w) (cond b (Some x) (cond c (Some y) (cond d (Some z) None)))) valid)
 reversal_agrees true b c d valid p q r s w x y z = sym (valid_row valid)
 reversal_agrees false true c d valid p q r s w x y z = sym (valid_row valid)
 reversal_agrees false false true d valid p q r s w x y z = sym (valid_row valid)
@@ -332,15 +332,15 @@ vector_rows e bs k v = whole_or_row e bs k v (as_whole v) refl
 -- ---- operands of the frame
 
 pub operands_stay : (e : Emission) (blocks depth : ℕ) (v : VecInst) → has_rows blocks depth (Vector (resolved_vector e v)) ≡ has_rows blocks depth (Vector v)
-operands_stay e bs k (VecLoadReplicate size rd mem) = ap (λ s. s || false) (elements_some opcodes.VLREP rd (element_code size) (resolved e mem) ∙ sym (elements_some opcodes.VLREP rd (element_code size) mem))
-operands_stay e bs k (VecLoadReplicateRev size rd mem) = ap (λ s. s || false) (elements_some opcodes.VLBRREP rd (reversed_code size) (resolved e mem) ∙ sym (elements_some opcodes.VLBRREP rd (reversed_code size) mem))
-operands_stay e bs k (VecLoadLane size rd ri mem lane) = ap (λ s. s || false) (lane_some (reuses_vector rd ri) load_lane_opcode (number_of rd) (element_code size) size lane (resolved e mem) ∙ sym (lane_some (reuses_vector rd ri) load_lane_opcode (number_of rd) (element_code size) size lane mem))
-operands_stay e bs k (VecLoadLaneRev size rd ri mem lane) = ap (λ s. s || false) (lane_some (reuses_vector rd ri) load_reversed_opcode (number_of rd) (reversed_code size) size lane (resolved e mem) ∙ sym (lane_some (reuses_vector rd ri) load_reversed_opcode (number_of rd) (reversed_code size) size lane mem))
-operands_stay e bs k (VecLoadLaneRevUndef size rd mem lane) = ap (λ s. s || false) (lane_some (is_vector rd) load_reversed_opcode (number_of rd) (reversed_code size) size lane (resolved e mem) ∙ sym (lane_some (is_vector rd) load_reversed_opcode (number_of rd) (reversed_code size) size lane mem))
-operands_stay e bs k (VecStoreLaneRev size rd mem lane) = ap (λ s. s || false) (lane_some (is_vector rd) store_reversed_opcode (number_of rd) (reversed_code size) size lane (resolved e mem) ∙ sym (lane_some (is_vector rd) store_reversed_opcode (number_of rd) (reversed_code size) size lane mem))
+operands_stay e bs k (VecLoadReplicate size rd mem) = ap (λ s. s || false) (elements_some opcodes.VLREP rd (element_code size) (resolved_operand e mem) ∙ sym (elements_some opcodes.VLREP rd (element_code size) mem))
+operands_stay e bs k (VecLoadReplicateRev size rd mem) = ap (λ s. s || false) (elements_some opcodes.VLBRREP rd (reversed_code size) (resolved_operand e mem) ∙ sym (elements_some opcodes.VLBRREP rd (reversed_code size) mem))
+operands_stay e bs k (VecLoadLane size rd ri mem lane) = ap (λ s. s || false) (lane_some (reuses_vector rd ri) load_lane_opcode (number_of rd) (element_code size) size lane (resolved_operand e mem) ∙ sym (lane_some (reuses_vector rd ri) load_lane_opcode (number_of rd) (element_code size) size lane mem))
+operands_stay e bs k (VecLoadLaneRev size rd ri mem lane) = ap (λ s. s || false) (lane_some (reuses_vector rd ri) load_reversed_opcode (number_of rd) (reversed_code size) size lane (resolved_operand e mem) ∙ sym (lane_some (reuses_vector rd ri) load_reversed_opcode (number_of rd) (reversed_code size) size lane mem))
+operands_stay e bs k (VecLoadLaneRevUndef size rd mem lane) = ap (λ s. s || false) (lane_some (is_vector rd) load_reversed_opcode (number_of rd) (reversed_code size) size lane (resolved_operand e mem) ∙ sym (lane_some (is_vector rd) load_reversed_opcode (number_of rd) (reversed_code size) size lane mem))
+operands_stay e bs k (VecStoreLaneRev size rd mem lane) = ap (λ s. s || false) (lane_some (is_vector rd) store_reversed_opcode (number_of rd) (reversed_code size) size lane (resolved_operand e mem) ∙ sym (lane_some (is_vector rd) store_reversed_opcode (number_of rd) (reversed_code size) size lane mem))
 operands_stay e bs k (VecLoadLaneUndef size rd mem lane) =
-    ap (λ s. s || false) (left_lane_some (is_vector rd) (is_vector rd) (load_left size (number_of rd)) load_lane_opcode (number_of rd) size lane (resolved e mem) ∙ sym (left_lane_some (is_vector rd) (is_vector rd) (load_left size (number_of rd)) load_lane_opcode (number_of rd) size lane mem))
+    ap (λ s. s || false) (left_lane_some (is_vector rd) (is_vector rd) (load_left size (number_of rd)) load_lane_opcode (number_of rd) size lane (resolved_operand e mem) ∙ sym (left_lane_some (is_vector rd) (is_vector rd) (load_left size (number_of rd)) load_lane_opcode (number_of rd) size lane mem))
 operands_stay e bs k (VecStoreLane size rd mem lane) =
-    ap (λ s. s || false) (left_lane_some (is_vector rd) (is_vector rd) (store_left size (number_of rd)) store_lane_opcode (number_of rd) size lane (resolved e mem) ∙ sym (left_lane_some (is_vector rd) (is_vector rd) (store_left size (number_of rd)) store_lane_opcode (number_of rd) size lane mem))
+    ap (λ s. s || false) (left_lane_some (is_vector rd) (is_vector rd) (store_left size (number_of rd)) store_lane_opcode (number_of rd) size lane (resolved_operand e mem) ∙ sym (left_lane_some (is_vector rd) (is_vector rd) (store_left size (number_of rd)) store_lane_opcode (number_of rd) size lane mem))
 operands_stay e bs k (VecMov rd rn) = refl
 operands_stay e bs k v = refl

@@ -21,12 +21,12 @@ use Rattle.s390x_rows.specs.declared.opcodes.TheConstants as opcodes
 use Rattle.s390x_typed_steps.specs.Causes.{Declared, cause_or, memory_cause_or}
 use Rattle.s390x_typed_steps.specs.MachineInstruction.{MachineInstruction}
 use Rattle.s390x_typed_steps.specs.Memory.{MemoryInstruction, load_lane_opcode, load_reversed_opcode, store_lane_opcode, store_reversed_opcode, vector_memory}
-use Rattle.s390x_typed_steps.specs.Operands.{resolved}
+use Rattle.s390x_typed_steps.specs.Operands.{resolved_operand}
 use Rattle.s390x_typed_steps.specs.Resolved.{resolved_vector}
 use Rattle.s390x_typed_steps.specs.SingleInstruction.{single_with}
 use Rattle.s390x_typed_steps.specs.VectorComposite.{composite_cause, rows_cause}
 use Rattle.s390x_typed_steps.specs.VectorInstruction.{bit_mask_row, element_code, is_float_doubleword, is_lane, is_vector, lane_row, replicate_row, reuses_vector, vector_operands_valid, vector_row}
-use Rattle.s390x_text_rows.specs.Texts.{fixed, row}
+use Rattle.s390x_text_rows.specs.Texts.{fixed_text, row}
 use Rattle.s390x_text_rows.specs.Vector.{is_float_lane, lane_name, mask_name, vector_text}
 use Rattle.s390x_text.proofs.Elements.{named_at, one_size}
 use Rattle.s390x_text.proofs.Rows.{access_refusal, address_fine}
@@ -75,7 +75,7 @@ allowed true name m xs named h = row_named name xs named
 allowed false name m xs named h = absurd (cc)
 
 -- one of two, where neither is refused
-either : (b : Bool) (s : List ℕ) (name : Option (List ℕ)) (xs : List (List ℕ)) → is_some name ≡ true → (cond b (fixed s) (row name xs)).cause ≡ None
+either : (b : Bool) (s : List ℕ) (name : Option (List ℕ)) (xs : List (List ℕ)) → is_some name ≡ true → (cond b (fixed_text s) (row name xs)).cause ≡ None
 either true s name xs h = refl
 either false s name xs h = row_named name xs h
 
@@ -113,7 +113,7 @@ has_text e (VecExtractLane size rd rn lane base) h =
 has_text e v h = cc
 
 -- elements in reverse order, by tests of their count
-reversal_fine : (a b c d valid : Bool) (p q r s : List ℕ) (w x y z : List MachineInstruction) → rows_cause (cond a (Some w) (cond b (Some x) (cond c (Some y) (cond d (Some z) None)))) valid ≡ None → (cond a (fixed p) (cond b (fixed q) (cond c (fixed r) (cond d (fixed s) (row None []))))).cause ≡ None
+reversal_fine : (a b c d valid : Bool) (p q r s : List ℕ) (w x y z : List MachineInstruction) → rows_cause (cond a (Some w) (cond b (Some x) (cond c (Some y) (cond d (Some z) None)))) valid ≡ None → (cond a (fixed_text p) (cond b (fixed_text q) (cond c (fixed_text r) (cond d (fixed_text s) (row None []))))).cause ≡ None
 reversal_fine true b c d valid p q r s w x y z h = refl
 reversal_fine false true c d valid p q r s w x y z h = refl
 reversal_fine false false true d valid p q r s w x y z h = refl
@@ -142,16 +142,16 @@ whole_or_row e v (Some w) some m = whole_fine e w.direction w.layout w.rd w.mem 
 pub vector_fine : (e : Emission) (D : Declared) (v : VecInst)
     → cause_or (single_with (vector_operands_valid (resolved_vector e v)) (vector_row (resolved_vector e v))) (memory_cause_or D (vector_memory (resolved_vector e v)) (composite_cause (resolved_vector e v))) ≡ None
     → access_refusal (vector_memory (resolved_vector e v)) ≡ None → (vector_text e v).cause ≡ None
-vector_fine e D (VecLoadReplicate size rd mem) h m = replicated_fine D _ _ _ _ opcodes.VLREP rd size (resolved e mem) BadOperator h m
-vector_fine e D (VecLoadReplicateRev size rd mem) h m = reversed_replicated_fine D _ _ _ opcodes.VLBRREP rd size (resolved e mem) BadOperator h m
-vector_fine e D (VecLoadLane size rd ri mem lane) h m = lane_fine D _ _ _ _ (reuses_vector rd ri) load_lane_opcode (number_of rd) size lane (resolved e mem) BadOperator h m
-vector_fine e D (VecLoadLaneRev size rd ri mem lane) h m = reversed_lane_fine D _ _ _ (reuses_vector rd ri) load_reversed_opcode (number_of rd) size lane (resolved e mem) BadOperator h m
-vector_fine e D (VecLoadLaneRevUndef size rd mem lane) h m = reversed_lane_fine D _ _ _ (is_vector rd) load_reversed_opcode (number_of rd) size lane (resolved e mem) BadOperator h m
-vector_fine e D (VecStoreLaneRev size rd mem lane) h m = reversed_lane_fine D _ _ _ (is_vector rd) store_reversed_opcode (number_of rd) size lane (resolved e mem) BadOperator h m
+vector_fine e D (VecLoadReplicate size rd mem) h m = replicated_fine D _ _ _ _ opcodes.VLREP rd size (resolved_operand e mem) BadOperator h m
+vector_fine e D (VecLoadReplicateRev size rd mem) h m = reversed_replicated_fine D _ _ _ opcodes.VLBRREP rd size (resolved_operand e mem) BadOperator h m
+vector_fine e D (VecLoadLane size rd ri mem lane) h m = lane_fine D _ _ _ _ (reuses_vector rd ri) load_lane_opcode (number_of rd) size lane (resolved_operand e mem) BadOperator h m
+vector_fine e D (VecLoadLaneRev size rd ri mem lane) h m = reversed_lane_fine D _ _ _ (reuses_vector rd ri) load_reversed_opcode (number_of rd) size lane (resolved_operand e mem) BadOperator h m
+vector_fine e D (VecLoadLaneRevUndef size rd mem lane) h m = reversed_lane_fine D _ _ _ (is_vector rd) load_reversed_opcode (number_of rd) size lane (resolved_operand e mem) BadOperator h m
+vector_fine e D (VecStoreLaneRev size rd mem lane) h m = reversed_lane_fine D _ _ _ (is_vector rd) store_reversed_opcode (number_of rd) size lane (resolved_operand e mem) BadOperator h m
 vector_fine e D (VecLoadLaneUndef size rd mem lane) h m =
-    left_lane_fine D _ _ _ _ rd opcodes.LE opcodes.LEY opcodes.LD opcodes.LDY load_lane_opcode size lane (resolved e mem) BadOperator _ _ _ h m (λ fine. (address_fine _ fine, address_fine _ fine)) refl
+    left_lane_fine D _ _ _ _ rd opcodes.LE opcodes.LEY opcodes.LD opcodes.LDY load_lane_opcode size lane (resolved_operand e mem) BadOperator _ _ _ h m (λ fine. (address_fine _ fine, address_fine _ fine)) refl
 vector_fine e D (VecStoreLane size rd mem lane) h m =
-    left_lane_fine D _ _ _ _ rd opcodes.STE opcodes.STEY opcodes.STD opcodes.STDY store_lane_opcode size lane (resolved e mem) BadOperator _ _ _ h m (λ fine. (address_fine _ fine, address_fine _ fine)) refl
+    left_lane_fine D _ _ _ _ rd opcodes.STE opcodes.STEY opcodes.STD opcodes.STDY store_lane_opcode size lane (resolved_operand e mem) BadOperator _ _ _ h m (λ fine. (address_fine _ fine, address_fine _ fine)) refl
 -- moves under a condition and comparisons have a text at any values, elements in reverse order at the counts that have machine instructions
 vector_fine e D (FpuCMov32 rd mask ri rm) h m = refl
 vector_fine e D (FpuCMov64 rd mask ri rm) h m = refl

@@ -19,14 +19,14 @@ use Rattle.s390x_inst.specs.declared.calls.TryCallInfo.{TryCallInfo}
 use Rattle.s390x_inst.specs.declared.inst.Inst.{Inst}
 use Rattle.s390x_inst.specs.declared.inst.Inst.TheVariants.{Call, ReturnCall}
 use Rattle.s390x_job_fields.specs.Atoms.{reg_text}
-use Rattle.s390x_text_rows.specs.Texts.{Text, fixed, both, before_semicolon, spelled}
+use Rattle.s390x_text_rows.specs.Texts.{Text, fixed_text, both, before_semicolon, instruction_text}
 use Rattle.s390x_text_rows.specs.Operands.{label_text, name_text}
 use Rattle.s390x_text_rows.specs.Simple.{unbuilt, simple_text}
 
 -- the branch of a call, by its target
 abbrev pub branch_and_link_text : (link : Reg) → CallInstDest → List ℕ
-branch_and_link_text link (Direct name) = spelled (codes "brasl") (reg_text link ∷ name_text name.0 ∷ [])
-branch_and_link_text link (Indirect reg) = spelled (codes "basr") (reg_text link ∷ reg_text reg ∷ [])
+branch_and_link_text link (Direct name) = instruction_text (codes "brasl") (reg_text link ∷ name_text name.0 ∷ [])
+branch_and_link_text link (Indirect reg) = instruction_text (codes "basr") (reg_text link ∷ reg_text reg ∷ [])
 
 -- how many bytes of arguments the callee takes, where it takes any
 abbrev pub popped_text : ℕ → List ℕ
@@ -35,23 +35,23 @@ popped_text n = cond (nat_eq n 0) [] (codes " ; callee_pop_size " ++ decimal n)
 -- the load of a result, where its type has one, behind a semicolon
 abbrev pub loaded_text : Emission → Option Inst → Text
 loaded_text e None = unbuilt
-loaded_text e (Some load) = both (fixed (codes " ; ")) (simple_text true e load)
+loaded_text e (Some load) = both (fixed_text (codes " ; ")) (simple_text true e load)
 
 -- the load of a result that comes back on the stack; nothing of one that comes back in a register
 abbrev pub result_at : Emission → (rd : Reg) → RetLocation → Text
 result_at e rd (Stack off ty) = loaded_text e (load_of rd (OutgoingArgOffset off) ty)
-result_at e rd _ = fixed []
+result_at e rd _ = fixed_text []
 
 abbrev pub result_text : Emission → CallRetPair → Text
 result_text e d = result_at e d.vreg d.location
 
 abbrev pub results_text : Emission → List CallRetPair → Text
-results_text e [] = fixed []
+results_text e [] = fixed_text []
 results_text e (d ∷ ds) = both (result_text e d) (results_text e ds)
 
 -- the loads of a call that isn't patchable, in the state in which the popped bytes lie above the stack pointer
 abbrev pub loads_text : Emission → CallInfo → Text
-loads_text e info = cond info.patchable (fixed []) (results_text (record e { nominal = 0; outgoing = info.callee_pop_size }) info.defs.items)
+loads_text e info = cond info.patchable (fixed_text []) (results_text (record e { nominal = 0; outgoing = info.callee_pop_size }) info.defs.items)
 
 -- a handler
 abbrev pub handler_text : TryCallHandler → List ℕ
@@ -76,7 +76,7 @@ try_text (Some t) = codes "; jg " ++ (label_text t.continuation.0 ++ (codes "; c
 -- a call, the loads of its results, and where it goes on
 abbrev pub plain_call_text : Emission → (link : Reg) → CallInfo → Text
 plain_call_text e link info =
-    both (fixed (branch_and_link_text link info.dest ++ popped_text info.callee_pop_size)) (both (loads_text e info) (fixed (try_text info.try_call_info)))
+    both (fixed_text (branch_and_link_text link info.dest ++ popped_text info.callee_pop_size)) (both (loads_text e info) (fixed_text (try_text info.try_call_info)))
 
 -- ---- tail calls
 
@@ -87,7 +87,7 @@ is_first_saved (Some g) = nat_le 6 g && nat_le g 14
 
 -- instructions, each before a semicolon
 abbrev pub simple_texts : Emission → List Inst → Text
-simple_texts e [] = fixed []
+simple_texts e [] = fixed_text []
 simple_texts e (i ∷ is) = both (before_semicolon (simple_text true e i)) (simple_texts e is)
 
 -- what takes the frame down
@@ -96,13 +96,13 @@ epilogue_text e popped dest = cond (is_first_saved e.layout.first_saved_gpr) (si
 
 -- the branch of a tail call, to the target or to where it is copied
 abbrev pub tail_branch_text : CallInstDest → (copied : Option Reg) → List ℕ
-tail_branch_text (Direct name) copied = spelled (codes "jg") (name_text name.0 ∷ [])
-tail_branch_text (Indirect reg) None = spelled (codes "br") (reg_text reg ∷ [])
-tail_branch_text (Indirect reg) (Some copy) = spelled (codes "br") (reg_text copy ∷ [])
+tail_branch_text (Direct name) copied = instruction_text (codes "jg") (name_text name.0 ∷ [])
+tail_branch_text (Indirect reg) None = instruction_text (codes "br") (reg_text reg ∷ [])
+tail_branch_text (Indirect reg) (Some copy) = instruction_text (codes "br") (reg_text copy ∷ [])
 
 abbrev pub tail_call_text : Emission → ReturnCallInfo CallInstDest → Text
 tail_call_text e info =
-    both (epilogue_text e info.callee_pop_size info.dest) (fixed (tail_branch_text info.dest (copied_target info.dest) ++ popped_text info.callee_pop_size))
+    both (epilogue_text e info.callee_pop_size info.dest) (fixed_text (tail_branch_text info.dest (copied_target info.dest) ++ popped_text info.callee_pop_size))
 
 -- calls and tail calls
 abbrev pub call_text : Emission → Inst → Option Text

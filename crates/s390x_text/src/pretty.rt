@@ -2,7 +2,7 @@
 ghost use Rattle.std.specs.Prelude.{◌≡◌, ◌+◌, ◌==◌, ◌++◌, length, codes, None, IfOk, OnOk, OnErr, MatchResult, string_bytes};
 ghost use Rattle.s390x_text_rows.specs.Texts.{RefusedBy, Prints, before_semicolon};
 ghost use Rattle.s390x_text_rows.specs.Operands.{cond_text};
-ghost use Rattle.s390x_text.specs.Instructions.{leaf_text, leaf_after, after, insts_after, inst_text, insts_text, looped, back_text};
+ghost use Rattle.s390x_text.specs.Instructions.{leaf_text, leaf_after, after, insts_after, inst_text, insts_text, text_of_loop, back_text};
 
 use crate::calls::put_call;
 use s390x_base::Cond;
@@ -126,7 +126,7 @@ fn put_loop(
     body: &[Inst],
 ) -> Result<(), TextError>
     ensures answer { Prints result (string_bytes out.old) (string_bytes out.new)
-        (looped context.depth cond (length body.now == 0)
+        (text_of_loop context.depth cond (length body.now == 0)
         (insts_text context.flags (context.depth + 1) state.old body.now)) }
     ensures after { IfOk result (λ _. state.new ≡ insts_after state.old body.now) }
 {

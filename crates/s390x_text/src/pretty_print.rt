@@ -1,7 +1,7 @@
 //! The texts of operands by themselves.
 ghost use Rattle.std.specs.Prelude.{◌≡◌, ◌++◌, None, MatchResult, string_bytes};
 ghost use Rattle.std.specs.Fmt.{decimal, signed_decimal};
-ghost use Rattle.s390x_text_rows.specs.Texts.{Text, RefusedBy, fixed};
+ghost use Rattle.s390x_text_rows.specs.Texts.{Text, RefusedBy, fixed_text};
 ghost use Rattle.s390x_text_rows.specs.Operands.{cond_text};
 ghost use Rattle.s390x_text_rows.specs.Storage.{operand_alone};
 
@@ -36,7 +36,7 @@ impl PrettyPrint for MemArg {
 
 /// The name of the condition.
 impl PrettyPrint for Cond {
-    ghost text = { λ mask. fixed (cond_text mask) };
+    ghost text = { λ mask. fixed_text (cond_text mask) };
 
     fn pretty_print(&self, alloc: Global) -> Result<String, TextError> {
         Ok(String::from_str(alloc, cond_name(*self))?)
@@ -45,7 +45,7 @@ impl PrettyPrint for Cond {
 
 /// The value in decimal.
 impl PrettyPrint for UImm12 {
-    ghost text = { λ i. fixed (decimal i) };
+    ghost text = { λ i. fixed_text (decimal i) };
 
     fn pretty_print(&self, alloc: Global) -> Result<String, TextError> {
         Ok(alone(alloc, &self.bits())?)
@@ -54,7 +54,7 @@ impl PrettyPrint for UImm12 {
 
 /// The value in decimal.
 impl PrettyPrint for SImm20 {
-    ghost text = { λ i. fixed (signed_decimal i) };
+    ghost text = { λ i. fixed_text (signed_decimal i) };
 
     fn pretty_print(&self, alloc: Global) -> Result<String, TextError> {
         Ok(alone(alloc, &self.value())?)
@@ -63,7 +63,7 @@ impl PrettyPrint for SImm20 {
 
 /// The bits in decimal.
 impl PrettyPrint for UImm16Shifted {
-    ghost text = { λ i. fixed (decimal i.bits) };
+    ghost text = { λ i. fixed_text (decimal i.bits) };
 
     fn pretty_print(&self, alloc: Global) -> Result<String, TextError> {
         Ok(alone(alloc, self)?)
@@ -72,7 +72,7 @@ impl PrettyPrint for UImm16Shifted {
 
 /// The bits in decimal.
 impl PrettyPrint for UImm32Shifted {
-    ghost text = { λ i. fixed (decimal i.bits) };
+    ghost text = { λ i. fixed_text (decimal i.bits) };
 
     fn pretty_print(&self, alloc: Global) -> Result<String, TextError> {
         Ok(alone(alloc, self)?)

@@ -10,7 +10,7 @@ use Rattle.s390x_inst.specs.declared.args.MemArg.{MemArg}
 use Rattle.s390x_inst.specs.declared.args.MemArg.TheVariants.{BXD12, BXD20, Label, Constant, Symbol, RegOffset}
 use Rattle.s390x_inst.specs.declared.inst.Inst.TheVariants.{Mov64SImm32, LoadAddr}
 use Rattle.s390x_typed_steps.specs.Causes.{first_emit_cause, unless, operand_cause}
-use Rattle.s390x_typed_steps.specs.Operands.{Finalized, scratch, no_register, needs_address, is_numbered, is_far, fits_12, fits_20, fits_32, addressed, with_widened, finalized, resolved}
+use Rattle.s390x_typed_steps.specs.Operands.{Finalized, scratch, no_register, needs_address, is_numbered, is_far, fits_12, fits_20, fits_32, with_address_loaded, with_widened, finalized_operand, resolved_operand}
 use Rattle.s390x_typed_steps.specs.declared.mem_inst_type.MemInstType.{MemInstType}
 use Rattle.s390x_address.proofs.Refusing.{wider_12, wider_20}
 use Rattle.s390x_text_rows.specs.Storage.{Rows, type_of_rows, helpers_text, address_cause, near_operand, Opens}
@@ -30,7 +30,7 @@ left_false false b h e = refl
 
 -- there are rows with these forms, they take an operand behind no helper, and this one stands in the access
 abbrev IsNear : MemInstType → MemArg → MemArg → Type 0
-IsNear mi m operand = ((mi.have_d12 || mi.have_d20 || mi.have_pcrel) ≡ true) × (operand_cause mi m ≡ None) × (finalized mi m ≡ record { helpers = []; operand = operand })
+IsNear mi m operand = ((mi.have_d12 || mi.have_d20 || mi.have_pcrel) ≡ true) × (operand_cause mi m ≡ None) × (finalized_operand mi m ≡ record { helpers = []; operand = operand })
 
 -- an offset that no helper loads and an immediate holds has no cause, where there is a displacement
 allowed : (mi : MemInstType) (base : Reg) (off : ℤ) (flags : AccessFlags) → (mi.have_d12 || mi.have_d20) ≡ true → is_far off ≡ false → fits_32 off ≡ true → operand_cause mi (RegOffset base off flags) ≡ None
@@ -64,13 +64,13 @@ unindexed mi f = ap (λ t. with_widened mi (cond t (behind f) f)) (and_false (no
 abbrev one_of : (d12 d20 : Bool) → Reg → ℕ → AccessFlags → Finalized
 one_of d12 d20 base disp flags = record { helpers = []; operand = cond (not d12 && d20) (BXD20 base no_register (pos disp) flags) (BXD12 base no_register disp flags) }
 
-short_stays : (mi : MemInstType) (base : Reg) (disp : ℕ) (flags : AccessFlags) → mi.have_d12 ≡ true → with_widened mi (addressed mi (short base disp flags)) ≡ short base disp flags
+short_stays : (mi : MemInstType) (base : Reg) (disp : ℕ) (flags : AccessFlags) → mi.have_d12 ≡ true → with_widened mi (with_address_loaded mi (short base disp flags)) ≡ short base disp flags
 short_stays mi base disp flags has = unindexed mi (short base disp flags) ∙ ap (λ t. one_of t mi.have_d20 base disp flags) has
 
-short_widened : (mi : MemInstType) (base : Reg) (disp : ℕ) (flags : AccessFlags) → mi.have_d12 ≡ false → mi.have_d20 ≡ true → with_widened mi (addressed mi (short base disp flags)) ≡ long base (pos disp) flags
+short_widened : (mi : MemInstType) (base : Reg) (disp : ℕ) (flags : AccessFlags) → mi.have_d12 ≡ false → mi.have_d20 ≡ true → with_widened mi (with_address_loaded mi (short base disp flags)) ≡ long base (pos disp) flags
 short_widened mi base disp flags none has = unindexed mi (short base disp flags) ∙ ap (λ t. one_of t mi.have_d20 base disp flags) none ∙ ap (λ t. one_of false t base disp flags) has
 
-long_stays : (mi : MemInstType) (base : Reg) (disp : ℤ) (flags : AccessFlags) → mi.have_d20 ≡ true → with_widened mi (addressed mi (long base disp flags)) ≡ long base disp flags
+long_stays : (mi : MemInstType) (base : Reg) (disp : ℤ) (flags : AccessFlags) → mi.have_d20 ≡ true → with_widened mi (with_address_loaded mi (long base disp flags)) ≡ long base disp flags
 long_stays mi base disp flags has =
     ap (λ t. with_widened mi (cond (not t || (not mi.have_index && false)) (behind (long base disp flags)) (long base disp flags))) has
     ∙ unindexed mi (long base disp flags)
@@ -88,12 +88,12 @@ near_short mi base off flags h =
     let near : is_far off ≡ false = ap (λ t. fits_32 off && not t && not (fits_20 off)) p.1 ∙ ap (λ t. t && not (fits_20 off)) (and_false (fits_32 off)) in (
       ap (λ t. t || mi.have_pcrel) has,
       allowed mi base off flags has near (wider_12 off p.1),
-      ap (λ t. with_widened mi (addressed mi (cond t (short base (unsigned_abs off) flags) (cond (fits_20 off) (long base off flags) (other_offset base off flags))))) p.1
+      ap (λ t. with_widened mi (with_address_loaded mi (cond t (short base (unsigned_abs off) flags) (cond (fits_20 off) (long base off flags) (other_offset base off flags))))) p.1
           ∙ short_stays mi base (unsigned_abs off) flags p.0,
     )
 
 long_chosen : (mi : MemInstType) (base : Reg) (off : ℤ) (flags : AccessFlags) (others : Finalized) (t : Bool) → mi.have_d20 ≡ true → (t ≡ true → mi.have_d12 ≡ false) → (t ≡ true → pos (unsigned_abs off) ≡ off) →
-    with_widened mi (addressed mi (cond t (short base (unsigned_abs off) flags) (cond true (long base off flags) others))) ≡ long base off flags
+    with_widened mi (with_address_loaded mi (cond t (short base (unsigned_abs off) flags) (cond true (long base off flags) others))) ≡ long base off flags
 long_chosen mi base off flags others true has none same = short_widened mi base (unsigned_abs off) flags (none refl) has ∙ ap (λ z. long base z flags) (same refl)
 long_chosen mi base off flags others false has none same = long_stays mi base off flags has
 
@@ -104,7 +104,7 @@ near_long mi base off flags unlike h =
     let near : is_far off ≡ false = ap (λ t. fits_32 off && not (fits_12 off) && not t) p.1 ∙ and_false (fits_32 off && not (fits_12 off)) in (
       ap (λ t. t || mi.have_pcrel) has,
       allowed mi base off flags has near (wider_20 off p.1),
-      ap (λ t. with_widened mi (addressed mi (cond (fits_12 off) (short base (unsigned_abs off) flags) (cond t (long base off flags) (other_offset base off flags))))) p.1
+      ap (λ t. with_widened mi (with_address_loaded mi (cond (fits_12 off) (short base (unsigned_abs off) flags) (cond t (long base off flags) (other_offset base off flags))))) p.1
           ∙ long_chosen mi base off flags (other_offset base off flags) (fits_12 off) p.0 (left_false mi.have_d12 (fits_12 off) unlike) (not_negative off),
     )
 
@@ -115,7 +115,7 @@ alone m = record { helpers = []; operand = m }
 
 kept_near : (mi : MemInstType) (m : MemArg) (needs : Bool) → needs ≡ false → mi.have_pcrel ≡ true
     → operand_cause mi m ≡ first_emit_cause (unless (mi.have_d12 || mi.have_d20 || not needs) BadOperator) None
-    → finalized mi m ≡ with_widened mi (cond needs (behind (alone m)) (alone m)) → with_widened mi (alone m) ≡ alone m → IsNear mi m m
+    → finalized_operand mi m ≡ with_widened mi (cond needs (behind (alone m)) (alone m)) → with_widened mi (alone m) ≡ alone m → IsNear mi m m
 kept_near mi m needs none has cause shape same = (
   ap (λ t. mi.have_d12 || mi.have_d20 || t) has ∙ or_true (mi.have_d12 || mi.have_d20),
   cause ∙ ap (λ t. first_emit_cause (unless (mi.have_d12 || mi.have_d20 || not t) BadOperator) None) none
@@ -142,7 +142,7 @@ chosen P true t x y z h f g = let e : x ≡ z = (cc) in subst P e (f refl)
 chosen P false true x y z h f g = let e : y ≡ z = (cc) in subst P e (g refl refl)
 chosen P false false x y z h f g = absurd (cc)
 
-near_in : (mi : MemInstType) (e : Emission) (m operand : MemArg) → Some operand ≡ near_operand mi m → IsNear mi (resolved e m) operand
+near_in : (mi : MemInstType) (e : Emission) (m operand : MemArg) → Some operand ≡ near_operand mi m → IsNear mi (resolved_operand e m) operand
 near_in mi e (RegOffset reg off flags) operand h =
     chosen (λ o. IsNear mi (RegOffset reg off flags) o) (mi.have_d12 && fits_12 off) (mi.have_d20 && fits_20 off) (BXD12 reg no_register (unsigned_abs off) flags) (BXD20 reg no_register off flags) operand h (near_short mi reg off flags) (near_long mi reg off flags)
 near_in mi e (Label target) operand h =
@@ -160,10 +160,10 @@ there false true c h = refl
 there false false c h = absurd (cc)
 
 -- nothing is appended, and the access is that of the operand
-pub near_opens : (has : Bool) (r : Rows) (e : Emission) (m operand : MemArg) (mi : MemInstType) (old : List ℕ) → mi ≡ type_of_rows has r → Some operand ≡ near_operand mi m → Opens (Ok operand) old old has r (resolved e m)
+pub near_opens : (has : Bool) (r : Rows) (e : Emission) (m operand : MemArg) (mi : MemInstType) (old : List ℕ) → mi ≡ type_of_rows has r → Some operand ≡ near_operand mi m → Opens (Ok operand) old old has r (resolved_operand e m)
 near_opens has r e m operand mi old forms found =
-    let p : IsNear (type_of_rows has r) (resolved e m) operand = subst (λ t. IsNear t (resolved e m) operand) forms (near_in mi e m operand found) in (
-      ap (λ t. cond t (address_cause (operand_cause (type_of_rows has r) (resolved e m))) (Some NoRow)) (there ((type_of_rows has r).have_d12 || (type_of_rows has r).have_d20) (is_some r.relative) (has || not r.accesses) p.0) ∙ ap address_cause p.1,
+    let p : IsNear (type_of_rows has r) (resolved_operand e m) operand = subst (λ t. IsNear t (resolved_operand e m) operand) forms (near_in mi e m operand found) in (
+      ap (λ t. cond t (address_cause (operand_cause (type_of_rows has r) (resolved_operand e m))) (Some NoRow)) (there ((type_of_rows has r).have_d12 || (type_of_rows has r).have_d20) (is_some r.relative) (has || not r.accesses) p.0) ∙ ap address_cause p.1,
       sym (ap (λ (f : Finalized). f.operand) p.2),
       sym (ap (λ (f : Finalized). old ++ helpers_text f.helpers) p.2 ∙ append-nil old),
     )

@@ -15,7 +15,7 @@ use Rattle.s390x_inst.specs.declared.ops.UnaryOp.{UnaryOp}
 use Rattle.s390x_inst.specs.declared.ops.UnaryOp.TheVariants.{PopcntReg}
 use Rattle.s390x_typed_steps.specs.General.{rotation}
 use Rattle.s390x_job_fields.specs.Atoms.{reg_text, real_text}
-use Rattle.s390x_text_rows.specs.Texts.{Text, row, fixed, spelled}
+use Rattle.s390x_text_rows.specs.Texts.{Text, row, fixed_text, instruction_text}
 use Rattle.s390x_text_rows.specs.Operands.{is_reg, reused_text, rotated_text, pair_text, pair_cause, reused_pair_text, reused_low_text, amount_text, access_register_text, cond_text, indexed_text}
 use Rattle.s390x_text_rows.specs.Mnemonics.{alu_three_name, alu_two_name, alu_halfword_name, alu_three_halfword_name, alu_signed_word_name, alu_unsigned_word_name, cmp_two_name, cmp_halfword_name, cmp_signed_word_name, cmp_unsigned_word_name, cmp_trap_name, cmp_trap_signed_name, cmp_trap_unsigned_name, shift_name, rotate_name, rotate_test_name, unary_name}
 
@@ -76,16 +76,16 @@ unary_operands _ rd rn = reg_text rd ∷ reg_text rn ∷ []
 
 -- a row whose first operand is a pair
 abbrev pub pair_row : List ℕ → WritableRegPair → List (List ℕ) → Text
-pair_row name rd xs = record { cause = pair_cause rd.hi rd.lo; bytes = spelled name (pair_text rd.hi rd.lo ∷ xs) }
+pair_row name rd xs = record { cause = pair_cause rd.hi rd.lo; bytes = instruction_text name (pair_text rd.hi rd.lo ∷ xs) }
 
 -- a row with a condition
-abbrev pub conditional : List ℕ → (mask : ℕ) → List (List ℕ) → Text
-conditional name mask xs = fixed (spelled (name ++ cond_text mask) xs)
+abbrev pub conditional_text : List ℕ → (mask : ℕ) → List (List ℕ) → Text
+conditional_text name mask xs = fixed_text (instruction_text (name ++ cond_text mask) xs)
 
 -- a row with a condition, where there may be no row
 abbrev pub conditional_row : Option (List ℕ) → (mask : ℕ) → List (List ℕ) → Text
 conditional_row None mask xs = row None []
-conditional_row (Some name) mask xs = conditional name mask xs
+conditional_row (Some name) mask xs = conditional_text name mask xs
 
 -- ---- instructions
 
@@ -99,8 +99,8 @@ arithmetic_text (AluRSImm32 op rd ri imm) = Some (row (alu_signed_word_name op) 
 arithmetic_text (AluRUImm32 op rd ri imm) = Some (row (alu_unsigned_word_name op) (reused_text rd ri ∷ decimal imm ∷ []))
 arithmetic_text (AluRUImm16Shifted op rd ri imm) = Some (row (alu_part_name op imm.shift) (reused_text rd ri ∷ decimal imm.bits ∷ []))
 arithmetic_text (AluRUImm32Shifted op rd ri imm) = Some (row (alu_half_name op imm.shift) (reused_text rd ri ∷ decimal imm.bits ∷ []))
-arithmetic_text (UnaryRR op rd rn) = Some (fixed (spelled (unary_name op) (unary_operands op rd rn)))
-arithmetic_text (ShiftRR op rd rn amount register) = Some (fixed (spelled (shift_name op) (reg_text rd ∷ reg_text rn ∷ amount_text amount register ∷ [])))
+arithmetic_text (UnaryRR op rd rn) = Some (fixed_text (instruction_text (unary_name op) (unary_operands op rd rn)))
+arithmetic_text (ShiftRR op rd rn amount register) = Some (fixed_text (instruction_text (shift_name op) (reg_text rd ∷ reg_text rn ∷ amount_text amount register ∷ [])))
 arithmetic_text (RxSBG op rd ri rn start end amount) =
     Some (row (selected_name (Some (rotate_name op)) start end) (reused_text rd ri ∷ reg_text rn ∷ rotated_text start end (rotation amount) ∷ []))
 arithmetic_text (RxSBGTest op rd rn start end amount) =
@@ -110,11 +110,11 @@ arithmetic_text _ = None
 -- products, divisions and counts of leading zeros, whose output is a pair
 abbrev pub pair_instruction_text : Inst → Option Text
 pair_instruction_text (SMulWide rd rn rm) = Some (pair_row (codes "mgrk") rd (reg_text rn ∷ reg_text rm ∷ []))
-pair_instruction_text (UMulWide rd ri rn) = Some (fixed (spelled (codes "mlgr") (reused_low_text rd.hi rd.lo ri ∷ reg_text rn ∷ [])))
-pair_instruction_text (SDivMod32 rd ri rn) = Some (fixed (spelled (codes "dsgfr") (reused_low_text rd.hi rd.lo ri ∷ reg_text rn ∷ [])))
-pair_instruction_text (SDivMod64 rd ri rn) = Some (fixed (spelled (codes "dsgr") (reused_low_text rd.hi rd.lo ri ∷ reg_text rn ∷ [])))
-pair_instruction_text (UDivMod32 rd ri rn) = Some (fixed (spelled (codes "dlr") (reused_pair_text rd.hi rd.lo ri.hi ri.lo ∷ reg_text rn ∷ [])))
-pair_instruction_text (UDivMod64 rd ri rn) = Some (fixed (spelled (codes "dlgr") (reused_pair_text rd.hi rd.lo ri.hi ri.lo ∷ reg_text rn ∷ [])))
+pair_instruction_text (UMulWide rd ri rn) = Some (fixed_text (instruction_text (codes "mlgr") (reused_low_text rd.hi rd.lo ri ∷ reg_text rn ∷ [])))
+pair_instruction_text (SDivMod32 rd ri rn) = Some (fixed_text (instruction_text (codes "dsgfr") (reused_low_text rd.hi rd.lo ri ∷ reg_text rn ∷ [])))
+pair_instruction_text (SDivMod64 rd ri rn) = Some (fixed_text (instruction_text (codes "dsgr") (reused_low_text rd.hi rd.lo ri ∷ reg_text rn ∷ [])))
+pair_instruction_text (UDivMod32 rd ri rn) = Some (fixed_text (instruction_text (codes "dlr") (reused_pair_text rd.hi rd.lo ri.hi ri.lo ∷ reg_text rn ∷ [])))
+pair_instruction_text (UDivMod64 rd ri rn) = Some (fixed_text (instruction_text (codes "dlgr") (reused_pair_text rd.hi rd.lo ri.hi ri.lo ∷ reg_text rn ∷ [])))
 pair_instruction_text (Flogr rd rn) = Some (pair_row (codes "flogr") rd (reg_text rn ∷ []))
 pair_instruction_text _ = None
 
@@ -131,24 +131,24 @@ compare_text _ = None
 
 -- moves, and addresses that are summed
 abbrev pub move_text : Inst → Option Text
-move_text (Mov64 rd rm) = Some (fixed (spelled (codes "lgr") (reg_text rd ∷ reg_text rm ∷ [])))
-move_text (MovPReg rd rm) = Some (fixed (spelled (codes "lgr") (reg_text rd ∷ real_text rm ∷ [])))
-move_text (Mov32 rd rm) = Some (fixed (spelled (codes "lr") (reg_text rd ∷ reg_text rm ∷ [])))
-move_text (Mov32Imm rd imm) = Some (fixed (spelled (codes "iilf") (reg_text rd ∷ decimal imm ∷ [])))
-move_text (Mov32SImm16 rd imm) = Some (fixed (spelled (codes "lhi") (reg_text rd ∷ signed_decimal imm ∷ [])))
-move_text (Mov64SImm16 rd imm) = Some (fixed (spelled (codes "lghi") (reg_text rd ∷ signed_decimal imm ∷ [])))
-move_text (Mov64SImm32 rd imm) = Some (fixed (spelled (codes "lgfi") (reg_text rd ∷ signed_decimal imm ∷ [])))
+move_text (Mov64 rd rm) = Some (fixed_text (instruction_text (codes "lgr") (reg_text rd ∷ reg_text rm ∷ [])))
+move_text (MovPReg rd rm) = Some (fixed_text (instruction_text (codes "lgr") (reg_text rd ∷ real_text rm ∷ [])))
+move_text (Mov32 rd rm) = Some (fixed_text (instruction_text (codes "lr") (reg_text rd ∷ reg_text rm ∷ [])))
+move_text (Mov32Imm rd imm) = Some (fixed_text (instruction_text (codes "iilf") (reg_text rd ∷ decimal imm ∷ [])))
+move_text (Mov32SImm16 rd imm) = Some (fixed_text (instruction_text (codes "lhi") (reg_text rd ∷ signed_decimal imm ∷ [])))
+move_text (Mov64SImm16 rd imm) = Some (fixed_text (instruction_text (codes "lghi") (reg_text rd ∷ signed_decimal imm ∷ [])))
+move_text (Mov64SImm32 rd imm) = Some (fixed_text (instruction_text (codes "lgfi") (reg_text rd ∷ signed_decimal imm ∷ [])))
 move_text (Mov64UImm16Shifted rd imm) = Some (row (load_part_name imm.shift) (reg_text rd ∷ decimal imm.bits ∷ []))
 move_text (Mov64UImm32Shifted rd imm) = Some (row (load_half_name imm.shift) (reg_text rd ∷ decimal imm.bits ∷ []))
 move_text (Insert64UImm16Shifted rd ri imm) = Some (row (insert_part_name imm.shift) (reused_text rd ri ∷ decimal imm.bits ∷ []))
 move_text (Insert64UImm32Shifted rd ri imm) = Some (row (insert_half_name imm.shift) (reused_text rd ri ∷ decimal imm.bits ∷ []))
-move_text (CMov32 rd mask ri rm) = Some (conditional (codes "locr") mask (reused_text rd ri ∷ reg_text rm ∷ []))
-move_text (CMov64 rd mask ri rm) = Some (conditional (codes "locgr") mask (reused_text rd ri ∷ reg_text rm ∷ []))
-move_text (CMov32SImm16 rd mask ri imm) = Some (conditional (codes "lochi") mask (reused_text rd ri ∷ signed_decimal imm ∷ []))
-move_text (CMov64SImm16 rd mask ri imm) = Some (conditional (codes "locghi") mask (reused_text rd ri ∷ signed_decimal imm ∷ []))
+move_text (CMov32 rd mask ri rm) = Some (conditional_text (codes "locr") mask (reused_text rd ri ∷ reg_text rm ∷ []))
+move_text (CMov64 rd mask ri rm) = Some (conditional_text (codes "locgr") mask (reused_text rd ri ∷ reg_text rm ∷ []))
+move_text (CMov32SImm16 rd mask ri imm) = Some (conditional_text (codes "lochi") mask (reused_text rd ri ∷ signed_decimal imm ∷ []))
+move_text (CMov64SImm16 rd mask ri imm) = Some (conditional_text (codes "locghi") mask (reused_text rd ri ∷ signed_decimal imm ∷ []))
 move_text (Extend rd rn signed from to) = Some (row (extend_name signed from to) (reg_text rd ∷ reg_text rn ∷ []))
-move_text (LoadAR rd ar) = Some (fixed (spelled (codes "ear") (reg_text rd ∷ access_register_text ar ∷ [])))
-move_text (InsertAR rd ri ar) = Some (fixed (spelled (codes "ear") (reused_text rd ri ∷ access_register_text ar ∷ [])))
+move_text (LoadAR rd ar) = Some (fixed_text (instruction_text (codes "ear") (reg_text rd ∷ access_register_text ar ∷ [])))
+move_text (InsertAR rd ri ar) = Some (fixed_text (instruction_text (codes "ear") (reused_text rd ri ∷ access_register_text ar ∷ [])))
 move_text (LoadIndexedAddr rd base index offset size) = Some (row (indexed_name size) (reg_text rd ∷ indexed_text offset index base ∷ []))
 move_text (LoadLogicalIndexedAddr rd base index offset size) = Some (row (logical_indexed_name size) (reg_text rd ∷ indexed_text offset index base ∷ []))
 move_text _ = None

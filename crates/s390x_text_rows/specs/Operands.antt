@@ -78,12 +78,12 @@ is_zero (Real r) = is_class r.class Int && nat_eq r.number 0
 is_zero (Virtual n c) = false
 
 -- a register in brackets; nothing for %r0
-abbrev pub bracketed : Reg → List ℕ
-bracketed r = cond (is_zero r) [] (codes "(" ++ (reg_text r ++ codes ")"))
+abbrev pub bracketed_register : Reg → List ℕ
+bracketed_register r = cond (is_zero r) [] (codes "(" ++ (reg_text r ++ codes ")"))
 
 -- an amount or a lane: a number, and the register that is added to it
 abbrev pub amount_text : ℕ → Reg → List ℕ
-amount_text n r = decimal n ++ bracketed r
+amount_text n r = decimal n ++ bracketed_register r
 
 -- an access register
 abbrev pub access_register_text : ℕ → List ℕ

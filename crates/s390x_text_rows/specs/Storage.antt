@@ -14,7 +14,7 @@ use Rattle.s390x_inst.specs.Stores.{as_store, by_store}
 use Rattle.s390x_inst.specs.declared.inst.Inst.{Inst}
 use Rattle.s390x_inst.specs.declared.inst.Inst.TheVariants.{Mov64SImm32, AluRX, CmpRX}
 use Rattle.s390x_inst.specs.declared.inst.Inst.TheVariants.{StoreImm8, StoreImm16, StoreImm32SExt16, StoreImm64SExt16, LoadMultiple64, StoreMultiple64, LoadAddr, AtomicRmw, AtomicCas32, AtomicCas64}
-use Rattle.s390x_typed_steps.specs.Operands.{Finalized, no_register, needs_address, fits_12, fits_20, finalized, resolved}
+use Rattle.s390x_typed_steps.specs.Operands.{Finalized, no_register, needs_address, fits_12, fits_20, finalized_operand, resolved_operand}
 use Rattle.s390x_typed_steps.specs.Causes.{operand_cause}
 use Rattle.s390x_typed_steps.specs.Memory.{load_rows, store_rows}
 use Rattle.s390x_typed_steps.specs.declared.access_rows.RegisterRows.{RegisterRows}
@@ -22,7 +22,7 @@ use Rattle.s390x_typed_steps.specs.declared.mem_inst_type.MemInstType.{MemInstTy
 use Rattle.s390x_format.specs.Stems.{stem_of}
 use Rattle.s390x_rows.specs.declared.opcodes.TheConstants as opcodes
 use Rattle.s390x_job_fields.specs.Atoms.{reg_text}
-use Rattle.s390x_text_rows.specs.Texts.{Text, spelled, RefusedBy}
+use Rattle.s390x_text_rows.specs.Texts.{Text, instruction_text, RefusedBy}
 use Rattle.s390x_text_rows.specs.Operands.{is_zero, label_text, name_text, reused_text}
 use Rattle.s390x_text_rows.specs.Mnemonics.{alu_short_name, alu_long_name, atomic_name, cmp_short_name, cmp_long_name, cmp_relative_name}
 use Rattle.s390x_text_rows.specs.declared.error.TextError.{TextError}
@@ -117,8 +117,8 @@ name_at r m = []
 
 -- the instructions that come before an access: an offset that is loaded, and an address
 abbrev pub helper_text : Inst → List ℕ
-helper_text (Mov64SImm32 rd imm) = spelled (stem_of opcodes.LGFI) (reg_text rd ∷ signed_decimal imm ∷ [])
-helper_text (LoadAddr rd mem) = spelled (name_at address_rows mem) (reg_text rd ∷ memory_text mem ∷ [])
+helper_text (Mov64SImm32 rd imm) = instruction_text (stem_of opcodes.LGFI) (reg_text rd ∷ signed_decimal imm ∷ [])
+helper_text (LoadAddr rd mem) = instruction_text (name_at address_rows mem) (reg_text rd ∷ memory_text mem ∷ [])
 helper_text i = []
 
 -- helpers in order, each followed by a semicolon
@@ -136,8 +136,8 @@ abbrev pub access_cause : (has_relative : Bool) → Rows → MemArg → Option T
 access_cause has r m = cond (has_row r) (address_cause (operand_cause (type_of_rows has r) m)) (Some NoRow)
 
 -- the operand itself, where the rows have a form for it
-abbrev pub kept : MemInstType → MemArg → Option MemArg
-kept mi m = cond (needs_address mi m) None (Some m)
+abbrev pub operand_with_form : MemInstType → MemArg → Option MemArg
+operand_with_form mi m = cond (needs_address mi m) None (Some m)
 
 -- the operand in place of an offset that a displacement of the rows holds, or of one that they take relative to the instruction; none in place of any
 -- other operand
@@ -145,25 +145,25 @@ abbrev pub near_operand : MemInstType → MemArg → Option MemArg
 near_operand mi (RegOffset reg off flags) =
     cond (mi.have_d12 && fits_12 off) (Some (BXD12 reg no_register (unsigned_abs off) flags))
     (cond (mi.have_d20 && fits_20 off) (Some (BXD20 reg no_register off flags)) None)
-near_operand mi (Label target) = kept mi (Label target)
-near_operand mi (Constant c) = kept mi (Constant c)
-near_operand mi (Symbol name offset flags) = kept mi (Symbol name offset flags)
+near_operand mi (Label target) = operand_with_form mi (Label target)
+near_operand mi (Constant c) = operand_with_form mi (Constant c)
+near_operand mi (Symbol name offset flags) = operand_with_form mi (Symbol name offset flags)
 near_operand mi m = None
 
 -- what a call answers that appends the helpers of an operand, and gives the operand of the access
 abbrev pub Opens : Result MemArg TextError → (old new : List ℕ) → (has_relative : Bool) → Rows → MemArg → Type 0
 Opens result old new has r m =
     MatchResult result
-    (λ operand. (access_cause has r m ≡ None) × (operand ≡ (finalized (type_of_rows has r) m).operand) × (new ≡ old ++ helpers_text (finalized (type_of_rows has r) m).helpers))
+    (λ operand. (access_cause has r m ≡ None) × (operand ≡ (finalized_operand (type_of_rows has r) m).operand) × (new ≡ old ++ helpers_text (finalized_operand (type_of_rows has r) m).helpers))
     (λ e. RefusedBy (access_cause has r m) e)
 
 -- helpers, and the access with its operands before and behind that in memory
 abbrev pub finalized_text : Rows → Finalized → (before after : List (List ℕ)) → List ℕ
-finalized_text r f before after = helpers_text f.helpers ++ spelled (name_at r f.operand) (before ++ (memory_text f.operand ∷ after))
+finalized_text r f before after = helpers_text f.helpers ++ instruction_text (name_at r f.operand) (before ++ (memory_text f.operand ∷ after))
 
 -- the text of an instruction with an operand in memory, in a state of emission
 abbrev pub access_where : (has_relative : Bool) → Rows → Emission → (before : List (List ℕ)) → MemArg → (after : List (List ℕ)) → Text
-access_where has r e before m after = record { cause = access_cause has r (resolved e m); bytes = finalized_text r (finalized (type_of_rows has r) (resolved e m)) before after }
+access_where has r e before m after = record { cause = access_cause has r (resolved_operand e m); bytes = finalized_text r (finalized_operand (type_of_rows has r) (resolved_operand e m)) before after }
 
 -- the text of an instruction with an operand in memory that has no row relative to the instruction, or of LOAD ADDRESS, which each machine has
 abbrev pub access : Rows → Emission → (before : List (List ℕ)) → MemArg → (after : List (List ℕ)) → Text

@@ -9,17 +9,17 @@ pub record Text : Type 0 where
   pub bytes : List ℕ
 
 -- the first of two causes
-abbrev pub first : Option TextError → Option TextError → Option TextError
-first None later = later
-first (Some e) later = Some e
+abbrev pub first_cause : Option TextError → Option TextError → Option TextError
+first_cause None later = later
+first_cause (Some e) later = Some e
 
 -- a text that is never refused
-abbrev pub fixed : List ℕ → Text
-fixed s = record { cause = None; bytes = s }
+abbrev pub fixed_text : List ℕ → Text
+fixed_text s = record { cause = None; bytes = s }
 
 -- two texts, one behind the other
 abbrev pub both : Text → Text → Text
-both t u = record { cause = first t.cause u.cause; bytes = t.bytes ++ u.bytes }
+both t u = record { cause = first_cause t.cause u.cause; bytes = t.bytes ++ u.bytes }
 
 -- a text before a semicolon
 abbrev pub before_semicolon : Text → Text
@@ -36,13 +36,13 @@ operands [] = []
 operands (x ∷ xs) = codes " " ++ (x ++ more_operands xs)
 
 -- a machine instruction: its mnemonic and its operands
-abbrev pub spelled : List ℕ → List (List ℕ) → List ℕ
-spelled mnemonic xs = mnemonic ++ operands xs
+abbrev pub instruction_text : List ℕ → List (List ℕ) → List ℕ
+instruction_text mnemonic xs = mnemonic ++ operands xs
 
 -- a machine instruction, its mnemonic and its operands, where there may be no row
 abbrev pub row : Option (List ℕ) → List (List ℕ) → Text
 row None xs = record { cause = Some NoRow; bytes = [] }
-row (Some mnemonic) xs = fixed (spelled mnemonic xs)
+row (Some mnemonic) xs = fixed_text (instruction_text mnemonic xs)
 
 -- an error is the cause, or want of memory
 abbrev pub RefusedBy : Option TextError → TextError → Type 0

@@ -15,7 +15,7 @@ use Rattle.s390x_inst.specs.declared.vec_ops.VecBinaryOp.TheVariants.{UDiv32x4, 
 use Rattle.s390x_format.specs.Stems.{stem_of}
 use Rattle.s390x_rows.specs.declared.opcodes.TheConstants as opcodes
 use Rattle.s390x_job_fields.specs.Atoms.{reg_text}
-use Rattle.s390x_text_rows.specs.Texts.{Text, row, fixed, spelled, text_or}
+use Rattle.s390x_text_rows.specs.Texts.{Text, row, fixed_text, instruction_text, text_or}
 use Rattle.s390x_text_rows.specs.Operands.{reused_text, amount_text, cond_text, is_float, float_text, is_zero}
 use Rattle.s390x_text_rows.specs.Storage.{rx, access}
 use Rattle.s390x_text_rows.specs.VectorMnemonics.{vec_binary_name, vec_unary_name, vec_shift_name, vec_compare_name, vec_compare_set_name, vec_element_compare_name, whole_name}
@@ -69,7 +69,7 @@ doublewords_text rd rn rm idx1 idx2 =
 
 -- a comparison of two numbers of 128 bits: their left halves, and where these are equal their right ones
 abbrev pub wide_compare_text : List ℕ → (tmp rn rm : Reg) → List ℕ
-wide_compare_text name tmp rn rm = spelled name (reg_text rm ∷ reg_text rn ∷ []) ++ (codes " ; jne 10 ; " ++ spelled (codes "vchlgs") (reg_text tmp ∷ reg_text rn ∷ reg_text rm ∷ []))
+wide_compare_text name tmp rn rm = instruction_text name (reg_text rm ∷ reg_text rn ∷ []) ++ (codes " ; jne 10 ; " ++ instruction_text (codes "vchlgs") (reg_text tmp ∷ reg_text rn ∷ reg_text rm ∷ []))
 
 -- both registers are float registers
 abbrev pub are_floats : (r s : Reg) → Bool
@@ -77,7 +77,7 @@ are_floats r s = is_float r && is_float s
 
 -- a move of float registers, or of whole ones
 abbrev pub float_move_text : List ℕ → (rd rn : Reg) → List ℕ
-float_move_text name rd rn = cond (are_floats rd rn) (spelled name (float_text rd ∷ float_text rn ∷ [])) (spelled (codes "vlr") (reg_text rd ∷ reg_text rn ∷ []))
+float_move_text name rd rn = cond (are_floats rd rn) (instruction_text name (float_text rd ∷ float_text rn ∷ [])) (instruction_text (codes "vlr") (reg_text rd ∷ reg_text rn ∷ []))
 
 -- a branch over what follows, where a condition doesn't hold
 abbrev pub unless_text : (mask : ℕ) → (over : List ℕ) → List ℕ
@@ -93,22 +93,22 @@ is_float_lane size r lane lane_reg = nat_eq size 64 && nat_eq lane 0 && is_zero 
 
 -- doublewords in reverse order; and then halves of them, by rotation, on the register itself, until lanes are
 abbrev pub reverse2_text : (rd rn : Reg) → List ℕ
-reverse2_text rd rn = spelled (codes "vpdi") (reg_text rd ∷ reg_text rn ∷ reg_text rn ∷ decimal 4 ∷ [])
+reverse2_text rd rn = instruction_text (codes "vpdi") (reg_text rd ∷ reg_text rn ∷ reg_text rn ∷ decimal 4 ∷ [])
 
 abbrev pub reverse4_text : (rd rn : Reg) → List ℕ
-reverse4_text rd rn = reverse2_text rd rn ++ (codes " ; " ++ spelled (codes "verllg") (reg_text rd ∷ reg_text rd ∷ decimal 32 ∷ []))
+reverse4_text rd rn = reverse2_text rd rn ++ (codes " ; " ++ instruction_text (codes "verllg") (reg_text rd ∷ reg_text rd ∷ decimal 32 ∷ []))
 
 abbrev pub reverse8_text : (rd rn : Reg) → List ℕ
-reverse8_text rd rn = reverse4_text rd rn ++ (codes " ; " ++ spelled (codes "verllf") (reg_text rd ∷ reg_text rd ∷ decimal 16 ∷ []))
+reverse8_text rd rn = reverse4_text rd rn ++ (codes " ; " ++ instruction_text (codes "verllf") (reg_text rd ∷ reg_text rd ∷ decimal 16 ∷ []))
 
 abbrev pub reverse16_text : (rd rn : Reg) → List ℕ
-reverse16_text rd rn = reverse8_text rd rn ++ (codes " ; " ++ spelled (codes "verllh") (reg_text rd ∷ reg_text rd ∷ decimal 8 ∷ []))
+reverse16_text rd rn = reverse8_text rd rn ++ (codes " ; " ++ instruction_text (codes "verllh") (reg_text rd ∷ reg_text rd ∷ decimal 8 ∷ []))
 
 -- by the count of lanes
 abbrev pub reverse_text : (rd rn : Reg) → (count : ℕ) → Text
 reverse_text rd rn count =
-    cond (nat_eq count 2) (fixed (reverse2_text rd rn))
-    (cond (nat_eq count 4) (fixed (reverse4_text rd rn)) (cond (nat_eq count 8) (fixed (reverse8_text rd rn)) (cond (nat_eq count 16) (fixed (reverse16_text rd rn)) (row None []))))
+    cond (nat_eq count 2) (fixed_text (reverse2_text rd rn))
+    (cond (nat_eq count 4) (fixed_text (reverse4_text rd rn)) (cond (nat_eq count 8) (fixed_text (reverse8_text rd rn)) (cond (nat_eq count 16) (fixed_text (reverse16_text rd rn)) (row None []))))
 
 -- a load of lane 0 into a float register, or of a lane
 abbrev pub load_lane_text : Emission → (size : ℕ) → Reg → MemArg → (lane : ℕ) → Text
@@ -128,31 +128,31 @@ store_lane_text e size rd mem lane =
 
 -- operators, and bits and lanes that are chosen
 abbrev pub vec_operator_text : VecInst → Option Text
-vec_operator_text (VecRRR op rd rn rm) = Some (fixed (spelled (vec_binary_name op) (vec_binary_operands op rd rn rm)))
-vec_operator_text (VecRR op rd rn) = Some (fixed (spelled (vec_unary_name op) (reg_text rd ∷ reg_text rn ∷ [])))
-vec_operator_text (VecShiftRR op rd rn amount register) = Some (fixed (spelled (vec_shift_name op) (reg_text rd ∷ reg_text rn ∷ amount_text amount register ∷ [])))
-vec_operator_text (VecSelect rd rn rm ra) = Some (fixed (spelled (codes "vsel") (reg_text rd ∷ reg_text rn ∷ reg_text rm ∷ reg_text ra ∷ [])))
-vec_operator_text (VecPermute rd rn rm ra) = Some (fixed (spelled (codes "vperm") (reg_text rd ∷ reg_text rn ∷ reg_text rm ∷ reg_text ra ∷ [])))
-vec_operator_text (VecBlend rd rn rm ra) = Some (fixed (spelled (codes "vblend") (reg_text rd ∷ reg_text rn ∷ reg_text rm ∷ reg_text ra ∷ [])))
-vec_operator_text (VecEvaluate imm rd rn rm ra) = Some (fixed (spelled (codes "veval") (reg_text rd ∷ reg_text rn ∷ reg_text rm ∷ reg_text ra ∷ decimal imm ∷ [])))
+vec_operator_text (VecRRR op rd rn rm) = Some (fixed_text (instruction_text (vec_binary_name op) (vec_binary_operands op rd rn rm)))
+vec_operator_text (VecRR op rd rn) = Some (fixed_text (instruction_text (vec_unary_name op) (reg_text rd ∷ reg_text rn ∷ [])))
+vec_operator_text (VecShiftRR op rd rn amount register) = Some (fixed_text (instruction_text (vec_shift_name op) (reg_text rd ∷ reg_text rn ∷ amount_text amount register ∷ [])))
+vec_operator_text (VecSelect rd rn rm ra) = Some (fixed_text (instruction_text (codes "vsel") (reg_text rd ∷ reg_text rn ∷ reg_text rm ∷ reg_text ra ∷ [])))
+vec_operator_text (VecPermute rd rn rm ra) = Some (fixed_text (instruction_text (codes "vperm") (reg_text rd ∷ reg_text rn ∷ reg_text rm ∷ reg_text ra ∷ [])))
+vec_operator_text (VecBlend rd rn rm ra) = Some (fixed_text (instruction_text (codes "vblend") (reg_text rd ∷ reg_text rn ∷ reg_text rm ∷ reg_text ra ∷ [])))
+vec_operator_text (VecEvaluate imm rd rn rm ra) = Some (fixed_text (instruction_text (codes "veval") (reg_text rd ∷ reg_text rn ∷ reg_text rm ∷ reg_text ra ∷ decimal imm ∷ [])))
 vec_operator_text (VecPermuteDWImm rd rn rm idx1 idx2) = Some (doublewords_text rd rn rm idx1 idx2)
-vec_operator_text (VecIntCmp op rd rn rm) = Some (fixed (spelled (vec_compare_name op) (reg_text rd ∷ reg_text rn ∷ reg_text rm ∷ [])))
-vec_operator_text (VecIntCmpS op rd rn rm) = Some (fixed (spelled (vec_compare_set_name op) (reg_text rd ∷ reg_text rn ∷ reg_text rm ∷ [])))
-vec_operator_text (VecIntEltCmp op rn rm) = Some (fixed (spelled (vec_element_compare_name op) (reg_text rn ∷ reg_text rm ∷ [])))
-vec_operator_text (VecInt128SCmpHi tmp rn rm) = Some (fixed (wide_compare_text (codes "vecg") tmp rn rm))
-vec_operator_text (VecInt128UCmpHi tmp rn rm) = Some (fixed (wide_compare_text (codes "veclg") tmp rn rm))
+vec_operator_text (VecIntCmp op rd rn rm) = Some (fixed_text (instruction_text (vec_compare_name op) (reg_text rd ∷ reg_text rn ∷ reg_text rm ∷ [])))
+vec_operator_text (VecIntCmpS op rd rn rm) = Some (fixed_text (instruction_text (vec_compare_set_name op) (reg_text rd ∷ reg_text rn ∷ reg_text rm ∷ [])))
+vec_operator_text (VecIntEltCmp op rn rm) = Some (fixed_text (instruction_text (vec_element_compare_name op) (reg_text rn ∷ reg_text rm ∷ [])))
+vec_operator_text (VecInt128SCmpHi tmp rn rm) = Some (fixed_text (wide_compare_text (codes "vecg") tmp rn rm))
+vec_operator_text (VecInt128UCmpHi tmp rn rm) = Some (fixed_text (wide_compare_text (codes "veclg") tmp rn rm))
 vec_operator_text _ = None
 
 -- moves and immediates
 abbrev pub vec_move_text : VecInst → Option Text
-vec_move_text (VecMov rd rn) = Some (fixed (spelled (codes "vlr") (reg_text rd ∷ reg_text rn ∷ [])))
-vec_move_text (FpuMove32 rd rn) = Some (fixed (float_move_text (codes "ler") rd rn))
-vec_move_text (FpuMove64 rd rn) = Some (fixed (float_move_text (codes "ldr") rd rn))
-vec_move_text (FpuCMov32 rd mask ri rm) = Some (fixed (float_cmov_text (codes "ler") rd mask rm))
-vec_move_text (FpuCMov64 rd mask ri rm) = Some (fixed (float_cmov_text (codes "ldr") rd mask rm))
-vec_move_text (VecCMov rd mask ri rm) = Some (fixed (unless_text mask (codes "10") ++ spelled (codes "vlr") (reused_text rd ri ∷ reg_text rm ∷ [])))
-vec_move_text (MovToVec128 rd rn rm) = Some (fixed (spelled (codes "vlvgp") (reg_text rd ∷ reg_text rn ∷ reg_text rm ∷ [])))
-vec_move_text (VecImmByteMask rd mask) = Some (fixed (spelled (codes "vgbm") (reg_text rd ∷ decimal mask ∷ [])))
+vec_move_text (VecMov rd rn) = Some (fixed_text (instruction_text (codes "vlr") (reg_text rd ∷ reg_text rn ∷ [])))
+vec_move_text (FpuMove32 rd rn) = Some (fixed_text (float_move_text (codes "ler") rd rn))
+vec_move_text (FpuMove64 rd rn) = Some (fixed_text (float_move_text (codes "ldr") rd rn))
+vec_move_text (FpuCMov32 rd mask ri rm) = Some (fixed_text (float_cmov_text (codes "ler") rd mask rm))
+vec_move_text (FpuCMov64 rd mask ri rm) = Some (fixed_text (float_cmov_text (codes "ldr") rd mask rm))
+vec_move_text (VecCMov rd mask ri rm) = Some (fixed_text (unless_text mask (codes "10") ++ instruction_text (codes "vlr") (reused_text rd ri ∷ reg_text rm ∷ [])))
+vec_move_text (MovToVec128 rd rn rm) = Some (fixed_text (instruction_text (codes "vlvgp") (reg_text rd ∷ reg_text rn ∷ reg_text rm ∷ [])))
+vec_move_text (VecImmByteMask rd mask) = Some (fixed_text (instruction_text (codes "vgbm") (reg_text rd ∷ decimal mask ∷ [])))
 vec_move_text (VecImmBitMask size rd start end) = Some (row (mask_name size start end) (reg_text rd ∷ decimal start ∷ decimal end ∷ []))
 vec_move_text (VecImmReplicate size rd imm) = Some (row (lane_name (codes "vrepib") (codes "vrepih") (codes "vrepif") (codes "vrepig") size 0) (reg_text rd ∷ signed_decimal imm ∷ []))
 vec_move_text _ = None
@@ -160,13 +160,13 @@ vec_move_text _ = None
 -- a register into a lane: the other lanes may change, so lane 0 of 64 bits may be a float register
 abbrev pub insert_lane_text : (size : ℕ) → (rd rn : Reg) → (lane : ℕ) → (lane_reg : Reg) → Text
 insert_lane_text size rd rn lane lane_reg =
-    cond (is_float_lane size rd lane lane_reg) (fixed (spelled (codes "ldgr") (float_text rd ∷ reg_text rn ∷ [])))
+    cond (is_float_lane size rd lane lane_reg) (fixed_text (instruction_text (codes "ldgr") (float_text rd ∷ reg_text rn ∷ [])))
     (row (lane_name (codes "vlvgb") (codes "vlvgh") (codes "vlvgf") (codes "vlvgg") size lane) (reg_text rd ∷ reg_text rn ∷ amount_text lane lane_reg ∷ []))
 
 -- a lane into a general register
 abbrev pub extract_lane_text : (size : ℕ) → (rd rn : Reg) → (lane : ℕ) → (lane_reg : Reg) → Text
 extract_lane_text size rd rn lane lane_reg =
-    cond (is_float_lane size rn lane lane_reg) (fixed (spelled (codes "lgdr") (reg_text rd ∷ float_text rn ∷ [])))
+    cond (is_float_lane size rn lane lane_reg) (fixed_text (instruction_text (codes "lgdr") (reg_text rd ∷ float_text rn ∷ [])))
     (row (lane_name (codes "vlgvb") (codes "vlgvh") (codes "vlgvf") (codes "vlgvg") size lane) (reg_text rd ∷ reg_text rn ∷ amount_text lane lane_reg ∷ []))
 
 -- lanes

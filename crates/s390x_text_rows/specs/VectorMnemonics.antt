@@ -17,16 +17,16 @@ use Rattle.s390x_inst.specs.declared.vec_ops.VecIntCmpOp.{VecIntCmpOp}
 use Rattle.s390x_inst.specs.declared.vec_ops.VecIntEltCmpOp.{VecIntEltCmpOp}
 
 -- a mnemonic in two parts
-abbrev pub joined : Mnemonic → List ℕ
-joined m = stem_of m.opcode ++ m.letters.now
+abbrev pub mnemonic_text : Mnemonic → List ℕ
+mnemonic_text m = stem_of m.opcode ++ m.letters.now
 
 -- the letter of the elements' size, by its code
 abbrev pub size_letter : ℕ → List ℕ
 size_letter code = cond (nat_eq code 0) (codes "b") (cond (nat_eq code 1) (codes "h") (cond (nat_eq code 2) (codes "f") (cond (nat_eq code 3) (codes "g") (codes "q"))))
 
 -- a row's stem with this letter
-abbrev pub sized : VectorOpcode → List ℕ
-sized row = stem_of row.opcode ++ size_letter row.code
+abbrev pub sized_mnemonic : VectorOpcode → List ℕ
+sized_mnemonic row = stem_of row.opcode ++ size_letter row.code
 
 -- what stands behind the stem of an operator on two vectors: nothing where its row has one size alone, and `hw` where `h` would make another row's stem
 abbrev pub binary_letters : VecBinaryOp → ℕ → List ℕ
@@ -56,15 +56,15 @@ vec_binary_name op = stem_of (binary_row op).opcode ++ binary_letters op (binary
 
 -- an operator on one vector; of UnpackSLow16x8 it is `vuplh`, as Cranelift's listings have it, where the manual has `vuplhw`
 unfoldable pub vec_unary_name : VecUnaryOp → List ℕ
-vec_unary_name op = sized (unary_row op)
+vec_unary_name op = sized_mnemonic (unary_row op)
 
 -- lanes that are shifted by an amount
 unfoldable pub vec_shift_name : VecShiftOp → List ℕ
-vec_shift_name op = sized (shift_row op)
+vec_shift_name op = sized_mnemonic (shift_row op)
 
 -- a comparison of lanes
 unfoldable pub vec_compare_name : VecIntCmpOp → List ℕ
-vec_compare_name op = sized (comparison_row op)
+vec_compare_name op = sized_mnemonic (comparison_row op)
 
 -- a comparison of lanes that sets the condition code
 abbrev pub vec_compare_set_name : VecIntCmpOp → List ℕ
@@ -72,7 +72,7 @@ vec_compare_set_name op = vec_compare_name op ++ codes "s"
 
 -- a comparison of two numbers of 128 bits
 unfoldable pub vec_element_compare_name : VecIntEltCmpOp → List ℕ
-vec_element_compare_name op = sized (element_comparison_row op)
+vec_element_compare_name op = sized_mnemonic (element_comparison_row op)
 
 -- what stands behind the stem of a load or a store of a whole register, by the mask of its row: nothing where the row has one size alone
 abbrev pub whole_letters : ℕ → List ℕ

@@ -2,7 +2,7 @@
 ghost use Rattle.std.specs.Prelude.{◌≡◌, ◌∷◌, [], Some, string_bytes};
 ghost use Rattle.std.specs.Option.{option_map};
 ghost use Rattle.s390x_typed_steps.specs.General.{rotation};
-ghost use Rattle.s390x_text_rows.specs.Texts.{Prints, PrintsWhere, fixed, spelled};
+ghost use Rattle.s390x_text_rows.specs.Texts.{Prints, PrintsWhere, fixed_text, instruction_text};
 ghost use Rattle.s390x_text_rows.specs.Integer.{arithmetic_text, pair_instruction_text, pair_row, unary_operands, alu_part_name, alu_half_name, selected_name};
 ghost use Rattle.s390x_text_rows.specs.Mnemonics.{unary_name};
 
@@ -49,7 +49,7 @@ fn rotation(amount: i8) -> u8
 
 fn put_unary(out: &mut String, op: UnaryOp, rd: &Writable<Reg>, rn: &Reg) -> Result<(), TextError>
     ensures { Prints result (string_bytes out.old) (string_bytes out.new)
-        (fixed (spelled (unary_name op) (unary_operands op rd.now rn.now))) }
+        (fixed_text (instruction_text (unary_name op) (unary_operands op rd.now rn.now))) }
 {
     match op {
         UnaryOp::PopcntReg => fixed3(out, unary_name(op), rd, rn, &8u8),
@@ -85,38 +85,63 @@ pub fn put_arithmetic(out: &mut String, inst: &Inst) -> Option<Result<(), TextEr
             ))
         }
         Inst::AluRR { alu_op, rd, ri, rm } => {
-            Some(row2(out, alu_two_name(*alu_op), &reused(rd, ri), rm))
+            Some(row2(out, alu_two_name(*alu_op), &reused_operand(rd, ri), rm))
         }
         Inst::AluRSImm16 {
             alu_op,
             rd,
             ri,
             imm,
-        } => Some(row2(out, alu_halfword_name(*alu_op), &reused(rd, ri), imm)),
+        } => Some(row2(
+            out,
+            alu_halfword_name(*alu_op),
+            &reused_operand(rd, ri),
+            imm,
+        )),
         Inst::AluRSImm32 {
             alu_op,
             rd,
             ri,
             imm,
-        } => Some(row2(out, alu_signed_word_name(*alu_op), &reused(rd, ri), imm)),
+        } => Some(row2(
+            out,
+            alu_signed_word_name(*alu_op),
+            &reused_operand(rd, ri),
+            imm,
+        )),
         Inst::AluRUImm32 {
             alu_op,
             rd,
             ri,
             imm,
-        } => Some(row2(out, alu_unsigned_word_name(*alu_op), &reused(rd, ri), imm)),
+        } => Some(row2(
+            out,
+            alu_unsigned_word_name(*alu_op),
+            &reused_operand(rd, ri),
+            imm,
+        )),
         Inst::AluRUImm16Shifted {
             alu_op,
             rd,
             ri,
             imm,
-        } => Some(row2(out, alu_part_name(*alu_op, imm.shift), &reused(rd, ri), imm)),
+        } => Some(row2(
+            out,
+            alu_part_name(*alu_op, imm.shift),
+            &reused_operand(rd, ri),
+            imm,
+        )),
         Inst::AluRUImm32Shifted {
             alu_op,
             rd,
             ri,
             imm,
-        } => Some(row2(out, alu_half_name(*alu_op, imm.shift), &reused(rd, ri), imm)),
+        } => Some(row2(
+            out,
+            alu_half_name(*alu_op, imm.shift),
+            &reused_operand(rd, ri),
+            imm,
+        )),
         Inst::UnaryRR { op, rd, rn } => Some(put_unary(out, *op, rd, rn)),
         Inst::ShiftRR {
             shift_op,
@@ -145,7 +170,7 @@ pub fn put_arithmetic(out: &mut String, inst: &Inst) -> Option<Result<(), TextEr
         } => Some(row3(
             out,
             selected_name(Some(rotate_name(*op)), *start_bit, *end_bit),
-            &reused(rd, ri),
+            &reused_operand(rd, ri),
             rn,
             &RotatedBits {
                 start: u16::from(*start_bit),
@@ -176,7 +201,7 @@ pub fn put_arithmetic(out: &mut String, inst: &Inst) -> Option<Result<(), TextEr
 }
 
 /// An output that is also an input, as one operand.
-pub fn reused(rd: &Writable<Reg>, ri: &Reg) -> Reused
+pub fn reused_operand(rd: &Writable<Reg>, ri: &Reg) -> Reused
     ensures { result ≡ record { rd = rd.now; ri = ri.now } }
 {
     Reused {

@@ -1,7 +1,7 @@
 //! The texts of instructions that go elsewhere, end a run, name a place or have no bytes.
 ghost use Rattle.std.specs.Prelude.{◌≡◌, ◌++◌, ◌∷◌, [], codes, OnOk, string_bytes};
 ghost use Rattle.s390x_job_fields.specs.Atoms.{reg_text, trap_text};
-ghost use Rattle.s390x_text_rows.specs.Texts.{PrintsWhere, spelled};
+ghost use Rattle.s390x_text_rows.specs.Texts.{PrintsWhere, instruction_text};
 ghost use Rattle.s390x_text_rows.specs.Operands.{cond_text, label_text};
 ghost use Rattle.s390x_text_rows.specs.Control.{branch_text, labels_text, convention_text, args_text, rets_text, allocate_text, reloc_text, table_sum_text, table_text, control_text};
 
@@ -34,7 +34,7 @@ fn put_two_branches(
         (string_bytes out.new
         ≡ string_bytes out.old
         ++ (branch_text cond taken.0
-        ++ (codes " ; " ++ spelled (codes "jg") (label_text not_taken.0 ∷ [])))) }
+        ++ (codes " ; " ++ instruction_text (codes "jg") (label_text not_taken.0 ∷ [])))) }
 {
     put_branch(out, cond, taken)?;
     put(out, " ; ")?;

@@ -7,7 +7,7 @@ ghost use Rattle.s390x_text_rows.specs.Operands.{reused_text};
 ghost use Rattle.s390x_text_rows.specs.Mnemonics.{alu_short_name, alu_long_name, cmp_short_name, cmp_long_name, cmp_relative_name};
 ghost use Rattle.s390x_text_rows.specs.Storage.{rx, access_where, load_text, store_text, immediate_store_text, storage_operator_text};
 
-use crate::arithmetic::reused;
+use crate::arithmetic::reused_operand;
 use crate::error::TextError;
 use crate::operand::Reused;
 use crate::storage::{Place, access2, address_rows, rs_access_then, rs_access3, rx_access};
@@ -160,14 +160,14 @@ pub fn put_storage_operator(
         (storage_operator_text has state.now inst.now) }
 {
     match inst {
-        Inst::AluRX { alu_op, rd, ri, mem } => Some(put_operator(out, Place { alloc, has, state, mem }, *alu_op, &reused(rd, ri))),
+        Inst::AluRX { alu_op, rd, ri, mem } => Some(put_operator(out, Place { alloc, has, state, mem }, *alu_op, &reused_operand(rd, ri))),
         Inst::CmpRX { op, rn, mem } => Some(put_comparison(out, Place { alloc, has, state, mem }, *op, rn)),
         Inst::LoadMultiple64 { rt, rt2, mem } => Some(rs_access3(out, Place { alloc, has, state, mem }, None, Some(opcodes::LMG), rt, rt2)),
         Inst::StoreMultiple64 { rt, rt2, mem } => Some(rs_access3(out, Place { alloc, has, state, mem }, None, Some(opcodes::STMG), rt, rt2)),
         Inst::LoadAddr { rd, mem } => Some(access2(out, Place { alloc, has, state, mem }, &address_rows(), rd)),
         Inst::AtomicRmw { alu_op, rd, rn, mem } => Some(rs_access3(out, Place { alloc, has, state, mem }, None, rows_of_alu(*alu_op).atomic, rd, rn)),
-        Inst::AtomicCas32 { rd, ri, rn, mem } => Some(rs_access3(out, Place { alloc, has, state, mem }, Some(opcodes::CS), Some(opcodes::CSY), &reused(rd, ri), rn)),
-        Inst::AtomicCas64 { rd, ri, rn, mem } => Some(rs_access3(out, Place { alloc, has, state, mem }, None, Some(opcodes::CSG), &reused(rd, ri), rn)),
+        Inst::AtomicCas32 { rd, ri, rn, mem } => Some(rs_access3(out, Place { alloc, has, state, mem }, Some(opcodes::CS), Some(opcodes::CSY), &reused_operand(rd, ri), rn)),
+        Inst::AtomicCas64 { rd, ri, rn, mem } => Some(rs_access3(out, Place { alloc, has, state, mem }, None, Some(opcodes::CSG), &reused_operand(rd, ri), rn)),
         _ => None,
     }
 }

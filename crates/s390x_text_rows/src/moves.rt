@@ -4,7 +4,7 @@ ghost use Rattle.std.specs.Option.{option_map};
 ghost use Rattle.s390x_text_rows.specs.Texts.{PrintsWhere};
 ghost use Rattle.s390x_text_rows.specs.Integer.{move_text, extend_name, indexed_name, logical_indexed_name};
 
-use crate::arithmetic::reused;
+use crate::arithmetic::reused_operand;
 use crate::error::TextError;
 use crate::mnemonics::stem_where;
 use crate::operand::{AccessRegister, Indexed};
@@ -34,7 +34,7 @@ fn logical_indexed_name(size: u8) -> Option<&'static str>
     stem_where(row_of_logical_index(size))
 }
 
-fn indexed(offset: &SImm20, index: &Reg, base: &Reg) -> Indexed
+fn indexed_operand(offset: &SImm20, index: &Reg, base: &Reg) -> Indexed
     ensures { result ≡ record { offset = offset.now; index = index.now; base = base.now } }
 {
     Indexed {
@@ -72,26 +72,26 @@ pub fn put_move(out: &mut String, inst: &Inst) -> Option<Result<(), TextError>>
         Inst::Insert64UImm16Shifted { rd, ri, imm } => Some(row2(
             out,
             stem_where(row_of_part(INSERT_PARTS, imm.shift)),
-            &reused(rd, ri),
+            &reused_operand(rd, ri),
             imm,
         )),
         Inst::Insert64UImm32Shifted { rd, ri, imm } => Some(row2(
             out,
             stem_where(row_of_part(INSERT_HALVES, imm.shift)),
-            &reused(rd, ri),
+            &reused_operand(rd, ri),
             imm,
         )),
         Inst::CMov32 { rd, cond, ri, rm } => {
-            Some(conditional2(out, "locr", *cond, &reused(rd, ri), rm))
+            Some(conditional2(out, "locr", *cond, &reused_operand(rd, ri), rm))
         }
         Inst::CMov64 { rd, cond, ri, rm } => {
-            Some(conditional2(out, "locgr", *cond, &reused(rd, ri), rm))
+            Some(conditional2(out, "locgr", *cond, &reused_operand(rd, ri), rm))
         }
         Inst::CMov32SImm16 { rd, cond, ri, imm } => {
-            Some(conditional2(out, "lochi", *cond, &reused(rd, ri), imm))
+            Some(conditional2(out, "lochi", *cond, &reused_operand(rd, ri), imm))
         }
         Inst::CMov64SImm16 { rd, cond, ri, imm } => {
-            Some(conditional2(out, "locghi", *cond, &reused(rd, ri), imm))
+            Some(conditional2(out, "locghi", *cond, &reused_operand(rd, ri), imm))
         }
         Inst::Extend {
             rd,
@@ -102,7 +102,7 @@ pub fn put_move(out: &mut String, inst: &Inst) -> Option<Result<(), TextError>>
         } => Some(row2(out, extend_name(*signed, *from_bits, *to_bits), rd, rn)),
         Inst::LoadAR { rd, ar } => Some(fixed2(out, "ear", rd, &AccessRegister(*ar))),
         Inst::InsertAR { rd, ri, ar } => {
-            Some(fixed2(out, "ear", &reused(rd, ri), &AccessRegister(*ar)))
+            Some(fixed2(out, "ear", &reused_operand(rd, ri), &AccessRegister(*ar)))
         }
         Inst::LoadIndexedAddr {
             rd,
@@ -110,7 +110,12 @@ pub fn put_move(out: &mut String, inst: &Inst) -> Option<Result<(), TextError>>
             index,
             offset,
             size,
-        } => Some(row2(out, indexed_name(*size), rd, &indexed(offset, index, base))),
+        } => Some(row2(
+            out,
+            indexed_name(*size),
+            rd,
+            &indexed_operand(offset, index, base),
+        )),
         Inst::LoadLogicalIndexedAddr {
             rd,
             base,
@@ -121,7 +126,7 @@ pub fn put_move(out: &mut String, inst: &Inst) -> Option<Result<(), TextError>>
             out,
             logical_indexed_name(*size),
             rd,
-            &indexed(offset, index, base),
+            &indexed_operand(offset, index, base),
         )),
         _ => None,
     }

@@ -2,7 +2,7 @@
 ghost use Rattle.std.specs.Prelude.{◌≡◌, ℕ, List, ◌++◌, OnOk, string_bytes};
 ghost use Rattle.std.specs.Fmt.{decimal, signed_decimal};
 ghost use Rattle.s390x_job_fields.specs.Atoms.{reg_text, real_text};
-ghost use Rattle.s390x_text_rows.specs.Operands.{reused_text, rotated_text, halves_text, pair_text, reused_pair_text, reused_low_text, is_zero, bracketed, amount_text, access_register_text, float_text, cond_text, label_text, name_text, indexed_text};
+ghost use Rattle.s390x_text_rows.specs.Operands.{reused_text, rotated_text, halves_text, pair_text, reused_pair_text, reused_low_text, is_zero, bracketed_register, amount_text, access_register_text, float_text, cond_text, label_text, name_text, indexed_text};
 
 use crate::register_names::{put_real, put_reg};
 use s390x_base::{
@@ -250,7 +250,8 @@ pub fn is_zero(r: &Reg) -> bool
 
 // A register in brackets; nothing for `%r0`.
 fn put_bracketed(out: &mut String, r: &Reg) -> Result<(), AllocError>
-    ensures { OnOk result (string_bytes out.new ≡ string_bytes out.old ++ bracketed r.now) }
+    ensures { OnOk result
+        (string_bytes out.new ≡ string_bytes out.old ++ bracketed_register r.now) }
 {
     if is_zero(r) {
         return Ok(());

@@ -2,10 +2,10 @@
 ghost use Rattle.std.specs.Prelude.{◌≡◌, ◌++◌, ◌∷◌, [], OnOk, string_bytes};
 ghost use Rattle.std.specs.Option.{option_map};
 ghost use Rattle.s390x_format.specs.Stems.{stem_of};
-ghost use Rattle.s390x_text_rows.specs.Texts.{Prints, answer_of, row, spelled, fixed};
+ghost use Rattle.s390x_text_rows.specs.Texts.{Prints, answer_of, row, instruction_text, fixed_text};
 ghost use Rattle.s390x_text_rows.specs.Operands.{cond_text};
 ghost use Rattle.s390x_text_rows.specs.Integer.{three_text, conditional_row};
-ghost use Rattle.s390x_text_rows.specs.VectorMnemonics.{joined};
+ghost use Rattle.s390x_text_rows.specs.VectorMnemonics.{mnemonic_text};
 
 use crate::error::TextError;
 use crate::operand::{Operand, cond_name};
@@ -30,7 +30,8 @@ pub fn text_result(written: Result<(), AllocError>) -> Result<(), TextError>
 #[inline(always)]
 pub fn spelled1<A: Operand>(out: &mut String, mnemonic: &str, a: &A) -> Result<(), AllocError>
     ensures { OnOk result
-        (string_bytes out.new ≡ string_bytes out.old ++ spelled mnemonic.now (A.shown a.now ∷ [])) }
+        (string_bytes out.new
+        ≡ string_bytes out.old ++ instruction_text mnemonic.now (A.shown a.now ∷ [])) }
 {
     put(out, mnemonic)?;
     put(out, " ")?;
@@ -47,7 +48,8 @@ pub fn spelled2<A: Operand, B: Operand>(
 ) -> Result<(), AllocError>
     ensures { OnOk result
         (string_bytes out.new
-        ≡ string_bytes out.old ++ spelled mnemonic.now (A.shown a.now ∷ B.shown b.now ∷ [])) }
+        ≡ string_bytes out.old
+        ++ instruction_text mnemonic.now (A.shown a.now ∷ B.shown b.now ∷ [])) }
 {
     spelled1(out, mnemonic, a)?;
     put(out, ", ")?;
@@ -65,7 +67,7 @@ pub fn spelled3<A: Operand, B: Operand, C: Operand>(
     ensures { OnOk result
         (string_bytes out.new
         ≡ string_bytes out.old
-        ++ spelled mnemonic.now (A.shown a.now ∷ B.shown b.now ∷ C.shown c.now ∷ [])) }
+        ++ instruction_text mnemonic.now (A.shown a.now ∷ B.shown b.now ∷ C.shown c.now ∷ [])) }
 {
     spelled2(out, mnemonic, a, b)?;
     put(out, ", ")?;
@@ -84,7 +86,7 @@ pub fn spelled4<A: Operand, B: Operand, C: Operand, D: Operand>(
     ensures { OnOk result
         (string_bytes out.new
         ≡ string_bytes out.old
-        ++ spelled mnemonic.now
+        ++ instruction_text mnemonic.now
         (A.shown a.now ∷ B.shown b.now ∷ C.shown c.now ∷ D.shown d.now ∷ [])) }
 {
     spelled3(out, mnemonic, a, b, c)?;
@@ -103,7 +105,7 @@ pub fn lettered2<A: Operand, B: Operand>(
     ensures { OnOk result
         (string_bytes out.new
         ≡ string_bytes out.old
-        ++ spelled (joined mnemonic) (A.shown a.now ∷ B.shown b.now ∷ [])) }
+        ++ instruction_text (mnemonic_text mnemonic) (A.shown a.now ∷ B.shown b.now ∷ [])) }
 {
     put(out, stem(mnemonic.opcode))?;
     spelled2(out, mnemonic.letters, a, b)
@@ -120,7 +122,8 @@ pub fn lettered3<A: Operand, B: Operand, C: Operand>(
     ensures { OnOk result
         (string_bytes out.new
         ≡ string_bytes out.old
-        ++ spelled (joined mnemonic) (A.shown a.now ∷ B.shown b.now ∷ C.shown c.now ∷ [])) }
+        ++ instruction_text (mnemonic_text mnemonic)
+        (A.shown a.now ∷ B.shown b.now ∷ C.shown c.now ∷ [])) }
 {
     lettered2(out, mnemonic, a, b)?;
     put(out, ", ")?;
@@ -139,7 +142,7 @@ pub fn lettered4<A: Operand, B: Operand, C: Operand, D: Operand>(
     ensures { OnOk result
         (string_bytes out.new
         ≡ string_bytes out.old
-        ++ spelled (joined mnemonic)
+        ++ instruction_text (mnemonic_text mnemonic)
         (A.shown a.now ∷ B.shown b.now ∷ C.shown c.now ∷ D.shown d.now ∷ [])) }
 {
     lettered3(out, mnemonic, a, b, c)?;
@@ -150,7 +153,7 @@ pub fn lettered4<A: Operand, B: Operand, C: Operand, D: Operand>(
 /// Appends a mnemonic with one operand, as an answer of a text. An error comes for want of memory alone.
 pub fn fixed1<A: Operand>(out: &mut String, mnemonic: &str, a: &A) -> Result<(), TextError>
     ensures { Prints result (string_bytes out.old) (string_bytes out.new)
-        (fixed (spelled mnemonic.now (A.shown a.now ∷ []))) }
+        (fixed_text (instruction_text mnemonic.now (A.shown a.now ∷ []))) }
 {
     Ok(spelled1(out, mnemonic, a)?)
 }
@@ -163,7 +166,7 @@ pub fn fixed2<A: Operand, B: Operand>(
     b: &B,
 ) -> Result<(), TextError>
     ensures { Prints result (string_bytes out.old) (string_bytes out.new)
-        (fixed (spelled mnemonic.now (A.shown a.now ∷ B.shown b.now ∷ []))) }
+        (fixed_text (instruction_text mnemonic.now (A.shown a.now ∷ B.shown b.now ∷ []))) }
 {
     Ok(spelled2(out, mnemonic, a, b)?)
 }
@@ -177,7 +180,8 @@ pub fn fixed3<A: Operand, B: Operand, C: Operand>(
     c: &C,
 ) -> Result<(), TextError>
     ensures { Prints result (string_bytes out.old) (string_bytes out.new)
-        (fixed (spelled mnemonic.now (A.shown a.now ∷ B.shown b.now ∷ C.shown c.now ∷ []))) }
+        (fixed_text
+        (instruction_text mnemonic.now (A.shown a.now ∷ B.shown b.now ∷ C.shown c.now ∷ []))) }
 {
     Ok(spelled3(out, mnemonic, a, b, c)?)
 }
@@ -252,7 +256,7 @@ fn spelled_cond2<A: Operand, B: Operand>(
     ensures { OnOk result
         (string_bytes out.new
         ≡ string_bytes out.old
-        ++ spelled (mnemonic.now ++ cond_text cond) (A.shown a.now ∷ B.shown b.now ∷ [])) }
+        ++ instruction_text (mnemonic.now ++ cond_text cond) (A.shown a.now ∷ B.shown b.now ∷ [])) }
 {
     put(out, mnemonic)?;
     spelled2(out, cond_name(cond), a, b)
@@ -267,7 +271,9 @@ pub fn conditional2<A: Operand, B: Operand>(
     b: &B,
 ) -> Result<(), TextError>
     ensures { Prints result (string_bytes out.old) (string_bytes out.new)
-        (fixed (spelled (mnemonic.now ++ cond_text cond) (A.shown a.now ∷ B.shown b.now ∷ []))) }
+        (fixed_text
+        (instruction_text (mnemonic.now ++ cond_text cond)
+        (A.shown a.now ∷ B.shown b.now ∷ []))) }
 {
     Ok(spelled_cond2(out, mnemonic, cond, a, b)?)
 }

@@ -2,11 +2,11 @@
 ghost use Rattle.std.specs.Prelude.{◌≡◌, ◌++◌, ◌∷◌, [], ◌&&◌, codes, cond, unsigned_abs, OnOk, None, Some, string_bytes};
 ghost use Rattle.std.specs.Option.{option_map};
 ghost use Rattle.s390x_inst.specs.declared.args.MemArg.TheVariants.{RegOffset};
-ghost use Rattle.s390x_typed_steps.specs.Operands.{fits_12, fits_20, resolved};
+ghost use Rattle.s390x_typed_steps.specs.Operands.{fits_12, fits_20, resolved_operand};
 ghost use Rattle.s390x_format.specs.Stems.{stem_of};
-ghost use Rattle.s390x_text_rows.specs.Texts.{Prints, spelled};
-ghost use Rattle.s390x_text_rows.specs.VectorMnemonics.{joined};
-ghost use Rattle.s390x_text_rows.specs.Storage.{sum_text, memory_text, is_virtual, rx, rs, rx_of, address_rows, rows_of, has_row, type_of_rows, name_at, helper_text, helpers_text, kept, near_operand, Opens, access_where};
+ghost use Rattle.s390x_text_rows.specs.Texts.{Prints, instruction_text};
+ghost use Rattle.s390x_text_rows.specs.VectorMnemonics.{mnemonic_text};
+ghost use Rattle.s390x_text_rows.specs.Storage.{sum_text, memory_text, is_virtual, rx, rs, rx_of, address_rows, rows_of, has_row, type_of_rows, name_at, helper_text, helpers_text, operand_with_form, near_operand, Opens, access_where};
 
 use crate::error::TextError;
 use crate::operand::{Operand, is_zero};
@@ -259,8 +259,8 @@ fn near_offset(mi: MemInstType, reg: Reg, off: i64, flags: MachMemFlags) -> Opti
 }
 
 // The operand itself, where the rows have a form for it.
-fn kept(mi: MemInstType, mem: &MemArg) -> Option<MemArg>
-    ensures { result ≡ kept mi mem.now }
+fn operand_with_form(mi: MemInstType, mem: &MemArg) -> Option<MemArg>
+    ensures { result ≡ operand_with_form mi mem.now }
 {
     if needs_address(mi, mem) {
         None
@@ -275,7 +275,9 @@ fn near_operand(mi: MemInstType, mem: &MemArg) -> Option<MemArg>
 {
     match mem {
         MemArg::RegOffset { reg, off, flags } => near_offset(mi, *reg, *off, *flags),
-        MemArg::Label { .. } | MemArg::Constant { .. } | MemArg::Symbol { .. } => kept(mi, mem),
+        MemArg::Label { .. } | MemArg::Constant { .. } | MemArg::Symbol { .. } => operand_with_form(
+            mi, mem,
+        ),
         _ => None,
     }
 }
@@ -283,7 +285,7 @@ fn near_operand(mi: MemInstType, mem: &MemArg) -> Option<MemArg>
 // Appends the helpers of an operand, and gives the operand of the access, by a list of the helpers.
 fn open_helped(out: &mut String, place: Place, rows: &Rows) -> Result<MemArg, TextError>
     ensures { Opens result (string_bytes out.old) (string_bytes out.new) place.entry.has
-        (rows_of rows.now) (resolved place.entry.state.now place.entry.mem.now) }
+        (rows_of rows.now) (resolved_operand place.entry.state.now place.entry.mem.now) }
 {
     if !rows.has_row() {
         return Err(TextError::NoRow);
@@ -305,7 +307,7 @@ fn open_helped(out: &mut String, place: Place, rows: &Rows) -> Result<MemArg, Te
 // Appends the helpers of an operand, and gives the operand of the access; the list, which is large, isn't made where it is seen at once that there are no helpers.
 fn open_access(out: &mut String, place: Place, rows: &Rows) -> Result<MemArg, TextError>
     ensures { Opens result (string_bytes out.old) (string_bytes out.new) place.entry.has
-        (rows_of rows.now) (resolved place.entry.state.now place.entry.mem.now) }
+        (rows_of rows.now) (resolved_operand place.entry.state.now place.entry.mem.now) }
 {
     match near_operand(rows.inst_type(place.has), place.mem) {
         Some(operand) => Ok(operand),
@@ -329,7 +331,7 @@ pub fn access2<A: Operand>(
 }
 
 // An opcode of two digits as one of any length.
-fn widened(opcode: Option<u8>) -> Option<u16>
+fn long_opcode(opcode: Option<u8>) -> Option<u16>
     ensures { result ≡ opcode }
 {
     match opcode {
@@ -350,7 +352,7 @@ pub fn rx_access<A: Operand>(
         (A.shown a.now ∷ []) place.entry.mem.now []) }
 {
     let rows = Rows {
-        short: widened(by_form.rx),
+        short: long_opcode(by_form.rx),
         long: by_form.rxy,
         relative: by_form.ril,
         index: true,
@@ -392,7 +394,7 @@ fn put_lettered<A: Operand>(
     ensures { OnOk result
         (string_bytes out.new
         ≡ string_bytes out.old
-        ++ spelled (name_at (rx (Some (joined mnemonic)) None None) mem.now)
+        ++ instruction_text (name_at (rx (Some (mnemonic_text mnemonic)) None None) mem.now)
         (A.shown a.now ∷ memory_text mem.now ∷ [])) }
 {
     match mem {
@@ -409,7 +411,7 @@ fn access_lettered<A: Operand>(
     a: &A,
 ) -> Result<(), TextError>
     ensures { Prints result (string_bytes out.old) (string_bytes out.new)
-        (access_where place.entry.has (rx (Some (joined mnemonic)) None None)
+        (access_where place.entry.has (rx (Some (mnemonic_text mnemonic)) None None)
         place.entry.state.now (A.shown a.now ∷ []) place.entry.mem.now []) }
 {
     let rows = Rows {
@@ -432,7 +434,7 @@ pub fn lettered_access<A: Operand>(
     a: &A,
 ) -> Result<(), TextError>
     ensures { Prints result (string_bytes out.old) (string_bytes out.new)
-        (access_where place.entry.has (rx (option_map joined mnemonic) None None)
+        (access_where place.entry.has (rx (option_map mnemonic_text mnemonic) None None)
         place.entry.state.now (A.shown a.now ∷ []) place.entry.mem.now []) }
 {
     match mnemonic {

@@ -4,12 +4,12 @@ ghost use Rattle.std.specs.Fmt.{decimal};
 ghost use Rattle.std.specs.Option.{option_map};
 ghost use Rattle.s390x_format.specs.Stems.{stem_of};
 ghost use Rattle.s390x_job_fields.specs.Atoms.{reg_text};
-ghost use Rattle.s390x_text_rows.specs.Texts.{Prints, PrintsWhere, spelled};
+ghost use Rattle.s390x_text_rows.specs.Texts.{Prints, PrintsWhere, instruction_text};
 ghost use Rattle.s390x_text_rows.specs.Operands.{reused_text};
 ghost use Rattle.s390x_text_rows.specs.VectorMnemonics.{vec_binary_name, vec_compare_set_name};
 ghost use Rattle.s390x_text_rows.specs.Vector.{lane_name, reversed_name, mask_name, vec_binary_operands, doublewords_text, wide_compare_text, are_floats, float_move_text, unless_text, float_cmov_text, is_float_lane, reverse2_text, reverse4_text, reverse8_text, reverse16_text, reverse_text, insert_lane_text, extract_lane_text, vec_operator_text, vec_move_text, vec_lane_text};
 
-use crate::arithmetic::reused;
+use crate::arithmetic::reused_operand;
 use crate::error::TextError;
 use crate::operand::{Amount, Float, Operand, Reused, cond_name, is_zero};
 use crate::regs::is_float;
@@ -113,7 +113,7 @@ fn put_binary(
     ensures { OnOk result
         (string_bytes out.new
         ≡ string_bytes out.old
-        ++ spelled (vec_binary_name op) (vec_binary_operands op rd rn rm)) }
+        ++ instruction_text (vec_binary_name op) (vec_binary_operands op rd rn rm)) }
 {
     match op {
         VecBinaryOp::UDiv32x4
@@ -163,7 +163,7 @@ fn put_evaluate(
     ensures { OnOk result
         (string_bytes out.new
         ≡ string_bytes out.old
-        ++ spelled (codes "veval")
+        ++ instruction_text (codes "veval")
         (reg_text rd ∷ reg_text rn ∷ reg_text rm ∷ reg_text ra ∷ decimal imm ∷ [])) }
 {
     spelled4(out, "veval", &rd, &rn, &rm, &ra)?;
@@ -182,7 +182,7 @@ fn put_compare_set(
     ensures { OnOk result
         (string_bytes out.new
         ≡ string_bytes out.old
-        ++ spelled (vec_compare_set_name op)
+        ++ instruction_text (vec_compare_set_name op)
         (reg_text rd ∷ reg_text rn ∷ reg_text rm ∷ [])) }
 {
     let name = vec_compare_name(op);
@@ -347,7 +347,7 @@ fn put_vec_cmov(out: &mut String, operand: &Reused, cond: Cond, rm: Reg) -> Resu
         (string_bytes out.new
         ≡ string_bytes out.old
         ++ (unless_text cond (codes "10")
-        ++ spelled (codes "vlr")
+        ++ instruction_text (codes "vlr")
         (reused_text operand.now.rd operand.now.ri ∷ reg_text rm ∷ []))) }
 {
     put_unless(out, cond, "10")?;
@@ -382,7 +382,7 @@ pub fn put_vec_move(out: &mut String, inst: &VecInst) -> Option<Result<(), TextE
             rm,
         ))),
         VecInst::VecCMov { rd, cond, ri, rm } => {
-            Some(text_result(put_vec_cmov(out, &reused(rd, ri), *cond, *rm)))
+            Some(text_result(put_vec_cmov(out, &reused_operand(rd, ri), *cond, *rm)))
         }
         VecInst::MovToVec128 { rd, rn, rm } => Some(fixed3(out, "vlvgp", rd, rn, rm)),
         VecInst::VecImmByteMask { rd, mask } => Some(fixed2(out, "vgbm", rd, mask)),
@@ -533,7 +533,7 @@ pub fn put_vec_lane(out: &mut String, inst: &VecInst) -> Option<Result<(), TextE
         } => Some(row3(
             out,
             lane_name("vlvgb", "vlvgh", "vlvgf", "vlvgg", *size, *lane_imm),
-            &reused(rd, ri),
+            &reused_operand(rd, ri),
             rn,
             &amount(lane_imm, lane_reg),
         )),
@@ -560,7 +560,7 @@ pub fn put_vec_lane(out: &mut String, inst: &VecInst) -> Option<Result<(), TextE
         } => Some(row3(
             out,
             lane_name("vleib", "vleih", "vleif", "vleig", *size, *lane_imm),
-            &reused(rd, ri),
+            &reused_operand(rd, ri),
             imm,
             lane_imm,
         )),

@@ -2,7 +2,7 @@
 ghost use Rattle.std.specs.Prelude.{◌≡◌, string_bytes};
 ghost use Rattle.std.specs.Option.{option_map};
 ghost use Rattle.s390x_format.specs.Stems.{stem_of};
-ghost use Rattle.s390x_text_rows.specs.VectorMnemonics.{joined};
+ghost use Rattle.s390x_text_rows.specs.VectorMnemonics.{mnemonic_text};
 ghost use Rattle.s390x_text_rows.specs.Texts.{Prints, PrintsWhere};
 ghost use Rattle.s390x_text_rows.specs.Vector.{replicated_name, reversed_replicated_name, load_lane_text, store_lane_text, vec_whole_text, vec_part_text, vector_text};
 
@@ -20,7 +20,7 @@ use std::alloc::Global;
 
 // The stem with the letter of a lane's width in bits: 8, 16, 32 or 64; None for another width.
 fn replicated_name(opcode: u16, size: u32) -> Option<Mnemonic>
-    ensures { option_map joined result ≡ replicated_name (stem_of opcode) size }
+    ensures { option_map mnemonic_text result ≡ replicated_name (stem_of opcode) size }
 {
     let letters = match size {
         8 => "b",
@@ -34,7 +34,7 @@ fn replicated_name(opcode: u16, size: u32) -> Option<Mnemonic>
 
 // The stem with the letter of a lane's width in bits from 16 on, where bytes are reversed.
 fn reversed_replicated_name(opcode: u16, size: u32) -> Option<Mnemonic>
-    ensures { option_map joined result ≡ reversed_replicated_name (stem_of opcode) size }
+    ensures { option_map mnemonic_text result ≡ reversed_replicated_name (stem_of opcode) size }
 {
     let letters = match size {
         16 => "h",

@@ -1,6 +1,6 @@
 //! The mnemonics of vector operators, and of loads and stores of whole registers, by their rows.
 ghost use Rattle.std.specs.Prelude.{◌≡◌};
-ghost use Rattle.s390x_text_rows.specs.VectorMnemonics.{joined, size_letter, sized, binary_letters, whole_letters, vec_binary_name, vec_unary_name, vec_shift_name, vec_compare_name, vec_element_compare_name, whole_name};
+ghost use Rattle.s390x_text_rows.specs.VectorMnemonics.{mnemonic_text, size_letter, sized_mnemonic, binary_letters, whole_letters, vec_binary_name, vec_unary_name, vec_shift_name, vec_compare_name, vec_element_compare_name, whole_name};
 
 use s390x_inst::{
     Direction, VecBinaryOp, VecIntCmpOp, VecIntEltCmpOp, VecShiftOp, VecUnaryOp, WholeLayout,
@@ -33,8 +33,8 @@ fn size_letter(code: u8) -> &'static str
 }
 
 // A row's stem with this letter.
-fn sized(row: VectorOpcode) -> Mnemonic
-    ensures { joined result ≡ sized row }
+fn sized_mnemonic(row: VectorOpcode) -> Mnemonic
+    ensures { mnemonic_text result ≡ sized_mnemonic row }
 {
     Mnemonic {
         opcode: row.opcode,
@@ -72,7 +72,7 @@ fn binary_letters(op: VecBinaryOp, code: u8) -> &'static str
 /// An operator on two vectors.
 #[tactic(auto, unfolding(crate::specs::VectorMnemonics::vec_binary_name))]
 pub fn vec_binary_name(op: VecBinaryOp) -> Mnemonic
-    ensures { joined result ≡ vec_binary_name op }
+    ensures { mnemonic_text result ≡ vec_binary_name op }
 {
     let row = row_of_vec_binary(op);
     Mnemonic {
@@ -84,33 +84,33 @@ pub fn vec_binary_name(op: VecBinaryOp) -> Mnemonic
 /// An operator on one vector.
 #[tactic(auto, unfolding(crate::specs::VectorMnemonics::vec_unary_name))]
 pub fn vec_unary_name(op: VecUnaryOp) -> Mnemonic
-    ensures { joined result ≡ vec_unary_name op }
+    ensures { mnemonic_text result ≡ vec_unary_name op }
 {
-    sized(row_of_vec_unary(op))
+    sized_mnemonic(row_of_vec_unary(op))
 }
 
 /// Lanes that are shifted by an amount.
 #[tactic(auto, unfolding(crate::specs::VectorMnemonics::vec_shift_name))]
 pub fn vec_shift_name(op: VecShiftOp) -> Mnemonic
-    ensures { joined result ≡ vec_shift_name op }
+    ensures { mnemonic_text result ≡ vec_shift_name op }
 {
-    sized(row_of_vec_shift(op))
+    sized_mnemonic(row_of_vec_shift(op))
 }
 
 /// A comparison of lanes.
 #[tactic(auto, unfolding(crate::specs::VectorMnemonics::vec_compare_name))]
 pub fn vec_compare_name(op: VecIntCmpOp) -> Mnemonic
-    ensures { joined result ≡ vec_compare_name op }
+    ensures { mnemonic_text result ≡ vec_compare_name op }
 {
-    sized(row_of_vec_comparison(op))
+    sized_mnemonic(row_of_vec_comparison(op))
 }
 
 /// A comparison of two numbers of 128 bits.
 #[tactic(auto, unfolding(crate::specs::VectorMnemonics::vec_element_compare_name))]
 pub fn vec_element_compare_name(op: VecIntEltCmpOp) -> Mnemonic
-    ensures { joined result ≡ vec_element_compare_name op }
+    ensures { mnemonic_text result ≡ vec_element_compare_name op }
 {
-    sized(row_of_vec_element_comparison(op))
+    sized_mnemonic(row_of_vec_element_comparison(op))
 }
 
 // What stands behind the stem of a load or a store of a whole register: nothing where its row has one size alone.
@@ -123,7 +123,7 @@ fn whole_letters(mask: u8) -> &'static str
 /// A load or a store of a whole register.
 #[tactic(auto, unfolding(crate::specs::VectorMnemonics::whole_name))]
 pub fn whole_name(direction: Direction, layout: WholeLayout) -> Mnemonic
-    ensures { joined result ≡ whole_name direction layout }
+    ensures { mnemonic_text result ≡ whole_name direction layout }
 {
     let rows = rows_of_layout(layout);
     let opcode = match direction {

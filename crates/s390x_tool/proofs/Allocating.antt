@@ -5,7 +5,7 @@ use Rattle.std.specs.Fmt.{decimal}
 use Rattle.s390x_alloc.specs.Answered.{IsAnswered}
 use Rattle.s390x_job_plan.specs.Jobs.{AnsweredIsJob, with_function}
 use Rattle.s390x_alloc.specs.Blocks.{IsFault}
-use Rattle.s390x_alloc.specs.Checked.{checked}
+use Rattle.s390x_alloc.specs.Checked.{plan_contents}
 use Rattle.s390x_alloc.specs.Walks.{EveryWalkReadsAlike}
 use Rattle.s390x_alloc.specs.declared.fault.PlanFault.{PlanFault}
 use Rattle.s390x_alloc.specs.declared.fault.PlanFault.TheVariants as fault
@@ -48,7 +48,7 @@ answer_of_plan input s text p function (Err e) law is answered walks printed tol
 
 -- the plan's first fault is the answer
 pub answer_of_fault : (input : List ℕ) (s : Status) (text : List ℕ) (p : PlannedJob) (f : PlanFault) → IsPlannedOf input p
-    → IsFault (checked p.job.state.layout p.job.function.blocks.items p.plan.blocks.items) f → IsPlanRefusal f s text → IsAllocateAnswer input s text
+    → IsFault (plan_contents p.job.state.layout p.job.function.blocks.items p.plan.blocks.items) f → IsPlanRefusal f s text → IsAllocateAnswer input s text
 answer_of_fault input s text p f is (inl none) (inl told) = absurd (told.0 none)
 answer_of_fault input s text p f is (inr cause) (inl told) = rw told.1 (record { planned = p; is = is; first = f; named = told.0; cause = cause; spelled = told.2 })
 answer_of_fault input s text p f is cause (inr short) = rw short.0 short.1

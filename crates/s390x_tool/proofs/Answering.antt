@@ -16,7 +16,7 @@ use Rattle.s390x_typed_steps.specs.Tree.{Tree}
 use Rattle.s390x_emit_int.specs.Function.{IsFinishedCode, checked_cause, start_cause, folded_trees_of, trees_of, constants_of}
 use Rattle.s390x_emit_int.specs.Headline.{RunsAsTyped}
 use Rattle.s390x_image.specs.Causes.{link_cause, base_cause, relocs_cause, first_link_cause as first_cause}
-use Rattle.s390x_image.specs.Fields.{filled}
+use Rattle.s390x_image.specs.Fields.{with_fields_filled}
 use Rattle.s390x_image.specs.Symbols.{Symbols}
 use Rattle.s390x_image.specs.declared.image.Image.{Image as LinkedImage}
 use Rattle.s390x_image.specs.declared.error.LinkError.{LinkError}
@@ -133,7 +133,7 @@ run_reply_of_text base steps j code bytes (Err e) s text is linked told made = r
 
 -- what linking answers, where it doesn't refuse
 pub linked_by : (base : ℕ) (j : Job) (code : MachBufferFinalized) (r : Result LinkedImage LinkError) (E : LinkError → Type 0)
-    → MatchResult r (λ image. (link_cause_of base j code ≡ None) × (image.base ≡ base) × (image.bytes.items ≡ filled base (symbols_of j) code.relocs.items code.bytes.items)) E
+    → MatchResult r (λ image. (link_cause_of base j code ≡ None) × (image.base ≡ base) × (image.bytes.items ≡ with_fields_filled base (symbols_of j) code.relocs.items code.bytes.items)) E
     → IfOk r (λ image. IsLinked base j code image.bytes.items)
 linked_by base j code (Ok image) E h = record { linked = h.0; filled = h.2 }
 linked_by base j code (Err e) E h = tt
@@ -164,7 +164,7 @@ abbrev pub RunsWhereLinked : Type 0
 RunsWhereLinked =
     (flags : IsaFlags) (ts : List Tree) (cs : List Constant) (f : MachBufferFinalized) (base : ℕ) (symbols : Symbols)
     → checked_cause flags ts cs ≡ None → BlocksInRange ts → IsFinishedCode (folded_trees ts) cs f → link_cause f base symbols ≡ None
-    → RunsAsTyped symbols (folded_trees ts) cs (record { base = base; bytes = filled base symbols f.relocs.items f.bytes.items })
+    → RunsAsTyped symbols (folded_trees ts) cs (record { base = base; bytes = with_fields_filled base symbols f.relocs.items f.bytes.items })
 
 -- it holds of a job's image
 pub image_runs : RunsWhereLinked → (base : ℕ) (j : Job) (bytes : List ℕ) → IsImageAt base j bytes

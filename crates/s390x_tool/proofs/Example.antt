@@ -9,7 +9,7 @@ use Rattle.s390x_format.specs.Reading.{be_bytes}
 use Rattle.s390x_buffer.specs.declared.entries.MachBufferFinalized.{MachBufferFinalized}
 use Rattle.s390x_image.specs.Causes.{link_cause}
 use Rattle.s390x_image.specs.Symbols.{Symbols}
-use Rattle.s390x_job.specs.Completions.{joined}
+use Rattle.s390x_job.specs.Completions.{text_of_lines}
 use Rattle.s390x_bundle.specs.Emitted.{AreEmitted, IsEmitted}
 use Rattle.s390x_bundle.specs.Joined.{misplaced_member, starts_of_codes, unlinked_member}
 use Rattle.s390x_bundle.specs.Linking.{unlinked_or}
@@ -31,7 +31,7 @@ functions = record { name = record { 0 = 1 }; job = job } ∷ []
 abbrev member : Member
 member = member_of (record { name = record { 0 = 1 }; job = job })
 
-function_spelled : text_of_functions functions ≡ joined one_function
+function_spelled : text_of_functions functions ≡ text_of_lines one_function
 function_spelled = ap₂ (λ ds t. (codes "function u" ++ ds) ++ (10 ∷ (t ++ (close_line ++ 10 ∷ [])))) (decimal_digit 1 (omega arith)) job_text
 
 -- what its finished code is: two bytes on a boundary of 4, and nothing left for linking
@@ -69,7 +69,7 @@ module _ (base : ℕ) (even : base % 4 ≡ 0) (fits : base + 2 ≤ 1844674407370
   unfolding vec plain_job job length_of
   can_be_bundled = record { names = refl; valid = refl; placed = placed; linked = links }
 
-pub function_accepted : (base : ℕ) → base % 4 ≡ 0 → base + 2 ≤ 2 ^ 64 → IsBundleAccepted base (joined one_function)
+pub function_accepted : (base : ℕ) → base % 4 ≡ 0 → base + 2 ≤ 2 ^ 64 → IsBundleAccepted base (text_of_lines one_function)
 function_accepted base even fits = record {
   short = omega arith;
   functions = functions;

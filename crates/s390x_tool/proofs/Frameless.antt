@@ -15,7 +15,7 @@ use Rattle.s390x_inst.specs.declared.state.FrameLayout.{FrameLayout}
 use Rattle.s390x_inst.specs.declared.vec_inst.VecInst.{VecInst}
 use Rattle.s390x_inst.specs.declared.vec_inst.VecInst.TheVariants.{VecRR}
 use Rattle.s390x_typed_steps.specs.Calls.{behind_call, bodies, call_bodies, handler_of, load_bodies, map_site, patchable_site, return_site, safepoint, continuation_bodies, tail_bodies, without_map}
-use Rattle.s390x_typed_steps.specs.Operands.{resolved}
+use Rattle.s390x_typed_steps.specs.Operands.{resolved_operand}
 use Rattle.s390x_typed_steps.specs.Resolved.{resolved_vector}
 use Rattle.s390x_typed_steps.specs.Stack.{outgoing_after, outgoing_behind, state_after}
 use Rattle.s390x_typed_steps.specs.StepBody.{Site, AtCall, AtTry, Calling}
@@ -52,7 +52,7 @@ raw_block b = raw_tree b.insts.items
 
 -- a field without a frame operand
 abbrev pub resolved_field : Emission → Field → Field
-resolved_field e (FMemory mem) = FMemory (resolved e mem)
+resolved_field e (FMemory mem) = FMemory (resolved_operand e mem)
 resolved_field e f = f
 
 abbrev pub resolved_line : Emission → Line → Line

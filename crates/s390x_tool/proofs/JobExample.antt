@@ -6,7 +6,7 @@ use Rattle.s390x_tool.specs.declared.words.JobCommand.TheVariants.{Image, Emit, 
 use Rattle.s390x_format.specs.Formats.{layout_of, length_of}
 use Rattle.s390x_format.specs.Layout.{bits, number}
 use Rattle.s390x_format.specs.Reading.{be_bytes}
-use Rattle.s390x_job.specs.Completions.{joined}
+use Rattle.s390x_job.specs.Completions.{text_of_lines}
 use Rattle.s390x_job.proofs.PlainJob.{plain_job, vec}
 use Rattle.s390x_tool.specs.Answers.{IsAccepted, IsCodeOfJob, IsUnrefused, Links, symbols_of}
 use Rattle.s390x_tool.specs.Example.{HasRoom, one_job}
@@ -32,5 +32,5 @@ valid Emit = refl
 valid Operands = refl
 valid Show = refl
 
-pub job_accepted : (command : JobCommand) → HasRoom command → IsAccepted command (joined one_job)
+pub job_accepted : (command : JobCommand) → HasRoom command → IsAccepted command (text_of_lines one_job)
 job_accepted command room = record { short = omega arith; job = job; is = is_job; spelled = job_text; valid = valid command; links = links command room }

@@ -6,7 +6,7 @@ use Rattle.s390x_inst.specs.declared.function.Block.{Block}
 use Rattle.s390x_inst.specs.declared.inst.Inst.{Inst}
 use Rattle.s390x_inst.specs.declared.state.FrameLayout.{FrameLayout}
 use Rattle.s390x_alloc.specs.Blocks.{after_edits, fault_or, or_block_fault, or_fault}
-use Rattle.s390x_alloc.specs.Checked.{checked, then_entries, unless_entry}
+use Rattle.s390x_alloc.specs.Checked.{plan_contents, then_entries, unless_entry}
 use Rattle.s390x_alloc.specs.Entries.{entry_or, first_unfounded, predecessors}
 use Rattle.s390x_alloc.specs.Shape.{block_ending, first_misshapen, first_unsupported, is_end}
 use Rattle.s390x_alloc.specs.Steps.{after_step}
@@ -16,7 +16,7 @@ use Rattle.s390x_alloc.specs.declared.plan.BlockPlan.{BlockPlan}
 use Rattle.s390x_alloc.specs.declared.plan.Edit.{Edit}
 use Rattle.s390x_alloc.specs.declared.plan.Edit.TheVariants.{Move, Step}
 use Rattle.s390x_alloc.specs.declared.plan.EntryPair.{EntryPair}
-use Rattle.s390x_job.specs.Completions.{joined}
+use Rattle.s390x_job.specs.Completions.{text_of_lines}
 use Rattle.s390x_job.proofs.PlainJob.{vec}
 use Rattle.s390x_job_plan.specs.Lines.{Closing, Heading, Opening, Stepping}
 use Rattle.s390x_job_plan.specs.Text.{IsPlanned, blocks_lines, edit_line, pair_line, plan_lines, text_of_planned}
@@ -40,9 +40,9 @@ is_planned : IsPlanned planned
 unfolding vec planned
 is_planned = (is_job, (tt, (tt, (tt, (tt, tt)))))
 
-planned_spelled : text_of_planned planned ≡ joined one_step
+planned_spelled : text_of_planned planned ≡ text_of_lines one_step
 unfolding vec planned
-planned_spelled = ap (λ t. t ++ joined (drop 3 one_step)) job_text
+planned_spelled = ap (λ t. t ++ text_of_lines (drop 3 one_step)) job_text
 
 -- the one block of the plan: no pair, and one step without registers
 record OneStep (ps : List BlockPlan) : Type 0 where
@@ -93,22 +93,22 @@ block_held layout is es held regs insts edits entry none =
 
 -- such a plan of such a block has no fault
 no_fault : (layout : FrameLayout) (b : Block) (p : BlockPlan) (regs : Vec Reg Global) → b.insts.items ≡ return_inst ∷ [] → p.entry.items ≡ [] → p.edits.items ≡ Step regs ∷ [] → regs.items ≡ []
-    → IsOk (checked layout (b ∷ []) (p ∷ []))
+    → IsOk (plan_contents layout (b ∷ []) (p ∷ []))
 no_fault layout b p regs insts entry edits none =
     let ends = ap (λ r. then_entries (b ∷ []) (p ∷ []) (or_block_fault r (λ h. Ok (h ∷ [])))) (block_held layout b.insts.items p.edits.items p.entry.items regs insts edits entry none) in
     let pairs = ap (λ xs. unless_entry (entry_or 0 (first_unfounded ([] ∷ []) (predecessors 1 0 0 (b ∷ [])) 0 0 xs) None) ([] ∷ [])) entry in
     subst IsOk (sym (ends ∙ pairs)) refl
 
-faultless : (p : PlannedJob) → IsPlanned p → text_of_planned p ≡ joined one_step → IsOk (checked p.job.state.layout p.job.function.blocks.items p.plan.blocks.items)
+faultless : (p : PlannedJob) → IsPlanned p → text_of_planned p ≡ text_of_lines one_step → IsOk (plan_contents p.job.state.layout p.job.function.blocks.items p.plan.blocks.items)
 unfolding vec planned
 faultless p is e =
     let same = one_planned p planned is is_planned (e ∙ sym planned_spelled) in
     let block = same_return p.job is.0 same.0 in
     let step = step_told p.plan.blocks.items same.1 in
     let layout = p.job.state.layout in
-    let alone : IsOk (checked layout (block.block ∷ []) (step.plan ∷ [])) = no_fault layout block.block step.plan step.regs block.insts step.entry step.edits step.none in
-    let planned_alone : IsOk (checked layout (block.block ∷ []) p.plan.blocks.items) = subst (λ ps. IsOk (checked layout (block.block ∷ []) ps)) (sym step.alone) alone in
-    subst (λ bs. IsOk (checked layout bs p.plan.blocks.items)) (sym block.alone) planned_alone
+    let alone : IsOk (plan_contents layout (block.block ∷ []) (step.plan ∷ [])) = no_fault layout block.block step.plan step.regs block.insts step.entry step.edits step.none in
+    let planned_alone : IsOk (plan_contents layout (block.block ∷ []) p.plan.blocks.items) = subst (λ ps. IsOk (plan_contents layout (block.block ∷ []) ps)) (sym step.alone) alone in
+    subst (λ bs. IsOk (plan_contents layout bs p.plan.blocks.items)) (sym block.alone) planned_alone
 
-pub plan_accepted : IsPlanAccepted (joined one_step)
+pub plan_accepted : IsPlanAccepted (text_of_lines one_step)
 plan_accepted = record { short = omega arith; planned = (planned, is_planned, planned_spelled); faultless = faultless }

@@ -4,7 +4,7 @@ use Rattle.std.specs.Prelude.{Option, Result, IsOk, Err}
 use Rattle.std.proofs.lemmas.Bool.{false≢true}
 use Rattle.s390x_tool.specs.Words.{IsForm}
 use Rattle.s390x_tool.specs.declared.words.Command.TheVariants.{Allocate}
-use Rattle.s390x_job.specs.Completions.{joined}
+use Rattle.s390x_job.specs.Completions.{text_of_lines}
 use Rattle.s390x_job_plan.specs.Example.{no_blocks}
 use Rattle.s390x_job_plan.proofs.Example.{no_blocks_are_text}
 use Rattle.s390x_tool.specs.Allocated.{IsPlanAccepted}
@@ -54,7 +54,7 @@ allocated_result f told told' faults faults' s text result reply (inr part) inpu
 
 -- ---- no blocks
 
-pub no_blocks_accepted : IsPlanAccepted (joined no_blocks)
+pub no_blocks_accepted : IsPlanAccepted (text_of_lines no_blocks)
 no_blocks_accepted =
     record {
       short = omega arith;

@@ -10,7 +10,7 @@ use Rattle.s390x_inst.specs.declared.inst.Inst.{Inst}
 use Rattle.s390x_inst.specs.declared.inst.Inst.TheVariants.{Ret}
 use Rattle.s390x_job_lines.specs.Instructions.{inst_line}
 use Rattle.s390x_job_lines.specs.Line.{Line}
-use Rattle.s390x_job.specs.Completions.{joined}
+use Rattle.s390x_job.specs.Completions.{text_of_lines}
 use Rattle.s390x_job.specs.Items.{block_line, end_line}
 use Rattle.s390x_job.specs.Jobs.{IsJob, job_lines, lines_text, text_of_job}
 use Rattle.s390x_job.specs.declared.job.Job.{Job}
@@ -39,8 +39,8 @@ is_job = plain_is_job blocks _ (record { kinds_fit = refl; fields_fit = tt }, (r
 fourteen : decimal 14 ≡ codes "14"
 fourteen = decimal_step 14 (omega arith) (omega arith) ∙ ap (λ ds. ds ++ 52 ∷ []) (decimal_digit 1 (omega arith))
 
-told : lines_text (block_line ∷ return_line ∷ end_line ∷ []) ≡ joined (codes "block" ∷ codes "Ret %r14" ∷ codes "end" ∷ [])
+told : lines_text (block_line ∷ return_line ∷ end_line ∷ []) ≡ text_of_lines (codes "block" ∷ codes "Ret %r14" ∷ codes "end" ∷ [])
 told = rw fourteen refl
 
-pub job_text : text_of_job job ≡ joined (codes "block" ∷ codes "Ret %r14" ∷ codes "end" ∷ [])
+pub job_text : text_of_job job ≡ text_of_lines (codes "block" ∷ codes "Ret %r14" ∷ codes "end" ∷ [])
 job_text = ap lines_text lines_are ∙ told

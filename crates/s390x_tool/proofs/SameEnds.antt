@@ -8,7 +8,7 @@ use Rattle.s390x_job_lines.specs.Contents.{Contents, contents}
 use Rattle.s390x_job_lines.specs.Contents.{Whole as Holds}
 use Rattle.s390x_job_lines.specs.Instructions.{inst_line}
 use Rattle.s390x_job_lines.proofs.Contents.{read_line, contents_read}
-use Rattle.s390x_typed_steps.specs.Folding.{BlockBranches, Always, Conditional, branches_of, remainder, shortened, fold, folded, folded_before, next_block, folded_from, folded_trees, peak_from, peak}
+use Rattle.s390x_typed_steps.specs.Folding.{BlockBranches, Always, Conditional, branches_of, remainder, body_with_remainder, fold, folded_members, folded_before, next_block, folded_from, folded_trees, peak_from, peak}
 use Rattle.s390x_typed_steps.specs.Sizes.{tree_size}
 use Rattle.s390x_typed_steps.specs.Tree.{Remainder, NothingLeft, BranchLeft, StepBody, Tree, Whole, Folded, empty, leaf, loop_node}
 use Rattle.s390x_tool.proofs.SameTree.{BodyLine, of_line, of_step, body_line, LineTree, none, one, around, lines_tree, line_size, same_size}
@@ -41,12 +41,12 @@ fold_line next (of_line l) = line_left (remainder next (held_branches (read_line
 fold_line next (of_step b) = of_step b
 
 jump_told : (dest : MachLabel) (t : Bool) →
-    body_line (shortened (cond t (Some NothingLeft) None) (Jump dest)) ≡ line_left (cond t (Some NothingLeft) None) (Some (Always dest.0)) (of_line (inst_line (Jump dest)))
+    body_line (body_with_remainder (cond t (Some NothingLeft) None) (Jump dest)) ≡ line_left (cond t (Some NothingLeft) None) (Some (Always dest.0)) (of_line (inst_line (Jump dest)))
 jump_told dest true = refl
 jump_told dest false = refl
 
 choice_told : (taken not_taken : MachLabel) (mask : ℕ) (u t : Bool) →
-    body_line (shortened (cond u (cond t (Some NothingLeft) (Some (BranchLeft mask taken.0))) (cond t (Some (BranchLeft (15 - mask) not_taken.0)) None)) (CondBr taken not_taken mask))
+    body_line (body_with_remainder (cond u (cond t (Some NothingLeft) (Some (BranchLeft mask taken.0))) (cond t (Some (BranchLeft (15 - mask) not_taken.0)) None)) (CondBr taken not_taken mask))
     ≡ line_left (cond u (cond t (Some NothingLeft) (Some (BranchLeft mask taken.0))) (cond t (Some (BranchLeft (15 - mask) not_taken.0)) None)) (Some (Conditional mask taken.0 not_taken.0)) (of_line (inst_line (CondBr taken not_taken mask)))
 choice_told taken not_taken mask true true = refl
 choice_told taken not_taken mask true false = refl
@@ -69,7 +69,7 @@ folded_lines next (one b (one c rest)) = one b (folded_lines next (one c rest))
 folded_lines next (one b (around mask members rest)) = one b (folded_lines next (around mask members rest))
 folded_lines next (around mask members rest) = around mask members (folded_lines next rest)
 
-folded_told : (next : ℕ) (t : Tree) → lines_tree (folded next t) ≡ folded_lines next (lines_tree t)
+folded_told : (next : ℕ) (t : Tree) → lines_tree (folded_members next t) ≡ folded_lines next (lines_tree t)
 folded_told next empty = refl
 folded_told next (leaf b empty) = ap (λ l. one l none) (fold_told next b)
 folded_told next (leaf b (leaf c rest)) = ap (one (body_line b)) (folded_told next (leaf c rest))

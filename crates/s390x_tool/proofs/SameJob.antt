@@ -12,7 +12,7 @@ use Rattle.s390x_typed_steps.specs.Causes.{Declared, aligns_of, first_emit_cause
 use Rattle.s390x_typed_steps.specs.Folding.{folded_trees}
 use Rattle.s390x_typed_steps.specs.Sizes.{blocks_size}
 use Rattle.s390x_typed_steps.specs.Ranges.{BlocksInRange}
-use Rattle.s390x_typed_steps.specs.Image.{unlinked, function_code}
+use Rattle.s390x_typed_steps.specs.Image.{unlinked_environment, function_code}
 use Rattle.s390x_typed_steps.specs.Sites.{call_offsets, patches, stack_maps}
 use Rattle.s390x_emit_int.specs.Function.{IsFinishedCode, start_cause, checked_cause, code_length_cause, trees_of, constants_of}
 use Rattle.s390x_job.specs.Jobs.{IsJob}
@@ -102,7 +102,7 @@ same_cause j k a b e =
 same_ranges : (ts us : List Tree) → map lines_tree ts ≡ map lines_tree us → BlocksInRange ts → BlocksInRange us
 same_ranges ts us e h = ranges_from us (subst line_ranges e (ranges_to ts h))
 
-same_bytes : (ts us : List Tree) (cs : List Constant) → map lines_tree ts ≡ map lines_tree us → function_code (unlinked ts cs) ts ≡ function_code (unlinked us cs) us
+same_bytes : (ts us : List Tree) (cs : List Constant) → map lines_tree ts ≡ map lines_tree us → function_code (unlinked_environment ts cs) ts ≡ function_code (unlinked_environment us cs) us
 same_bytes ts us cs e = same_function_code ts cs ∙ ap (λ ls. parts_code (line_places (line_environment ls cs) ls) 0 (line_steps_from 0 ls)) e ∙ sym (same_function_code us cs)
 
 same_sizes : (ts us : List Tree) → map lines_tree ts ≡ map lines_tree us → blocks_size ts ≡ blocks_size us
@@ -113,7 +113,7 @@ same_image ts us cs f e h =
     let size = same_sizes ts us e in
     let sites = same_function_sites ts ∙ ap line_sites e ∙ sym (same_function_sites us) in
     record {
-      bytes = h.bytes ∙ ap (λ bs. bs ++ constant_bytes (blocks_size ts) cs) (same_bytes ts us cs e) ∙ ap (λ n. function_code (unlinked us cs) us ++ constant_bytes n cs) size;
+      bytes = h.bytes ∙ ap (λ bs. bs ++ constant_bytes (blocks_size ts) cs) (same_bytes ts us cs e) ∙ ap (λ n. function_code (unlinked_environment us cs) us ++ constant_bytes n cs) size;
       block_starts = h.block_starts ∙ same_block_starts ts ∙ ap (λ ls. line_block_places (line_at ls) 0 ls) e ∙ sym (same_block_starts us);
       constant_starts = h.constant_starts ∙ ap (λ n. constant_starts n cs) size;
       starts = h.starts ∙ same_starts ts ∙ ap (λ ls. parts_places (line_at ls) 0 (line_steps_from 0 ls)) e ∙ sym (same_starts us);

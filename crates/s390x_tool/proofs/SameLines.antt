@@ -17,7 +17,7 @@ use Rattle.s390x_buffer.specs.State.{Constant, constant_of}
 use Rattle.s390x_typed_steps.specs.Tree.{Tree}
 use Rattle.s390x_emit_int.specs.Function.{constants_of}
 use Rattle.s390x_job_fields.specs.Fields.{Field, FNatural, FBytes, FName, FCond, FFlags, FConvention, FOption}
-use Rattle.s390x_job_lines.specs.Line.{Line, spelled}
+use Rattle.s390x_job_lines.specs.Line.{Line, fields_text}
 use Rattle.s390x_job_lines.specs.Instructions.{inst_line, vector_line}
 use Rattle.s390x_job.specs.Items.{frame_line, constant_line, symbol_line, register_line, memory_line, block_line, loop_line, close_line, end_line}
 use Rattle.s390x_job.specs.Jobs.{plain_layout, IsPlainWithoutLine, inst_lines, row_lines, insts_lines, blocks_lines, flags_lines, frame_lines, start_lines, registers_lines, job_lines}
@@ -177,7 +177,7 @@ frame_if true conv layout ls told e =
 frame_if false conv layout ls told e = refl
 
 frame_found : (conv : CallConv) (layout : FrameLayout) (ls : List Line) → IsPlainWithoutLine conv layout → (found ls).frame ≡ no_frame → found (frame_lines conv layout ++ ls) ≡ with_frame (record { conv = conv; layout = layout }) (found ls)
-frame_found conv layout ls told e = frame_if (bytes_eq (spelled (frame_line conv layout).fields) (codes " SystemV 0 0 0 0 0 0 - 0")) conv layout ls told e
+frame_found conv layout ls told e = frame_if (bytes_eq (fields_text (frame_line conv layout).fields) (codes " SystemV 0 0 0 0 0 0 - 0")) conv layout ls told e
 
 register_passed : (c : Bool) (l : Line) (rest ls : List Line) → ((f : Found) → feed l.name l f ≡ f) → found (rest ++ ls) ≡ found ls → found ((if c then rest else l ∷ rest) ++ ls) ≡ found ls
 register_passed true l rest ls h e = e

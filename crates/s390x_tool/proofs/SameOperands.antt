@@ -14,8 +14,8 @@ use Rattle.s390x_operands.specs.declared.constraint.OperandError.{OperandError}
 use Rattle.s390x_operands.specs.declared.constraint.Reported.{Reported}
 use Rattle.s390x_operands.specs.declared.constraint.Reported.TheVariants.{Fixed}
 use Rattle.s390x_operands.specs.Visits.{item_cause}
-use Rattle.s390x_operands.specs.Requests.{cause_of, first_operand_cause, used, scratch_request}
-use Rattle.s390x_operands.specs.Calls.{argument, call_requests, call_result, clobbered, destination_requests, incoming, outgoing}
+use Rattle.s390x_operands.specs.Requests.{cause_of, first_operand_cause, reported_use, scratch_request}
+use Rattle.s390x_operands.specs.Calls.{argument, call_requests, call_result, reported_clobbers, destination_requests, reported_argument, reported_result}
 use Rattle.s390x_operands.specs.Operands.{is_loop, operands_cause, requests, row_requests}
 use Rattle.s390x_job_lines.specs.Contents.{Contents, Whole, Branches, Table, LoopOf, Calls, TailCalls, Arguments, Results, contents}
 use Rattle.s390x_job_lines.proofs.Contents.{same_contents}
@@ -54,15 +54,15 @@ link_request (Virtual n c) = None
 -- requests with the causes of an instruction's that holds this; of a call they don't name the registers that it overwrites
 abbrev held_requests : Contents → List (Option Reported)
 held_requests (Whole i) = requests i
-held_requests (Branches rn targets) = used rn ∷ []
-held_requests (Table index default condition targets) = used index ∷ scratch_request ∷ []
+held_requests (Branches rn targets) = reported_use rn ∷ []
+held_requests (Table index default condition targets) = reported_use index ∷ scratch_request ∷ []
 held_requests (LoopOf condition) = []
 held_requests (Calls c) = destination_requests c.dest ++ (map argument c.uses ++ (map call_result c.defs ++ link_request c.link ∷ []))
 held_requests (TailCalls dest uses size) = destination_requests dest ++ map argument uses
-held_requests (Arguments args) = map incoming args
-held_requests (Results rets) = map outgoing rets
+held_requests (Arguments args) = map reported_argument args
+held_requests (Results rets) = map reported_result rets
 
-link_cause : (d : Bool) (s : PRegSet) (link : Reg) → cause_of d (clobbered s link ∷ []) ≡ cause_of d (link_request link ∷ [])
+link_cause : (d : Bool) (s : PRegSet) (link : Reg) → cause_of d (reported_clobbers s link ∷ []) ≡ cause_of d (link_request link ∷ [])
 link_cause d s (Real p) = refl
 link_cause d s (Virtual n c) = refl
 

@@ -16,7 +16,7 @@ use Rattle.s390x_typed_steps.specs.Parts.{CodePart, Branch, ToStep, step_parts, 
 use Rattle.s390x_typed_steps.specs.Steps.{Step, step_count, step_of, steps_of, steps_from, function_steps, first_step}
 use Rattle.s390x_typed_steps.specs.Sizes.{tree_size, blocks_size}
 use Rattle.s390x_typed_steps.specs.Rows.{LinkEnvironment, Offsets, parts_bytes}
-use Rattle.s390x_typed_steps.specs.Image.{step_offset, offsets, unlinked, code, function_code, step_offsets, block_offsets}
+use Rattle.s390x_typed_steps.specs.Image.{step_offset, offsets, unlinked_environment, code, function_code, step_offsets, block_offsets}
 use Rattle.s390x_buffer.specs.declared.entries.RelocEntry.{RelocEntry}
 use Rattle.s390x_typed_steps.specs.Relocs.{parts_relocs, relocs_from, function_relocs}
 use Rattle.s390x_typed_steps.specs.Traps.{parts_traps, traps_from, function_traps}
@@ -304,7 +304,7 @@ behind size cs = record { constant = λ c. get_or (constant_starts size cs) c 0;
 abbrev pub line_environment : List LineTree → List Constant → LinkEnvironment
 line_environment ts cs = behind (line_blocks_size ts) cs
 
-same_environment : (ts : List Tree) (cs : List Constant) → unlinked ts cs ≡ line_environment (map lines_tree ts) cs
+same_environment : (ts : List Tree) (cs : List Constant) → unlinked_environment ts cs ≡ line_environment (map lines_tree ts) cs
 same_environment ts cs = ap (λ n. behind n cs) (same_blocks_size ts)
 
 -- bytes
@@ -316,7 +316,7 @@ same_code : (P : Offsets) (k : ℕ) (ss : List Step) → code P k ss ≡ parts_c
 same_code P k [] = refl
 same_code P k (s ∷ ss) = ap (λ bs. parts_bytes P (P.step k) (step_parts s) ++ bs) (same_code P (k + 1) ss)
 
-pub same_function_code : (ts : List Tree) (cs : List Constant) → function_code (unlinked ts cs) ts ≡ parts_code (line_places (line_environment (map lines_tree ts) cs) (map lines_tree ts)) 0 (line_steps_from 0 (map lines_tree ts))
+pub same_function_code : (ts : List Tree) (cs : List Constant) → function_code (unlinked_environment ts cs) ts ≡ parts_code (line_places (line_environment (map lines_tree ts) cs) (map lines_tree ts)) 0 (line_steps_from 0 (map lines_tree ts))
 same_function_code ts cs =
     ap (λ o. function_code o ts) (same_environment ts cs)
     ∙ same_code (offsets (line_environment (map lines_tree ts) cs) ts) 0 (function_steps ts)

@@ -13,7 +13,7 @@ use Rattle.s390x_typed_steps.proofs.Causes.{first_left, first_right, unless_true
 use Rattle.s390x_typed_steps.specs.Causes.{Declared, blocks_cause, declared_of}
 use Rattle.s390x_emit_int.specs.Function.{checked_cause, constants_of, start_cause, trees_of}
 use Rattle.s390x_text.specs.Instructions.{after, inst_text, insts_text}
-use Rattle.s390x_text_rows.specs.Texts.{first}
+use Rattle.s390x_text_rows.specs.Texts.{first_cause}
 use Rattle.s390x_text_rows.specs.declared.error.TextError.{TextError}
 use Rattle.s390x_listing.specs.Texts.{blocks_texts, inst_texts}
 use Rattle.s390x_text.specs.Laws.{HasTextsInOrder, tree_of_block}
@@ -23,9 +23,9 @@ use Rattle.s390x_tool.specs.Answers.{job_cause, texts_of}
 -- the lines of instructions are refused as their texts are
 lines_cause : (flags : IsaFlags) (e : Emission) (is : List Inst) → (inst_texts flags e is).cause ≡ (insts_text flags 0 e is).cause
 lines_cause flags e [] = refl
-lines_cause flags e (i ∷ is) = ap (first (inst_text flags 0 e i).cause) (lines_cause flags (after e i) is)
+lines_cause flags e (i ∷ is) = ap (first_cause (inst_text flags 0 e i).cause) (lines_cause flags (after e i) is)
 
-none_first : (a b : Option TextError) → a ≡ None → b ≡ None → first a b ≡ None
+none_first : (a b : Option TextError) → a ≡ None → b ≡ None → first_cause a b ≡ None
 none_first None b p q = q
 none_first (Some e) b p q = p
 

@@ -2,7 +2,7 @@
 use Rattle.std.specs.Prelude.{ℕ, ◌≡◌, ◌≢◌, ◌≤◌, ◌⊎◌, List, [], ◌∷◌, ◌++◌, codes, length, IsOk, Err}
 use Rattle.std.specs.Fmt.{decimal}
 use Rattle.s390x_alloc.specs.Answered.{IsAnswered}
-use Rattle.s390x_alloc.specs.Checked.{checked}
+use Rattle.s390x_alloc.specs.Checked.{plan_contents}
 use Rattle.s390x_alloc.specs.Walks.{EveryWalkReadsAlike}
 use Rattle.s390x_alloc.specs.declared.fault.PlanFault.{PlanFault}
 use Rattle.s390x_alloc.specs.declared.fault.PlanFault.TheVariants as fault
@@ -61,7 +61,7 @@ pub record IsPlanRefused (input text : List ℕ) : Type 0 where
   pub is : IsPlannedOf input planned
   pub first : PlanFault
   pub named : first ≢ fault.NoMemory
-  pub cause : checked planned.job.state.layout planned.job.function.blocks.items planned.plan.blocks.items ≡ Err first
+  pub cause : plan_contents planned.job.state.layout planned.job.function.blocks.items planned.plan.blocks.items ≡ Err first
   pub spelled : text ≡ fault_line first
 
 -- the input is the text of no planned job, and this is its first wrong line
@@ -83,4 +83,4 @@ IsAllocateAnswer input s text = ⊥
 pub record IsPlanAccepted (input : List ℕ) : Type 0 where
   pub short : length input ≤ 16777216
   pub planned : IsPlannedText input
-  pub faultless : (p : PlannedJob) → IsPlanned p → text_of_planned p ≡ input → IsOk (checked p.job.state.layout p.job.function.blocks.items p.plan.blocks.items)
+  pub faultless : (p : PlannedJob) → IsPlanned p → text_of_planned p ≡ input → IsOk (plan_contents p.job.state.layout p.job.function.blocks.items p.plan.blocks.items)

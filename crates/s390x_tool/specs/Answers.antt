@@ -9,7 +9,7 @@ use Rattle.s390x_emit_int.specs.Headline.{RunsAsTyped}
 use Rattle.s390x_typed_steps.specs.Ranges.{BlocksInRange}
 use Rattle.s390x_image.specs.declared.error.LinkError.{LinkError}
 use Rattle.s390x_image.specs.Causes.{link_cause}
-use Rattle.s390x_image.specs.Fields.{filled}
+use Rattle.s390x_image.specs.Fields.{with_fields_filled}
 use Rattle.s390x_image.specs.Symbols.{Symbols, no_symbols, with_address}
 use Rattle.s390x_job.specs.Jobs.{text_of_job, IsJob}
 use Rattle.s390x_job.specs.Same.{SameJob}
@@ -56,7 +56,7 @@ pub record IsImageAt (base : ℕ) (j : Job) (bytes : List ℕ) : Type 0 where
   pub code : MachBufferFinalized
   pub is : IsCodeOfJob j code
   pub linked : link_cause_of base j code ≡ None
-  pub filled : bytes ≡ filled base (symbols_of j) code.relocs.items code.bytes.items
+  pub filled : bytes ≡ with_fields_filled base (symbols_of j) code.relocs.items code.bytes.items
 
 -- The text of `image`: the image in lower-case hex, and a line feed. A machine that fetches the image at the base from any
 -- block's start or from any call's return place does only what the job's typed instructions allow, in every state in which it
@@ -106,7 +106,7 @@ IsEmitReply j s text = ⊥
 -- the image of a job's code at a base: linking has no cause to refuse it, and its relocations' fields are filled
 pub record IsLinked (base : ℕ) (j : Job) (code : MachBufferFinalized) (bytes : List ℕ) : Type 0 where
   pub linked : link_cause_of base j code ≡ None
-  pub filled : bytes ≡ filled base (symbols_of j) code.relocs.items code.bytes.items
+  pub filled : bytes ≡ with_fields_filled base (symbols_of j) code.relocs.items code.bytes.items
 
 -- The text of `run`: the machine takes at most so many steps, from the base on, with the job's registers and memory and its image in memory.
 pub record IsExecuted (base steps : ℕ) (j : Job) (text : List ℕ) : Type 0 where

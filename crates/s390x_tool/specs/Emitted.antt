@@ -27,9 +27,9 @@ abbrev pub numbered_line : List ℕ → ℕ → ℕ → List ℕ
 numbered_line name k offset = name ++ (32 ∷ (decimal k ++ (32 ∷ decimal offset)))
 
 -- a line for each offset, numbered from k on
-abbrev pub numbered : List ℕ → ℕ → List ℕ → List (List ℕ)
-numbered name k [] = []
-numbered name k (offset ∷ offsets) = numbered_line name k offset ∷ numbered name (k + 1) offsets
+abbrev pub numbered_lines : List ℕ → ℕ → List ℕ → List (List ℕ)
+numbered_lines name k [] = []
+numbered_lines name k (offset ∷ offsets) = numbered_line name k offset ∷ numbered_lines name (k + 1) offsets
 
 -- the name of a relocation's kind
 abbrev pub reloc_kind_text : Reloc → List ℕ
@@ -78,7 +78,7 @@ code_head_lines f = code_line f.bytes.items ∷ align_line f.alignment ∷ []
 
 -- the lines of blocks and constants
 abbrev pub start_offset_lines : MachBufferFinalized → List (List ℕ)
-start_offset_lines f = numbered (codes "block") 0 f.block_starts.items ++ numbered (codes "const") 0 f.constant_starts.items
+start_offset_lines f = numbered_lines (codes "block") 0 f.block_starts.items ++ numbered_lines (codes "const") 0 f.constant_starts.items
 
 -- the lines of relocations, traps and calls
 abbrev pub code_lines : MachBufferFinalized → List (List ℕ)

@@ -3,7 +3,7 @@ ghost use Rattle.std.specs.Prelude.{◌≡◌, ℕ, List, [], ◌∷◌, ◌++�
 ghost use Rattle.s390x_job_fields.specs.Atoms.{trap_text};
 ghost use Rattle.s390x_job_fields.specs.Bytes.{bytes_text};
 ghost use Rattle.s390x_job_fields.specs.Lists.{more_text, open_text};
-ghost use Rattle.s390x_tool.specs.Emitted.{call_line, code_lines, emit_text, handler_entry_text, code_head_lines, reloc_kind_text, text_of_lines, map_line, numbered, patch_line, reloc_line, site_lines, start_offset_lines, trap_line, try_line};
+ghost use Rattle.s390x_tool.specs.Emitted.{call_line, code_lines, emit_text, handler_entry_text, code_head_lines, reloc_kind_text, text_of_lines, map_line, numbered_lines, patch_line, reloc_line, site_lines, start_offset_lines, trap_line, try_line};
 
 use s390x_base::{CodeOffset, Reloc, TrapCode, TrapKind};
 use s390x_buffer::{
@@ -60,7 +60,7 @@ fn put_starts(out: &mut String, code: &MachBufferFinalized) -> Result<(), AllocE
 fn put_numbered(out: &mut String, name: &str, offsets: &[CodeOffset]) -> Result<(), AllocError>
     ensures { OnOk result
         (string_bytes out.new
-        ≡ string_bytes out.old ++ text_of_lines (numbered name.now 0 offsets.now)) }
+        ≡ string_bytes out.old ++ text_of_lines (numbered_lines name.now 0 offsets.now)) }
 {
     for (number, offset) in offsets.iter().enumerate() {
         writeln!(out, "{name} {number} {offset}")?;

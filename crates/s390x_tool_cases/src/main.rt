@@ -22,21 +22,21 @@ impl Judge for Reader {
         line: &str,
     ) -> Result<Option<Verdict>, LineError> {
         match self.take_line(alloc, number, line)? {
-            Some(asked) => judged(alloc, asked),
+            Some(asked) => verdict_of(alloc, asked),
             None => Ok(None),
         }
     }
 
     fn end(&mut self, alloc: Global) -> Result<Option<Verdict>, LineError> {
         match self.take_end(alloc)? {
-            Some(asked) => judged(alloc, asked),
+            Some(asked) => verdict_of(alloc, asked),
             None => Ok(None),
         }
     }
 }
 
 // Runs the program on a case, or reads a line.
-fn judged(alloc: Global, asked: Asked) -> Result<Option<Verdict>, LineError> {
+fn verdict_of(alloc: Global, asked: Asked) -> Result<Option<Verdict>, LineError> {
     let (line, is_met) = match asked {
         Asked::Run(case) => (
             case.line,

@@ -81,18 +81,18 @@ impl Reader {
         if line.starts_with("#") {
             return Ok(None);
         }
-        if let Some(words) = marked(line, ">") {
+        if let Some(words) = text_behind_mark(line, ">") {
             let ends = mem::replace(&mut self.ends, Ends::new());
             self.case = empty_case(alloc, self.number, ends);
             self.case.words.push_str(words)?;
             self.part = Part::Input;
             return Ok(None);
         }
-        if let Some(head) = marked(line, "*") {
+        if let Some(head) = text_behind_mark(line, "*") {
             self.head = line_of(alloc, head)?;
             return Ok(None);
         }
-        if let Some(ends) = marked(line, "!") {
+        if let Some(ends) = text_behind_mark(line, "!") {
             self.ends = Ends::read(ends)?;
             return Ok(None);
         }
@@ -101,17 +101,22 @@ impl Reader {
 
     // A line that is a case by itself.
     fn take_alone(&mut self, alloc: Global, line: &str) -> Result<Option<Asked>, LineError> {
-        if let Some(taken) = marked(line, "+") {
-            return Ok(Some(Asked::Exact(self.exact(alloc, taken, true)?)));
+        if let Some(taken) = text_behind_mark(line, "+") {
+            return Ok(Some(Asked::Exact(self.exact_line_case(alloc, taken, true)?)));
         }
-        if let Some(left) = marked(line, "-") {
-            return Ok(Some(Asked::Exact(self.exact(alloc, left, false)?)));
+        if let Some(left) = text_behind_mark(line, "-") {
+            return Ok(Some(Asked::Exact(self.exact_line_case(alloc, left, false)?)));
         }
         Ok(Some(Asked::Run(self.row(alloc, line)?)))
     }
 
     // The case of a line that the exact readers take or leave.
-    fn exact(&self, alloc: Global, text: &str, is_taken: bool) -> Result<ExactLine, AllocError> {
+    fn exact_line_case(
+        &self,
+        alloc: Global,
+        text: &str,
+        is_taken: bool,
+    ) -> Result<ExactLine, AllocError> {
         let text = String::from_str(alloc, text)?;
         Ok(ExactLine {
             line: self.number,
@@ -122,10 +127,10 @@ impl Reader {
 
     // A line of a case's input, or the one behind it with the status.
     fn take_input(&mut self, line: &str) -> Result<Option<Asked>, LineError> {
-        if let Some(status) = marked(line, "<") {
+        if let Some(status) = text_behind_mark(line, "<") {
             return self.take_status(status);
         }
-        if let Some(status) = marked(line, "|") {
+        if let Some(status) = text_behind_mark(line, "|") {
             self.case.input.pop();
             return self.take_status(status);
         }
@@ -191,7 +196,7 @@ impl Reader {
 }
 
 // What stands behind a mark and a space, if a line begins so; behind the mark alone stands nothing.
-fn marked<'a>(line: &'a str, mark: &str) -> Option<&'a str> {
+fn text_behind_mark<'a>(line: &'a str, mark: &str) -> Option<&'a str> {
     match line.strip_prefix(mark) {
         Some("") => Some(""),
         Some(rest) => rest.strip_prefix(" "),
@@ -201,8 +206,8 @@ fn marked<'a>(line: &'a str, mark: &str) -> Option<&'a str> {
 
 // Whether a line ends the text of a case: it is a comment, begins a case, or tells how jobs begin or what the next case reads from.
 fn ends_text(line: &str) -> bool {
-    let begins = line.starts_with("#") || marked(line, ">").is_some();
-    begins || marked(line, "*").is_some() || marked(line, "!").is_some()
+    let begins = line.starts_with("#") || text_behind_mark(line, ">").is_some();
+    begins || text_behind_mark(line, "*").is_some() || text_behind_mark(line, "!").is_some()
 }
 
 // A text with its line feed, or nothing.

@@ -28,7 +28,7 @@ use Rattle.s390x_rows.specs.declared.opcodes.TheConstants as opcodes
 use Rattle.s390x_typed_steps.specs.Baseline.{whole_or_loaded, body_for, tree_for}
 use Rattle.s390x_typed_steps.specs.Calls.{wholes, load_or, load_before, load_bodies, behind_call, result_bodies, continuation_bodies, call_bodies, tail_bodies, jump_target}
 use Rattle.s390x_typed_steps.specs.Memory.{MemoryInstruction, FloatForm, VrxForm, memory, accesses_relative, access_vector, access_lane, load_left, load_lane_opcode, is_left_lane}
-use Rattle.s390x_typed_steps.specs.Operands.{resolved}
+use Rattle.s390x_typed_steps.specs.Operands.{resolved_operand}
 use Rattle.s390x_typed_steps.specs.Resolved.{resolved_instruction}
 use Rattle.s390x_typed_steps.specs.Tree.{StepBody, Whole, TailJump, empty, leaf, leaves}
 use Rattle.s390x_typed_steps.specs.VectorInstruction.{is_vector, element_code, is_lane}
@@ -78,9 +78,9 @@ undef_none size rd mem lane =
 -- ---- a call
 
 load_stays : (flags : IsaFlags) (e : Emission) (rd : Reg) (off : ℤ) (ty : ValueType) → body_for flags (load_or e (load_of rd (OutgoingArgOffset off) ty)) ≡ load_or e (load_of rd (OutgoingArgOffset off) ty)
-load_stays flags e rd off F16 = whole_stays flags (resolved_instruction e (Vector (VecLoadLaneUndef 16 rd (OutgoingArgOffset off) 0))) (undef_none 16 rd (resolved e (OutgoingArgOffset off)) 0)
-load_stays flags e rd off F32 = whole_stays flags (resolved_instruction e (Vector (VecLoadLaneUndef 32 rd (OutgoingArgOffset off) 0))) (undef_none 32 rd (resolved e (OutgoingArgOffset off)) 0)
-load_stays flags e rd off F64 = whole_stays flags (resolved_instruction e (Vector (VecLoadLaneUndef 64 rd (OutgoingArgOffset off) 0))) (undef_none 64 rd (resolved e (OutgoingArgOffset off)) 0)
+load_stays flags e rd off F16 = whole_stays flags (resolved_instruction e (Vector (VecLoadLaneUndef 16 rd (OutgoingArgOffset off) 0))) (undef_none 16 rd (resolved_operand e (OutgoingArgOffset off)) 0)
+load_stays flags e rd off F32 = whole_stays flags (resolved_instruction e (Vector (VecLoadLaneUndef 32 rd (OutgoingArgOffset off) 0))) (undef_none 32 rd (resolved_operand e (OutgoingArgOffset off)) 0)
+load_stays flags e rd off F64 = whole_stays flags (resolved_instruction e (Vector (VecLoadLaneUndef 64 rd (OutgoingArgOffset off) 0))) (undef_none 64 rd (resolved_operand e (OutgoingArgOffset off)) 0)
 load_stays flags e rd off ty = refl
 
 loads_stay : (flags : IsaFlags) (e : Emission) (ds : List CallRetPair) → AllStay flags (load_bodies e ds)

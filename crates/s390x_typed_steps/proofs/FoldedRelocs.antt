@@ -2,7 +2,7 @@
 use Rattle.std.proofs.Common.{◌≡◌, ℕ, ◌+◌, List, [], ◌∷◌, ◌++◌, Option, Some, None, refl, sym, ap₂, subst}
 use Rattle.s390x_buffer.specs.declared.entries.RelocEntry.{RelocEntry}
 use Rattle.s390x_inst.specs.declared.inst.Inst.{Inst}
-use Rattle.s390x_typed_steps.specs.Folding.{branches_of, remainder, shortened, fold, folded, folded_before, next_block, folded_from, folded_trees}
+use Rattle.s390x_typed_steps.specs.Folding.{branches_of, remainder, body_with_remainder, fold, folded_members, folded_before, next_block, folded_from, folded_trees}
 use Rattle.s390x_typed_steps.specs.Image.{step_offset}
 use Rattle.s390x_typed_steps.specs.Parts.{CodePart, RelativeSymbol, SymbolValue, CallSymbol, part_size, step_parts}
 use Rattle.s390x_typed_steps.specs.Relocs.{part_relocs, parts_relocs, step_relocs, relocs_from, function_relocs}
@@ -67,7 +67,7 @@ left_bare : (r : Remainder) (i : Inst) → BareStep (step_of 0 (Folded r i))
 left_bare NothingLeft i p = refl
 left_bare (BranchLeft mask b) i p = refl
 
-shortened_bare : (o : Option Remainder) (i : Inst) → BareStep (step_of 0 (Whole i)) → BareStep (step_of 0 (shortened o i))
+shortened_bare : (o : Option Remainder) (i : Inst) → BareStep (step_of 0 (Whole i)) → BareStep (step_of 0 (body_with_remainder o i))
 shortened_bare None i h = h
 shortened_bare (Some r) i h = left_bare r i
 
@@ -75,7 +75,7 @@ fold_bare : (next : ℕ) (b : StepBody) → BareStep (step_of 0 b) → BareStep 
 fold_bare next (Whole i) h = shortened_bare (remainder next (branches_of i)) i h
 fold_bare next b h = h
 
-folded_bare : (next k : ℕ) (t : Tree) → AllBare (steps_of k 0 t) → AllBare (steps_of k 0 (folded next t))
+folded_bare : (next k : ℕ) (t : Tree) → AllBare (steps_of k 0 t) → AllBare (steps_of k 0 (folded_members next t))
 folded_bare next k empty h = h
 folded_bare next k (leaf b empty) h = (fold_bare next b h.0, tt)
 folded_bare next k (leaf b (leaf c rest)) h = (h.0, folded_bare next (k + 1) (leaf c rest) h.1)
@@ -85,7 +85,7 @@ folded_bare next k (loop_node mask members rest) h =
     let inner = steps_of (k + 1) end members in
     let later = Back mask (k + 1) ∷ steps_of end 0 rest in
     let behind = bare_right inner later h.1 in
-    (h.0, bare_append inner (Back mask (k + 1) ∷ steps_of end 0 (folded next rest)) (bare_left inner later h.1) (behind.0, folded_bare next end rest behind.1))
+    (h.0, bare_append inner (Back mask (k + 1) ∷ steps_of end 0 (folded_members next rest)) (bare_left inner later h.1) (behind.0, folded_bare next end rest behind.1))
 
 before_bare : (next : Option ℕ) (k : ℕ) (t : Tree) → AllBare (steps_of k 0 t) → AllBare (steps_of k 0 (folded_before next t))
 before_bare None k t h = h

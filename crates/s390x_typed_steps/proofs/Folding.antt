@@ -11,12 +11,12 @@ use Rattle.s390x_typed_steps.specs.Tree.{Remainder, NothingLeft, BranchLeft, Ste
 use Rattle.s390x_typed_steps.specs.Steps.{step_count, first_step}
 use Rattle.s390x_typed_steps.specs.Causes.{Declared, first_emit_cause, unless, target_label_cause, instruction_cause, instruction_fresh_labels, leaf_cause, body_cause, body_fresh_labels, body_nominal_after, fresh_labels, nominal_behind, nesting_cause, numbers_cause, tree_cause, block_cause, blocks_cause}
 use Rattle.s390x_typed_steps.specs.Ranges.{IsConditionMask, InRange, BodyInRange, AllInRange, BlocksInRange}
-use Rattle.s390x_typed_steps.specs.Folding.{Always, Conditional, remainder, branches_of, shortened, fold, folded, folded_before, next_block, folded_from, peak_from}
+use Rattle.s390x_typed_steps.specs.Folding.{Always, Conditional, remainder, branches_of, body_with_remainder, fold, folded_members, folded_before, next_block, folded_from, peak_from}
 use Rattle.s390x_typed_steps.proofs.Causes.{first_none, first_left, first_right}
 use Rattle.s390x_typed_steps.specs.Parts.{parts_size, remainder_parts}
 use Rattle.s390x_typed_steps.specs.Sizes.{body_size, tree_size, blocks_size}
 
-shortened_labels : (o : Option Remainder) (i : Inst) → instruction_fresh_labels i ≡ 0 → body_fresh_labels (shortened o i) ≡ instruction_fresh_labels i
+shortened_labels : (o : Option Remainder) (i : Inst) → instruction_fresh_labels i ≡ 0 → body_fresh_labels (body_with_remainder o i) ≡ instruction_fresh_labels i
 shortened_labels None i none = refl
 shortened_labels (Some r) i none = sym none
 
@@ -30,7 +30,7 @@ first_same : (a b : Option EmitError) → (a ≡ None → b ≡ None) → first_
 first_same None b h = h refl
 first_same (Some e) b h = refl
 
-jump_cause : (flags : IsaFlags) (D : Declared) (n nominal depth : ℕ) (dest : MachLabel) (t : Bool) → body_cause flags D n nominal depth (shortened (cond t (Some NothingLeft) None) (Jump dest)) ≡ leaf_cause flags D n nominal depth (Jump dest)
+jump_cause : (flags : IsaFlags) (D : Declared) (n nominal depth : ℕ) (dest : MachLabel) (t : Bool) → body_cause flags D n nominal depth (body_with_remainder (cond t (Some NothingLeft) None) (Jump dest)) ≡ leaf_cause flags D n nominal depth (Jump dest)
 jump_cause flags D n nominal depth dest true = first_none (leaf_cause flags D n nominal depth (Jump dest))
 jump_cause flags D n nominal depth dest false = refl
 
@@ -39,7 +39,7 @@ labels_of : (flags : IsaFlags) (D : Declared) (n nominal depth : ℕ) (taken not
 labels_of flags D n nominal depth taken not_taken mask none = first_left (instruction_cause flags D nominal depth (CondBr taken not_taken mask)) (numbers_cause n 0) none
 
 choice_cause : (flags : IsaFlags) (D : Declared) (n nominal depth : ℕ) (taken not_taken : MachLabel) (mask : ℕ) (u t : Bool) →
-    body_cause flags D n nominal depth (shortened (cond u (cond t (Some NothingLeft) (Some (BranchLeft mask taken.0))) (cond t (Some (BranchLeft (15 - mask) not_taken.0)) None)) (CondBr taken not_taken mask)) ≡ leaf_cause flags D n nominal depth (CondBr taken not_taken mask)
+    body_cause flags D n nominal depth (body_with_remainder (cond u (cond t (Some NothingLeft) (Some (BranchLeft mask taken.0))) (cond t (Some (BranchLeft (15 - mask) not_taken.0)) None)) (CondBr taken not_taken mask)) ≡ leaf_cause flags D n nominal depth (CondBr taken not_taken mask)
 choice_cause flags D n nominal depth taken not_taken mask true true = first_none (leaf_cause flags D n nominal depth (CondBr taken not_taken mask))
 choice_cause flags D n nominal depth taken not_taken mask true false =
     first_same (leaf_cause flags D n nominal depth (CondBr taken not_taken mask)) (target_label_cause D.blocks taken) (λ none.
@@ -54,7 +54,7 @@ fold_cause flags D n nominal depth next (Whole (Jump dest)) = jump_cause flags D
 fold_cause flags D n nominal depth next (Whole (CondBr taken not_taken mask)) = choice_cause flags D n nominal depth taken not_taken mask (nat_eq not_taken.0 next) (nat_eq taken.0 next)
 fold_cause flags D n nominal depth next b = refl
 
-shortened_nominal : (nominal : ℕ) (o : Option Remainder) (i : Inst) → body_nominal_after nominal (shortened o i) ≡ body_nominal_after nominal (Whole i)
+shortened_nominal : (nominal : ℕ) (o : Option Remainder) (i : Inst) → body_nominal_after nominal (body_with_remainder o i) ≡ body_nominal_after nominal (Whole i)
 shortened_nominal nominal None i = refl
 shortened_nominal nominal (Some r) i = refl
 
@@ -98,7 +98,7 @@ pub blocks_masked : (ts : List Tree) → BlocksInRange ts → BlocksMasked ts
 blocks_masked [] h = tt
 blocks_masked (t ∷ ts) h = (tree_masked t h.0, blocks_masked ts h.1)
 
-shortened_masked : (o : Option Remainder) (i : Inst) → InRange i → IsFoldable i → BodyMasked (shortened o i)
+shortened_masked : (o : Option Remainder) (i : Inst) → InRange i → IsFoldable i → BodyMasked (body_with_remainder o i)
 shortened_masked None i h able = h
 shortened_masked (Some r) i h able = (h, able)
 
@@ -111,7 +111,7 @@ left_small : (r : Remainder) → parts_size (remainder_parts r) ≤ 6
 left_small NothingLeft = omega arith
 left_small (BranchLeft mask b) = omega arith
 
-shortened_size : (o : Option Remainder) (i : Inst) → 6 ≤ body_size (Whole i) → body_size (shortened o i) ≤ body_size (Whole i)
+shortened_size : (o : Option Remainder) (i : Inst) → 6 ≤ body_size (Whole i) → body_size (body_with_remainder o i) ≤ body_size (Whole i)
 shortened_size None i h = omega arith
 shortened_size (Some r) i h = let small = left_small r in omega (arith, small, h)
 
@@ -125,35 +125,35 @@ fold_size next b = same_size (body_size b)
 
 -- ---- the members of a block
 
-pub folded_size : (next : ℕ) (t : Tree) → tree_size (folded next t) ≤ tree_size t
+pub folded_size : (next : ℕ) (t : Tree) → tree_size (folded_members next t) ≤ tree_size t
 folded_size next empty = omega arith
 folded_size next (leaf b empty) = let few = fold_size next b in omega (arith, few)
 folded_size next (leaf b (leaf c rest)) = let few = folded_size next (leaf c rest) in omega (arith, few)
 folded_size next (leaf b (loop_node mask members rest)) = let few = folded_size next (loop_node mask members rest) in omega (arith, few)
 folded_size next (loop_node mask members rest) = let few = folded_size next rest in omega (arith, few)
 
-pub folded_labels : (next : ℕ) (t : Tree) → fresh_labels (folded next t) ≡ fresh_labels t
+pub folded_labels : (next : ℕ) (t : Tree) → fresh_labels (folded_members next t) ≡ fresh_labels t
 folded_labels next empty = refl
 folded_labels next (leaf b empty) = ap (λ n. n + 0) (fold_labels next b)
 folded_labels next (leaf b (leaf c rest)) = ap (λ n. body_fresh_labels b + n) (folded_labels next (leaf c rest))
 folded_labels next (leaf b (loop_node mask members rest)) = ap (λ n. body_fresh_labels b + n) (folded_labels next (loop_node mask members rest))
 folded_labels next (loop_node mask members rest) = ap (λ n. 2 + fresh_labels members + n) (folded_labels next rest)
 
-pub folded_count : (next : ℕ) (t : Tree) → step_count (folded next t) ≡ step_count t
+pub folded_count : (next : ℕ) (t : Tree) → step_count (folded_members next t) ≡ step_count t
 folded_count next empty = refl
 folded_count next (leaf b empty) = refl
 folded_count next (leaf b (leaf c rest)) = ap (λ n. 1 + n) (folded_count next (leaf c rest))
 folded_count next (leaf b (loop_node mask members rest)) = ap (λ n. 1 + n) (folded_count next (loop_node mask members rest))
 folded_count next (loop_node mask members rest) = ap (λ n. 2 + step_count members + n) (folded_count next rest)
 
-pub folded_nominal : (nominal next : ℕ) (t : Tree) → nominal_behind nominal (folded next t) ≡ nominal_behind nominal t
+pub folded_nominal : (nominal next : ℕ) (t : Tree) → nominal_behind nominal (folded_members next t) ≡ nominal_behind nominal t
 folded_nominal nominal next empty = refl
 folded_nominal nominal next (leaf b empty) = fold_nominal nominal next b
 folded_nominal nominal next (leaf b (leaf c rest)) = folded_nominal (body_nominal_after nominal b) next (leaf c rest)
 folded_nominal nominal next (leaf b (loop_node mask members rest)) = folded_nominal (body_nominal_after nominal b) next (loop_node mask members rest)
 folded_nominal nominal next (loop_node mask members rest) = folded_nominal nominal next rest
 
-pub folded_cause : (flags : IsaFlags) (D : Declared) (n nominal depth next : ℕ) (t : Tree) → tree_cause flags D n nominal depth (folded next t) ≡ tree_cause flags D n nominal depth t
+pub folded_cause : (flags : IsaFlags) (D : Declared) (n nominal depth next : ℕ) (t : Tree) → tree_cause flags D n nominal depth (folded_members next t) ≡ tree_cause flags D n nominal depth t
 folded_cause flags D n nominal depth next empty = refl
 folded_cause flags D n nominal depth next (leaf b empty) = ap (λ o. first_emit_cause o None) (fold_cause flags D n nominal depth next b)
 folded_cause flags D n nominal depth next (leaf b (leaf c rest)) =
@@ -164,7 +164,7 @@ folded_cause flags D n nominal depth next (loop_node mask members rest) =
     ap (λ o. first_emit_cause (first_emit_cause (first_emit_cause (nesting_cause depth) (numbers_cause n 2)) (tree_cause flags D (n + 2) nominal (depth + 1) members)) o)
     (folded_cause flags D (n + 2 + fresh_labels members) nominal depth next rest)
 
-folded_masked : (next : ℕ) (t : Tree) → AllMasked t → AllMasked (folded next t)
+folded_masked : (next : ℕ) (t : Tree) → AllMasked t → AllMasked (folded_members next t)
 folded_masked next empty h = h
 folded_masked next (leaf b empty) h = (fold_masked next b h.0, h.1)
 folded_masked next (leaf b (leaf c rest)) h = (h.0, folded_masked next (leaf c rest) h.1)

@@ -15,7 +15,7 @@ use Rattle.s390x_typed_steps.specs.Tree.{Tree}
 use Rattle.s390x_typed_steps.specs.SingleInstruction.{SingleInstruction, single_instruction, stop_code}
 use Rattle.s390x_inst.specs.declared.args.MemArg.{MemArg}
 use Rattle.s390x_inst.specs.declared.args.MemArg.TheVariants.{Label, Constant, Symbol}
-use Rattle.s390x_typed_steps.specs.Operands.{finalized, is_relative}
+use Rattle.s390x_typed_steps.specs.Operands.{finalized_operand, is_relative}
 use Rattle.s390x_typed_steps.specs.Memory.{StorageForm, RxForm, RsForm, SiForm, SilForm, VrxForm, FloatForm, MemoryInstruction, memory, loaded_memory, type_of, storage_row, address_form, fault_code}
 use Rattle.s390x_typed_steps.specs.Steps.{Step, Plain, LoadedStep, Shortened, Opening, Back, Break, CallingStep, NoLoadStep, TailOpeningStep, TailJumpStep, function_steps}
 use Rattle.s390x_typed_steps.specs.StepBody.{Site, AtCall, NothingLeft, BranchLeft}
@@ -205,7 +205,7 @@ helpers_inside (i ∷ is) = inside_append (helper_parts i) (helpers_parts is) (h
 memory_inside : (o : Option MemoryInstruction) (others : List CodePart) → Inside others → Inside (memory_or o others)
 memory_inside None others h = h
 memory_inside (Some x) others h =
-    let f = finalized (type_of x.form x.accesses) x.operand in
+    let f = finalized_operand (type_of x.form x.accesses) x.operand in
     inside_append (helpers_parts f.helpers) (operand_parts x.form (fault_code x) f.operand) (helpers_inside f.helpers) (operand_inside x.form (fault_code x) f.operand)
 
 instruction_inside : (o : Option SingleInstruction) (code : Option TrapKind) (others : List CodePart) → Inside others → Inside (parts_or o code others)

@@ -21,7 +21,7 @@ use Rattle.s390x_inst.specs.declared.inst.Inst.TheVariants.{Call, ReturnCall, Ju
 use Rattle.s390x_inst.specs.declared.state.FrameLayout.{FrameLayout}
 use Rattle.s390x_typed_steps.specs.General.{is_general, is_nonzero}
 use Rattle.s390x_typed_steps.specs.Memory.{MemoryInstruction, memory, type_of}
-use Rattle.s390x_typed_steps.specs.Operands.{finalized, is_helped, is_numbered}
+use Rattle.s390x_typed_steps.specs.Operands.{finalized_operand, is_helped, is_numbered}
 use Rattle.s390x_typed_steps.specs.Resolved.{resolved_instruction}
 use Rattle.s390x_typed_steps.specs.StepBody.{Site, AtCall, AtTry, AtPatchable, AtStackMap, Calling, StepBody, Whole, CallStep, NoLoad, TailOpening, TailJump}
 
@@ -118,7 +118,7 @@ stands_in_scratch (Indirect reg) = is_lost reg || is_numbered 1 reg
 -- an operand needs `%r1` for its helpers
 abbrev pub is_access_helped : Option MemoryInstruction → Bool
 is_access_helped None = false
-is_access_helped (Some x) = is_helped (finalized (type_of x.form x.accesses) x.operand).helpers
+is_access_helped (Some x) = is_helped (finalized_operand (type_of x.form x.accesses) x.operand).helpers
 
 -- that of one of these instructions does
 abbrev pub any_helped : List Inst → Bool

@@ -16,7 +16,7 @@ use Rattle.s390x_inst.specs.Facilities.{facility_of, has_facility}
 use Rattle.s390x_typed_steps.specs.Calls.{is_target, is_first_saved, site_labels}
 use Rattle.s390x_typed_steps.specs.General.{is_general, is_nonzero, is_scratch}
 use Rattle.s390x_typed_steps.specs.SingleInstruction.{SingleInstruction, single_instruction}
-use Rattle.s390x_typed_steps.specs.Operands.{finalized, is_relative, has_form, needs_address, fits_32, loses_base, offset_fits, operand_general}
+use Rattle.s390x_typed_steps.specs.Operands.{finalized_operand, is_relative, has_form, needs_address, fits_32, loses_base, offset_fits, operand_general}
 use Rattle.s390x_typed_steps.specs.Memory.{StorageForm, RxForm, MemoryInstruction, memory, loaded_memory, type_of}
 use Rattle.s390x_typed_steps.specs.Stack.{nominal_after}
 use Rattle.s390x_typed_steps.specs.StepBody.{Calling}
@@ -92,7 +92,7 @@ declared_of ts cs = record { blocks = length ts; aligns = aligns_of cs }
 
 -- a helper writes %r1 before it is read, as the base of the operand or by the access
 abbrev pub loses_scratch : MemoryInstruction → Bool
-loses_scratch x = loses_base x.operand || (x.reads_scratch && is_helped (finalized (type_of x.form x.accesses) x.operand).helpers)
+loses_scratch x = loses_base x.operand || (x.reads_scratch && is_helped (finalized_operand (type_of x.form x.accesses) x.operand).helpers)
 
 -- a relocation's addend is the offset plus 2, since its field stands two bytes behind the instruction's beginning
 abbrev pub addend_fits : MemArg → Bool

@@ -25,27 +25,27 @@ remainder next (Some (Conditional mask taken not_taken)) = cond (nat_eq not_take
     (cond (nat_eq taken next) (Some (BranchLeft (15 - mask) not_taken)) None)
 
 -- an instruction with what is left of its branches
-abbrev pub shortened : Option Remainder → Inst → StepBody
-shortened None i = Whole i
-shortened (Some r) i = Folded r i
+abbrev pub body_with_remainder : Option Remainder → Inst → StepBody
+body_with_remainder None i = Whole i
+body_with_remainder (Some r) i = Folded r i
 
 -- the last body of a block, before the block `next`; that of a call with a try is a jump. Nothing else is folded
 abbrev pub fold : (next : ℕ) → StepBody → StepBody
-fold next (Whole i) = shortened (remainder next (branches_of i)) i
+fold next (Whole i) = body_with_remainder (remainder next (branches_of i)) i
 fold next b = b
 
 -- the members of a block, before the block `next`: the last one alone is folded
-abbrev pub folded : (next : ℕ) → Tree → Tree
-folded next empty = empty
-folded next (leaf b empty) = leaf (fold next b) empty
-folded next (leaf b (leaf c rest)) = leaf b (folded next (leaf c rest))
-folded next (leaf b (loop_node mask members rest)) = leaf b (folded next (loop_node mask members rest))
-folded next (loop_node mask members rest) = loop_node mask members (folded next rest)
+abbrev pub folded_members : (next : ℕ) → Tree → Tree
+folded_members next empty = empty
+folded_members next (leaf b empty) = leaf (fold next b) empty
+folded_members next (leaf b (leaf c rest)) = leaf b (folded_members next (leaf c rest))
+folded_members next (leaf b (loop_node mask members rest)) = leaf b (folded_members next (loop_node mask members rest))
+folded_members next (loop_node mask members rest) = loop_node mask members (folded_members next rest)
 
 -- the members of a block, folded before the next block, if there is one
 abbrev pub folded_before : Option ℕ → Tree → Tree
 folded_before None t = t
-folded_before (Some next) t = folded next t
+folded_before (Some next) t = folded_members next t
 
 -- the block behind number b, where others stand behind it
 abbrev pub next_block : (b : ℕ) → List Tree → Option ℕ

@@ -24,8 +24,8 @@ abbrev pub constant_offset : List Tree → List Constant → ℕ → ℕ
 constant_offset ts cs c = get_or (constant_starts (blocks_size ts) cs) c 0
 
 -- the link environment of the steps before linking: the constants, and zeros for what linking fills
-abbrev pub unlinked : List Tree → List Constant → LinkEnvironment
-unlinked ts cs = record { constant = constant_offset ts cs; aligns = aligns_of cs; symbol_value = λ name offset. 0; symbol_distance = λ origin name offset. 0 }
+abbrev pub unlinked_environment : List Tree → List Constant → LinkEnvironment
+unlinked_environment ts cs = record { constant = constant_offset ts cs; aligns = aligns_of cs; symbol_value = λ name offset. 0; symbol_distance = λ origin name offset. 0 }
 
 -- the bytes of the steps from number k on
 abbrev pub code : Offsets → ℕ → List Step → List ℕ

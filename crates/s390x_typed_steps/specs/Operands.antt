@@ -44,13 +44,13 @@ in_frame off added = RegOffset stack_pointer (off +ℤ added) trusted
 
 -- A frame operand as its exact offset from the stack pointer; another operand stays. Incoming arguments lie above the caller's save area of 160
 -- bytes, outgoing ones above that of this function.
-abbrev pub resolved : Emission → MemArg → MemArg
-resolved e (InitialSPOffset off) = in_frame off (pos (frame_size e))
-resolved e (IncomingArgOffset off) = in_frame off (pos (frame_size e + e.incoming + 160))
-resolved e (SpillOffset off) = in_frame off (pos (e.layout.stackslots_size + e.layout.outgoing_args_size + e.nominal))
-resolved e (SlotOffset off) = in_frame off (pos (e.layout.outgoing_args_size + e.nominal))
-resolved e (OutgoingArgOffset off) = in_frame off (pos 160 -ℤ pos e.outgoing)
-resolved e m = m
+abbrev pub resolved_operand : Emission → MemArg → MemArg
+resolved_operand e (InitialSPOffset off) = in_frame off (pos (frame_size e))
+resolved_operand e (IncomingArgOffset off) = in_frame off (pos (frame_size e + e.incoming + 160))
+resolved_operand e (SpillOffset off) = in_frame off (pos (e.layout.stackslots_size + e.layout.outgoing_args_size + e.nominal))
+resolved_operand e (SlotOffset off) = in_frame off (pos (e.layout.outgoing_args_size + e.nominal))
+resolved_operand e (OutgoingArgOffset off) = in_frame off (pos 160 -ℤ pos e.outgoing)
+resolved_operand e m = m
 
 -- ---- the operand that stands in the access
 
@@ -84,9 +84,9 @@ with_offset reg off flags =
     (record { helpers = []; operand = RegOffset reg off flags })))
 
 -- an operand with its displacement
-abbrev pub displaced : MemArg → Finalized
-displaced (RegOffset reg off flags) = with_offset reg off flags
-displaced m = record { helpers = []; operand = m }
+abbrev pub with_displacement : MemArg → Finalized
+with_displacement (RegOffset reg off flags) = with_offset reg off flags
+with_displacement m = record { helpers = []; operand = m }
 
 -- the rows have no form for the operand, so that its address has to be loaded first
 abbrev pub needs_address : MemInstType → MemArg → Bool
@@ -98,22 +98,22 @@ needs_address mi (BXD20 base index disp flags) = not mi.have_d20 || (not mi.have
 needs_address mi m = false
 
 -- where that is so, LOAD ADDRESS of the operand comes before the access
-abbrev pub addressed : MemInstType → Finalized → Finalized
-addressed mi f =
+abbrev pub with_address_loaded : MemInstType → Finalized → Finalized
+with_address_loaded mi f =
     cond (needs_address mi f.operand) (record { helpers = f.helpers ++ LoadAddr scratch f.operand ∷ []; operand = BXD12 scratch no_register 0 (flags_of f.operand) }) f
 
 -- a displacement of 12 bits as one of 20, where the rows have that alone
-abbrev pub widened : MemInstType → MemArg → MemArg
-widened mi (BXD12 base index disp flags) = cond (not mi.have_d12 && mi.have_d20) (BXD20 base index (pos disp) flags) (BXD12 base index disp flags)
-widened mi m = m
+abbrev pub with_long_displacement : MemInstType → MemArg → MemArg
+with_long_displacement mi (BXD12 base index disp flags) = cond (not mi.have_d12 && mi.have_d20) (BXD20 base index (pos disp) flags) (BXD12 base index disp flags)
+with_long_displacement mi m = m
 
 -- an operand with its helpers, a displacement of 12 bits as one of 20 where the rows have that alone
 abbrev pub with_widened : MemInstType → Finalized → Finalized
-with_widened mi f = record { helpers = f.helpers; operand = widened mi f.operand }
+with_widened mi f = record { helpers = f.helpers; operand = with_long_displacement mi f.operand }
 
 -- the operand that stands in the access, and the helpers before it
-abbrev pub finalized : MemInstType → MemArg → Finalized
-finalized mi m = with_widened mi (addressed mi (displaced m))
+abbrev pub finalized_operand : MemInstType → MemArg → Finalized
+finalized_operand mi m = with_widened mi (with_address_loaded mi (with_displacement m))
 
 -- there are helpers
 abbrev pub is_helped : List Inst → Bool

@@ -18,7 +18,7 @@ use Rattle.s390x_typed_steps.specs.MachineInstruction.{MachineInstruction, size_
 use Rattle.s390x_typed_steps.specs.SingleInstruction.{SingleInstruction, single_instruction, stop_code}
 use Rattle.s390x_inst.specs.declared.args.MemArg.{MemArg}
 use Rattle.s390x_inst.specs.declared.args.MemArg.TheVariants.{Label, Constant, Symbol}
-use Rattle.s390x_typed_steps.specs.Operands.{Finalized, finalized, is_relative}
+use Rattle.s390x_typed_steps.specs.Operands.{Finalized, finalized_operand, is_relative}
 use Rattle.s390x_typed_steps.specs.Memory.{StorageForm, RxForm, MemoryInstruction, memory, loaded_memory, type_of, storage_row, address_form, fault_code}
 use Rattle.s390x_typed_steps.specs.VectorComposite.{composite_rows}
 use Rattle.s390x_typed_steps.specs.StepBody.{Site, AtCall, Remainder, NothingLeft, BranchLeft}
@@ -103,7 +103,7 @@ finalized_parts form code f = helpers_parts f.helpers ++ operand_parts form code
 
 -- the parts of an instruction with a memory operand
 abbrev pub memory_parts : MemoryInstruction → List CodePart
-memory_parts x = finalized_parts x.form (fault_code x) (finalized (type_of x.form x.accesses) x.operand)
+memory_parts x = finalized_parts x.form (fault_code x) (finalized_operand (type_of x.form x.accesses) x.operand)
 
 -- the words of a table that leads to blocks, the first of them so many bytes behind the table's beginning
 abbrev pub table_words : (before : ℕ) → List MachLabel → List CodePart

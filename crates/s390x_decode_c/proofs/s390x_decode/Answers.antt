@@ -8,7 +8,7 @@ returns-in-Some-clause-found c = λ _. record {
   decoded = c.in-Some.decoded;
   fetch = c.in-Some.ensures.sound;
   one = λ d f. same_Some d c.in-Some.decoded (sym (c.in-Some.ensures.complete d f));
-  describes = c.described.ensures;
+  describes = c.instruction_of.ensures;
 }
 
 pub returns-in-None-clause-none : goal.returns-in-None-clause-none

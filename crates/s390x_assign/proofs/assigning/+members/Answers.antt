@@ -1,6 +1,6 @@
 use Rattle.std.proofs.Common.{arith}
 use Rattle.s390x_inst.specs.Portions.{members_portions}
-use Rattle.s390x_assign.specs.Assignments.{assigned}
+use Rattle.s390x_assign.specs.Assignments.{assigned_portions}
 use Rattle.s390x_assign.proofs.Members.{given_loop, given_other, member_given, member_left, members_given}
 use Rattle.s390x_assign.proofs.assigning.+members.Goals as goal
 
@@ -20,4 +20,4 @@ assign_members-loop-inst-preserved t c = record {
 
 pub assign_members-returns : goal.assign_members-returns
 assign_members-returns t c =
-    members_given c.args.insts.now c.loop-inst.body.items c.loop-inst.inst-index c.loop-inst.registers.left.now (assigned (members_portions c.args.insts.now) c.args.registers.now.left.now) (omega arith) c.loop-inst.invariant.value c.loop-inst.invariant.left
+    members_given c.args.insts.now c.loop-inst.body.items c.loop-inst.inst-index c.loop-inst.registers.left.now (assigned_portions (members_portions c.args.insts.now) c.args.registers.now.left.now) (omega arith) c.loop-inst.invariant.value c.loop-inst.invariant.left

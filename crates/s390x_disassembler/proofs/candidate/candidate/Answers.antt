@@ -15,7 +15,7 @@ returns-then-eq-2 c =
 
 pub returns-else-eq-2 : goal.returns-else-eq-2
 returns-else-eq-2 c =
-    stored_ok c.stored.result (λ b. b.items) c.args.address c.args.text.now c.named_bytes-bytes.result.items c.deref.result.now c.deref.ensures.0 c.stored.ensures
+    stored_ok c.vector_of_bytes.result (λ b. b.items) c.args.address c.args.text.now c.named_bytes-bytes.result.items c.deref.result.now c.deref.ensures.0 c.vector_of_bytes.ensures
     (name_ok c.args.address c.args.text.now c.word-mnemonic.result.now c.text_behind-rest.result.now c.named_bytes-bytes.result.items c.word-mnemonic.ensures c.text_behind-rest.ensures
     (ap (λ t. bytes_eq c.word-mnemonic.result.now t) (sym c.as_slice.ensures) ∙ sym c.eq.ensures ∙ c.if-eq.false)
     (ap (λ t. bytes_eq c.word-mnemonic.result.now t) (sym c.as_slice-else-eq.ensures) ∙ sym c.eq-else-eq.ensures ∙ c.if-eq-2.false) c.named_bytes-bytes.ensures)

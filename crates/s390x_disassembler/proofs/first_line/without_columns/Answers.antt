@@ -6,7 +6,7 @@ pub returns-in-Some-clause-complete : goal.returns-in-Some-clause-complete
 returns-in-Some-clause-complete c = λ u rest hu f.
     let k = bare_known c.args.address c.args.text.now c.in_ok-bytes.bytes.items c.as_bytes.result.now c.found_in-found.result c.requires c.in_ok-bytes.ensures
     (rw c.deref.ensures.value at c.found_in-found.ensures) (c.as_bytes.ensures.value ∙ (rw c.deref-2.ensures.value at c.in_ok-line.ensures)) u rest hu f in
-    kept_known c.kept.result (λ p. p.0.items) (λ p. p.1.now) c.args.text.now c.as_bytes.result.now c.in_ok-bytes.bytes.items c.in-Some.more.now u rest c.kept.ensures c.in-Some.ensures f.unit k
+    kept_known c.unit_with_rest.result (λ p. p.0.items) (λ p. p.1.now) c.args.text.now c.as_bytes.result.now c.in_ok-bytes.bytes.items c.in-Some.more.now u rest c.unit_with_rest.ensures c.in-Some.ensures f.unit k
 
 pub returns-clause-complete : goal.returns-clause-complete
 returns-clause-complete c = λ u rest hu f.

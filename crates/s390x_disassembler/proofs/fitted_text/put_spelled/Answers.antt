@@ -1,12 +1,12 @@
 use Rattle.std.proofs.Common.{◌++◌, subst}
 use Rattle.s390x_disassembler.specs.Forms.{operands_of}
-use Rattle.s390x_disassembler.specs.Text.{operands_text, spelled}
+use Rattle.s390x_disassembler.specs.Text.{operands_text, spelled_instruction}
 use Rattle.s390x_disassembler.specs.Fitted.{Adds}
 use Rattle.s390x_disassembler.proofs.Fitting.{both}
 use Rattle.s390x_disassembler.proofs.fitted_text.put_spelled.Goals as goal
 
 pub returns : goal.returns
-unfolding spelled
+unfolding spelled_instruction
 returns c =
     let stem = c.args.spelling.0.now in
     let letters = c.letters-letters.result.now in

@@ -1,5 +1,5 @@
 use Rattle.std.proofs.Common.{ap, sym, subst, refl, length, ◌∙◌, arith}
-use Rattle.s390x_buffer.specs.BlockEnd.{ended}
+use Rattle.s390x_buffer.specs.BlockEnd.{at_block_end}
 use Rattle.s390x_typed_steps.specs.Causes.{declared_in}
 use Rattle.s390x_typed_steps.specs.Ranges.{AllInRange}
 use Rattle.s390x_emit_int.specs.Emission.{fragments}
@@ -17,7 +17,7 @@ returns-in-None-clause-answer c =
     let s = c.args.sink.now in
     let n = length s.labels in
     let put = c.in_ok-emit_block_members.ensures.answer ∙ ap (λ l. apply_all s (fragments n 0 (block_members_of c.args.flags c.args.state.now l))) c.deref.ensures.value in
-    if_ok c.end_block.result _ _ _ c.end_block.ensures.answer (λ x m. m.1 ∙ ap (λ t. ended c.args.next t) put ∙ block_ended (tree_of c.args.flags c.args.state.now c.args.block.now) s n c.args.next c.requires.clear)
+    if_ok c.end_block.result _ _ _ c.end_block.ensures.answer (λ x m. m.1 ∙ ap (λ t. at_block_end c.args.next t) put ∙ block_ended (tree_of c.args.flags c.args.state.now c.args.block.now) s n c.args.next c.requires.clear)
 
 pub returns-in-None-clause-short : goal.returns-in-None-clause-short
 returns-in-None-clause-short c =

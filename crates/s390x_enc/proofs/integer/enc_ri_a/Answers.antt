@@ -8,5 +8,5 @@ pub returns : goal.returns
 returns c = (
   c.in_ok-n1.ensures.0,
   ri_a_is c.args.opcode (number_of c.args.r1) c.args.i2 c.four.result c.requires (moved c.in_ok-n1.ensures.1 c.in_ok-n1.ensures.2) c.ranges.i2.fits
-      (c.four.ensures ∙ rw (c.nibbles.ensures.value, c.upper.ensures, c.lower.ensures, c.in_ok-n1.ensures.1) refl),
+      (c.four.ensures ∙ rw (c.nibbles.ensures.value, c.high_byte.ensures, c.low_byte.ensures, c.in_ok-n1.ensures.1) refl),
 )

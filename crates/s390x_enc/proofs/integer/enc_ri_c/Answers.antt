@@ -10,4 +10,4 @@ pub returns : goal.returns
 returns c =
     let e : c.half16-half.result ≡ half_of w16 c.args.ri2 = omega (arith, ints) in
     ri_c_is c.args.opcode c.args.m1 (half_of w16 c.args.ri2) c.four.result c.requires.opcode c.requires.m1 (moved e c.half16-half.type_inv)
-    (c.four.ensures ∙ rw (c.nibbles.ensures.value, c.upper.ensures, c.lower.ensures, e) refl)
+    (c.four.ensures ∙ rw (c.nibbles.ensures.value, c.high_byte.ensures, c.low_byte.ensures, e) refl)

@@ -8,5 +8,5 @@ pub returns : goal.returns
 returns c = (
   c.in_ok-n1.ensures.0,
   rie_g_is c.args.opcode (number_of c.args.r1) c.args.i2 c.args.m3 c.six.result c.ranges.opcode.fits (moved c.in_ok-n1.ensures.1 c.in_ok-n1.ensures.2) c.ranges.i2.fits c.requires
-      (c.six.ensures ∙ rw (c.upper.ensures, c.nibbles.ensures.value, c.upper-2.ensures, c.lower.ensures, c.lower-2.ensures, c.in_ok-n1.ensures.1) refl),
+      (c.six.ensures ∙ rw (c.high_byte.ensures, c.nibbles.ensures.value, c.high_byte-2.ensures, c.low_byte.ensures, c.low_byte-2.ensures, c.in_ok-n1.ensures.1) refl),
 )

@@ -8,5 +8,5 @@ pub returns : goal.returns
 returns c = (
   both c.in_ok-n1.ensures.0 c.in_ok-n2.ensures.0,
   rr_is c.args.opcode (number_of c.args.r1) (number_of c.args.r2) c.two.result c.requires (moved c.in_ok-n1.ensures.1 c.in_ok-n1.ensures.2) (moved c.in_ok-n2.ensures.1 c.in_ok-n2.ensures.2)
-      (c.two.ensures ∙ rw (c.lower.ensures, c.nibbles.ensures.value, c.in_ok-n1.ensures.1, c.in_ok-n2.ensures.1) refl),
+      (c.two.ensures ∙ rw (c.low_byte.ensures, c.nibbles.ensures.value, c.in_ok-n1.ensures.1, c.in_ok-n2.ensures.1) refl),
 )

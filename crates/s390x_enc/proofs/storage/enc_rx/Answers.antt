@@ -8,5 +8,5 @@ pub returns : goal.returns
 returns c = (
   both (both c.in_ok-n1.ensures.0 c.in_ok-base.ensures.0) c.in_ok-index.ensures.0,
   rx_is c.args.opcode (number_of c.args.r1) (number_of c.args.b2) (number_of c.args.x2) c.args.d2 c.four.result c.requires.opcode (moved c.in_ok-n1.ensures.1 c.in_ok-n1.ensures.2) (moved c.in_ok-base.ensures.1 c.in_ok-base.ensures.2) (moved c.in_ok-index.ensures.1 c.in_ok-index.ensures.2) c.requires.d2
-      (c.four.ensures ∙ rw (c.lower.ensures, c.nibbles.ensures.value, c.nibbles-2.ensures.value, c.in_ok-n1.ensures.1, c.in_ok-base.ensures.1, c.in_ok-index.ensures.1) refl),
+      (c.four.ensures ∙ rw (c.low_byte.ensures, c.nibbles.ensures.value, c.nibbles-2.ensures.value, c.in_ok-n1.ensures.1, c.in_ok-base.ensures.1, c.in_ok-index.ensures.1) refl),
 )

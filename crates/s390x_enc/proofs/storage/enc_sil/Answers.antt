@@ -12,5 +12,5 @@ returns c =
     let e : c.cast_unsigned-bits.result ≡ cast_unsigned w16 c.args.i2 = omega (arith, ints) in (
       c.in_ok-base.ensures.0,
       sil_is c.args.opcode (number_of c.args.b1) c.args.d1 (cast_unsigned w16 c.args.i2) c.six.result c.ranges.opcode.fits (moved c.in_ok-base.ensures.1 c.in_ok-base.ensures.2) c.requires (moved e c.cast_unsigned-bits.type_inv)
-          (c.six.ensures ∙ rw (c.upper.ensures, c.lower.ensures, c.nibbles.ensures.value, c.upper-2.ensures, c.lower-2.ensures, e, c.in_ok-base.ensures.1) refl),
+          (c.six.ensures ∙ rw (c.high_byte.ensures, c.low_byte.ensures, c.nibbles.ensures.value, c.high_byte-2.ensures, c.low_byte-2.ensures, e, c.in_ok-base.ensures.1) refl),
     )

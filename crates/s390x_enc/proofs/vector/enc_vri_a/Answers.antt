@@ -8,5 +8,5 @@ pub returns : goal.returns
 returns c = (
   c.in_ok-n1.ensures.0,
   vri_a_is c.args.opcode (number_of c.args.v1) c.args.i2 c.args.m3 c.six.result c.ranges.opcode.fits (moved c.in_ok-n1.ensures.1 c.in_ok-n1.ensures.2) c.ranges.i2.fits c.requires
-      (c.six.ensures ∙ rw (c.upper.ensures, c.nibbles.ensures.value, c.upper-2.ensures, c.lower.ensures, c.nibbles-2.ensures.value, c.lower-2.ensures, c.high_bits-x.ensures.value, c.in_ok-n1.ensures.1) refl),
+      (c.six.ensures ∙ rw (c.high_byte.ensures, c.nibbles.ensures.value, c.high_byte-2.ensures, c.low_byte.ensures, c.nibbles-2.ensures.value, c.low_byte-2.ensures, c.high_bits-x.ensures.value, c.in_ok-n1.ensures.1) refl),
 )

@@ -8,5 +8,5 @@ pub returns : goal.returns
 returns c = (
   both (both c.in_ok-n1.ensures.0 c.in_ok-n2.ensures.0) c.in_ok-n3.ensures.0,
   vrr_c_is c.args.opcode (number_of c.args.v1) (number_of c.args.v2) (number_of c.args.v3) c.args.m4 c.args.m5 c.args.m6 c.six.result c.ranges.opcode.fits (moved c.in_ok-n1.ensures.1 c.in_ok-n1.ensures.2) (moved c.in_ok-n2.ensures.1 c.in_ok-n2.ensures.2) (moved c.in_ok-n3.ensures.1 c.in_ok-n3.ensures.2) c.requires.m4 c.requires.m5 c.requires.m6
-      (c.six.ensures ∙ rw (c.upper.ensures, c.nibbles.ensures.value, c.nibbles-2.ensures.value, c.nibbles-3.ensures.value, c.nibbles-4.ensures.value, c.lower.ensures, c.high_bits-x.ensures.value, c.in_ok-n1.ensures.1, c.in_ok-n2.ensures.1, c.in_ok-n3.ensures.1) refl),
+      (c.six.ensures ∙ rw (c.high_byte.ensures, c.nibbles.ensures.value, c.nibbles-2.ensures.value, c.nibbles-3.ensures.value, c.nibbles-4.ensures.value, c.low_byte.ensures, c.high_bits-x.ensures.value, c.in_ok-n1.ensures.1, c.in_ok-n2.ensures.1, c.in_ok-n3.ensures.1) refl),
 )

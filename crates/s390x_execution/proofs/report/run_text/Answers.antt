@@ -12,8 +12,8 @@ use Rattle.s390x_execution.proofs.report.run_text.Goals as goal
 pub start_memory-requires-clause-regions : goal.start_memory-requires-clause-regions
 start_memory-requires-clause-regions c = subst AllRegionsFit (sym c.deref.ensures.value) (job_fits c.args.job.now c.requires.job)
 
-pub reported-requires : goal.reported-requires
-reported-requires c =
+pub text_of_execution-requires : goal.text_of_execution-requires
+text_of_execution-requires c =
     let regions = c.deref.result.now in
     let fit = subst AllRegionsFit (sym c.deref.ensures.value) (job_fits c.args.job.now c.requires.job) in
     let started = start_held regions c.args.image.now.base c.args.image.now.bytes.items fit in

@@ -1,5 +1,5 @@
 use Rattle.std.proofs.Common.{◌≡◌, drop}
-use Rattle.s390x_image.specs.Fields.{filled}
+use Rattle.s390x_image.specs.Fields.{with_fields_filled}
 use Rattle.s390x_image.specs.Causes.{relocs_cause}
 use Rattle.s390x_image.proofs.fields.fill_all.Given as goal
 
@@ -7,5 +7,5 @@ use Rattle.s390x_image.proofs.fields.fill_all.Given as goal
 abbrev pub invariant-loop-reloc : goal.invariant-loop-reloc
 invariant-loop-reloc l = record {
   cause : relocs_cause l.base l.symbols (drop l.reloc-index l.relocs) ≡ relocs_cause l.base l.symbols l.relocs;
-  bytes : filled l.base l.symbols (drop l.reloc-index l.relocs) l.bytes ≡ filled l.base l.symbols l.relocs l.initial.bytes;
+  bytes : with_fields_filled l.base l.symbols (drop l.reloc-index l.relocs) l.bytes ≡ with_fields_filled l.base l.symbols l.relocs l.initial.bytes;
 }

@@ -1,6 +1,6 @@
 use Rattle.std.proofs.Common.{◌++◌, ◌∷◌, [], length, ap, ◌∙◌}
 use Rattle.s390x_job_lines.specs.Instructions.{inst_line}
-use Rattle.s390x_job.specs.Grammar.{next, Within}
+use Rattle.s390x_job.specs.Grammar.{next_place, Within}
 use Rattle.s390x_job.specs.Items.{block_line}
 use Rattle.s390x_job.specs.Jobs.{insts_lines, blocks_lines}
 use Rattle.s390x_job.specs.Builds.{open_lines, beginning_lines}
@@ -18,5 +18,5 @@ returns c =
       lines = ap (λ t. ss ++ (bs ++ (block_line ∷ (fs ++ insts_lines t)))) c.push_reserved.ensures.items
           ∙ ap (λ t. ss ++ (bs ++ (block_line ∷ (fs ++ t)))) (one_more b.here.items c.args.x c.requires.one)
           ∙ at_end ss bs fs (insts_lines b.here.items) (inst_line c.args.x ∷ []);
-      place = ap (next (Within (length b.loops.items))) c.requires.one;
+      place = ap (next_place (Within (length b.loops.items))) c.requires.one;
     }

@@ -1,6 +1,6 @@
 use Rattle.std.proofs.Common.{◌≡◌, ℕ, List, Bor, length, map, take, ap, ◌∙◌, subst, arith}
 use Rattle.std.proofs.lemmas.List.{length-map}
-use Rattle.s390x_job.specs.Completions.{joined}
+use Rattle.s390x_job.specs.Completions.{text_of_lines}
 use Rattle.s390x_job.proofs.Sizes.{pieces_few, pieces_short}
 use Rattle.s390x_job.proofs.completing.first_wrong.Goals as goal
 
@@ -22,7 +22,7 @@ first_wrong_of_lines-requires-clause-small g c =
 pub first_wrong_of_lines-requires-clause-short : goal.first_wrong_of_lines-requires-clause-short
 first_wrong_of_lines-requires-clause-short g c =
     let e = same c.deref.result.now _ _ c.deref.ensures.value c.in_ok-ws.ensures in
-    omega (arith, c.requires.short, ap (λ ws. length (joined ws)) e, pieces_short c.args.bytes.now)
+    omega (arith, c.requires.short, ap (λ ws. length (text_of_lines ws)) e, pieces_short c.args.bytes.now)
 
 pub overflow_cast-result : goal.overflow_cast-result
 overflow_cast-result g c =

@@ -1,7 +1,7 @@
 use Rattle.std.proofs.Common.{◌≡◌, ◌<◌, ℕ, List, Bor, length, map, take, sym, ◌∙◌, subst, refl, inl, inr, arith}
 use Rattle.std.proofs.lemmas.List.{take-map, length-map}
 use Rattle.std.proofs.lemmas.Bool.{cases_lt, false≢true}
-use Rattle.s390x_job.specs.Completions.{joined}
+use Rattle.s390x_job.specs.Completions.{text_of_lines}
 use Rattle.s390x_job.proofs.Sizes.{take_shorter}
 use Rattle.s390x_job.proofs.completing.first_wrong_of_lines.Goals as goal
 
@@ -18,7 +18,7 @@ counted s = length-map s (λ (w : Bor (List ℕ)). w.now)
 pub can_be_completed-requires : goal.can_be_completed-requires
 can_be_completed-requires g c =
     let s = c.args.ws.now in
-    subst (λ vs. length (joined vs) < g.T.Completes.limit) (first s c.loop-k.k) (omega (arith, take_shorter c.loop-k.k (texts s), c.requires.short))
+    subst (λ vs. length (text_of_lines vs) < g.T.Completes.limit) (first s c.loop-k.k) (omega (arith, take_shorter c.loop-k.k (texts s), c.requires.short))
 
 pub returns-then-branch : goal.returns-then-branch
 returns-then-branch g c =

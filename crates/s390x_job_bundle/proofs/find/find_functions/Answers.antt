@@ -2,7 +2,7 @@ use Rattle.std.proofs.Common.{◌≡◌, ℕ, ◌-◌, ◌<◌, ◌≤◌, true,
 use Rattle.std.proofs.lemmas.List.{length-drop, length-take-le}
 use Rattle.std.proofs.Math.Seq.{take-length}
 use Rattle.s390x_job_fields.specs.Marks.{upto}
-use Rattle.s390x_job.specs.Completions.{joined, pieces}
+use Rattle.s390x_job.specs.Completions.{text_of_lines, pieces}
 use Rattle.s390x_job.proofs.Above.{pieces_none}
 use Rattle.s390x_job.proofs.Places.{none_left, some_left}
 use Rattle.s390x_job.proofs.Whole.{nil}
@@ -74,7 +74,7 @@ read_job-requires c =
     let w = c.before-line.result.now in
     let behind = c.after-behind.result.now in
     let u = cut_line r w behind c.before-line.ensures c.after-behind.ensures (λ e. absurd (omega (arith, e))) in
-    let h = part_small c.args.bytes.now (joined (function_words c.loop-alloc.functions.items)) r w behind c.job_size-size.result c.loop-alloc.invariant.text u.1 c.job_size-size.ensures.bound in
+    let h = part_small c.args.bytes.now (text_of_lines (function_words c.loop-alloc.functions.items)) r w behind c.job_size-size.result c.loop-alloc.invariant.text u.1 c.job_size-size.ensures.bound in
     omega (arith, h, c.requires)
 
 pub lines_before-requires-in-Err : goal.lines_before-requires-in-Err

@@ -2,7 +2,7 @@ use Rattle.std.proofs.Common.{◌≡◌, ℕ, ◌+◌, ◌-◌, List, Bor, drop,
 use Rattle.std.proofs.lemmas.Bool.{false≢true}
 use Rattle.std.proofs.lemmas.List.{length-drop, length-map}
 use Rattle.std.proofs.Math.Seq.{take-length}
-use Rattle.s390x_job.specs.Completions.{joined, pieces}
+use Rattle.s390x_job.specs.Completions.{text_of_lines, pieces}
 use Rattle.s390x_job_plan.specs.Errors.{IsPlanOutcome, IsPlanStuckAt, IsStuckAt}
 use Rattle.s390x_job_plan.specs.declared.find.PlanOutcome.TheVariants.{Whole}
 use Rattle.s390x_job_plan.proofs.Stopping.{stuck_job, stuck_plan, stuck_rest, whole_plan}
@@ -38,7 +38,7 @@ returns-then-branch c =
     let words = words_behind c.deref.result.now c.in_ok-lines.lines.items size c.args.bytes.now c.deref.ensures.value c.in_ok-lines.ensures in
     let again = words_behind c.deref-in-Whole.result.now c.in_ok-lines.lines.items size c.args.bytes.now c.deref-in-Whole.ensures.value c.in_ok-lines.ensures in
     let found = subst (λ ws. IsPlanOutcome ws (Whole c.in-Whole.plan)) words (rw c.in-Whole.is at c.in_ok-n.ensures) in
-    let all = sym (ap joined again) ∙ c.in_ok-is_all-in-Whole.ensures.0 c.if-branch.true ∙ all_behind size c.args.bytes.now in
+    let all = sym (ap text_of_lines again) ∙ c.in_ok-is_all-in-Whole.ensures.0 c.if-branch.true ∙ all_behind size c.args.bytes.now in
     whole_plan c.args.bytes.now size c.in-Ok.job job.0 job.1 c.in-Whole.plan found all
 
 pub returns-else-branch : goal.returns-else-branch
@@ -46,7 +46,7 @@ returns-else-branch c =
     let job = rw c.in-Ok.is at c.in_ok-job.ensures in
     let size = c.job_size-size.result in
     let again = words_behind c.deref-in-Whole.result.now c.in_ok-lines.lines.items size c.args.bytes.now c.deref-in-Whole.ensures.value c.in_ok-lines.ensures in
-    let more = λ (h : joined (pieces (drop size c.args.bytes.now)) ≡ drop size c.args.bytes.now). false≢true (sym c.if-branch.false ∙ c.in_ok-is_all-in-Whole.ensures.1 (ap joined again ∙ h ∙ sym (all_behind size c.args.bytes.now))) in
+    let more = λ (h : text_of_lines (pieces (drop size c.args.bytes.now)) ≡ drop size c.args.bytes.now). false≢true (sym c.if-branch.false ∙ c.in_ok-is_all-in-Whole.ensures.1 (ap text_of_lines again ∙ h ∙ sym (all_behind size c.args.bytes.now))) in
     let count : length (pieces (drop size c.args.bytes.now)) ≡ c.len.result =
     omega (arith, ap length again, length-map c.deref-in-Whole.result.now (λ (w : Bor (List ℕ)). w.now), ap length c.deref-in-Whole.ensures.value, c.len.ensures, c.in_ok-lines.lines.ok.0) in
     let before = c.count_lines-before.ensures.count in

@@ -12,4 +12,4 @@ returns-in-TrailingZeros-clause-fits c = omega (arith, trailing_le c.args.w c.ar
 
 pub returns-in-Abs-clause-value : goal.returns-in-Abs-clause-value
 returns-in-Abs-clause-value c =
-    let h : 0 < c.args.w = omega arith in rw c.in-Abs.is (c.absolute.ensures.value ∙ magnitude_is c.args.w c.args.x h c.requires.fits)
+    let h : 0 < c.args.w = omega arith in rw c.in-Abs.is (c.absolute_value.ensures.value ∙ magnitude_is c.args.w c.args.x h c.requires.fits)

@@ -1,7 +1,7 @@
 use Rattle.std.proofs.Common.{◌≡◌, ℕ, ◌^◌, ◌<◌, true, false, refl, sym, ap, ap₂, ◌∙◌, subst, arith}
 use Rattle.std.specs.Prelude.{slice_index}
 use Rattle.s390x_operations.specs.State.{number_at, reaches, set_vector, wrapping_add64}
-use Rattle.s390x_operations.specs.Vectors.{layout_bytes, loaded}
+use Rattle.s390x_operations.specs.Vectors.{layout_bytes, register_after_load}
 use Rattle.s390x_operations.specs.declared.effect.VectorLayout.{VectorLayout}
 use Rattle.s390x_operations.specs.declared.stop.StopKind.TheVariants.{Access}
 use Rattle.s390x_machine.specs.Semantics.{all_bits, indexed_address, vector_field, vector_layout_of}
@@ -40,10 +40,10 @@ returns g c =
     let address = indexed_address d.fields s.core.registers in
     let count : c.layout_bytes.result ≡ layout_bytes layout = c.layout_bytes.ensures.value ∙ ap (λ (l : VectorLayout). layout_bytes l) c.layout_of-layout.ensures in
     let reached : reaches held address (layout_bytes layout) ≡ true = sym (sym c.if-not-has_all.false ∙ c.has_all.ensures ∙ ap₂ (λ (a n : ℕ). reaches held a n) c.indexed_address-address.ensures count) in
-    let value : c.vector_in-value.result ≡ loaded layout old (number_at byte address (layout_bytes layout)) =
+    let value : c.vector_in-value.result ≡ register_after_load layout old (number_at byte address (layout_bytes layout)) =
     c.vector_in-value.ensures
-    ∙ ap (λ (l : VectorLayout). loaded l c.vector-old.result (number_at byte c.indexed_address-address.result (layout_bytes l))) c.layout_of-layout.ensures
-    ∙ ap₂ (λ (o a : ℕ). loaded layout o (number_at byte a (layout_bytes layout))) c.vector-old.ensures c.indexed_address-address.ensures in
+    ∙ ap (λ (l : VectorLayout). register_after_load l c.vector-old.result (number_at byte c.indexed_address-address.result (layout_bytes l))) c.layout_of-layout.ensures
+    ∙ ap₂ (λ (o a : ℕ). register_after_load layout o (number_at byte a (layout_bytes layout))) c.vector-old.ensures c.indexed_address-address.ensures in
     let in_range : c.vector_in-value.result < 2 ^ 128 = omega arith in
     let small = subst (λ (x : ℕ). x < 2 ^ 128) value in_range in
     let after = c.put_vector.ensures.registers ∙ ap (λ (x : ℕ). set_vector s.core.registers target x) value in

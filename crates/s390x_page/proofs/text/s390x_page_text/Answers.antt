@@ -7,7 +7,7 @@ pub returns-in-Some-clause-found : goal.returns-in-Some-clause-found
 returns-in-Some-clause-found c = λ _. record {
   located = c.in-Some.located;
   is = c.in-Some.ensures.sound;
-  text = subst (λ t. Holds c.copied.result t) (c.located_text-text.ensures.whole c.args.bytes.now c.in-Some.ensures.sound) c.copied.ensures;
+  text = subst (λ t. Holds c.copy_of_text.result t) (c.located_text-text.ensures.whole c.args.bytes.now c.in-Some.ensures.sound) c.copy_of_text.ensures;
 }
 
 pub returns-in-None-clause-none : goal.returns-in-None-clause-none

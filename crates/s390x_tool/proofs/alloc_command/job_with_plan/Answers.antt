@@ -1,7 +1,7 @@
 use Rattle.std.proofs.Common.{subst}
 use Rattle.s390x_alloc.specs.Answered.{IsAnswered}
 use Rattle.s390x_alloc.specs.Blocks.{IsFault}
-use Rattle.s390x_alloc.specs.Checked.{checked}
+use Rattle.s390x_alloc.specs.Checked.{plan_contents}
 use Rattle.s390x_tool.proofs.Allocating.{answer_of_fault, answer_of_plan}
 use Rattle.s390x_tool.proofs.alloc_command.job_with_plan.Goals as goal
 
@@ -14,5 +14,5 @@ returns-in-Ok c =
 pub returns : goal.returns
 returns c =
     let p = c.args.planned in
-    let cause = subst (λ layout. IsFault (checked layout p.job.function.blocks.items p.plan.blocks.items) c.in-Err.fault) c.frame_layout.ensures c.in-Err.ensures.answer in
+    let cause = subst (λ layout. IsFault (plan_contents layout p.job.function.blocks.items p.plan.blocks.items) c.in-Err.fault) c.frame_layout.ensures c.in-Err.ensures.answer in
     answer_of_fault c.args.input.now _ _ p c.in-Err.fault c.requires cause c.plan_refused.ensures

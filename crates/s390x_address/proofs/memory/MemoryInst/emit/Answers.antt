@@ -3,9 +3,9 @@ use Rattle.std.proofs.lemmas.Bool.{and_parts}
 use Rattle.s390x_buffer.specs.State.{put_cause}
 use Rattle.s390x_typed_steps.specs.Causes.{declared_in, operand_cause}
 use Rattle.s390x_typed_steps.specs.Memory.{type_of, fault_code}
-use Rattle.s390x_typed_steps.specs.Operands.{finalized}
+use Rattle.s390x_typed_steps.specs.Operands.{finalized_operand}
 use Rattle.s390x_typed_steps.specs.Parts.{finalized_parts, parts_size}
-use Rattle.s390x_address.specs.Appended.{appended}
+use Rattle.s390x_address.specs.Appended.{with_parts}
 use Rattle.s390x_address.specs.Lowerings.{finalized_of}
 use Rattle.s390x_address.specs.Rows.{relative_encodes, rows_encode, memory_instruction_of, in_state}
 use Rattle.s390x_address.proofs.Planning.{resolved_flags, on_ok}
@@ -18,9 +18,9 @@ returns-in-Ok-clause-answer c =
     let x = in_state c.args.state.now (memory_instruction_of c.args.self.now) in
     let p = c.in-Ok.lowering in
     let forms : c.forms.result ≡ type_of x.form x.accesses = c.forms.ensures in
-    let same : finalized_of p ≡ finalized (type_of x.form x.accesses) x.operand = c.in-Ok.ensures.1 ∙ ap (λ mi. finalized mi x.operand) forms in
+    let same : finalized_of p ≡ finalized_operand (type_of x.form x.accesses) x.operand = c.in-Ok.ensures.1 ∙ ap (λ mi. finalized_operand mi x.operand) forms in
     let code : c.fault_code.result ≡ fault_code x = c.fault_code.ensures ∙ ap (λ f. cond x.accesses f.trap None) (sym (resolved_flags c.args.state.now c.args.self.now.operand)) in
-    on_ok c.put_lowering.result c.put_lowering.ensures.answer (λ h. h ∙ ap (λ k. appended s (finalized_parts x.form k (finalized_of p))) code ∙ ap (λ f. appended s (finalized_parts x.form (fault_code x) f)) same)
+    on_ok c.put_lowering.result c.put_lowering.ensures.answer (λ h. h ∙ ap (λ k. with_parts s (finalized_parts x.form k (finalized_of p))) code ∙ ap (λ f. with_parts s (finalized_parts x.form (fault_code x) f)) same)
 
 follows : (s t : Bool) → (not s || t) ≡ true → s ≡ true → t ≡ true
 follows true t h e = h
@@ -33,7 +33,7 @@ returns-in-Ok-clause-only_memory c = λ put none.
     let p = c.in-Ok.lowering in
     let mi = type_of x.form x.accesses in
     let forms : c.forms.result ≡ mi = c.forms.ensures in
-    let same : finalized_of p ≡ finalized mi x.operand = c.in-Ok.ensures.1 ∙ ap (λ m. finalized m x.operand) forms in
+    let same : finalized_of p ≡ finalized_operand mi x.operand = c.in-Ok.ensures.1 ∙ ap (λ m. finalized_operand m x.operand) forms in
     let code : c.fault_code.result ≡ fault_code x = c.fault_code.ensures ∙ ap (λ f. cond x.accesses f.trap None) (sym (resolved_flags c.args.state.now c.args.self.now.operand)) in
     let D = declared_in s in
     let free = passes D x none in

@@ -3,9 +3,9 @@ use Rattle.std.proofs.lemmas.Bool.{and_parts}
 use Rattle.s390x_buffer.specs.State.{put_cause}
 use Rattle.s390x_typed_steps.specs.Causes.{declared_in, operand_cause}
 use Rattle.s390x_typed_steps.specs.Memory.{type_of, fault_code}
-use Rattle.s390x_typed_steps.specs.Operands.{finalized}
+use Rattle.s390x_typed_steps.specs.Operands.{finalized_operand}
 use Rattle.s390x_typed_steps.specs.Parts.{finalized_parts, parts_size}
-use Rattle.s390x_address.specs.Appended.{appended}
+use Rattle.s390x_address.specs.Appended.{with_parts}
 use Rattle.s390x_address.specs.Lowerings.{finalized_of}
 use Rattle.s390x_address.specs.Rows.{relative_encodes, rows_encode, memory_instruction_of, in_state}
 use Rattle.s390x_address.proofs.Planning.{resolved_flags, on_ok}
@@ -25,11 +25,11 @@ returns-in-Ok-clause-answer c =
     let p = c.in-Ok.lowering in
     let forms : c.forms.result ≡ type_of x.form x.accesses = c.forms.ensures in
     let none : operand_cause (type_of x.form x.accesses) y.operand ≡ None = ap (λ mi. operand_cause mi y.operand) (sym forms) ∙ c.in-Ok.ensures.0 in
-    let same : finalized_of p ≡ finalized (type_of x.form x.accesses) y.operand = c.in-Ok.ensures.1 ∙ ap (λ mi. finalized mi y.operand) forms in
+    let same : finalized_of p ≡ finalized_operand (type_of x.form x.accesses) y.operand = c.in-Ok.ensures.1 ∙ ap (λ mi. finalized_operand mi y.operand) forms in
     let code : fault_code x ≡ fault_code y = ap (λ f. cond x.accesses f.trap None) (sym (resolved_flags c.args.state.now c.args.self.now.operand)) in
     on_ok c.emit_lowering.result c.emit_lowering.ensures.answer (λ h. (
       lowered_none (declared_in s) c.args.state.now x (finalized_of p) c.requires.valid none same h.0,
-      h.1 ∙ ap (λ k. appended s (finalized_parts x.form k (finalized_of p))) code ∙ ap (λ f. appended s (finalized_parts x.form (fault_code y) f)) same,
+      h.1 ∙ ap (λ k. with_parts s (finalized_parts x.form k (finalized_of p))) code ∙ ap (λ f. with_parts s (finalized_parts x.form (fault_code y) f)) same,
     ))
 
 pub returns-in-Ok-clause-only_memory : goal.returns-in-Ok-clause-only_memory
@@ -42,7 +42,7 @@ returns-in-Ok-clause-only_memory c = λ put none.
     let mi = type_of x.form x.accesses in
     let forms : c.forms.result ≡ mi = c.forms.ensures in
     let free = passes D y none in
-    let same : finalized_of p ≡ finalized mi y.operand = c.in-Ok.ensures.1 ∙ ap (λ m. finalized m y.operand) forms in
+    let same : finalized_of p ≡ finalized_operand mi y.operand = c.in-Ok.ensures.1 ∙ ap (λ m. finalized_operand m y.operand) forms in
     let code : fault_code x ≡ fault_code y = ap (λ f. cond x.accesses f.trap None) (sym (resolved_flags c.args.state.now c.args.self.now.operand)) in
     let encoded = (and_parts (relative_encodes c.args.self.now.rows) (not x.operands_valid || rows_encode c.args.self.now.rows) c.requires.encodes).1 in
     let size = ap (λ k. put_cause s (parts_size (finalized_parts x.form k (finalized_of p)))) code ∙ ap (λ f. put_cause s (parts_size (finalized_parts x.form (fault_code y) f))) same ∙ put in

@@ -1,7 +1,7 @@
 use Rattle.std.proofs.Common.{◌≡◌, ◌+◌, None, Some, sym, ap, ◌∙◌, arith}
 use Rattle.s390x_typed_steps.specs.Causes.{operand_cause}
 use Rattle.s390x_typed_steps.specs.Memory.{type_of, fault_code}
-use Rattle.s390x_typed_steps.specs.Operands.{finalized}
+use Rattle.s390x_typed_steps.specs.Operands.{finalized_operand}
 use Rattle.s390x_typed_steps.specs.Parts.{finalized_parts, parts_size}
 use Rattle.s390x_address.specs.Lowerings.{finalized_of}
 use Rattle.s390x_address.specs.Rows.{memory_instruction_of, in_state}
@@ -14,7 +14,7 @@ returns-in-Ok-clause-value c = λ D none.
     let x = in_state c.args.state.now (memory_instruction_of c.args.self.now) in
     let p = c.in-Ok.lowering in
     let forms : c.forms.result ≡ type_of x.form x.accesses = c.forms.ensures in
-    let same : finalized_of p ≡ finalized (type_of x.form x.accesses) x.operand = c.in-Ok.ensures.1 ∙ ap (λ mi. finalized mi x.operand) forms in
+    let same : finalized_of p ≡ finalized_operand (type_of x.form x.accesses) x.operand = c.in-Ok.ensures.1 ∙ ap (λ mi. finalized_operand mi x.operand) forms in
     let whole = lowering_size x.form (fault_code x) p in
     let sum : c.far_size.result + c.address_size.result + c.operand_size.result ≡ parts_size (finalized_parts x.form (fault_code x) (finalized_of p)) = omega (arith, whole, c.far_size.ensures.value, c.address_size.ensures.value, c.operand_size.ensures.value (fault_code x)) in
     sum ∙ ap (λ f. parts_size (finalized_parts x.form (fault_code x) f)) same

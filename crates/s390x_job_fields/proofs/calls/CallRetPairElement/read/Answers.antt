@@ -14,4 +14,4 @@ both v w l m e f = ap (λ x. made x l) e ∙ ap (λ y. made w y) f
 
 pub returns : goal.returns
 unfolding made
-returns c = both _ _ _ _ (c.written.ensures ∙ ap reg_of c.word.ensures) (c.location.ensures ∙ ap location_of c.after_word.ensures)
+returns c = both _ _ _ _ (c.written_reg.ensures ∙ ap reg_of c.word.ensures) (c.location.ensures ∙ ap location_of c.after_word.ensures)

@@ -2,7 +2,7 @@ use Rattle.s390x_job.specs.Jobs.{lines_text}
 use Rattle.s390x_machine.specs.State.{state_of}
 use Rattle.s390x_execution.specs.Text.{content_lines, execution_end_line, status_lines, went_line}
 use Rattle.s390x_execution.proofs.Reporting.{four_parts}
-use Rattle.s390x_execution.proofs.report.reported.Goals as goal
+use Rattle.s390x_execution.proofs.report.text_of_execution.Goals as goal
 
 pub returns : goal.returns
 returns g c =

@@ -1,7 +1,7 @@
 use Rattle.std.proofs.Common.{◌≡◌, ◌*◌, ◌^◌, ◌<◌}
 use Rattle.s390x_lanes.specs.Lanes.{from_lanes}
 use Rattle.s390x_operations.specs.Layouts.{loaded_lane}
-use Rattle.s390x_operations.proofs.vectors.loaded.Given as goal
+use Rattle.s390x_operations.proofs.vectors.register_after_load.Given as goal
 
 abbrev pub invariant-loop-i : goal.invariant-loop-i
 invariant-loop-i l = record {

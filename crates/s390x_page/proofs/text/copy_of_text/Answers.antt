@@ -1,7 +1,7 @@
 use Rattle.std.proofs.Common.{sym, subst, arith}
 use Rattle.s390x_page.specs.Texts.{Holds}
 use Rattle.s390x_disassembler.proofs.Fitting.{fits}
-use Rattle.s390x_page.proofs.text.copied.Goals as goal
+use Rattle.s390x_page.proofs.text.copy_of_text.Goals as goal
 
 -- a text has room in itself
 pub returns : goal.returns

@@ -1,5 +1,5 @@
 use Rattle.s390x_job_exact.proofs.Lines.{whole_access}
-use Rattle.s390x_job_exact.proofs.memory.whole.Goals as goal
+use Rattle.s390x_job_exact.proofs.memory.whole_register.Goals as goal
 
 pub returns : goal.returns
 returns c =

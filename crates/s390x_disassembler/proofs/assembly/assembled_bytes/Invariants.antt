@@ -1,6 +1,6 @@
 use Rattle.std.proofs.Common.{length}
 use Rattle.s390x_disassembler.proofs.SoFar.{IsSoFar}
-use Rattle.s390x_disassembler.proofs.assembly.assembled.Given as goal
+use Rattle.s390x_disassembler.proofs.assembly.assembled_bytes.Given as goal
 
 -- the lines so far
 abbrev pub invariant-loop-rest : goal.invariant-loop-rest

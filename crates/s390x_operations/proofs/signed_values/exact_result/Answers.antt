@@ -2,7 +2,7 @@ use Rattle.std.proofs.Common.{◌^◌, pos, neg_ℤ, ◌≤ℤ◌, ◌<ℤ◌, �
 use Rattle.std.specs.Prelude.{unsigned_abs}
 use Rattle.std.specs.Int.{w128}
 use Rattle.std.proofs.lemmas.Int.{ints, to_z-of_z, fits_signed_mul}
-use Rattle.s390x_operations.proofs.signed_values.exact.Goals as goal
+use Rattle.s390x_operations.proofs.signed_values.exact_result.Goals as goal
 
 abs_bound : (z : ℤ) → neg_ℤ (pos (2 ^ 63)) ≤ℤ z → z <ℤ pos (2 ^ 63) → unsigned_abs z ≤ 2 ^ 63
 abs_bound z l m = grind (arith, ints)

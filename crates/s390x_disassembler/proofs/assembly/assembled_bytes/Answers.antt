@@ -3,7 +3,7 @@ use Rattle.hex.specs.Hex.{IsBytes}
 use Rattle.s390x_disassembler.specs.Disassembly.{address_of}
 use Rattle.s390x_disassembler.specs.Assembly.{IsFirstLine, IsWrongSource, ends_well}
 use Rattle.s390x_disassembler.proofs.SoFar.{IsSoFar, nothing_read, line_read, only_read, none_read, wrong_read, none_behind, wrong_behind, none_of, some_of, sound_of, part_of, open_part}
-use Rattle.s390x_disassembler.proofs.assembly.assembled.Goals as goal
+use Rattle.s390x_disassembler.proofs.assembly.assembled_bytes.Goals as goal
 
 pub loop-rest-init : goal.loop-rest-init
 loop-rest-init c = subst (λ t. IsSoFar c.args.base c.args.text.now t c.args.text.now 0) (sym c.new-code.ensures.items) (nothing_read c.args.base c.args.text.now)

@@ -3,7 +3,7 @@ use Rattle.s390x_calls.proofs.Ending.{on_text}
 use Rattle.s390x_calls.specs.Put.{NoEntryIsWritten}
 use Rattle.s390x_job_bundle.specs.Text.{AreFunctionsOf}
 use Rattle.s390x_c.specs.Bundle.{BundlesFunctionsTo, IsBundleSyntax}
-use Rattle.s390x_c.proofs.bundle.bundled.Goals as goal
+use Rattle.s390x_c.proofs.bundle.bundle_status.Goals as goal
 
 pub returns-in-Ok : goal.returns-in-Ok
 returns-in-Ok c =

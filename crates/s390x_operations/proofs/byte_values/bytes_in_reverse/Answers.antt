@@ -1,7 +1,7 @@
 use Rattle.std.proofs.Common.{arith, ◌∙◌, sym}
 use Rattle.s390x_operations.proofs.Numbers.{room}
 use Rattle.s390x_operations.proofs.Runs.{reversed_more}
-use Rattle.s390x_operations.proofs.byte_values.reversed.Goals as goal
+use Rattle.s390x_operations.proofs.byte_values.bytes_in_reverse.Goals as goal
 
 pub overflow_mul-done : goal.overflow_mul-done
 overflow_mul-done c = omega (arith, room c.loop-i.i c.loop-i.done (omega arith) c.loop-i.invariant.small)

@@ -3,7 +3,7 @@ use Rattle.s390x_job.specs.Items.{block_line, end_line}
 use Rattle.s390x_job.specs.Jobs.{blocks_lines}
 use Rattle.s390x_job.specs.Builds.{beginning_lines}
 use Rattle.s390x_job.proofs.Builds.{shut_lines, none_open, to_block, to_end}
-use Rattle.s390x_job.proofs.build.shut.Goals as goal
+use Rattle.s390x_job.proofs.build.close_block.Goals as goal
 
 pub returns-clause-more : goal.returns-clause-more
 returns-clause-more c =

@@ -4,14 +4,14 @@ use Rattle.s390x_lanes.specs.Size.{element_bits, lane_count}
 use Rattle.s390x_lanes.specs.Lanes.{from_lanes}
 use Rattle.s390x_lanes.specs.declared.size.ElementSize.{ElementSize}
 use Rattle.s390x_operations.specs.Layouts.{layout_size, loaded_lane}
-use Rattle.s390x_operations.specs.Vectors.{loaded}
+use Rattle.s390x_operations.specs.Vectors.{register_after_load}
 use Rattle.s390x_operations.specs.declared.effect.VectorLayout.{VectorLayout}
 use Rattle.s390x_operations.proofs.Layouts.{loaded_is}
 use Rattle.s390x_lanes.proofs.Building.{whole, more_lt, room, build_more, build_none}
-use Rattle.s390x_operations.proofs.vectors.loaded.Goals as goal
+use Rattle.s390x_operations.proofs.vectors.register_after_load.Goals as goal
 
 pub returns-in-Whole : goal.returns-in-Whole
-returns-in-Whole c = sym (ap (λ (l : VectorLayout). loaded l c.args.old c.args.x) c.in-Whole.is)
+returns-in-Whole c = sym (ap (λ (l : VectorLayout). register_after_load l c.args.old c.args.x) c.in-Whole.is)
 
 pub loop-i-init : goal.loop-i-init
 loop-i-init c = record { built = sym (build_none c.bits-w.result _); small = pow_pos (c.bits-w.result * 0) }
