@@ -1,5 +1,5 @@
 //! The lines of a text, and what completes them: shared by the readers of texts that hold jobs.
-ghost use Rattle.std.specs.Prelude.{◌≡◌, ℕ, ◌<◌, ◌≤◌, ◌++◌, List, IfOk, OnOk, Decides, length, map, take, codes};
+ghost use Rattle.std.specs.Prelude.{◌≡◌, ℕ, ◌<◌, ◌≤◌, ◌++◌, List, IfOk, OnOk, IsTrue, ◌↔◌, length, map, take, codes};
 ghost use Rattle.std.specs.Str.{bytes_eq};
 ghost use Rattle.s390x_job.specs.Completions.{IsFirstWrongLine, IsStuck, pieces, text_of_lines, opens, closes, closing};
 
@@ -115,13 +115,13 @@ pub trait Completes {
     fn is_whole(alloc: Global, bytes: &[u8]) -> Result<bool, AllocError>
         requires { (vs : List (List ℕ)) × (length (text_of_lines vs) < limit)
             × (bytes.now ≡ completed vs) }
-        ensures { IfOk result (λ b. Decides b (IsWhole bytes.now)) };
+        ensures { IfOk result (λ b. IsTrue b ↔ IsWhole bytes.now) };
 }
 
 /// Whether the lines can be completed to a text.
 fn can_be_completed<T: Completes>(alloc: Global, ws: &[&[u8]]) -> Result<bool, AllocError>
     requires { length (text_of_lines (map (λ w. w.now) ws.now)) < T.limit }
-    ensures { IfOk result (λ b. Decides b (T.IsWhole (T.completed (map (λ w. w.now) ws.now)))) }
+    ensures { IfOk result (λ b. IsTrue b ↔ T.IsWhole (T.completed (map (λ w. w.now) ws.now))) }
 {
     let text = T::complete(alloc, ws)?;
     let is_whole = T::is_whole(alloc, &text)?;
