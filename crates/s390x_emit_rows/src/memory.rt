@@ -362,7 +362,7 @@ pub fn memory_rows(inst: &Inst) -> Option<MemoryInst>
     }
 }
 
-// The same without asking for vectors first.
+// The rows of any instruction, in one match.
 #[rattlefmt::skip]
 fn find_rows(inst: &Inst) -> Option<MemoryInst>
     ensures row { option_map memory_instruction_of result ≡ memory inst.now }

@@ -100,7 +100,7 @@ pub fn encode_vector(inst: &VecInst) -> Option<Result<Code, EmitError>>
     }
 }
 
-// The same without asking for the frequent operators first.
+// The code of any of these instructions, in one match.
 fn encode_any(inst: &VecInst) -> Option<Result<Code, EmitError>>
     ensures { result
         ≡ single_code (single_with (vector_operands_valid inst.now) (vector_row inst.now)) }

@@ -113,10 +113,10 @@ near_long mi base off flags unlike h =
 abbrev alone : MemArg → Finalized
 alone m = record { helpers = []; operand = m }
 
-kept_near : (mi : MemInstType) (m : MemArg) (needs : Bool) → needs ≡ false → mi.have_pcrel ≡ true
+stays_near : (mi : MemInstType) (m : MemArg) (needs : Bool) → needs ≡ false → mi.have_pcrel ≡ true
     → operand_cause mi m ≡ first_emit_cause (unless (mi.have_d12 || mi.have_d20 || not needs) BadOperator) None
     → finalized_operand mi m ≡ with_widened mi (cond needs (behind (alone m)) (alone m)) → with_widened mi (alone m) ≡ alone m → IsNear mi m m
-kept_near mi m needs none has cause shape same = (
+stays_near mi m needs none has cause shape same = (
   ap (λ t. mi.have_d12 || mi.have_d20 || t) has ∙ or_true (mi.have_d12 || mi.have_d20),
   cause ∙ ap (λ t. first_emit_cause (unless (mi.have_d12 || mi.have_d20 || not t) BadOperator) None) none
       ∙ ap (λ t. first_emit_cause (unless t BadOperator) None) (or_true (mi.have_d12 || mi.have_d20)),
@@ -146,12 +146,12 @@ near_in : (mi : MemInstType) (e : Emission) (m operand : MemArg) → Some operan
 near_in mi e (RegOffset reg off flags) operand h =
     chosen (λ o. IsNear mi (RegOffset reg off flags) o) (mi.have_d12 && fits_12 off) (mi.have_d20 && fits_20 off) (BXD12 reg no_register (unsigned_abs off) flags) (BXD20 reg no_register off flags) operand h (near_short mi reg off flags) (near_long mi reg off flags)
 near_in mi e (Label target) operand h =
-    unless_needed (λ o. IsNear mi (Label target) o) _ (Label target) operand h (λ none. kept_near mi (Label target) (not mi.have_pcrel) none (not_false _ none) refl refl refl)
+    unless_needed (λ o. IsNear mi (Label target) o) _ (Label target) operand h (λ none. stays_near mi (Label target) (not mi.have_pcrel) none (not_false _ none) refl refl refl)
 near_in mi e (Constant c) operand h =
-    unless_needed (λ o. IsNear mi (Constant c) o) _ (Constant c) operand h (λ none. kept_near mi (Constant c) (not mi.have_pcrel) none (not_false _ none) refl refl refl)
+    unless_needed (λ o. IsNear mi (Constant c) o) _ (Constant c) operand h (λ none. stays_near mi (Constant c) (not mi.have_pcrel) none (not_false _ none) refl refl refl)
 near_in mi e (Symbol name offset flags) operand h =
     unless_needed (λ o. IsNear mi (Symbol name offset flags) o) (needs_address mi (Symbol name offset flags)) (Symbol name offset flags) operand h
-    (λ none. kept_near mi (Symbol name offset flags) (needs_address mi (Symbol name offset flags)) none (not_false _ (neither _ _ none)) refl refl refl)
+    (λ none. stays_near mi (Symbol name offset flags) (needs_address mi (Symbol name offset flags)) none (not_false _ (neither _ _ none)) refl refl refl)
 near_in mi e m operand h = absurd (cc)
 
 there : (a b c : Bool) → (a || (b && c)) ≡ true → (a || b) ≡ true

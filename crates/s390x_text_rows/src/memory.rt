@@ -20,19 +20,19 @@ use std::alloc::Global;
 pub fn put_load(
     alloc: Global,
     out: &mut String,
-    has: bool,
+    has_relative: bool,
     state: &EmitState,
     inst: &Inst,
 ) -> Option<Result<(), TextError>>
     ensures { PrintsWhere result (string_bytes out.old) (string_bytes out.new)
-        (load_text has state.now inst.now) }
+        (load_text has_relative state.now inst.now) }
 {
     match inst.as_load() {
         Some(load) => Some(rx_access(
             out,
             Place {
                 alloc,
-                has,
+                has_relative,
                 state,
                 mem: &load.mem,
             },
@@ -48,18 +48,18 @@ pub fn put_load(
 fn put_immediate_store(
     alloc: Global,
     out: &mut String,
-    has: bool,
+    has_relative: bool,
     state: &EmitState,
     inst: &Inst,
 ) -> Option<Result<(), TextError>>
     ensures { PrintsWhere result (string_bytes out.old) (string_bytes out.new)
-        (immediate_store_text has state.now inst.now) }
+        (immediate_store_text has_relative state.now inst.now) }
 {
     match inst {
-        Inst::StoreImm8 { imm, mem } => Some(rs_access_then(out, Place { alloc, has, state, mem }, Some(opcodes::MVI), Some(opcodes::MVIY), imm)),
-        Inst::StoreImm16 { imm, mem } => Some(rs_access_then(out, Place { alloc, has, state, mem }, Some(opcodes::MVHHI), None, imm)),
-        Inst::StoreImm32SExt16 { imm, mem } => Some(rs_access_then(out, Place { alloc, has, state, mem }, Some(opcodes::MVHI), None, imm)),
-        Inst::StoreImm64SExt16 { imm, mem } => Some(rs_access_then(out, Place { alloc, has, state, mem }, Some(opcodes::MVGHI), None, imm)),
+        Inst::StoreImm8 { imm, mem } => Some(rs_access_then(out, Place { alloc, has_relative, state, mem }, Some(opcodes::MVI), Some(opcodes::MVIY), imm)),
+        Inst::StoreImm16 { imm, mem } => Some(rs_access_then(out, Place { alloc, has_relative, state, mem }, Some(opcodes::MVHHI), None, imm)),
+        Inst::StoreImm32SExt16 { imm, mem } => Some(rs_access_then(out, Place { alloc, has_relative, state, mem }, Some(opcodes::MVHI), None, imm)),
+        Inst::StoreImm64SExt16 { imm, mem } => Some(rs_access_then(out, Place { alloc, has_relative, state, mem }, Some(opcodes::MVGHI), None, imm)),
         _ => None,
     }
 }
@@ -68,26 +68,26 @@ fn put_immediate_store(
 pub fn put_store(
     alloc: Global,
     out: &mut String,
-    has: bool,
+    has_relative: bool,
     state: &EmitState,
     inst: &Inst,
 ) -> Option<Result<(), TextError>>
     ensures { PrintsWhere result (string_bytes out.old) (string_bytes out.new)
-        (store_text has state.now inst.now) }
+        (store_text has_relative state.now inst.now) }
 {
     match inst.as_store() {
         Some(store) => Some(rx_access(
             out,
             Place {
                 alloc,
-                has,
+                has_relative,
                 state,
                 mem: &store.mem,
             },
             rows_of_store(store.op),
             &store.rd,
         )),
-        None => put_immediate_store(alloc, out, has, state, inst),
+        None => put_immediate_store(alloc, out, has_relative, state, inst),
     }
 }
 
@@ -95,33 +95,33 @@ pub fn put_store(
 #[tactic(auto, unfolding(crate::specs::Mnemonics::alu_short_name, crate::specs::Mnemonics::alu_long_name))]
 fn put_operator(out: &mut String, place: Place, op: ALUOp, a: &Reused) -> Result<(), TextError>
     ensures { Prints result (string_bytes out.old) (string_bytes out.new)
-        (access_where place.entry.has (rx (alu_short_name op) (alu_long_name op) None)
+        (access_where place.entry.has_relative (rx (alu_short_name op) (alu_long_name op) None)
         place.entry.state.now (reused_text a.now.rd a.now.ri ∷ []) place.entry.mem.now []) }
 {
-    let rows = rows_of_alu(op);
-    let by_form = RegisterRows {
-        rx: rows.rx,
-        rxy: rows.rxy,
+    let alu = rows_of_alu(op);
+    let rows = RegisterRows {
+        rx: alu.rx,
+        rxy: alu.rxy,
         ril: None,
     };
-    rx_access(out, place, by_form, a)
+    rx_access(out, place, rows, a)
 }
 
 // Appends the text of a comparison with an operand in memory.
 #[tactic(auto, unfolding(crate::specs::Mnemonics::cmp_short_name, crate::specs::Mnemonics::cmp_long_name, crate::specs::Mnemonics::cmp_relative_name))]
 fn put_comparison(out: &mut String, place: Place, op: CmpOp, rn: &Reg) -> Result<(), TextError>
     ensures { Prints result (string_bytes out.old) (string_bytes out.new)
-        (access_where place.entry.has
+        (access_where place.entry.has_relative
         (rx (cmp_short_name op) (cmp_long_name op) (Some (cmp_relative_name op)))
         place.entry.state.now (reg_text rn.now ∷ []) place.entry.mem.now []) }
 {
-    let rows = rows_of_cmp(op);
-    let by_form = RegisterRows {
-        rx: rows.rx,
-        rxy: rows.rxy,
-        ril: Some(rows.ril),
+    let cmp = rows_of_cmp(op);
+    let rows = RegisterRows {
+        rx: cmp.rx,
+        rxy: cmp.rxy,
+        ril: Some(cmp.ril),
     };
-    rx_access(out, place, by_form, rn)
+    rx_access(out, place, rows, rn)
 }
 
 /// Appends the text of an operator with an operand in memory, of a multiple, of an address or of a locked access; None for another
@@ -131,22 +131,22 @@ fn put_comparison(out: &mut String, place: Place, op: CmpOp, rn: &Reg) -> Result
 pub fn put_storage_operator(
     alloc: Global,
     out: &mut String,
-    has: bool,
+    has_relative: bool,
     state: &EmitState,
     inst: &Inst,
 ) -> Option<Result<(), TextError>>
     ensures { PrintsWhere result (string_bytes out.old) (string_bytes out.new)
-        (storage_operator_text has state.now inst.now) }
+        (storage_operator_text has_relative state.now inst.now) }
 {
     match inst {
-        Inst::AluRX { alu_op, rd, ri, mem } => Some(put_operator(out, Place { alloc, has, state, mem }, *alu_op, &reused_operand(rd, ri))),
-        Inst::CmpRX { op, rn, mem } => Some(put_comparison(out, Place { alloc, has, state, mem }, *op, rn)),
-        Inst::LoadMultiple64 { rt, rt2, mem } => Some(rs_access3(out, Place { alloc, has, state, mem }, None, Some(opcodes::LMG), rt, rt2)),
-        Inst::StoreMultiple64 { rt, rt2, mem } => Some(rs_access3(out, Place { alloc, has, state, mem }, None, Some(opcodes::STMG), rt, rt2)),
-        Inst::LoadAddr { rd, mem } => Some(access2(out, Place { alloc, has, state, mem }, &address_rows(), rd)),
-        Inst::AtomicRmw { alu_op, rd, rn, mem } => Some(rs_access3(out, Place { alloc, has, state, mem }, None, rows_of_alu(*alu_op).atomic, rd, rn)),
-        Inst::AtomicCas32 { rd, ri, rn, mem } => Some(rs_access3(out, Place { alloc, has, state, mem }, Some(opcodes::CS), Some(opcodes::CSY), &reused_operand(rd, ri), rn)),
-        Inst::AtomicCas64 { rd, ri, rn, mem } => Some(rs_access3(out, Place { alloc, has, state, mem }, None, Some(opcodes::CSG), &reused_operand(rd, ri), rn)),
+        Inst::AluRX { alu_op, rd, ri, mem } => Some(put_operator(out, Place { alloc, has_relative, state, mem }, *alu_op, &reused_operand(rd, ri))),
+        Inst::CmpRX { op, rn, mem } => Some(put_comparison(out, Place { alloc, has_relative, state, mem }, *op, rn)),
+        Inst::LoadMultiple64 { rt, rt2, mem } => Some(rs_access3(out, Place { alloc, has_relative, state, mem }, None, Some(opcodes::LMG), rt, rt2)),
+        Inst::StoreMultiple64 { rt, rt2, mem } => Some(rs_access3(out, Place { alloc, has_relative, state, mem }, None, Some(opcodes::STMG), rt, rt2)),
+        Inst::LoadAddr { rd, mem } => Some(access2(out, Place { alloc, has_relative, state, mem }, &address_rows(), rd)),
+        Inst::AtomicRmw { alu_op, rd, rn, mem } => Some(rs_access3(out, Place { alloc, has_relative, state, mem }, None, rows_of_alu(*alu_op).atomic, rd, rn)),
+        Inst::AtomicCas32 { rd, ri, rn, mem } => Some(rs_access3(out, Place { alloc, has_relative, state, mem }, Some(opcodes::CS), Some(opcodes::CSY), &reused_operand(rd, ri), rn)),
+        Inst::AtomicCas64 { rd, ri, rn, mem } => Some(rs_access3(out, Place { alloc, has_relative, state, mem }, None, Some(opcodes::CSG), &reused_operand(rd, ri), rn)),
         _ => None,
     }
 }

@@ -61,20 +61,20 @@ fn put_register(
 fn put_general(
     alloc: Global,
     out: &mut String,
-    has: bool,
+    has_relative: bool,
     state: &EmitState,
     inst: &Inst,
 ) -> Result<(), TextError>
     ensures { Prints result (string_bytes out.old) (string_bytes out.new)
-        (simple_text has state.now inst.now) }
+        (simple_text has_relative state.now inst.now) }
 {
-    if let Some(answer) = put_load(alloc, out, has, state, inst) {
+    if let Some(answer) = put_load(alloc, out, has_relative, state, inst) {
         return answer;
     }
-    if let Some(answer) = put_store(alloc, out, has, state, inst) {
+    if let Some(answer) = put_store(alloc, out, has_relative, state, inst) {
         return answer;
     }
-    match put_storage_operator(alloc, out, has, state, inst) {
+    match put_storage_operator(alloc, out, has_relative, state, inst) {
         Some(answer) => answer,
         None => put_register(alloc, out, state, inst),
     }
@@ -85,12 +85,12 @@ fn put_general(
 pub fn put_simple(
     alloc: Global,
     out: &mut String,
-    has: bool,
+    has_relative: bool,
     state: &EmitState,
     inst: &Inst,
 ) -> Result<(), TextError>
     ensures { Prints result (string_bytes out.old) (string_bytes out.new)
-        (simple_text has state.now inst.now) }
+        (simple_text has_relative state.now inst.now) }
 {
     match inst {
         Inst::Vector(vector) => put_vector(alloc, out, state, vector),
@@ -131,6 +131,6 @@ pub fn put_simple(
             Some(answer) => answer,
             None => Err(TextError::NoRow),
         },
-        _ => put_general(alloc, out, has, state, inst),
+        _ => put_general(alloc, out, has_relative, state, inst),
     }
 }

@@ -43,7 +43,7 @@ pub struct Rows {
 pub struct Place<'a> {
     pub alloc: Global,
     /// Whether the machine has accesses relative to the instruction.
-    pub has: bool,
+    pub has_relative: bool,
     /// The state of emission before the instruction.
     pub state: &'a EmitState,
     pub mem: &'a MemArg,
@@ -153,13 +153,13 @@ impl Rows {
     }
 
     // The forms of an operand that the rows have, on a machine that has accesses relative to the instruction or lacks them.
-    fn inst_type(&self, has: bool) -> MemInstType
-        ensures { result ≡ type_of_rows has (rows_of self.now) }
+    fn inst_type(&self, has_relative: bool) -> MemInstType
+        ensures { result ≡ type_of_rows has_relative (rows_of self.now) }
     {
         MemInstType {
             have_d12: self.short.is_some(),
             have_d20: self.long.is_some(),
-            have_pcrel: self.relative.is_some() && (has || !self.accesses),
+            have_pcrel: self.relative.is_some() && (has_relative || !self.accesses),
             have_unaligned_pcrel: self.relative.is_some() && !self.accesses,
             have_index: self.index,
         }
@@ -284,7 +284,7 @@ fn near_operand(mi: MemInstType, mem: &MemArg) -> Option<MemArg>
 
 // Appends the helpers of an operand, and gives the operand of the access, by a list of the helpers.
 fn open_helped(out: &mut String, place: Place, rows: &Rows) -> Result<MemArg, TextError>
-    ensures { Opens result (string_bytes out.old) (string_bytes out.new) place.entry.has
+    ensures { Opens result (string_bytes out.old) (string_bytes out.new) place.entry.has_relative
         (rows_of rows.now) (resolved_operand place.entry.state.now place.entry.mem.now) }
 {
     if !rows.has_row() {
@@ -294,7 +294,7 @@ fn open_helped(out: &mut String, place: Place, rows: &Rows) -> Result<MemArg, Te
         place.alloc,
         place.mem,
         place.state,
-        rows.inst_type(place.has),
+        rows.inst_type(place.has_relative),
     ) {
         Ok((helpers, operand)) => {
             put_helpers(out, helpers.as_slice())?;
@@ -306,10 +306,10 @@ fn open_helped(out: &mut String, place: Place, rows: &Rows) -> Result<MemArg, Te
 
 // Appends the helpers of an operand, and gives the operand of the access; the list, which is large, isn't made where it is seen at once that there are no helpers.
 fn open_access(out: &mut String, place: Place, rows: &Rows) -> Result<MemArg, TextError>
-    ensures { Opens result (string_bytes out.old) (string_bytes out.new) place.entry.has
+    ensures { Opens result (string_bytes out.old) (string_bytes out.new) place.entry.has_relative
         (rows_of rows.now) (resolved_operand place.entry.state.now place.entry.mem.now) }
 {
-    match near_operand(rows.inst_type(place.has), place.mem) {
+    match near_operand(rows.inst_type(place.has_relative), place.mem) {
         Some(operand) => Ok(operand),
         None => open_helped(out, place, rows),
     }
@@ -323,7 +323,7 @@ pub fn access2<A: Operand>(
     a: &A,
 ) -> Result<(), TextError>
     ensures { Prints result (string_bytes out.old) (string_bytes out.new)
-        (access_where place.entry.has (rows_of rows.now) place.entry.state.now
+        (access_where place.entry.has_relative (rows_of rows.now) place.entry.state.now
         (A.shown a.now ∷ []) place.entry.mem.now []) }
 {
     let operand = open_access(out, place, rows)?;
@@ -344,21 +344,21 @@ fn long_opcode(opcode: Option<u8>) -> Option<u16>
 pub fn rx_access<A: Operand>(
     out: &mut String,
     place: Place,
-    by_form: RegisterRows,
+    rows: RegisterRows,
     a: &A,
 ) -> Result<(), TextError>
     ensures { Prints result (string_bytes out.old) (string_bytes out.new)
-        (access_where place.entry.has (rx_of by_form) place.entry.state.now
+        (access_where place.entry.has_relative (rx_of rows) place.entry.state.now
         (A.shown a.now ∷ []) place.entry.mem.now []) }
 {
-    let rows = Rows {
-        short: long_opcode(by_form.rx),
-        long: by_form.rxy,
-        relative: by_form.ril,
+    let access = Rows {
+        short: long_opcode(rows.rx),
+        long: rows.rxy,
+        relative: rows.ril,
         index: true,
         accesses: true,
     };
-    access2(out, place, &rows, a)
+    access2(out, place, &access, a)
 }
 
 /// Appends the text of an access by a row of format VRX, with an operand on either side of that in memory.
@@ -370,7 +370,7 @@ pub fn vrx_access<A: Operand, B: Operand>(
     b: &B,
 ) -> Result<(), TextError>
     ensures { Prints result (string_bytes out.old) (string_bytes out.new)
-        (access_where place.entry.has (rx (option_map stem_of opcode) None None)
+        (access_where place.entry.has_relative (rx (option_map stem_of opcode) None None)
         place.entry.state.now (A.shown a.now ∷ []) place.entry.mem.now (B.shown b.now ∷ [])) }
 {
     let rows = Rows {
@@ -411,7 +411,7 @@ fn access_lettered<A: Operand>(
     a: &A,
 ) -> Result<(), TextError>
     ensures { Prints result (string_bytes out.old) (string_bytes out.new)
-        (access_where place.entry.has (rx (Some (mnemonic_text mnemonic)) None None)
+        (access_where place.entry.has_relative (rx (Some (mnemonic_text mnemonic)) None None)
         place.entry.state.now (A.shown a.now ∷ []) place.entry.mem.now []) }
 {
     let rows = Rows {
@@ -434,7 +434,7 @@ pub fn lettered_access<A: Operand>(
     a: &A,
 ) -> Result<(), TextError>
     ensures { Prints result (string_bytes out.old) (string_bytes out.new)
-        (access_where place.entry.has (rx (option_map mnemonic_text mnemonic) None None)
+        (access_where place.entry.has_relative (rx (option_map mnemonic_text mnemonic) None None)
         place.entry.state.now (A.shown a.now ∷ []) place.entry.mem.now []) }
 {
     match mnemonic {
@@ -453,7 +453,8 @@ pub fn rs_access3<A: Operand, B: Operand>(
     b: &B,
 ) -> Result<(), TextError>
     ensures { Prints result (string_bytes out.old) (string_bytes out.new)
-        (access_where place.entry.has (rs (option_map stem_of short) (option_map stem_of long))
+        (access_where place.entry.has_relative
+        (rs (option_map stem_of short) (option_map stem_of long))
         place.entry.state.now (A.shown a.now ∷ B.shown b.now ∷ []) place.entry.mem.now []) }
 {
     let rows = Rows {
@@ -476,7 +477,8 @@ pub fn rs_access_then<A: Operand>(
     a: &A,
 ) -> Result<(), TextError>
     ensures { Prints result (string_bytes out.old) (string_bytes out.new)
-        (access_where place.entry.has (rs (option_map stem_of short) (option_map stem_of long))
+        (access_where place.entry.has_relative
+        (rs (option_map stem_of short) (option_map stem_of long))
         place.entry.state.now [] place.entry.mem.now (A.shown a.now ∷ [])) }
 {
     let rows = Rows {

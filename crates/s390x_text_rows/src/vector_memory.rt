@@ -137,7 +137,7 @@ pub fn put_vec_whole(
         Some(whole) => {
             let place = Place {
                 alloc,
-                has: true,
+                has_relative: true,
                 state,
                 mem: &whole.mem,
             };
@@ -160,14 +160,14 @@ pub fn put_vec_part(
         (vec_part_text state.now inst.now) }
 {
     match inst {
-        VecInst::VecLoadReplicate { size, rd, mem } => Some(lettered_access(out, Place { alloc, has: true, state, mem }, replicated_name(opcodes::VLREP, *size), rd)),
-        VecInst::VecLoadReplicateRev { size, rd, mem } => Some(lettered_access(out, Place { alloc, has: true, state, mem }, reversed_replicated_name(opcodes::VLBRREP, *size), rd)),
-        VecInst::VecLoadLane { size, rd, mem, lane_imm, .. } => Some(vrx_access(out, Place { alloc, has: true, state, mem }, lane_row(opcodes::VLEB, opcodes::VLEH, opcodes::VLEF, opcodes::VLEG, *size, *lane_imm), rd, lane_imm)),
-        VecInst::VecLoadLaneRev { size, rd, mem, lane_imm, .. } => Some(vrx_access(out, Place { alloc, has: true, state, mem }, reversed_row(opcodes::VLEBRH, opcodes::VLEBRF, opcodes::VLEBRG, *size, *lane_imm), rd, lane_imm)),
-        VecInst::VecLoadLaneUndef { size, rd, mem, lane_imm } => Some(put_load_lane(out, Place { alloc, has: true, state, mem }, *size, rd.to_reg(), *lane_imm)),
-        VecInst::VecLoadLaneRevUndef { size, rd, mem, lane_imm } => Some(vrx_access(out, Place { alloc, has: true, state, mem }, reversed_row(opcodes::VLEBRH, opcodes::VLEBRF, opcodes::VLEBRG, *size, *lane_imm), rd, lane_imm)),
-        VecInst::VecStoreLane { size, rd, mem, lane_imm } => Some(put_store_lane(out, Place { alloc, has: true, state, mem }, *size, *rd, *lane_imm)),
-        VecInst::VecStoreLaneRev { size, rd, mem, lane_imm } => Some(vrx_access(out, Place { alloc, has: true, state, mem }, reversed_row(opcodes::VSTEBRH, opcodes::VSTEBRF, opcodes::VSTEBRG, *size, *lane_imm), rd, lane_imm)),
+        VecInst::VecLoadReplicate { size, rd, mem } => Some(lettered_access(out, Place { alloc, has_relative: true, state, mem }, replicated_name(opcodes::VLREP, *size), rd)),
+        VecInst::VecLoadReplicateRev { size, rd, mem } => Some(lettered_access(out, Place { alloc, has_relative: true, state, mem }, reversed_replicated_name(opcodes::VLBRREP, *size), rd)),
+        VecInst::VecLoadLane { size, rd, mem, lane_imm, .. } => Some(vrx_access(out, Place { alloc, has_relative: true, state, mem }, lane_row(opcodes::VLEB, opcodes::VLEH, opcodes::VLEF, opcodes::VLEG, *size, *lane_imm), rd, lane_imm)),
+        VecInst::VecLoadLaneRev { size, rd, mem, lane_imm, .. } => Some(vrx_access(out, Place { alloc, has_relative: true, state, mem }, reversed_row(opcodes::VLEBRH, opcodes::VLEBRF, opcodes::VLEBRG, *size, *lane_imm), rd, lane_imm)),
+        VecInst::VecLoadLaneUndef { size, rd, mem, lane_imm } => Some(put_load_lane(out, Place { alloc, has_relative: true, state, mem }, *size, rd.to_reg(), *lane_imm)),
+        VecInst::VecLoadLaneRevUndef { size, rd, mem, lane_imm } => Some(vrx_access(out, Place { alloc, has_relative: true, state, mem }, reversed_row(opcodes::VLEBRH, opcodes::VLEBRF, opcodes::VLEBRG, *size, *lane_imm), rd, lane_imm)),
+        VecInst::VecStoreLane { size, rd, mem, lane_imm } => Some(put_store_lane(out, Place { alloc, has_relative: true, state, mem }, *size, *rd, *lane_imm)),
+        VecInst::VecStoreLaneRev { size, rd, mem, lane_imm } => Some(vrx_access(out, Place { alloc, has_relative: true, state, mem }, reversed_row(opcodes::VSTEBRH, opcodes::VSTEBRF, opcodes::VSTEBRG, *size, *lane_imm), rd, lane_imm)),
         _ => None,
     }
 }

@@ -5,4 +5,4 @@ use Rattle.s390x_text_rows.proofs.storage.open_access.Goals as goal
 
 pub returns-in-Some : goal.returns-in-Some
 returns-in-Some c =
-    near_opens c.args.place.has (rows_of c.args.rows.now) c.args.place.state.now c.args.place.mem.now c.in-Some.operand c.inst_type.result (string_bytes c.args.out.now) c.inst_type.ensures c.in-Some.ensures
+    near_opens c.args.place.has_relative (rows_of c.args.rows.now) c.args.place.state.now c.args.place.mem.now c.in-Some.operand c.inst_type.result (string_bytes c.args.out.now) c.inst_type.ensures c.in-Some.ensures
