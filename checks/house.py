@@ -14,6 +14,8 @@ import sys
 os.chdir(os.path.join(os.path.dirname(os.path.abspath(__file__)), ".."))
 CLAUSE = re.compile(r"^\s*(requires|ensures|invariant|decreases)\b")
 FUNCTION = re.compile(r"^(\s*)(pub )?(?:const )?(?:unsafe )?(?:extern \"C\" )?fn (\w+)")
+# What the toolchain's CONTRACT_STYLE.md calls older forms; a parameter may have such a name.
+OLD_FORMS = ("cond", "get_or", "eqb", "Decides")
 # Their signatures are the original crate's.
 FIXED = re.compile(r"^(enc_\w+|mem_(\w+_)?emit)$")
 
@@ -72,6 +74,24 @@ def parameters(lines, number):
     return count + (1 if some else 0)
 
 
+def old_forms(lines):
+    """The clauses of public functions with an older form: the line, and the form."""
+    for first, _ in clauses(lines):
+        above = next((number for number in range(first - 1, -1, -1) if FUNCTION.match(lines[number])), None)
+        if above is None or not FUNCTION.match(lines[above]).group(2):
+            continue
+        head = " ".join(lines[above:first - 1])
+        text, depth = "", 0
+        for line in lines[first - 1:]:
+            text += line + " "
+            depth += line.count("{") - line.count("}")
+            if depth <= 0:
+                break
+        for form in OLD_FORMS:
+            if re.search(rf"(?<![\w.]){form}(?!\w)", text) and not re.search(rf"\b{form}:", head):
+                yield first, form
+
+
 def docstring(lines, number):
     """What stands above a function, and whether it is in an `impl` of a trait."""
     above = []
@@ -119,6 +139,8 @@ def main():
                     found["docstrings that begin \"The same\""].append((0, f"{path}:{number + 1} {match.group(3)}"))
                 if re.search(r"Result<.*EmitError>", signature(lines, number)) and words and not re.search(r"`[A-Z]\w+`|rror|efuse|memory", words):
                     found["functions that answer EmitError and don't say when"].append((0, f"{path}:{number + 1} {match.group(3)}"))
+            for number, form in old_forms(lines):
+                found["old forms in clauses of public functions"].append((0, f"{path}:{number} {form}"))
             for number, width in clauses(lines):
                 total += 1
                 if width > 100:
@@ -148,6 +170,7 @@ BOUNDS = {
     "public modules": lambda total: 80,
     "clauses above 100 columns": lambda total: total // 10,
     "clauses above 160 columns": lambda total: 0,
+    "old forms in clauses of public functions": lambda total: 0,
     "functions with more than six parameters": lambda total: 0,
     "public functions without a docstring": lambda total: 0,
     "docstrings that begin \"The same\"": lambda total: 0,
