@@ -18,7 +18,7 @@ use s390x_base::{MachMemFlags, Reg, SImm20, UImm12, zero_reg};
 use s390x_format::stem;
 use s390x_inst::{EmitState, Inst, MemArg};
 use s390x_job_fields::atoms::put_name;
-use s390x_job_fields::number::{put, put_integer, put_natural};
+use s390x_job_fields::number::{put, put_char, put_integer, put_natural};
 use s390x_rows::opcodes;
 use s390x_typed_steps::{MemInstType, RegisterRows};
 use std::alloc::{AllocError, Global};
@@ -63,6 +63,7 @@ pub fn address_rows() -> Rows
 }
 
 // A base and an index behind a displacement.
+#[inline(always)]
 fn put_sum(out: &mut String, base: &Reg, index: &Reg) -> Result<(), AllocError>
     ensures { OnOk result
         (string_bytes out.new ≡ string_bytes out.old ++ sum_text base.now index.now) }
@@ -71,26 +72,26 @@ fn put_sum(out: &mut String, base: &Reg, index: &Reg) -> Result<(), AllocError>
         if is_zero(index) {
             return Ok(());
         }
-        put(out, "(")?;
+        put_char(out, '(')?;
         put_reg(out, *index)?;
         return put(out, ",)");
     }
-    put(out, "(")?;
+    put_char(out, '(')?;
     if is_zero(index) {
         put_reg(out, *base)?;
-        return put(out, ")");
+        return put_char(out, ')');
     }
     put_reg(out, *index)?;
-    put(out, ",")?;
+    put_char(out, ',')?;
     put_reg(out, *base)?;
-    put(out, ")")
+    put_char(out, ')')
 }
 
 impl Operand for MemArg {
     ghost shown = { memory_text };
 
     fn put(&self, out: &mut String) -> Result<(), AllocError> {
-        match *self {
+        match self {
             MemArg::BXD12 {
                 base,
                 index,
@@ -98,7 +99,7 @@ impl Operand for MemArg {
                 ..
             } => {
                 put_natural(out, u64::from(disp.bits()))?;
-                put_sum(out, &base, &index)
+                put_sum(out, base, index)
             }
             MemArg::BXD20 {
                 base,
@@ -107,7 +108,7 @@ impl Operand for MemArg {
                 ..
             } => {
                 put_integer(out, i64::from(disp.value()))?;
-                put_sum(out, &base, &index)
+                put_sum(out, base, index)
             }
             MemArg::Label { target } => target.put(out),
             MemArg::Constant { constant } => {
@@ -116,9 +117,9 @@ impl Operand for MemArg {
                 put(out, ")]")
             }
             MemArg::Symbol { name, offset, .. } => {
-                put_name(out, name)?;
+                put_name(out, *name)?;
                 put(out, " + ")?;
-                put_integer(out, i64::from(offset))
+                put_integer(out, i64::from(*offset))
             }
             _ => Ok(()),
         }
@@ -235,6 +236,7 @@ fn long_displacement(mi: MemInstType, off: i64) -> Option<SImm20>
 }
 
 // The operand in place of an offset, where a displacement of the rows holds it.
+#[inline(always)]
 fn near_offset(mi: MemInstType, reg: Reg, off: i64, flags: MachMemFlags) -> Option<MemArg>
     ensures { result ≡ near_operand mi (RegOffset reg off flags) }
 {
@@ -270,6 +272,7 @@ fn operand_with_form(mi: MemInstType, mem: &MemArg) -> Option<MemArg>
 }
 
 // The operand of an access that needs no helper, where it is an offset or relative to the instruction.
+#[inline(always)]
 fn near_operand(mi: MemInstType, mem: &MemArg) -> Option<MemArg>
     ensures { result ≡ near_operand mi mem.now }
 {
@@ -283,6 +286,7 @@ fn near_operand(mi: MemInstType, mem: &MemArg) -> Option<MemArg>
 }
 
 // Appends the helpers of an operand, and gives the operand of the access, by a list of the helpers.
+#[inline(never)]
 fn open_helped(out: &mut String, place: Place, rows: &Rows) -> Result<MemArg, TextError>
     ensures { Opens result (string_bytes out.old) (string_bytes out.new) place.entry.has_relative
         (rows_of rows.now) (resolved_operand place.entry.state.now place.entry.mem.now) }
@@ -305,6 +309,7 @@ fn open_helped(out: &mut String, place: Place, rows: &Rows) -> Result<MemArg, Te
 }
 
 // Appends the helpers of an operand, and gives the operand of the access; the list, which is large, isn't made where it is seen at once that there are no helpers.
+#[inline(always)]
 fn open_access(out: &mut String, place: Place, rows: &Rows) -> Result<MemArg, TextError>
     ensures { Opens result (string_bytes out.old) (string_bytes out.new) place.entry.has_relative
         (rows_of rows.now) (resolved_operand place.entry.state.now place.entry.mem.now) }
