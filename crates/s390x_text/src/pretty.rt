@@ -117,6 +117,7 @@ fn put_member(
 
 // Appends the text of a loop.
 #[cycle(members)]
+#[inline(never)]
 fn put_loop(
     alloc: Global,
     out: &mut String,
