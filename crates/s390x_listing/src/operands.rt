@@ -5,11 +5,11 @@ ghost use Rattle.s390x_listing.specs.Listings.{IsCause, Appends, each};
 ghost use Rattle.s390x_listing.specs.Operands.{block_operands, item_text, items_text, kind_text, more_items, operand_text, operands_line, operands_listing};
 
 use crate::head::put_head;
-use s390x_base::{PReg, Reg};
+use s390x_base::{PReg, Reg, RegClass};
 use s390x_inst::{Block, Inst};
 use s390x_job_fields::atoms::{put_real, put_reg};
 use s390x_job_fields::list::put_list;
-use s390x_job_fields::number::put;
+use s390x_job_fields::number::{put, put_natural};
 use s390x_job_fields::sets::set_members;
 use s390x_operands::{
     MachInst, OperandConstraint, OperandError, OperandKind, OperandList, Reported,
@@ -63,19 +63,25 @@ fn put_insts(alloc: Global, out: &mut String, insts: &[Inst]) -> Result<(), Oper
     ensures { Appends result (string_bytes out.old) (string_bytes out.new)
         (each (λ n i. operands_line i) 0 insts.now) }
 {
+    let mut list = OperandList::new(alloc);
     for inst in insts {
-        put_inst(alloc, out, inst)?;
+        put_inst(alloc, out, &mut list, inst)?;
     }
     Ok(())
 }
 
-// The line of an instruction.
-fn put_inst(alloc: Global, out: &mut String, inst: &Inst) -> Result<(), OperandError>
+// The line of an instruction. The list is room for what it reports.
+fn put_inst(
+    alloc: Global,
+    out: &mut String,
+    list: &mut OperandList,
+    inst: &Inst,
+) -> Result<(), OperandError>
     ensures { Appends result (string_bytes out.old) (string_bytes out.new)
         (operands_line inst.now) }
 {
-    let mut list = OperandList::new(alloc);
-    inst.get_operands(&mut list)?;
+    list.clear();
+    inst.get_operands(list)?;
     match put_line(alloc, out, list.items()) {
         Ok(()) => Ok(()),
         Err(_) => Err(OperandError::NoMemory),
@@ -126,16 +132,25 @@ fn put_item(alloc: Global, out: &mut String, item: &Reported) -> Result<(), Allo
             kind,
             ..
         } => put_operand(out, *reg, *constraint, *kind),
-        Reported::Fixed(preg) => {
-            put(out, "fixed ")?;
-            put_real(out, *preg)
-        }
+        Reported::Fixed(preg) => put_nonallocatable(out, *preg),
         Reported::Clobbers(regs) => {
             let members = set_members(alloc, *regs)?;
             put(out, "clobber ")?;
             put_list(out, &members)
         }
     }
+}
+
+// A real register that no operand stands for.
+fn put_nonallocatable(out: &mut String, preg: PReg) -> Result<(), AllocError>
+    ensures { OnOk result
+        (string_bytes out.new ≡ string_bytes out.old ++ item_text (Reported.Fixed preg)) }
+{
+    match preg.class() {
+        RegClass::Int => put(out, "fixed %r")?,
+        RegClass::Float => put(out, "fixed %v")?,
+    }
+    put_natural(out, u64::from(preg.hw_enc()))
 }
 
 // An operand with its constraint.
