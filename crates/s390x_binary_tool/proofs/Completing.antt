@@ -195,22 +195,15 @@ answered_done f s text c input a form left unrefused =
 
 completed_reply : (f : CallContext) (s : BinaryStatus) (text : List ℕ) (c : Command) (input : List ℕ)
     → IsReply f s text → IsForm f.words c → f.left ≡ Some input → IsAccepted c f.words input → (FaultCountRose f.faults f.faults' → ⊥) → IsDoneStatus s
-completed_reply f Differs text c input reply form left accepted quiet = answered_done f Differs text c input reply form left accepted.unrefused
-completed_reply f ObjectRefused text c input reply form left accepted quiet = answered_done f ObjectRefused text c input reply form left accepted.unrefused
+completed_reply f (Shared status.Ok) text c input reply form left accepted quiet = inl refl
+completed_reply f (Shared status.NoMemory) text c input reply form left accepted quiet = inr refl
 completed_reply f (Shared status.Usage) text c input reply form left accepted quiet = absurd (reply.0.none c form)
 completed_reply f (Shared status.ReadFault) text c input reply form left accepted quiet = absurd (quiet reply.0.rose)
 completed_reply f (Shared status.InputTooLong) text c input reply form left accepted quiet =
     let less = read_less f.left f.left' input reply.0.long.taken left reply.0.long.consumed in
     absurd (omega (arith, reply.0.long.long, accepted.short, less))
 completed_reply f (Shared status.WriteFault) text c input reply form left accepted quiet = absurd reply
-completed_reply f (Shared status.NoMemory) text c input reply form left accepted quiet = inr refl
-completed_reply f (Shared status.Ok) text c input reply form left accepted quiet = inl refl
-completed_reply f (Shared status.Syntax) text c input reply form left accepted quiet = answered_done f (Shared status.Syntax) text c input reply form left accepted.unrefused
-completed_reply f (Shared status.Refused) text c input reply form left accepted quiet = answered_done f (Shared status.Refused) text c input reply form left accepted.unrefused
-completed_reply f (Shared status.LinkRefused) text c input reply form left accepted quiet = answered_done f (Shared status.LinkRefused) text c input reply form left accepted.unrefused
-completed_reply f (Shared status.BadWord) text c input reply form left accepted quiet = answered_done f (Shared status.BadWord) text c input reply form left accepted.unrefused
-completed_reply f (Shared status.PlanRefused) text c input reply form left accepted quiet = answered_done f (Shared status.PlanRefused) text c input reply form left accepted.unrefused
-completed_reply f (Shared status.BundleRefused) text c input reply form left accepted quiet = answered_done f (Shared status.BundleRefused) text c input reply form left accepted.unrefused
+completed_reply f s text c input reply form left accepted quiet = answered_done f s text c input reply form left accepted.unrefused
 
 -- how a call on an accepted input ends, where nothing failed
 pub completed : (f : CallContext) (told told' : Option (List ℕ)) (faults faults' : ℕ) (s : BinaryStatus) (text : List ℕ) (result : BinaryStatus)

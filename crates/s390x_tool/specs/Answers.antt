@@ -22,6 +22,7 @@ use Rattle.s390x_operands.specs.declared.constraint.OperandError.{OperandError}
 use Rattle.s390x_text_rows.specs.Texts.{Text}
 use Rattle.s390x_listing.specs.Operands.{operands_listing}
 use Rattle.s390x_listing.specs.Texts.{texts_listing}
+use Rattle.s390x_tool.specs.Ends.{most_bytes}
 use Rattle.s390x_tool.specs.Lines.{line, error_name, link_error_name, operand_error_name}
 use Rattle.s390x_tool.specs.declared.words.JobCommand.{JobCommand}
 use Rattle.s390x_tool.specs.declared.words.JobCommand.TheVariants.{Image, Emit, Run, Operands, Show}
@@ -211,7 +212,7 @@ IsUnrefused Show j = job_cause j ≡ None
 
 -- the input is the text of a job, which nothing refuses, nor its linking, where the command links it
 pub record IsAccepted (command : JobCommand) (input : List ℕ) : Type 0 where
-  pub short : length input ≤ 16777216
+  pub short : length input ≤ most_bytes
   pub job : Job
   pub is : IsJob job
   pub spelled : text_of_job job ≡ input

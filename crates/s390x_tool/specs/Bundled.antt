@@ -15,6 +15,7 @@ use Rattle.s390x_bundle.specs.declared.member.Member.{Member}
 use Rattle.s390x_job_bundle.specs.Completions.{IsBundleText, IsFirstWrongOfBundle}
 use Rattle.s390x_job_bundle.specs.Text.{AreFunctions, AreFunctionsOf, text_of_functions}
 use Rattle.s390x_job_bundle.specs.declared.named_job.NamedJob.{NamedJob}
+use Rattle.s390x_tool.specs.Ends.{most_bytes}
 use Rattle.s390x_tool.specs.Lines.{error_name, line, link_error_name}
 use Rattle.s390x_tool.specs.declared.status.Status.{Status}
 use Rattle.s390x_tool.specs.declared.status.Status.TheVariants as status
@@ -88,7 +89,7 @@ pub record CanBeBundled (base : ℕ) (members : List Member) : Type 0 where
 
 -- the input is the text of functions, which nothing keeps from standing in one image
 pub record IsBundleAccepted (base : ℕ) (input : List ℕ) : Type 0 where
-  pub short : length input ≤ 16777216
+  pub short : length input ≤ most_bytes
   pub functions : List NamedJob
   pub are : AreFunctions functions
   pub spelled : text_of_functions functions ≡ input
