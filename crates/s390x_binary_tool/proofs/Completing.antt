@@ -90,22 +90,19 @@ linked_too base j k bytes code a b e y finished =
 -- ---- each command
 
 refusal_done : (input : List ℕ) (s : BinaryStatus) (text : List ℕ) → IsValidJob input → IsRefusalAnswer input s text → IsDoneStatus s
-refusal_done input Differs text v a = absurd a.reply
-refusal_done input ObjectRefused text v a = absurd a.reply
 refusal_done input (Shared status.Ok) text v a = inl refl
 refusal_done input (Shared status.NoMemory) text v a = inr refl
 refusal_done input (Shared status.Syntax) text v a = absurd (a.no_job v.job v.is v.spelled)
 refusal_done input (Shared status.Refused) text v a =
     let same = a.one v.job v.is v.spelled in
     absurd (no_cause _ a.reply.error (same_cause a.job v.job a.is v.is same ∙ v.valid) a.reply.cause)
-refusal_done input (Shared s) text v a = absurd a.reply
+refusal_done input s text v a = absurd a.reply
 
 verify_done : (base : ℕ) (input : List ℕ) (s : BinaryStatus) (text : List ℕ) → IsJobWithImage base input → IsVerifyAnswer base input s text → IsDoneStatus s
 verify_done base input Differs text v a =
     let one = a.one v.job v.given v.are in
     let same = one_image base a.job v.job a.reply.bytes v.given a.are.is v.are.is one.0 a.reply.image v.image in
     absurd (a.reply.other (subst (IsJobImage base a.job) (same ∙ one.1) a.reply.image))
-verify_done base input ObjectRefused text v a = absurd a.reply
 verify_done base input (Shared status.Ok) text v a = inl refl
 verify_done base input (Shared status.NoMemory) text v a = inr refl
 verify_done base input (Shared status.Syntax) text v a = absurd (a.none v.job v.given v.are)
@@ -116,27 +113,21 @@ verify_done base input (Shared status.LinkRefused) text v a =
     let one = a.one v.job v.given v.are in
     let why = a.reply.cause in
     absurd (no_cause _ a.reply.error (linked_too base a.job v.job v.given why.code a.are.is v.are.is one.0 v.image why.finished) why.cause)
-verify_done base input (Shared s) text v a = absurd a.reply
+verify_done base input s text v a = absurd a.reply
 
 disassemble_done : (base : ℕ) (input : List ℕ) (s : BinaryStatus) (text : List ℕ) → IsHexCode input → IsDisassembleAnswer base input s text → IsDoneStatus s
-disassemble_done base input Differs text v a = absurd a
-disassemble_done base input ObjectRefused text v a = absurd a
 disassemble_done base input (Shared status.Ok) text v a = inl refl
 disassemble_done base input (Shared status.NoMemory) text v a = inr refl
 disassemble_done base input (Shared status.Syntax) text v a = absurd (a.wrong.none v.code v.hex)
-disassemble_done base input (Shared s) text v a = absurd a
+disassemble_done base input s text v a = absurd a
 
 assemble_done : (base : ℕ) (input : List ℕ) (s : BinaryStatus) (text : List ℕ) → IsSomeSource base input → IsAssembleAnswer base input s text → IsDoneStatus s
-assemble_done base input Differs text v a = absurd a
-assemble_done base input ObjectRefused text v a = absurd a
 assemble_done base input (Shared status.Ok) text v a = inl refl
 assemble_done base input (Shared status.NoMemory) text v a = inr refl
 assemble_done base input (Shared status.Syntax) text v a = absurd (a.none v.code v.bytes v.is)
-assemble_done base input (Shared s) text v a = absurd a
+assemble_done base input s text v a = absurd a
 
 list_done : (base : ℕ) (input : List ℕ) (s : BinaryStatus) (text : List ℕ) → IsLinkableJob base input → IsListAnswer base input s text → IsDoneStatus s
-list_done base input Differs text v a = absurd a.reply
-list_done base input ObjectRefused text v a = absurd a.reply
 list_done base input (Shared status.Ok) text v a = inl refl
 list_done base input (Shared status.NoMemory) text v a = inr refl
 list_done base input (Shared status.Syntax) text v a = absurd (a.no_job v.valid.job v.valid.is v.valid.spelled)
@@ -147,10 +138,9 @@ list_done base input (Shared status.LinkRefused) text v a =
     let same = a.one v.valid.job v.valid.is v.valid.spelled in
     let none = ap (link_cause a.reply.code base) (same_table a.job v.valid.job a.is v.valid.is same) ∙ v.links a.reply.code (same_code a.job v.valid.job a.reply.code a.is v.valid.is same a.reply.is) in
     absurd (no_cause _ a.reply.error none a.reply.cause)
-list_done base input (Shared s) text v a = absurd a.reply
+list_done base input s text v a = absurd a.reply
 
 object_done : (name input : List ℕ) (s : BinaryStatus) (text : List ℕ) → IsObjectJob name input → IsObjectAnswer name input s text → IsDoneStatus s
-object_done name input Differs text v a = absurd a.reply
 object_done name input ObjectRefused text v a =
     let same = a.one v.valid.job v.valid.is v.valid.spelled in
     absurd (no_cause _ a.reply.error (v.named a.reply.code (same_code a.job v.valid.job a.reply.code a.is v.valid.is same a.reply.is)) a.reply.cause)
@@ -160,10 +150,9 @@ object_done name input (Shared status.Syntax) text v a = absurd (a.no_job v.vali
 object_done name input (Shared status.Refused) text v a =
     let same = a.one v.valid.job v.valid.is v.valid.spelled in
     absurd (no_cause _ a.reply.error (same_cause a.job v.valid.job a.is v.valid.is same ∙ v.valid.valid) a.reply.cause)
-object_done name input (Shared s) text v a = absurd a.reply
+object_done name input s text v a = absurd a.reply
 
 objects_done : (input : List ℕ) (s : BinaryStatus) (text : List ℕ) → AreObjectFunctions input → IsObjectsAnswer input s text → IsDoneStatus s
-objects_done input Differs text v a = absurd a.reply
 objects_done input ObjectRefused text v a =
     let same = a.are.one v.functions v.are v.spelled in
     let moved = same_objects a.functions v.functions a.reply.objects a.are.are v.are same a.reply.are in
@@ -174,7 +163,7 @@ objects_done input (Shared status.Syntax) text v a = absurd (a.none (v.functions
 objects_done input (Shared status.BundleRefused) text v a =
     let same = a.are.one v.functions v.are v.spelled in
     absurd (coded (map member_of a.functions) a.reply.error (same_duplicate a.functions v.functions a.are.are v.are same ∙ v.names) (same_refused a.functions v.functions a.are.are v.are same ∙ v.valid) a.reply.named a.reply.cause)
-objects_done input (Shared s) text v a = absurd a.reply
+objects_done input s text v a = absurd a.reply
 
 command_done : (c : Command) (words : List (List ℕ)) (input : List ℕ) (s : BinaryStatus) (text : List ℕ) → IsUnrefused c words input → IsInputAnswer c words input s text → IsDoneStatus s
 command_done Refusal words input s text v a = refusal_done input s text v a
