@@ -15,7 +15,8 @@ use Rattle.s390x_binary_tool.specs.Words.{IsForm}
 use Rattle.s390x_binary_tool.specs.declared.words.Command.{Command}
 use Rattle.s390x_binary_tool.specs.declared.words.Command.TheVariants.{Refusal, Verify, Disassemble, Assemble, Listing, Object, Objects}
 use Rattle.s390x_binary_tool.proofs.Told.{same_command}
-use Rattle.s390x_tool.specs.Answers.{IsCodeOfJob, IsImageAt, symbols_of, with_symbols}
+use Rattle.s390x_bundle.specs.Table.{with_lines}
+use Rattle.s390x_tool.specs.Answers.{IsCodeOfJob, IsImageAt, symbols_of}
 use Rattle.s390x_tool.specs.Bundled.{member_of}
 use Rattle.s390x_tool.specs.Causes.{FaultCountRose}
 use Rattle.s390x_tool.specs.Replies.{CallContext}
@@ -46,7 +47,7 @@ no_cause o e none some = let clash = sym none ∙ some in absurd cc
 -- ---- jobs with the same lines
 
 same_table : (j k : Job) → IsJob j → IsJob k → SameJob j k → symbols_of j ≡ symbols_of k
-same_table j k a b e = ap (with_symbols no_symbols) (same_symbols j k a b e)
+same_table j k a b e = ap (with_lines no_symbols) (same_symbols j k a b e)
 
 -- a code of one is a finished code of the other
 moved : (j k : Job) (code : MachBufferFinalized) → IsJob j → IsJob k → SameJob j k → IsCodeOfJob k code → IsFinishedCode (folded_trees_of j.info.isa_flags j.state j.function) (constants_of j.function) code

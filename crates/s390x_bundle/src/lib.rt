@@ -20,4 +20,4 @@ pub use linking::{LinkRefusal, link_members};
 pub use member::Member;
 pub use names::duplicate_name;
 pub use places::{Extent, PlaceCause, PlaceError, starts_of};
-pub use table::{joint_table, member_table};
+pub use table::{joint_table, member_table, symbol_table};
