@@ -1,9 +1,10 @@
 //! The text of `emit`: the finished code and its tables, a line for each entry.
 ghost use Rattle.std.specs.Prelude.{◌≡◌, ℕ, List, [], ◌∷◌, ◌++◌, map, IfOk, OnOk, string_bytes};
+ghost use Rattle.s390x_job.specs.Completions.{text_of_lines};
 ghost use Rattle.s390x_job_fields.specs.Atoms.{trap_text};
 ghost use Rattle.s390x_job_fields.specs.Bytes.{bytes_text};
 ghost use Rattle.s390x_job_fields.specs.Lists.{more_text, open_text};
-ghost use Rattle.s390x_tool.specs.Emitted.{call_line, code_lines, emit_text, handler_entry_text, code_head_lines, reloc_kind_text, text_of_lines, map_line, numbered_lines, patch_line, reloc_line, site_lines, start_offset_lines, trap_line, try_line};
+ghost use Rattle.s390x_tool.specs.Emitted.{call_line, code_lines, emit_text, handler_entry_text, code_head_lines, reloc_kind_text, map_line, numbered_lines, patch_line, reloc_line, site_lines, start_offset_lines, trap_line, try_line};
 
 use s390x_base::{CodeOffset, Reloc, TrapCode, TrapKind};
 use s390x_buffer::{
@@ -125,15 +126,15 @@ impl Entry for RelocEntry {
 
     fn put(&self, out: &mut String) -> Result<(), AllocError> {
         let offset = self.offset;
-        let kind = kind_name(self.kind);
+        let kind = reloc_kind_name(self.kind);
         let name = self.name.0;
         let addend = self.addend;
         writeln!(out, "reloc {offset} {kind} u{name} {addend}")
     }
 }
 
-// The name of a kind of relocation.
-fn kind_name(kind: Reloc) -> &'static str
+/// The name of a kind of relocation.
+pub fn reloc_kind_name(kind: Reloc) -> &'static str
     ensures { result.now ≡ reloc_kind_text kind }
 {
     match kind {
@@ -149,13 +150,13 @@ impl Entry for TrapEntry {
     fn put(&self, out: &mut String) -> Result<(), AllocError> {
         let offset = self.offset;
         write!(out, "trap {offset} ")?;
-        put_trap(out, self.code)?;
+        put_trap_code(out, self.code)?;
         out.push_str("\n")
     }
 }
 
-// The name of a trap code, `user` and its number for a user code.
-fn put_trap(out: &mut String, code: TrapCode) -> Result<(), AllocError>
+/// Appends the name of a trap code, `user` and its number for a user code. An error comes for want of memory alone.
+pub fn put_trap_code(out: &mut String, code: TrapCode) -> Result<(), AllocError>
     ensures { OnOk result (string_bytes out.new ≡ string_bytes out.old ++ trap_text code) }
 {
     match code.kind() {
