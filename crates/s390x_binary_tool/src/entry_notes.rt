@@ -6,7 +6,8 @@ use crate::notes::{put_note, put_placed};
 use s390x_base::CodeOffset;
 use s390x_buffer::{RelocEntry, TrapEntry};
 use s390x_disassembler::Note;
-use s390x_tool::{put_trap_code, reloc_kind_name};
+use s390x_job_fields::atoms;
+use s390x_tool::reloc_kind_name;
 use std::alloc::{AllocError, Global};
 
 /// Appends a note for each constant, at its start: its number and its address. An error comes for want of memory alone.
@@ -94,6 +95,6 @@ fn put_trap(
 {
     let address = base.wrapping_add(trap.offset as u64);
     let mut text = format!(in alloc; "      {address:x}: trap ")?;
-    put_trap_code(&mut text, trap.code)?;
+    atoms::put_trap(&mut text, trap.code)?;
     put_note(notes, trap.offset, text)
 }

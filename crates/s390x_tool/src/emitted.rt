@@ -1,15 +1,15 @@
 //! The text of `emit`: the finished code and its tables, a line for each entry.
 ghost use Rattle.std.specs.Prelude.{◌≡◌, ℕ, List, [], ◌∷◌, ◌++◌, map, IfOk, OnOk, string_bytes};
 ghost use Rattle.s390x_job.specs.Completions.{text_of_lines};
-ghost use Rattle.s390x_job_fields.specs.Atoms.{trap_text};
 ghost use Rattle.s390x_job_fields.specs.Bytes.{bytes_text};
 ghost use Rattle.s390x_job_fields.specs.Lists.{more_text, open_text};
 ghost use Rattle.s390x_tool.specs.Emitted.{call_line, code_lines, emit_text, handler_entry_text, code_head_lines, reloc_kind_text, map_line, numbered_lines, patch_line, reloc_line, site_lines, start_offset_lines, trap_line, try_line};
 
-use s390x_base::{CodeOffset, Reloc, TrapCode, TrapKind};
+use s390x_base::{CodeOffset, Reloc};
 use s390x_buffer::{
     HandlerEntry, MachBufferFinalized, MapEntry, PatchEntry, RelocEntry, TrapEntry, TryEntry,
 };
+use s390x_job_fields::atoms::put_trap;
 use std::alloc::{AllocError, Global};
 
 /// The text of a finished code: `code` with its bytes in hex, `align` with its alignment in bytes, and then a line for each
@@ -150,22 +150,8 @@ impl Entry for TrapEntry {
     fn put(&self, out: &mut String) -> Result<(), AllocError> {
         let offset = self.offset;
         write!(out, "trap {offset} ")?;
-        put_trap_code(out, self.code)?;
+        put_trap(out, self.code)?;
         out.push_str("\n")
-    }
-}
-
-/// Appends the name of a trap code, `user` and its number for a user code. An error comes for want of memory alone.
-pub fn put_trap_code(out: &mut String, code: TrapCode) -> Result<(), AllocError>
-    ensures { OnOk result (string_bytes out.new ≡ string_bytes out.old ++ trap_text code) }
-{
-    match code.kind() {
-        TrapKind::StackOverflow => out.push_str("stk_ovf"),
-        TrapKind::IntegerOverflow => out.push_str("int_ovf"),
-        TrapKind::HeapOutOfBounds => out.push_str("heap_oob"),
-        TrapKind::IntegerDivisionByZero => out.push_str("int_divz"),
-        TrapKind::BadConversionToInteger => out.push_str("bad_toint"),
-        TrapKind::User(number) => write!(out, "user{number}"),
     }
 }
 
