@@ -5,6 +5,10 @@ use Rattle.s390x_job_bundle.specs.Completions.{has_line, line_ending}
 use Rattle.s390x_job_plan.specs.Text.{IsPlanned, text_of_planned}
 use Rattle.s390x_job_plan.specs.declared.planned_job.PlannedJob.{PlannedJob}
 
+-- a text of a planned job that is read has fewer bytes, 2 ^ 28: completed, it ends below `text_limit` of s390x_job
+abbrev pub plan_limit : ℕ
+plan_limit = 268435456
+
 -- what the job lacks, where none of the lines is `end`: an `endloop` for each loop that is open, and `end`
 abbrev pub job_ending : List (List ℕ) → List ℕ
 job_ending ws = if has_line (codes "end") ws then [] else closing (opens ws - closes ws)
