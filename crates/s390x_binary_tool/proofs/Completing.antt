@@ -17,7 +17,7 @@ use Rattle.s390x_binary_tool.specs.declared.words.Command.TheVariants.{Refusal, 
 use Rattle.s390x_binary_tool.proofs.Told.{same_command}
 use Rattle.s390x_bundle.specs.Table.{with_lines}
 use Rattle.s390x_tool.specs.Answers.{IsCodeOfJob, IsImageAt, symbols_of}
-use Rattle.s390x_tool.specs.Bundled.{member_of}
+use Rattle.s390x_bundle.specs.Members.{member_of}
 use Rattle.s390x_tool.specs.Causes.{FaultCountRose}
 use Rattle.s390x_tool.specs.Replies.{CallContext}
 use Rattle.s390x_tool.specs.declared.status.Status.TheVariants as status

@@ -17,7 +17,7 @@ use Rattle.s390x_binary_tool.specs.declared.words.Command.{Command}
 use Rattle.s390x_binary_tool.specs.declared.words.Command.TheVariants.{Refusal, Verify, Disassemble, Assemble, Listing, Object, Objects}
 use Rattle.s390x_tool.specs.Answers.{IsCodeOfJob, IsImageAt, job_cause, link_cause_of}
 use Rattle.s390x_tool.specs.Ends.{most_bytes}
-use Rattle.s390x_tool.specs.Bundled.{member_of}
+use Rattle.s390x_bundle.specs.Members.{member_of}
 use Rattle.s390x_binary_tool.specs.ImageText.{IsImageText}
 use Rattle.s390x_binary_tool.specs.Objects.{AreObjectMembers}
 use Rattle.s390x_binary_tool.specs.Verify.{IsVerifyText}

@@ -13,7 +13,8 @@ use Rattle.s390x_bundle.specs.Bundled as bundled
 use Rattle.s390x_bundle.specs.declared.error.BundleError.{BundleError}
 use Rattle.s390x_bundle.specs.declared.joining.Bundle.{Bundle}
 use Rattle.s390x_job_bundle.specs.declared.named_job.NamedJob.{NamedJob}
-use Rattle.s390x_c.specs.Bundle.{BundlesFunctionsTo, IsBundleRefusal, member_of}
+use Rattle.s390x_bundle.specs.Members.{member_of}
+use Rattle.s390x_c.specs.Bundle.{BundlesFunctionsTo, IsBundleRefusal}
 use Rattle.s390x_emit_int.specs.FunctionImage.{HasNoImage}
 use Rattle.s390x_emit_int.specs.declared.image.ImageError.{ImageError}
 use Rattle.s390x_emit_int.specs.declared.image.ImageError.TheVariants.{Refused, Link}

@@ -10,7 +10,8 @@ use Rattle.s390x_bundle.specs.declared.error.BundleError.TheVariants as cause
 use Rattle.s390x_bundle.specs.declared.member.Member.{Member}
 use Rattle.s390x_tool.specs.Words.{IsForm}
 use Rattle.s390x_tool.specs.declared.words.Command.TheVariants.{Bundle}
-use Rattle.s390x_tool.specs.Bundled.{CanBeBundled, IsBundleAccepted, IsBundleAnswer, member_of}
+use Rattle.s390x_bundle.specs.Members.{member_of}
+use Rattle.s390x_tool.specs.Bundled.{CanBeBundled, IsBundleAccepted, IsBundleAnswer}
 use Rattle.s390x_tool.specs.Causes.{FaultCountRose}
 use Rattle.s390x_tool.specs.Lines.{line}
 use Rattle.s390x_tool.specs.Replies.{CallContext, IsDelivered, IsReply}

@@ -5,6 +5,7 @@ use Rattle.hex.specs.Hex.{encode_lower}
 use Rattle.s390x_base.specs.declared.ir.ExternalName.{ExternalName}
 use Rattle.s390x_buffer.specs.declared.entries.MachBufferFinalized.{MachBufferFinalized}
 use Rattle.s390x_job.specs.Completions.{pieces}
+use Rattle.s390x_bundle.specs.Members.{member_of}
 use Rattle.s390x_bundle.specs.Bundled.{HasNoImage, IsImageOfMembers, duplicate_of}
 use Rattle.s390x_bundle.specs.Emitted.{AreEmitted, first_refused}
 use Rattle.s390x_bundle.specs.Joined.{misplaced_member, unlinked_member}
@@ -19,10 +20,6 @@ use Rattle.s390x_tool.specs.Ends.{most_bytes}
 use Rattle.s390x_tool.specs.Lines.{error_name, line, link_error_name}
 use Rattle.s390x_tool.specs.declared.status.Status.{Status}
 use Rattle.s390x_tool.specs.declared.status.Status.TheVariants as status
-
--- a function of the text as a member: what its job says of registers and memory means nothing there
-abbrev pub member_of : NamedJob → Member
-member_of f = record { name = f.name; function = f.job.function; info = f.job.info; state = f.job.state; symbols = f.job.symbols }
 
 -- `bundle CAUSE uN`
 abbrev pub named_refusal : List ℕ → ExternalName → List ℕ

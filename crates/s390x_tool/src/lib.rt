@@ -21,7 +21,7 @@ mod top_call;
 mod words;
 
 pub use alloc_command::alloc_reply;
-pub use bundle_command::{bundle_refused, bundle_reply, members_of};
+pub use bundle_command::{bundle_refused, bundle_reply};
 pub use emitted::{emitted_text, reloc_kind_name};
 pub use ends::{Failed, Sink, Source};
 pub use error_names::{emit_error_line, emit_error_name};
