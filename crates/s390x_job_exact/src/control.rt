@@ -115,7 +115,7 @@ struct CallEnd {
 }
 
 #[tactic(auto, using(crate::proofs::Lines::five_fields))]
-#[inline(never)]
+#[inline(always)]
 fn call_front(alloc: Global, cursor: &mut ExactCursor) -> Option<CallBeginning>
     ensures { IfSome result
         (λ c. TakesAll
@@ -137,7 +137,7 @@ fn call_front(alloc: Global, cursor: &mut ExactCursor) -> Option<CallBeginning>
 }
 
 #[tactic(auto, using(crate::proofs::Lines::six_fields))]
-#[inline(never)]
+#[inline(always)]
 fn call_back(cursor: &mut ExactCursor) -> Option<CallEnd>
     ensures { IfSome result
         (λ c. TakesAll

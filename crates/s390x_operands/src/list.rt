@@ -42,11 +42,8 @@ impl OperandList {
     fn take(&mut self, item: Reported) -> Result<(), OperandError>
         ensures { Takes false item self.old.items.items self.new.items.items result }
     {
-        match self.items.reserve(1) {
-            Ok(()) => {
-                self.items.push_reserved(item);
-                Ok(())
-            }
+        match self.items.extend_from_slice(&[item]) {
+            Ok(()) => Ok(()),
             Err(_) => Err(OperandError::NoMemory),
         }
     }

@@ -27,7 +27,7 @@ pub fn drawn_schedule(
 
 // The next number of the sequence.
 fn next_number(drawn: u32) -> u32
-    ensures { result ≡ next_number drawn_numbers }
+    ensures { result ≡ next_number drawn }
 {
     let next = (u64::from(drawn) * 1664525 + 1013904223) % 4294967296;
     next as u32
