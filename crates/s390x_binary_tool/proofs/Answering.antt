@@ -54,12 +54,10 @@ refusal_placed j r s text h (inr memory) = refusal_memory j s text memory.0 memo
 
 -- the reply to the only job whose text the input is
 pub refusal_answer : (input : List ℕ) (j : Job) (s : BinaryStatus) (text : List ℕ) → IsJob j → text_of_job j ≡ input → ((k : Job) → IsJob k → text_of_job k ≡ input → SameJob j k) → IsRefusalReply j s text → IsRefusalAnswer input s text
-refusal_answer input j Differs text is spelled one reply = absurd reply
-refusal_answer input j ObjectRefused text is spelled one reply = absurd reply
 refusal_answer input j (Shared status.Ok) text is spelled one reply = record { job = j; is = is; spelled = spelled; one = one; reply = reply }
 refusal_answer input j (Shared status.Refused) text is spelled one reply = record { job = j; is = is; spelled = spelled; one = one; reply = reply }
 refusal_answer input j (Shared status.NoMemory) text is spelled one reply = reply
-refusal_answer input j (Shared s) text is spelled one reply = absurd reply
+refusal_answer input j s text is spelled one reply = absurd reply
 
 -- ---- `verify`
 
@@ -149,11 +147,9 @@ disassemble_memory base code s text is spelled = subst (λ t. IsDisassembleReply
 
 -- the reply to the code that the input writes
 pub disassemble_answer : (base : ℕ) (input code : List ℕ) (s : BinaryStatus) (text : List ℕ) → IsImageText input code → IsDisassembleReply base code s text → IsDisassembleAnswer base input s text
-disassemble_answer base input code Differs text hex reply = absurd reply
-disassemble_answer base input code ObjectRefused text hex reply = absurd reply
 disassemble_answer base input code (Shared status.Ok) text hex reply = record { code = code; hex = hex; is = reply }
 disassemble_answer base input code (Shared status.NoMemory) text hex reply = reply
-disassemble_answer base input code (Shared s) text hex reply = absurd reply
+disassemble_answer base input code s text hex reply = absurd reply
 
 -- ---- `list`
 
@@ -191,13 +187,11 @@ list_syntax base input n first s text e (inr memory) is = list_no_memory base in
 
 -- the reply to the only job whose text the input is
 pub list_answer : (base : ℕ) (input : List ℕ) (j : Job) (s : BinaryStatus) (text : List ℕ) → IsJob j → text_of_job j ≡ input → ((k : Job) → IsJob k → text_of_job k ≡ input → SameJob j k) → IsListReply base j s text → IsListAnswer base input s text
-list_answer base input j Differs text is spelled one reply = absurd reply
-list_answer base input j ObjectRefused text is spelled one reply = absurd reply
 list_answer base input j (Shared status.Ok) text is spelled one reply = record { job = j; is = is; spelled = spelled; one = one; reply = reply }
 list_answer base input j (Shared status.Refused) text is spelled one reply = record { job = j; is = is; spelled = spelled; one = one; reply = reply }
 list_answer base input j (Shared status.LinkRefused) text is spelled one reply = record { job = j; is = is; spelled = spelled; one = one; reply = reply }
 list_answer base input j (Shared status.NoMemory) text is spelled one reply = reply
-list_answer base input j (Shared s) text is spelled one reply = absurd reply
+list_answer base input j s text is spelled one reply = absurd reply
 
 -- ---- `assemble`
 

@@ -15,8 +15,9 @@ use Rattle.s390x_binary_tool.specs.Words.{IsForm}
 use Rattle.s390x_binary_tool.specs.declared.words.Command.{Command}
 use Rattle.s390x_binary_tool.specs.declared.words.Command.TheVariants.{Refusal, Verify, Disassemble, Assemble, Listing, Object, Objects}
 use Rattle.s390x_binary_tool.proofs.Told.{same_command}
-use Rattle.s390x_tool.specs.Answers.{IsCodeOfJob, IsImageAt, symbols_of, with_symbols}
-use Rattle.s390x_tool.specs.Bundled.{member_of}
+use Rattle.s390x_bundle.specs.Table.{with_lines}
+use Rattle.s390x_tool.specs.Answers.{IsCodeOfJob, IsImageAt, symbols_of}
+use Rattle.s390x_bundle.specs.Members.{member_of}
 use Rattle.s390x_tool.specs.Causes.{FaultCountRose}
 use Rattle.s390x_tool.specs.Replies.{CallContext}
 use Rattle.s390x_tool.specs.declared.status.Status.TheVariants as status
@@ -46,7 +47,7 @@ no_cause o e none some = let clash = sym none ∙ some in absurd cc
 -- ---- jobs with the same lines
 
 same_table : (j k : Job) → IsJob j → IsJob k → SameJob j k → symbols_of j ≡ symbols_of k
-same_table j k a b e = ap (with_symbols no_symbols) (same_symbols j k a b e)
+same_table j k a b e = ap (with_lines no_symbols) (same_symbols j k a b e)
 
 -- a code of one is a finished code of the other
 moved : (j k : Job) (code : MachBufferFinalized) → IsJob j → IsJob k → SameJob j k → IsCodeOfJob k code → IsFinishedCode (folded_trees_of j.info.isa_flags j.state j.function) (constants_of j.function) code
@@ -90,22 +91,19 @@ linked_too base j k bytes code a b e y finished =
 -- ---- each command
 
 refusal_done : (input : List ℕ) (s : BinaryStatus) (text : List ℕ) → IsValidJob input → IsRefusalAnswer input s text → IsDoneStatus s
-refusal_done input Differs text v a = absurd a.reply
-refusal_done input ObjectRefused text v a = absurd a.reply
 refusal_done input (Shared status.Ok) text v a = inl refl
 refusal_done input (Shared status.NoMemory) text v a = inr refl
 refusal_done input (Shared status.Syntax) text v a = absurd (a.no_job v.job v.is v.spelled)
 refusal_done input (Shared status.Refused) text v a =
     let same = a.one v.job v.is v.spelled in
     absurd (no_cause _ a.reply.error (same_cause a.job v.job a.is v.is same ∙ v.valid) a.reply.cause)
-refusal_done input (Shared s) text v a = absurd a.reply
+refusal_done input s text v a = absurd a.reply
 
 verify_done : (base : ℕ) (input : List ℕ) (s : BinaryStatus) (text : List ℕ) → IsJobWithImage base input → IsVerifyAnswer base input s text → IsDoneStatus s
 verify_done base input Differs text v a =
     let one = a.one v.job v.given v.are in
     let same = one_image base a.job v.job a.reply.bytes v.given a.are.is v.are.is one.0 a.reply.image v.image in
     absurd (a.reply.other (subst (IsJobImage base a.job) (same ∙ one.1) a.reply.image))
-verify_done base input ObjectRefused text v a = absurd a.reply
 verify_done base input (Shared status.Ok) text v a = inl refl
 verify_done base input (Shared status.NoMemory) text v a = inr refl
 verify_done base input (Shared status.Syntax) text v a = absurd (a.none v.job v.given v.are)
@@ -116,27 +114,21 @@ verify_done base input (Shared status.LinkRefused) text v a =
     let one = a.one v.job v.given v.are in
     let why = a.reply.cause in
     absurd (no_cause _ a.reply.error (linked_too base a.job v.job v.given why.code a.are.is v.are.is one.0 v.image why.finished) why.cause)
-verify_done base input (Shared s) text v a = absurd a.reply
+verify_done base input s text v a = absurd a.reply
 
 disassemble_done : (base : ℕ) (input : List ℕ) (s : BinaryStatus) (text : List ℕ) → IsHexCode input → IsDisassembleAnswer base input s text → IsDoneStatus s
-disassemble_done base input Differs text v a = absurd a
-disassemble_done base input ObjectRefused text v a = absurd a
 disassemble_done base input (Shared status.Ok) text v a = inl refl
 disassemble_done base input (Shared status.NoMemory) text v a = inr refl
 disassemble_done base input (Shared status.Syntax) text v a = absurd (a.wrong.none v.code v.hex)
-disassemble_done base input (Shared s) text v a = absurd a
+disassemble_done base input s text v a = absurd a
 
 assemble_done : (base : ℕ) (input : List ℕ) (s : BinaryStatus) (text : List ℕ) → IsSomeSource base input → IsAssembleAnswer base input s text → IsDoneStatus s
-assemble_done base input Differs text v a = absurd a
-assemble_done base input ObjectRefused text v a = absurd a
 assemble_done base input (Shared status.Ok) text v a = inl refl
 assemble_done base input (Shared status.NoMemory) text v a = inr refl
 assemble_done base input (Shared status.Syntax) text v a = absurd (a.none v.code v.bytes v.is)
-assemble_done base input (Shared s) text v a = absurd a
+assemble_done base input s text v a = absurd a
 
 list_done : (base : ℕ) (input : List ℕ) (s : BinaryStatus) (text : List ℕ) → IsLinkableJob base input → IsListAnswer base input s text → IsDoneStatus s
-list_done base input Differs text v a = absurd a.reply
-list_done base input ObjectRefused text v a = absurd a.reply
 list_done base input (Shared status.Ok) text v a = inl refl
 list_done base input (Shared status.NoMemory) text v a = inr refl
 list_done base input (Shared status.Syntax) text v a = absurd (a.no_job v.valid.job v.valid.is v.valid.spelled)
@@ -147,10 +139,9 @@ list_done base input (Shared status.LinkRefused) text v a =
     let same = a.one v.valid.job v.valid.is v.valid.spelled in
     let none = ap (link_cause a.reply.code base) (same_table a.job v.valid.job a.is v.valid.is same) ∙ v.links a.reply.code (same_code a.job v.valid.job a.reply.code a.is v.valid.is same a.reply.is) in
     absurd (no_cause _ a.reply.error none a.reply.cause)
-list_done base input (Shared s) text v a = absurd a.reply
+list_done base input s text v a = absurd a.reply
 
 object_done : (name input : List ℕ) (s : BinaryStatus) (text : List ℕ) → IsObjectJob name input → IsObjectAnswer name input s text → IsDoneStatus s
-object_done name input Differs text v a = absurd a.reply
 object_done name input ObjectRefused text v a =
     let same = a.one v.valid.job v.valid.is v.valid.spelled in
     absurd (no_cause _ a.reply.error (v.named a.reply.code (same_code a.job v.valid.job a.reply.code a.is v.valid.is same a.reply.is)) a.reply.cause)
@@ -160,10 +151,9 @@ object_done name input (Shared status.Syntax) text v a = absurd (a.no_job v.vali
 object_done name input (Shared status.Refused) text v a =
     let same = a.one v.valid.job v.valid.is v.valid.spelled in
     absurd (no_cause _ a.reply.error (same_cause a.job v.valid.job a.is v.valid.is same ∙ v.valid.valid) a.reply.cause)
-object_done name input (Shared s) text v a = absurd a.reply
+object_done name input s text v a = absurd a.reply
 
 objects_done : (input : List ℕ) (s : BinaryStatus) (text : List ℕ) → AreObjectFunctions input → IsObjectsAnswer input s text → IsDoneStatus s
-objects_done input Differs text v a = absurd a.reply
 objects_done input ObjectRefused text v a =
     let same = a.are.one v.functions v.are v.spelled in
     let moved = same_objects a.functions v.functions a.reply.objects a.are.are v.are same a.reply.are in
@@ -174,7 +164,7 @@ objects_done input (Shared status.Syntax) text v a = absurd (a.none (v.functions
 objects_done input (Shared status.BundleRefused) text v a =
     let same = a.are.one v.functions v.are v.spelled in
     absurd (coded (map member_of a.functions) a.reply.error (same_duplicate a.functions v.functions a.are.are v.are same ∙ v.names) (same_refused a.functions v.functions a.are.are v.are same ∙ v.valid) a.reply.named a.reply.cause)
-objects_done input (Shared s) text v a = absurd a.reply
+objects_done input s text v a = absurd a.reply
 
 command_done : (c : Command) (words : List (List ℕ)) (input : List ℕ) (s : BinaryStatus) (text : List ℕ) → IsUnrefused c words input → IsInputAnswer c words input s text → IsDoneStatus s
 command_done Refusal words input s text v a = refusal_done input s text v a
@@ -195,22 +185,15 @@ answered_done f s text c input a form left unrefused =
 
 completed_reply : (f : CallContext) (s : BinaryStatus) (text : List ℕ) (c : Command) (input : List ℕ)
     → IsReply f s text → IsForm f.words c → f.left ≡ Some input → IsAccepted c f.words input → (FaultCountRose f.faults f.faults' → ⊥) → IsDoneStatus s
-completed_reply f Differs text c input reply form left accepted quiet = answered_done f Differs text c input reply form left accepted.unrefused
-completed_reply f ObjectRefused text c input reply form left accepted quiet = answered_done f ObjectRefused text c input reply form left accepted.unrefused
+completed_reply f (Shared status.Ok) text c input reply form left accepted quiet = inl refl
+completed_reply f (Shared status.NoMemory) text c input reply form left accepted quiet = inr refl
 completed_reply f (Shared status.Usage) text c input reply form left accepted quiet = absurd (reply.0.none c form)
 completed_reply f (Shared status.ReadFault) text c input reply form left accepted quiet = absurd (quiet reply.0.rose)
 completed_reply f (Shared status.InputTooLong) text c input reply form left accepted quiet =
     let less = read_less f.left f.left' input reply.0.long.taken left reply.0.long.consumed in
     absurd (omega (arith, reply.0.long.long, accepted.short, less))
 completed_reply f (Shared status.WriteFault) text c input reply form left accepted quiet = absurd reply
-completed_reply f (Shared status.NoMemory) text c input reply form left accepted quiet = inr refl
-completed_reply f (Shared status.Ok) text c input reply form left accepted quiet = inl refl
-completed_reply f (Shared status.Syntax) text c input reply form left accepted quiet = answered_done f (Shared status.Syntax) text c input reply form left accepted.unrefused
-completed_reply f (Shared status.Refused) text c input reply form left accepted quiet = answered_done f (Shared status.Refused) text c input reply form left accepted.unrefused
-completed_reply f (Shared status.LinkRefused) text c input reply form left accepted quiet = answered_done f (Shared status.LinkRefused) text c input reply form left accepted.unrefused
-completed_reply f (Shared status.BadWord) text c input reply form left accepted quiet = answered_done f (Shared status.BadWord) text c input reply form left accepted.unrefused
-completed_reply f (Shared status.PlanRefused) text c input reply form left accepted quiet = answered_done f (Shared status.PlanRefused) text c input reply form left accepted.unrefused
-completed_reply f (Shared status.BundleRefused) text c input reply form left accepted quiet = answered_done f (Shared status.BundleRefused) text c input reply form left accepted.unrefused
+completed_reply f s text c input reply form left accepted quiet = answered_done f s text c input reply form left accepted.unrefused
 
 -- how a call on an accepted input ends, where nothing failed
 pub completed : (f : CallContext) (told told' : Option (List ℕ)) (faults faults' : ℕ) (s : BinaryStatus) (text : List ℕ) (result : BinaryStatus)

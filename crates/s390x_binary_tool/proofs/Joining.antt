@@ -13,7 +13,8 @@ use Rattle.s390x_elf.specs.Members.{IsLinkedAsMembers, IsObjectOfMembers, member
 use Rattle.s390x_elf.specs.declared.error.ObjectError.{ObjectError}
 use Rattle.s390x_elf.specs.declared.error.ObjectError.TheVariants as kind
 use Rattle.s390x_elf.specs.declared.members.ObjectMember.{ObjectMember}
-use Rattle.s390x_tool.specs.Bundled.{IsBundleRefusal, member_of}
+use Rattle.s390x_bundle.specs.Members.{member_of}
+use Rattle.s390x_tool.specs.Bundled.{IsBundleRefusal}
 use Rattle.s390x_tool.specs.Lines.{line}
 use Rattle.s390x_tool.specs.declared.status.Status.{Status}
 use Rattle.s390x_tool.specs.declared.status.Status.TheVariants as status

@@ -50,9 +50,8 @@ object_unemitted name j e first s text why (inr memory) is = object_memory name 
 
 -- the reply to the only job whose text the input is
 pub object_answer : (name input : List ℕ) (j : Job) (s : BinaryStatus) (text : List ℕ) → IsJob j → text_of_job j ≡ input → ((k : Job) → IsJob k → text_of_job k ≡ input → SameJob j k) → IsObjectReply name j s text → IsObjectAnswer name input s text
-object_answer name input j Differs text is spelled one reply = absurd reply
 object_answer name input j ObjectRefused text is spelled one reply = record { job = j; is = is; spelled = spelled; one = one; reply = reply }
 object_answer name input j (Shared status.Ok) text is spelled one reply = record { job = j; is = is; spelled = spelled; one = one; reply = reply }
 object_answer name input j (Shared status.Refused) text is spelled one reply = record { job = j; is = is; spelled = spelled; one = one; reply = reply }
 object_answer name input j (Shared status.NoMemory) text is spelled one reply = reply
-object_answer name input j (Shared s) text is spelled one reply = absurd reply
+object_answer name input j s text is spelled one reply = absurd reply

@@ -13,48 +13,38 @@ use Rattle.s390x_tool.specs.declared.status.Status.TheVariants as status
 use Rattle.s390x_binary_tool.specs.Words.{IsForm, IsNoForm}
 use Rattle.s390x_binary_tool.specs.declared.words.Command.{Command}
 use Rattle.s390x_binary_tool.specs.declared.words.Command.TheVariants.{Refusal, Verify, Listing, Disassemble, Assemble, Object, Objects}
-use Rattle.s390x_binary_tool.specs.Replies.{IsDelivered, IsDone, IsInputAnswer, IsReply}
+use Rattle.s390x_binary_tool.specs.Replies.{IsAnswered, IsDelivered, IsDone, IsInputAnswer, IsReply}
 use Rattle.s390x_binary_tool.specs.declared.status.BinaryStatus.{BinaryStatus}
 use Rattle.s390x_binary_tool.specs.declared.status.BinaryStatus.TheVariants.{Shared, Differs, ObjectRefused}
 
 -- ---- the reply
 
--- no answer has these statuses
-no_usage : (c : Command) (words : List (List ℕ)) (given text : List ℕ) → IsInputAnswer c words given (Shared status.Usage) text → ⊥
-no_usage Refusal words given text a = absurd a.reply
-no_usage (Verify base) words given text a = absurd a.reply
-no_usage (Listing base) words given text a = absurd a.reply
-no_usage (Disassemble base) words given text a = absurd a
-no_usage (Assemble base) words given text a = absurd a
-no_usage Object words given text a = absurd a.reply
-no_usage Objects words given text a = absurd a.reply
+-- the statuses of answers
+abbrev IsOfAnswer : BinaryStatus → Type 0
+IsOfAnswer (Shared status.Usage) = ⊥
+IsOfAnswer (Shared status.ReadFault) = ⊥
+IsOfAnswer (Shared status.WriteFault) = ⊥
+IsOfAnswer (Shared status.InputTooLong) = ⊥
+IsOfAnswer s = Unit {0}
 
-no_read_fault : (c : Command) (words : List (List ℕ)) (given text : List ℕ) → IsInputAnswer c words given (Shared status.ReadFault) text → ⊥
-no_read_fault Refusal words given text a = absurd a.reply
-no_read_fault (Verify base) words given text a = absurd a.reply
-no_read_fault (Listing base) words given text a = absurd a.reply
-no_read_fault (Disassemble base) words given text a = absurd a
-no_read_fault (Assemble base) words given text a = absurd a
-no_read_fault Object words given text a = absurd a.reply
-no_read_fault Objects words given text a = absurd a.reply
-
-no_write_fault : (c : Command) (words : List (List ℕ)) (given text : List ℕ) → IsInputAnswer c words given (Shared status.WriteFault) text → ⊥
-no_write_fault Refusal words given text a = absurd a.reply
-no_write_fault (Verify base) words given text a = absurd a.reply
-no_write_fault (Listing base) words given text a = absurd a.reply
-no_write_fault (Disassemble base) words given text a = absurd a
-no_write_fault (Assemble base) words given text a = absurd a
-no_write_fault Object words given text a = absurd a.reply
-no_write_fault Objects words given text a = absurd a.reply
-
-no_long_input : (c : Command) (words : List (List ℕ)) (given text : List ℕ) → IsInputAnswer c words given (Shared status.InputTooLong) text → ⊥
-no_long_input Refusal words given text a = absurd a.reply
-no_long_input (Verify base) words given text a = absurd a.reply
-no_long_input (Listing base) words given text a = absurd a.reply
-no_long_input (Disassemble base) words given text a = absurd a
-no_long_input (Assemble base) words given text a = absurd a
-no_long_input Object words given text a = absurd a.reply
-no_long_input Objects words given text a = absurd a.reply
+of_answer : (c : Command) (words : List (List ℕ)) (given : List ℕ) (s : BinaryStatus) (text : List ℕ) → IsInputAnswer c words given s text → IsOfAnswer s
+of_answer c words given Differs text a = tt
+of_answer c words given ObjectRefused text a = tt
+of_answer c words given (Shared status.NoMemory) text a = tt
+of_answer c words given (Shared status.Ok) text a = tt
+of_answer c words given (Shared status.Syntax) text a = tt
+of_answer c words given (Shared status.Refused) text a = tt
+of_answer c words given (Shared status.LinkRefused) text a = tt
+of_answer c words given (Shared status.BadWord) text a = tt
+of_answer c words given (Shared status.PlanRefused) text a = tt
+of_answer c words given (Shared status.BundleRefused) text a = tt
+of_answer Refusal words given (Shared s) text a = absurd a.reply
+of_answer (Verify base) words given (Shared s) text a = absurd a.reply
+of_answer (Listing base) words given (Shared s) text a = absurd a.reply
+of_answer (Disassemble base) words given (Shared s) text a = absurd a
+of_answer (Assemble base) words given (Shared s) text a = absurd a
+of_answer Object words given (Shared s) text a = absurd a.reply
+of_answer Objects words given (Shared s) text a = absurd a.reply
 
 memory_line : (c : Command) (words : List (List ℕ)) (given text : List ℕ) → IsInputAnswer c words given (Shared status.NoMemory) text → text ≡ line (codes "no memory")
 memory_line Refusal words given text a = a
@@ -65,23 +55,18 @@ memory_line (Assemble base) words given text a = a
 memory_line Object words given text a = a
 memory_line Objects words given text a = a
 
+reply_of_answer : (f : CallContext) (s : BinaryStatus) (text : List ℕ) → IsAnswered f s text → IsReply f s text
+reply_of_answer f (Shared status.Usage) text a = absurd (of_answer a.command f.words a.input (Shared status.Usage) text a.answer)
+reply_of_answer f (Shared status.ReadFault) text a = absurd (of_answer a.command f.words a.input (Shared status.ReadFault) text a.answer)
+reply_of_answer f (Shared status.InputTooLong) text a = absurd (of_answer a.command f.words a.input (Shared status.InputTooLong) text a.answer)
+reply_of_answer f (Shared status.WriteFault) text a = absurd (of_answer a.command f.words a.input (Shared status.WriteFault) text a.answer)
+reply_of_answer f (Shared status.NoMemory) text a =
+    (record { command = a.command; form = a.form; part = whole_part f.left f.left' a.input a.read; same = a.same }, memory_line a.command f.words a.input text a.answer)
+reply_of_answer f s text a = a
+
 -- the answer to a command and its whole input is the reply
 pub reply_answered : (f : CallContext) (c : Command) (given : List ℕ) (s : BinaryStatus) (text : List ℕ) → IsForm f.words c → IsRead f.left f.left' given → f.faults' ≡ f.faults → IsInputAnswer c f.words given s text → IsReply f s text
-reply_answered f c given Differs text form read same answer = record { command = c; form = form; input = given; read = read; same = same; answer = answer }
-reply_answered f c given ObjectRefused text form read same answer = record { command = c; form = form; input = given; read = read; same = same; answer = answer }
-reply_answered f c given (Shared status.Usage) text form read same answer = absurd (no_usage c f.words given text answer)
-reply_answered f c given (Shared status.ReadFault) text form read same answer = absurd (no_read_fault c f.words given text answer)
-reply_answered f c given (Shared status.InputTooLong) text form read same answer = absurd (no_long_input c f.words given text answer)
-reply_answered f c given (Shared status.WriteFault) text form read same answer = absurd (no_write_fault c f.words given text answer)
-reply_answered f c given (Shared status.NoMemory) text form read same answer =
-    (record { command = c; form = form; part = whole_part f.left f.left' given read; same = same }, memory_line c f.words given text answer)
-reply_answered f c given (Shared status.Ok) text form read same answer = record { command = c; form = form; input = given; read = read; same = same; answer = answer }
-reply_answered f c given (Shared status.Syntax) text form read same answer = record { command = c; form = form; input = given; read = read; same = same; answer = answer }
-reply_answered f c given (Shared status.Refused) text form read same answer = record { command = c; form = form; input = given; read = read; same = same; answer = answer }
-reply_answered f c given (Shared status.LinkRefused) text form read same answer = record { command = c; form = form; input = given; read = read; same = same; answer = answer }
-reply_answered f c given (Shared status.BadWord) text form read same answer = record { command = c; form = form; input = given; read = read; same = same; answer = answer }
-reply_answered f c given (Shared status.PlanRefused) text form read same answer = record { command = c; form = form; input = given; read = read; same = same; answer = answer }
-reply_answered f c given (Shared status.BundleRefused) text form read same answer = record { command = c; form = form; input = given; read = read; same = same; answer = answer }
+reply_answered f c given s text form read same answer = reply_of_answer f s text (record { command = c; form = form; input = given; read = read; same = same; answer = answer })
 
 -- so is that the input isn't read to its end
 pub reply_unread : (f : CallContext) (c : Command) (e : InputError) (s : Status) (text : List ℕ) → IsForm f.words c
@@ -99,37 +84,21 @@ reply_unread f c input.NoMemory s text form long rose failed stopped (inr same) 
 
 -- where the words are no command the reply is that
 usage_reply : (f : CallContext) (s : BinaryStatus) (text : List ℕ) → IsNoForm f.words → IsReply f s text → s ≡ Shared status.Usage
-usage_reply f Differs text none reply = absurd (none reply.command reply.form)
-usage_reply f ObjectRefused text none reply = absurd (none reply.command reply.form)
 usage_reply f (Shared status.Usage) text none reply = refl
 usage_reply f (Shared status.ReadFault) text none reply = absurd (none reply.0.command reply.0.form)
 usage_reply f (Shared status.InputTooLong) text none reply = absurd (none reply.0.command reply.0.form)
 usage_reply f (Shared status.NoMemory) text none reply = absurd (none reply.0.command reply.0.form)
 usage_reply f (Shared status.WriteFault) text none reply = absurd reply
-usage_reply f (Shared status.Ok) text none reply = absurd (none reply.command reply.form)
-usage_reply f (Shared status.Syntax) text none reply = absurd (none reply.command reply.form)
-usage_reply f (Shared status.Refused) text none reply = absurd (none reply.command reply.form)
-usage_reply f (Shared status.LinkRefused) text none reply = absurd (none reply.command reply.form)
-usage_reply f (Shared status.BadWord) text none reply = absurd (none reply.command reply.form)
-usage_reply f (Shared status.PlanRefused) text none reply = absurd (none reply.command reply.form)
-usage_reply f (Shared status.BundleRefused) text none reply = absurd (none reply.command reply.form)
+usage_reply f s text none reply = absurd (none reply.command reply.form)
 
 -- where the count of faults has risen, the reply says so
 fault_reply : (f : CallContext) (s : BinaryStatus) (text : List ℕ) → f.faults < f.faults' → IsReply f s text → s ≡ Shared status.ReadFault
-fault_reply f Differs text rose reply = absurd (omega (arith, rose, reply.same))
-fault_reply f ObjectRefused text rose reply = absurd (omega (arith, rose, reply.same))
-fault_reply f (Shared status.Usage) text rose reply = absurd (omega (arith, rose, reply.0.same))
 fault_reply f (Shared status.ReadFault) text rose reply = refl
+fault_reply f (Shared status.Usage) text rose reply = absurd (omega (arith, rose, reply.0.same))
 fault_reply f (Shared status.InputTooLong) text rose reply = absurd (omega (arith, rose, reply.0.same))
 fault_reply f (Shared status.NoMemory) text rose reply = absurd (omega (arith, rose, reply.0.same))
 fault_reply f (Shared status.WriteFault) text rose reply = absurd reply
-fault_reply f (Shared status.Ok) text rose reply = absurd (omega (arith, rose, reply.same))
-fault_reply f (Shared status.Syntax) text rose reply = absurd (omega (arith, rose, reply.same))
-fault_reply f (Shared status.Refused) text rose reply = absurd (omega (arith, rose, reply.same))
-fault_reply f (Shared status.LinkRefused) text rose reply = absurd (omega (arith, rose, reply.same))
-fault_reply f (Shared status.BadWord) text rose reply = absurd (omega (arith, rose, reply.same))
-fault_reply f (Shared status.PlanRefused) text rose reply = absurd (omega (arith, rose, reply.same))
-fault_reply f (Shared status.BundleRefused) text rose reply = absurd (omega (arith, rose, reply.same))
+fault_reply f s text rose reply = absurd (omega (arith, rose, reply.same))
 
 -- a delivered status is the reply's or tells of a failed write
 delivered_status : (told told' : Option (List ℕ)) (faults faults' : ℕ) (s : BinaryStatus) (text : List ℕ) (result : BinaryStatus)

@@ -42,15 +42,12 @@ same_command words b c first second = one_of b c (sym (told_back b words first.s
 -- a word alone that is no command's
 pub none_alone : (w : List ℕ) → w ≢ codes "refusal" → w ≢ codes "object" → w ≢ codes "objects" → IsNoForm (w ∷ [])
 none_alone w no_refusal no_object no_objects Refusal form = no_refusal (ap (λ ws. get_or ws 0 []) form.spelled)
-none_alone w no_refusal no_object no_objects (Verify base) form = absurd (omega (arith, ap length form.spelled))
-none_alone w no_refusal no_object no_objects (Disassemble base) form = absurd (omega (arith, ap length form.spelled))
-none_alone w no_refusal no_object no_objects (Assemble base) form = absurd (omega (arith, ap length form.spelled))
-none_alone w no_refusal no_object no_objects (Listing base) form = absurd (omega (arith, ap length form.spelled))
 none_alone w no_refusal no_object no_objects Object form = elim form.spelled [
   | inl is ↦ no_object (ap (λ ws. get_or ws 0 []) is)
   | inr is ↦ absurd (omega (arith, ap length is))
 ]
 none_alone w no_refusal no_object no_objects Objects form = no_objects (ap (λ ws. get_or ws 0 []) form.spelled)
+none_alone w no_refusal no_object no_objects c form = absurd (omega (arith, ap length form.spelled))
 
 no_object_pair : (w x : List ℕ) → w ≢ codes "object" → IsSpelled Object (w ∷ x ∷ []) → ⊥
 no_object_pair w x no_object (inl is) = absurd (omega (arith, ap length is))
@@ -79,12 +76,9 @@ none_of_number w x no_object none Objects form = absurd (omega (arith, ap length
 -- as many words as no command has
 pub none_of_length : (words : List (List ℕ)) → length words ≢ 1 → length words ≢ 2 → IsNoForm words
 none_of_length words one two Refusal form = one (ap length form.spelled)
-none_of_length words one two (Verify base) form = two (ap length form.spelled)
-none_of_length words one two (Disassemble base) form = two (ap length form.spelled)
-none_of_length words one two (Assemble base) form = two (ap length form.spelled)
-none_of_length words one two (Listing base) form = two (ap length form.spelled)
 none_of_length words one two Object form = elim form.spelled [
   | inl is ↦ one (ap length is)
   | inr is ↦ two (ap length is)
 ]
 none_of_length words one two Objects form = one (ap length form.spelled)
+none_of_length words one two c form = two (ap length form.spelled)

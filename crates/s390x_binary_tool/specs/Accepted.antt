@@ -16,7 +16,8 @@ use Rattle.s390x_binary_tool.specs.Words.{object_name}
 use Rattle.s390x_binary_tool.specs.declared.words.Command.{Command}
 use Rattle.s390x_binary_tool.specs.declared.words.Command.TheVariants.{Refusal, Verify, Disassemble, Assemble, Listing, Object, Objects}
 use Rattle.s390x_tool.specs.Answers.{IsCodeOfJob, IsImageAt, job_cause, link_cause_of}
-use Rattle.s390x_tool.specs.Bundled.{member_of}
+use Rattle.s390x_tool.specs.Ends.{most_bytes}
+use Rattle.s390x_bundle.specs.Members.{member_of}
 use Rattle.s390x_binary_tool.specs.ImageText.{IsImageText}
 use Rattle.s390x_binary_tool.specs.Objects.{AreObjectMembers}
 use Rattle.s390x_binary_tool.specs.Verify.{IsVerifyText}
@@ -77,5 +78,5 @@ IsUnrefused Objects words input = AreObjectFunctions input
 
 -- the input isn't too long, and nothing keeps the command, which these words are, from being done with it
 pub record IsAccepted (command : Command) (words : List (List ℕ)) (input : List ℕ) : Type 0 where
-  pub short : length input ≤ 16777216
+  pub short : length input ≤ most_bytes
   pub unrefused : IsUnrefused command words input

@@ -11,7 +11,8 @@ use Rattle.s390x_elf.specs.Members.{IsLinkedAsMembers, IsObjectOfMembers, member
 use Rattle.s390x_elf.specs.Names.{symbol_name}
 use Rattle.s390x_elf.specs.declared.error.ObjectError.{ObjectError}
 use Rattle.s390x_elf.specs.declared.members.ObjectMember.{ObjectMember}
-use Rattle.s390x_tool.specs.Bundled.{IsBundleSyntax, member_of, refusal_of_bundle}
+use Rattle.s390x_bundle.specs.Members.{member_of}
+use Rattle.s390x_tool.specs.Bundled.{IsBundleSyntax, refusal_of_bundle}
 use Rattle.s390x_tool.specs.Lines.{line}
 use Rattle.s390x_tool.specs.declared.status.Status.TheVariants as status
 use Rattle.s390x_binary_tool.specs.Object.{object_line}

@@ -1,13 +1,13 @@
 //! The notes of a finished code's tables.
-ghost use Rattle.std.specs.Prelude.{◌≡◌, ◌∷◌, [], ◌++◌, OnOk, map, string_bytes};
-ghost use Rattle.s390x_job_fields.specs.Atoms.{trap_text};
-ghost use Rattle.s390x_tool.specs.Emitted.{reloc_kind_text};
+ghost use Rattle.std.specs.Prelude.{◌≡◌, ◌∷◌, [], ◌++◌, OnOk, map};
 ghost use Rattle.s390x_binary_tool.specs.Notes.{constant_notes, plain_note, reloc_note, trap_note};
 
 use crate::notes::{put_note, put_placed};
-use s390x_base::{CodeOffset, Reloc, TrapCode, TrapKind};
+use s390x_base::CodeOffset;
 use s390x_buffer::{RelocEntry, TrapEntry};
 use s390x_disassembler::Note;
+use s390x_job_fields::atoms;
+use s390x_tool::reloc_kind_name;
 use std::alloc::{AllocError, Global};
 
 /// Appends a note for each constant, at its start: its number and its address. An error comes for want of memory alone.
@@ -58,22 +58,11 @@ fn put_reloc(
         ≡ map plain_note notes.old.items ++ reloc_note base reloc.now ∷ []) }
 {
     let address = base.wrapping_add(reloc.offset as u64);
-    let kind = kind_name(reloc.kind);
+    let kind = reloc_kind_name(reloc.kind);
     let name = reloc.name.0;
     let addend = reloc.addend;
     let text = format!(in alloc; "      {address:x}: {kind} u{name} {addend}")?;
     put_note(notes, reloc.offset, text)
-}
-
-// The name of a kind of relocation.
-fn kind_name(kind: Reloc) -> &'static str
-    ensures { result.now ≡ reloc_kind_text kind }
-{
-    match kind {
-        Reloc::S390xPCRel32Dbl => "PCRel32Dbl",
-        Reloc::S390xPLTRel32Dbl => "PLTRel32Dbl",
-        Reloc::Abs8 => "Abs8",
-    }
 }
 
 /// Appends a note for each trap, at its place: its code. An error comes for want of memory alone.
@@ -106,20 +95,6 @@ fn put_trap(
 {
     let address = base.wrapping_add(trap.offset as u64);
     let mut text = format!(in alloc; "      {address:x}: trap ")?;
-    put_code(&mut text, trap.code)?;
+    atoms::put_trap(&mut text, trap.code)?;
     put_note(notes, trap.offset, text)
-}
-
-// The name of a trap code, `user` and its number for a user code.
-fn put_code(out: &mut String, code: TrapCode) -> Result<(), AllocError>
-    ensures { OnOk result (string_bytes out.new ≡ string_bytes out.old ++ trap_text code) }
-{
-    match code.kind() {
-        TrapKind::StackOverflow => out.push_str("stk_ovf"),
-        TrapKind::IntegerOverflow => out.push_str("int_ovf"),
-        TrapKind::HeapOutOfBounds => out.push_str("heap_oob"),
-        TrapKind::IntegerDivisionByZero => out.push_str("int_divz"),
-        TrapKind::BadConversionToInteger => out.push_str("bad_toint"),
-        TrapKind::User(number) => write!(out, "user{number}"),
-    }
 }

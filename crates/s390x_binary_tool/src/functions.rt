@@ -12,11 +12,11 @@ use crate::object::object_refused;
 use crate::reply::{BinaryReply, shared_reply, with_file};
 use s390x_base::{EmitError, ExternalName};
 use s390x_buffer::MachBufferFinalized;
-use s390x_bundle::{BundleError, Member, duplicate_name};
+use s390x_bundle::{BundleError, Member, duplicate_name, members_of};
 use s390x_elf::ObjectMember;
 use s390x_emit_int::emit_function;
 use s390x_job_bundle::{BundleTextError, NamedJob, read_bundle};
-use s390x_tool::{bundle_refused, members_of, no_memory, syntax};
+use s390x_tool::{bundle_refused, no_memory, syntax};
 use std::alloc::{AllocError, Global};
 
 /// The answer to `objects` and its whole input.

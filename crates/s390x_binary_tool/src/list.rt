@@ -1,7 +1,7 @@
 //! The reply to the command `list`.
-ghost use Rattle.std.specs.Prelude.{◌<◌, ◌≡◌, ◌⊎◌, Some, IfErr, IfOk, length, string_bytes};
+ghost use Rattle.std.specs.Prelude.{◌<◌, ◌≡◌, IfOk, length, string_bytes};
 ghost use Rattle.std.specs.Cow.{cow_slice_items};
-ghost use Rattle.s390x_tool.specs.Answers.{IsCodeOfJob, IsLinked, link_cause_of};
+ghost use Rattle.s390x_tool.specs.Answers.{IsCodeOfJob, IsLinked};
 ghost use Rattle.s390x_tool.specs.Ends.{too_many};
 ghost use Rattle.s390x_binary_tool.specs.CodeListing.{IsCodeListing};
 ghost use Rattle.s390x_binary_tool.specs.Listing.{IsListAnswer, IsListReply};
@@ -9,13 +9,12 @@ ghost use Rattle.s390x_binary_tool.specs.Listing.{IsListAnswer, IsListReply};
 use crate::code_listing::listed_code;
 use crate::reply::{BinaryReply, shared_reply, with_text};
 use crate::status::BinaryStatus;
-use crate::verify::symbol_table;
 use s390x_buffer::MachBufferFinalized;
 use s390x_emit_int::emit_function;
-use s390x_image::{Image, LinkError, link};
+use s390x_image::Image;
 use s390x_job::{Job, LineError, read_lines};
 use s390x_text::valid_blocks_have_texts;
-use s390x_tool::{Status, link_refused, no_memory, refusal_reply, syntax};
+use s390x_tool::{Status, link_job, link_refused, no_memory, refusal_reply, syntax};
 use std::alloc::{AllocError, Global};
 
 /// The answer to `list` at this base and its whole input.
@@ -48,25 +47,6 @@ fn list_of_code(alloc: Global, base: u64, job: &Job, code: &MachBufferFinalized)
     match link_job(alloc, base, job, code) {
         Ok(image) => list_of_image(alloc, base, job, code, &image),
         Err(error) => shared_reply(link_refused(error)),
-    }
-}
-
-// The image of the job's code at the base, with the job's symbols.
-fn link_job(
-    alloc: Global,
-    base: u64,
-    job: &Job,
-    code: &MachBufferFinalized,
-) -> Result<Image, LinkError>
-    requires { IsCodeOfJob job.now code.now }
-    ensures linked { IfOk result (λ image. IsLinked base job.now code.now image.bytes.items) }
-    ensures base { IfOk result (λ image. image.base ≡ base) }
-    ensures refused { IfErr result
-        (λ e. (e ≡ LinkError.NoMemory) ⊎ (link_cause_of base job.now code.now ≡ Some e)) }
-{
-    match symbol_table(alloc, &job.symbols) {
-        Ok(symbols) => link(alloc, code, base, &symbols),
-        Err(_) => Err(LinkError::NoMemory),
     }
 }
 

@@ -4,6 +4,7 @@ ghost use Rattle.std.specs.Cow.{cow_slice_items};
 ghost use Rattle.s390x_tool.specs.Words.{texts};
 ghost use Rattle.s390x_tool.specs.Causes.{FaultCountRose};
 ghost use Rattle.s390x_tool.specs.Ends.{IsTooLong, too_many};
+ghost use Rattle.s390x_tool.specs.Replies.{call_context};
 ghost use Rattle.s390x_binary_tool.specs.Words.{IsForm, IsNoForm};
 ghost use Rattle.s390x_binary_tool.specs.declared.words.Command.{Command};
 ghost use Rattle.s390x_binary_tool.specs.Accepted.{IsAccepted};
@@ -34,26 +35,16 @@ pub fn run<S: Source, K: Sink>(
 ) -> BinaryStatus
     // The words and the input have this reply, and its text was written whole, or else a prefix of it.
     ensures ended { IsEnded
-        (record {
-          words = texts words.now;
-          left = S.left source.old;
-          left' = S.left source.new;
-          faults = S.faults source.old;
-          faults' = S.faults source.new;
-        }) (K.told sink.old)
+        (call_context (texts words.now) (S.left source.old) (S.left source.new)
+        (S.faults source.old) (S.faults source.new)) (K.told sink.old)
         (K.told sink.new) (K.faults sink.old) (K.faults sink.new) result }
     // At `Ok` the source held what the command reads, which nothing refuses, and the sink was told the command's text for it: `none` of a job that emission
     // doesn't refuse; nothing of a job and its image at this base; the disassembly of code, and of no other; the code of a source; the listing of a job; the object of a job, which
     // runs as typed wherever it is linked; the object of functions.
     ensures ok { result ≡ Shared status.Ok
         → IsDone
-        (record {
-          words = texts words.now;
-          left = S.left source.old;
-          left' = S.left source.new;
-          faults = S.faults source.old;
-          faults' = S.faults source.new;
-        }) (K.told sink.old)
+        (call_context (texts words.now) (S.left source.old) (S.left source.new)
+        (S.faults source.old) (S.faults source.new)) (K.told sink.old)
         (K.told sink.new) }
     // What nothing refuses is done, where no read and no write fails.
     ensures complete { (command : Command) (input : List ℕ) → IsForm (texts words.now) command
@@ -82,13 +73,8 @@ pub fn run<S: Source, K: Sink>(
 // The reply to these words and to what the source holds.
 fn reply_to<S: Source>(alloc: Global, words: &[String], source: &mut S) -> BinaryReply
     ensures { IsReply
-        (record {
-          words = texts words.now;
-          left = S.left source.old;
-          left' = S.left source.new;
-          faults = S.faults source.old;
-          faults' = S.faults source.new;
-        }) result.status
+        (call_context (texts words.now) (S.left source.old) (S.left source.new)
+        (S.faults source.old) (S.faults source.new)) result.status
         (cow_slice_items result.text) }
 {
     let Some(command) = read_words(words) else {

@@ -1,9 +1,7 @@
 //! The reply to the command `verify`.
-ghost use Rattle.std.specs.Prelude.{◌≡◌, ◌<◌, ◌≤◌, ◌++◌, codes, IfOk, length};
+ghost use Rattle.std.specs.Prelude.{◌<◌, ◌≤◌, ◌++◌, codes, length};
 ghost use Rattle.std.specs.Cow.{cow_slice_items};
 ghost use Rattle.std.specs.Fmt.{decimal};
-ghost use Rattle.s390x_image.specs.Symbols.{no_symbols};
-ghost use Rattle.s390x_tool.specs.Answers.{with_symbols};
 ghost use Rattle.s390x_tool.specs.Ends.{too_many};
 ghost use Rattle.s390x_tool.specs.Lines.{line};
 ghost use Rattle.s390x_binary_tool.specs.Made.{IsMadeReply};
@@ -13,10 +11,9 @@ ghost use Rattle.s390x_binary_tool.specs.Verify.{IsCutJob, IsVerifyAnswer, IsVer
 use crate::image_text::{first_difference, read_image};
 use crate::reply::{BinaryReply, shared_reply, text_reply};
 use crate::status::BinaryStatus;
-use s390x_base::NoMemory;
+use s390x_bundle::symbol_table;
 use s390x_emit_int::{ImageError, emit_image};
-use s390x_image::SymbolTable;
-use s390x_job::{Job, LineError, SymbolLine, read_lines};
+use s390x_job::{Job, LineError, read_lines};
 use s390x_job_bundle::{count_lines, job_size};
 use s390x_tool::{Status, link_refused, no_memory, refusal_reply, static_reply, syntax};
 use std::alloc::Global;
@@ -74,15 +71,4 @@ fn differs(alloc: Global, at: usize) -> BinaryReply
         (cow_slice_items result.text) }
 {
     text_reply(BinaryStatus::Differs, format!(in alloc; "differs {at}\n"))
-}
-
-/// The symbols of these lines.
-pub fn symbol_table(alloc: Global, lines: &[SymbolLine]) -> Result<SymbolTable, NoMemory>
-    ensures { IfOk result (λ table. table ≡ with_symbols no_symbols lines.now) }
-{
-    let mut table = SymbolTable::new(alloc);
-    for line in lines {
-        table.insert(line.name, line.address)?;
-    }
-    Ok(table)
 }

@@ -1,8 +1,9 @@
 //! The words after the program's name.
-ghost use Rattle.std.specs.Prelude.{◌≡◌, ◌≢◌, ◌↔◌, ◌∷◌, [], ℕ, ◌^◌, ◌<◌, codes, IsTrue, IfSome, IfNone};
-ghost use Rattle.std.specs.Fmt.{decimal};
-ghost use Rattle.s390x_tool.specs.Words.{IsPlain, texts};
+ghost use Rattle.std.specs.Prelude.{◌≡◌, ◌≢◌, ◌∷◌, [], codes, IfSome, IfNone};
+ghost use Rattle.s390x_tool.specs.Words.{texts};
 ghost use Rattle.s390x_binary_tool.specs.Words.{IsForm, IsNoForm, object_name};
+
+use s390x_tool::read_number;
 
 /// What the second program is asked for.
 #[derive(Clone, Copy)]
@@ -93,28 +94,4 @@ fn read_with_base(name: &str, base: &str) -> Option<Command>
         return Some(Command::Listing { base });
     }
     None
-}
-
-// The number below 2^64 that this word writes, in decimal without leading zeros.
-fn read_number(word: &str) -> Option<u64>
-    ensures some { IfSome result (λ n. word.now ≡ decimal n) }
-    ensures none { IfNone result ((n : ℕ) → n < 2 ^ 64 → word.now ≢ decimal n) }
-{
-    if !is_plain(word.as_bytes()) {
-        return None;
-    }
-    match word.parse::<u64>() {
-        Ok(number) => Some(number),
-        Err(_) => None,
-    }
-}
-
-// Whether no sign stands first, and a zero only alone.
-fn is_plain(digits: &[u8]) -> bool
-    ensures { IsTrue result ↔ IsPlain digits.now }
-{
-    match digits.first() {
-        Some(first) => *first != b'+' && (*first != b'0' || digits.len() == 1),
-        None => true,
-    }
 }

@@ -28,7 +28,7 @@ use Rattle.s390x_bundle.specs.Bytes.{Part, PartStands}
 use Rattle.s390x_bundle.specs.Emitted.{AreEmitted, IsEmitted, constants_of_member, folded_trees_of_member, trees_of_member}
 use Rattle.s390x_bundle.specs.Joined.{HasNoBundle, IsBundleOf, extent_of, member_parts, misplaced_member, starts_of_codes}
 use Rattle.s390x_bundle.specs.Linking.{Unlinked, first_unlinked, linked_parts, unlinked_or}
-use Rattle.s390x_bundle.specs.Named.{member_of, named_error, place_error}
+use Rattle.s390x_bundle.specs.Named.{member_in_error, named_error, place_error}
 use Rattle.s390x_bundle.specs.Names.{names_of}
 use Rattle.s390x_bundle.specs.Table.{symbols_of}
 use Rattle.s390x_bundle.proofs.Emitting.{emitted_finished}
@@ -97,7 +97,7 @@ module _ (base : ℕ) (members : List Member) (codes : List MachBufferFinalized)
   misplaced n name AddressTooHigh named first = record { codes = codes; names = names; emitted = emitted; member = n; named = named; first = first }
 
   -- the causes by a member's name, where one has it
-  caused : (o : Option ExternalName) (error : JoinError) (e : BundleError) → member_of members error ≡ o → named_error o error ≡ Some e → HasNoBundle base members codes error → HasNoImage base members e
+  caused : (o : Option ExternalName) (error : JoinError) (e : BundleError) → member_in_error members error ≡ o → named_error o error ≡ Some e → HasNoBundle base members codes error → HasNoImage base members e
   caused (Some name) (MisplacedMember n cause) e named is has = let same : place_error cause name ≡ e = cc in subst (λ x. HasNoImage base members x) same (misplaced n name cause named has)
   caused (Some name) (UnlinkedMember n error) e named is has =
       let same : LinkRefused name error ≡ e = cc in
@@ -107,5 +107,5 @@ module _ (base : ℕ) (members : List Member) (codes : List MachBufferFinalized)
   caused (Some name) JoinNoMemory e named is has = let same : NoMemory ≡ e = cc in subst (λ x. HasNoImage base members x) same tt
   caused None JoinNoMemory e named is has = let same : NoMemory ≡ e = cc in subst (λ x. HasNoImage base members x) same tt
 
-  pub image_refused : (error : JoinError) (e : BundleError) → named_error (member_of members error) error ≡ Some e → HasNoBundle base members codes error → HasNoImage base members e
-  image_refused error e is has = caused (member_of members error) error e refl is has
+  pub image_refused : (error : JoinError) (e : BundleError) → named_error (member_in_error members error) error ≡ Some e → HasNoBundle base members codes error → HasNoImage base members e
+  image_refused error e is has = caused (member_in_error members error) error e refl is has

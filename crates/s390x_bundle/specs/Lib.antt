@@ -4,6 +4,7 @@ pub mod Linking
 pub mod Names
 pub mod Places
 pub mod Table
+pub mod Members
 pub mod Named
 pub mod Emitted
 pub mod Bundled

@@ -25,7 +25,7 @@ named_error None (MisplacedMember n cause) = None
 named_error None (UnlinkedMember n error) = None
 
 -- the member that an error tells
-abbrev pub member_of : List Member → JoinError → Option ExternalName
-member_of members (MisplacedMember n cause) = slice_get (names_of members) n
-member_of members (UnlinkedMember n error) = slice_get (names_of members) n
-member_of members JoinNoMemory = None
+abbrev pub member_in_error : List Member → JoinError → Option ExternalName
+member_in_error members (MisplacedMember n cause) = slice_get (names_of members) n
+member_in_error members (UnlinkedMember n error) = slice_get (names_of members) n
+member_in_error members JoinNoMemory = None

@@ -7,7 +7,7 @@ use Rattle.s390x_image.specs.Symbols.{Symbols, address_of, no_symbols, with_addr
 use Rattle.s390x_job.specs.declared.job.SymbolLine.{SymbolLine}
 use Rattle.s390x_bundle.specs.declared.member.Member.{Member}
 
--- with those of lines
+-- with the symbols of these lines, each in place of an earlier one
 abbrev pub with_lines : Symbols → List SymbolLine → Symbols
 with_lines table [] = table
 with_lines table (line ∷ lines) = with_lines (with_address table line.name line.address) lines

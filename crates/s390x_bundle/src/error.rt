@@ -1,7 +1,7 @@
 //! Why members are not put into one image.
 ghost use Rattle.std.specs.Prelude.{◌≡◌, Some, length};
 ghost use Rattle.s390x_bundle.specs.Joined.{TellsMember};
-ghost use Rattle.s390x_bundle.specs.Named.{member_of, named_error, place_error};
+ghost use Rattle.s390x_bundle.specs.Named.{member_in_error, named_error, place_error};
 
 use crate::joining::JoinError;
 use crate::member::Member;
@@ -64,7 +64,7 @@ fn place_error(cause: PlaceCause, name: ExternalName) -> BundleError
 /// The error of joining, which tells the member by its name.
 pub fn named_error(members: &[Member], error: JoinError) -> BundleError
     requires { TellsMember (length members.now) error }
-    ensures { named_error (member_of members.now error) error ≡ Some result }
+    ensures { named_error (member_in_error members.now error) error ≡ Some result }
 {
     match error {
         JoinError::Misplaced(member, cause) => place_error(cause, members[member].name),

@@ -11,8 +11,8 @@ use s390x_image::SymbolTable;
 use s390x_job::SymbolLine;
 use std::alloc::Global;
 
-// The symbols of a member's own lines.
-fn line_table(alloc: Global, lines: &[SymbolLine]) -> Result<SymbolTable, NoMemory>
+/// The symbols of these lines, each in place of an earlier one of its name.
+pub fn symbol_table(alloc: Global, lines: &[SymbolLine]) -> Result<SymbolTable, NoMemory>
     ensures { IfOk result (λ table. table ≡ with_lines no_symbols lines.now) }
 {
     let mut table = SymbolTable::new(alloc);
@@ -51,7 +51,7 @@ pub fn member_table(
     ensures { (symbols : Symbols) → AreJoined joint.now lines.now symbols
         → IfOk result (λ table. AnswersAlike relocs.now table symbols) }
 {
-    let mut table = line_table(alloc, lines)?;
+    let mut table = symbol_table(alloc, lines)?;
     for reloc in relocs {
         if let Some(address) = joint.get(reloc.name) {
             table.insert(reloc.name, address)?;

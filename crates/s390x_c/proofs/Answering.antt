@@ -13,7 +13,8 @@ use Rattle.s390x_bundle.specs.Bundled as bundled
 use Rattle.s390x_bundle.specs.declared.error.BundleError.{BundleError}
 use Rattle.s390x_bundle.specs.declared.joining.Bundle.{Bundle}
 use Rattle.s390x_job_bundle.specs.declared.named_job.NamedJob.{NamedJob}
-use Rattle.s390x_c.specs.Bundle.{BundlesFunctionsTo, IsBundleRefusal, member_of}
+use Rattle.s390x_bundle.specs.Members.{member_of}
+use Rattle.s390x_c.specs.Bundle.{BundlesFunctionsTo, IsBundleRefusal}
 use Rattle.s390x_emit_int.specs.FunctionImage.{HasNoImage}
 use Rattle.s390x_emit_int.specs.declared.image.ImageError.{ImageError}
 use Rattle.s390x_emit_int.specs.declared.image.ImageError.TheVariants.{Refused, Link}
@@ -40,27 +41,15 @@ refusable e cause (inr is) named = λ none. none-some e (sym none ∙ is)
 
 pub emission_refused : (j : Job) (out : Buffers) (sizes : Sizes) (reason reason' : Reason) (s : Status)
     → IsRefusalTold j reason reason' s → NothingIsWritten out out sizes sizes → EmitsJobTo out out sizes sizes reason reason' j s
-emission_refused j out sizes reason reason' status.Done told kept = absurd told
-emission_refused j out sizes reason reason' status.Syntax told kept = absurd told
 emission_refused j out sizes reason reason' status.Refused told kept = (told, kept)
-emission_refused j out sizes reason reason' status.LinkRefused told kept = absurd told
-emission_refused j out sizes reason reason' status.TooLong told kept = absurd told
 emission_refused j out sizes reason reason' status.NoMemory told kept = (kept, told)
-emission_refused j out sizes reason reason' status.PlanRefused told kept = absurd told
-emission_refused j out sizes reason reason' status.BundleRefused told kept = absurd told
-emission_refused j out sizes reason reason' status.TooSmall told kept = absurd told
+emission_refused j out sizes reason reason' s told kept = absurd told
 
 pub listing_refused : (j : Job) (out : List ℕ) (count : ℕ) (reason reason' : Reason) (s : Status)
     → IsRefusalTold j reason reason' s → ShowsJobTo out out count count reason reason' j s
-listing_refused j out count reason reason' status.Done told = absurd told
-listing_refused j out count reason reason' status.Syntax told = absurd told
 listing_refused j out count reason reason' status.Refused told = (told, record { buffer = refl; count_kept = refl })
-listing_refused j out count reason reason' status.LinkRefused told = absurd told
-listing_refused j out count reason reason' status.TooLong told = absurd told
 listing_refused j out count reason reason' status.NoMemory told = (record { buffer = refl; count_kept = refl }, told)
-listing_refused j out count reason reason' status.PlanRefused told = absurd told
-listing_refused j out count reason reason' status.BundleRefused told = absurd told
-listing_refused j out count reason reason' status.TooSmall told = absurd told
+listing_refused j out count reason reason' s told = absurd told
 
 pub may_refuse : (base : ℕ) (j : Job) (e : ImageError) → HasNoImage j.info.isa_flags j.state j.function base (symbols_of j) e → MayRefuse j e
 may_refuse base j (Refused error) none = none
@@ -69,41 +58,25 @@ may_refuse base j (Link error) none = tt
 pub image_refused : (base : ℕ) (j : Job) (e : ImageError) (out : List ℕ) (count : ℕ) (reason reason' : Reason) (s : Status)
     → HasNoImage j.info.isa_flags j.state j.function base (symbols_of j) e → IsRefusalOf j e reason reason' s
     → LinksJobTo base out out count count reason reason' j s
-image_refused base j (Refused error) out count reason reason' status.Done none told = absurd told
-image_refused base j (Refused error) out count reason reason' status.Syntax none told = absurd told
 image_refused base j (Refused error) out count reason reason' status.Refused none told = (told, record { buffer = refl; count_kept = refl })
-image_refused base j (Refused error) out count reason reason' status.LinkRefused none told = absurd told
-image_refused base j (Refused error) out count reason reason' status.TooLong none told = absurd told
 image_refused base j (Refused error) out count reason reason' status.NoMemory none told = (record { buffer = refl; count_kept = refl }, told)
-image_refused base j (Refused error) out count reason reason' status.PlanRefused none told = absurd told
-image_refused base j (Refused error) out count reason reason' status.BundleRefused none told = absurd told
-image_refused base j (Refused error) out count reason reason' status.TooSmall none told = absurd told
-image_refused base j (Link error) out count reason reason' status.Done none told = absurd told
-image_refused base j (Link error) out count reason reason' status.Syntax none told = absurd told
-image_refused base j (Link error) out count reason reason' status.Refused none told = absurd told
 image_refused base j (Link error) out count reason reason' status.LinkRefused (inl short) told = absurd (told.0 short)
 image_refused base j (Link error) out count reason reason' status.LinkRefused (inr is) told =
     (record { error = error; first = is; told = told.1 }, record { buffer = refl; count_kept = refl })
-image_refused base j (Link error) out count reason reason' status.TooLong none told = absurd told
 image_refused base j (Link error) out count reason reason' status.NoMemory none told = (record { buffer = refl; count_kept = refl }, told.1)
-image_refused base j (Link error) out count reason reason' status.PlanRefused none told = absurd told
-image_refused base j (Link error) out count reason reason' status.BundleRefused none told = absurd told
-image_refused base j (Link error) out count reason reason' status.TooSmall none told = absurd told
+image_refused base j (Refused error) out count reason reason' s none told = absurd told
+image_refused base j (Link error) out count reason reason' s none told = absurd told
 
 pub bundle_refused : (base : ℕ) (fs : List NamedJob) (e : BundleError) (out : List ℕ) (count : ℕ) (reason reason' : Reason) (s : Status)
     → bundled.HasNoImage base (map member_of fs) e → IsBundleRefusal e reason reason' s → BundlesFunctionsTo base out out count count reason reason' fs s
-bundle_refused base fs e out count reason reason' status.Done none told = absurd told
-bundle_refused base fs e out count reason reason' status.Syntax none told = absurd told
 bundle_refused base fs e out count reason reason' status.Refused none told =
     (record { error = e; named = told.0; first = none; told = told.2; by = told.1 }, record { buffer = refl; count_kept = refl })
 bundle_refused base fs e out count reason reason' status.LinkRefused none told =
     (record { error = e; named = told.0; first = none; told = told.2; by = told.1 }, record { buffer = refl; count_kept = refl })
-bundle_refused base fs e out count reason reason' status.TooLong none told = absurd told
 bundle_refused base fs e out count reason reason' status.NoMemory none told = (record { buffer = refl; count_kept = refl }, told.1)
-bundle_refused base fs e out count reason reason' status.PlanRefused none told = absurd told
 bundle_refused base fs e out count reason reason' status.BundleRefused none told =
     (record { error = e; named = told.0; first = none; told = told.2; by = told.1 }, record { buffer = refl; count_kept = refl })
-bundle_refused base fs e out count reason reason' status.TooSmall none told = absurd told
+bundle_refused base fs e out count reason reason' s none told = absurd told
 
 pub refusal_told : (j : Job) (r : Refusal) (reason' : Reason) → IsFirstRefusal j.info.isa_flags j.state j.function (Some r) → reason' ≡ reason_of r.error r.position
     → IsRefused j reason'
@@ -114,36 +87,19 @@ refusal_told j r reason' first told = record { error = r.error; position = r.pos
 pub texts_put : (j : Job) (out out' : List ℕ) (count count' : ℕ) (s : Status) → (texts_of j).cause ≡ None → PutsEntries (texts_of j).bytes out out' count' s
     → PutsTexts j out out' count count' s
 texts_put j out out' count count' status.Done told put = record { told = told; held = put }
-texts_put j out out' count count' status.Syntax told put = absurd put
-texts_put j out out' count count' status.Refused told put = absurd put
-texts_put j out out' count count' status.LinkRefused told put = absurd put
-texts_put j out out' count count' status.TooLong told put = absurd put
-texts_put j out out' count count' status.NoMemory told put = absurd put
-texts_put j out out' count count' status.PlanRefused told put = absurd put
-texts_put j out out' count count' status.BundleRefused told put = absurd put
 texts_put j out out' count count' status.TooSmall told put = record { told = told; small = put }
+texts_put j out out' count count' s told put = absurd put
 
 pub texts_shown : (j : Job) (out out' : List ℕ) (count count' : ℕ) (reason : Reason) (s : Status) → job_cause j ≡ None → PutsTexts j out out' count count' s
     → ShowsJobTo out out' count count' reason reason j s
 texts_shown j out out' count count' reason status.Done valid put = (valid, put, refl)
-texts_shown j out out' count count' reason status.Syntax valid put = absurd put
-texts_shown j out out' count count' reason status.Refused valid put = absurd put
-texts_shown j out out' count count' reason status.LinkRefused valid put = absurd put
-texts_shown j out out' count count' reason status.TooLong valid put = absurd put
 texts_shown j out out' count count' reason status.NoMemory valid put = (put, refl)
-texts_shown j out out' count count' reason status.PlanRefused valid put = absurd put
-texts_shown j out out' count count' reason status.BundleRefused valid put = absurd put
 texts_shown j out out' count count' reason status.TooSmall valid put = (valid, put, refl)
+texts_shown j out out' count count' reason s valid put = absurd put
 
 pub bundle_put : (base : ℕ) (fs : List NamedJob) (b : Bundle) (out out' : List ℕ) (count count' : ℕ) (reason : Reason) (s : Status)
     → bundled.IsImageOfMembers base (map member_of fs) b → PutsEntries b.image.bytes.items out out' count' s
     → BundlesFunctionsTo base out out' count count' reason reason fs s
 bundle_put base fs b out out' count count' reason status.Done image put = (record { bundle = b; image = image; held = put }, refl)
-bundle_put base fs b out out' count count' reason status.Syntax image put = absurd put
-bundle_put base fs b out out' count count' reason status.Refused image put = absurd put
-bundle_put base fs b out out' count count' reason status.LinkRefused image put = absurd put
-bundle_put base fs b out out' count count' reason status.TooLong image put = absurd put
-bundle_put base fs b out out' count count' reason status.NoMemory image put = absurd put
-bundle_put base fs b out out' count count' reason status.PlanRefused image put = absurd put
-bundle_put base fs b out out' count count' reason status.BundleRefused image put = absurd put
 bundle_put base fs b out out' count count' reason status.TooSmall image put = (record { bundle = b; image = image; small = put }, refl)
+bundle_put base fs b out out' count count' reason s image put = absurd put

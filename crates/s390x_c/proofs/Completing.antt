@@ -26,39 +26,28 @@ not_refused j reason' valid refused = none-some refused.error (sym valid ∙ ref
 emits : (out out' : Buffers) (sizes sizes' : Sizes) (reason reason' : Reason) (j : Job) (s : Status) → CanBeEmitted out j
     → EmitsJobTo out out' sizes sizes' reason reason' j s → (s ≡ status.Done) ⊎ (s ≡ status.NoMemory)
 emits out out' sizes sizes' reason reason' j status.Done can ends = inl refl
-emits out out' sizes sizes' reason reason' j status.Syntax can ends = absurd ends
 emits out out' sizes sizes' reason reason' j status.Refused can ends = absurd (not_refused j reason' can.valid ends.0)
-emits out out' sizes sizes' reason reason' j status.LinkRefused can ends = absurd ends
-emits out out' sizes sizes' reason reason' j status.TooLong can ends = absurd ends
 emits out out' sizes sizes' reason reason' j status.NoMemory can ends = inr refl
-emits out out' sizes sizes' reason reason' j status.PlanRefused can ends = absurd ends
-emits out out' sizes sizes' reason reason' j status.BundleRefused can ends = absurd ends
 emits out out' sizes sizes' reason reason' j status.TooSmall can ends = absurd (ends.0.lacks (can.room ends.0.code ends.0.is))
+emits out out' sizes sizes' reason reason' j s can ends = absurd ends
 
 links : (base : ℕ) (out out' : List ℕ) (count count' : ℕ) (reason reason' : Reason) (j : Job) (s : Status) → CanBeLinked base out j
     → LinksJobTo base out out' count count' reason reason' j s → (s ≡ status.Done) ⊎ (s ≡ status.NoMemory)
 links base out out' count count' reason reason' j status.Done can ends = inl refl
-links base out out' count count' reason reason' j status.Syntax can ends = absurd ends
 links base out out' count count' reason reason' j status.Refused can ends = absurd (not_refused j reason' can.valid ends.0)
 links base out out' count count' reason reason' j status.LinkRefused can ends = absurd (can.links ends.0.error ends.0.first)
-links base out out' count count' reason reason' j status.TooLong can ends = absurd ends
 links base out out' count count' reason reason' j status.NoMemory can ends = inr refl
-links base out out' count count' reason reason' j status.PlanRefused can ends = absurd ends
-links base out out' count count' reason reason' j status.BundleRefused can ends = absurd ends
 links base out out' count count' reason reason' j status.TooSmall can ends =
     absurd (omega (arith, can.room ends.0.bytes ends.0.image, ends.0.small.lacks))
+links base out out' count count' reason reason' j s can ends = absurd ends
 
 shows : (out out' : List ℕ) (count count' : ℕ) (reason reason' : Reason) (j : Job) (s : Status) → CanBeShown out j
     → ShowsJobTo out out' count count' reason reason' j s → (s ≡ status.Done) ⊎ (s ≡ status.NoMemory)
 shows out out' count count' reason reason' j status.Done can ends = inl refl
-shows out out' count count' reason reason' j status.Syntax can ends = absurd ends
 shows out out' count count' reason reason' j status.Refused can ends = absurd (not_refused j reason' can.valid ends.0)
-shows out out' count count' reason reason' j status.LinkRefused can ends = absurd ends
-shows out out' count count' reason reason' j status.TooLong can ends = absurd ends
 shows out out' count count' reason reason' j status.NoMemory can ends = inr refl
-shows out out' count count' reason reason' j status.PlanRefused can ends = absurd ends
-shows out out' count count' reason reason' j status.BundleRefused can ends = absurd ends
 shows out out' count count' reason reason' j status.TooSmall can ends = absurd (omega (arith, can.room, ends.1.small.lacks))
+shows out out' count count' reason reason' j s can ends = absurd ends
 
 not_unbundled : (base : ℕ) (out : List ℕ) (fs : List NamedJob) (reason' : Reason) (s : Status) → CanBeBundled base out fs → IsUnbundled base fs reason' s → ⊥
 not_unbundled base out fs reason' s can refused = refused.named (can.valid refused.error refused.first)
@@ -66,15 +55,13 @@ not_unbundled base out fs reason' s can refused = refused.named (can.valid refus
 bundles : (base : ℕ) (out out' : List ℕ) (count count' : ℕ) (reason reason' : Reason) (fs : List NamedJob) (s : Status) → CanBeBundled base out fs
     → BundlesFunctionsTo base out out' count count' reason reason' fs s → (s ≡ status.Done) ⊎ (s ≡ status.NoMemory)
 bundles base out out' count count' reason reason' fs status.Done can ends = inl refl
-bundles base out out' count count' reason reason' fs status.Syntax can ends = absurd ends
 bundles base out out' count count' reason reason' fs status.Refused can ends = absurd (not_unbundled base out fs reason' status.Refused can ends.0)
 bundles base out out' count count' reason reason' fs status.LinkRefused can ends = absurd (not_unbundled base out fs reason' status.LinkRefused can ends.0)
-bundles base out out' count count' reason reason' fs status.TooLong can ends = absurd ends
 bundles base out out' count count' reason reason' fs status.NoMemory can ends = inr refl
-bundles base out out' count count' reason reason' fs status.PlanRefused can ends = absurd ends
 bundles base out out' count count' reason reason' fs status.BundleRefused can ends = absurd (not_unbundled base out fs reason' status.BundleRefused can ends.0)
 bundles base out out' count count' reason reason' fs status.TooSmall can ends =
     absurd (omega (arith, can.room ends.0.bundle ends.0.image, ends.0.small.lacks))
+bundles base out out' count count' reason reason' fs s can ends = absurd ends
 
 pub emit_completed : (input : List ℕ) (out out' : Buffers) (sizes sizes' : Sizes) (reason reason' : Reason) (number : ℕ)
     → IsEmitCall input out out' sizes sizes' reason reason' number → IsEmitted input out → (number ≡ 0) ⊎ (number ≡ 9)

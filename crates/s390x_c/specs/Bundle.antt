@@ -1,11 +1,11 @@
 -- What `s390x_bundle` answers. A name with a prime is of what a call leaves.
 use Rattle.std.specs.Prelude.{◌≡◌, ◌≢◌, ◌≤◌, ℕ, List, length, map}
 use Rattle.s390x_base.specs.Errors.{number_of_error}
+use Rattle.s390x_bundle.specs.Members.{member_of}
 use Rattle.s390x_bundle.specs.Bundled.{HasNoImage, IsImageOfMembers}
 use Rattle.s390x_bundle.specs.declared.error.BundleError.{BundleError}
 use Rattle.s390x_bundle.specs.declared.error.BundleError.TheVariants as cause
 use Rattle.s390x_bundle.specs.declared.joining.Bundle.{Bundle}
-use Rattle.s390x_bundle.specs.declared.member.Member.{Member}
 use Rattle.s390x_job_bundle.specs.Completions.{IsBundleText, IsFirstWrongOfBundle}
 use Rattle.s390x_job_bundle.specs.Text.{AreFunctionsOf}
 use Rattle.s390x_job_bundle.specs.declared.named_job.NamedJob.{NamedJob}
@@ -16,10 +16,6 @@ use Rattle.s390x_calls.specs.Put.{HasNoRoom, HoldsEntries, NoEntryIsWritten}
 use Rattle.s390x_calls.specs.declared.reason.Reason.{Reason}
 use Rattle.s390x_calls.specs.declared.status.Status.{Status}
 use Rattle.s390x_calls.specs.declared.status.Status.TheVariants as status
-
--- a function of the text as a member: what its job says of registers and memory means nothing there
-abbrev pub member_of : NamedJob → Member
-member_of f = record { name = f.name; function = f.job.function; info = f.job.info; state = f.job.state; symbols = f.job.symbols }
 
 -- the cause, and the function that has it
 abbrev pub reason_of_bundle : BundleError → Reason

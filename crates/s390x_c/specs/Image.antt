@@ -1,17 +1,17 @@
 -- What `s390x_image` answers. A name with a prime is of what a call leaves.
-use Rattle.std.specs.Prelude.{◌≡◌, ◌≢◌, ◌≤◌, ◌⊎◌, ℕ, List, [], ◌∷◌, Some, None, length}
+use Rattle.std.specs.Prelude.{◌≡◌, ◌≢◌, ◌≤◌, ◌⊎◌, ℕ, List, Some, None, length}
 use Rattle.s390x_base.specs.declared.error.EmitError.TheVariants as emit
 use Rattle.s390x_emit_int.specs.FunctionImage.{IsImageOf}
 use Rattle.s390x_emit_int.specs.FunctionImage as function
 use Rattle.s390x_emit_int.specs.declared.image.ImageError.{ImageError}
 use Rattle.s390x_emit_int.specs.declared.image.ImageError.TheVariants.{Refused, Link}
 use Rattle.s390x_image.specs.Errors.{number_of_link_error}
-use Rattle.s390x_image.specs.Symbols.{Symbols, no_symbols, with_address}
+use Rattle.s390x_image.specs.Symbols.{Symbols, no_symbols}
 use Rattle.s390x_image.specs.declared.error.LinkError.{LinkError}
 use Rattle.s390x_image.specs.declared.error.LinkError.TheVariants as link
+use Rattle.s390x_bundle.specs.Table.{with_lines}
 use Rattle.s390x_job.specs.Completions.{IsText}
 use Rattle.s390x_job.specs.declared.job.Job.{Job}
-use Rattle.s390x_job.specs.declared.job.SymbolLine.{SymbolLine}
 use Rattle.s390x_calls.specs.Ends.{EndsWithNumber, IsTextSuchThat}
 use Rattle.s390x_calls.specs.Input.{EndsToOfJob, IsJobOf, by_cause}
 use Rattle.s390x_calls.specs.Places.{no_place}
@@ -20,11 +20,6 @@ use Rattle.s390x_calls.specs.declared.reason.Reason.{Reason}
 use Rattle.s390x_calls.specs.declared.status.Status.{Status}
 use Rattle.s390x_calls.specs.declared.status.Status.TheVariants as status
 use Rattle.s390x_c.specs.Refused.{IsRefused, IsRefusalTold, job_cause}
-
--- a table with the symbols of these lines too, each in place of an earlier one
-abbrev pub with_lines : Symbols → List SymbolLine → Symbols
-with_lines table [] = table
-with_lines table (line ∷ lines) = with_lines (with_address table line.name line.address) lines
 
 -- the addresses of a job's symbols
 abbrev pub symbols_of : Job → Symbols

@@ -1,11 +1,11 @@
 //! The image of several functions that call each other by name.
-ghost use Rattle.std.specs.Prelude.{◌≡◌, ◌⊎◌, IfOk, map};
-ghost use Rattle.s390x_c.specs.Bundle.{BundlesFunctionsTo, BundlesTo, IsBundleCall, IsBundleRefusal, IsBundled, member_of, reason_of_bundle};
+ghost use Rattle.std.specs.Prelude.{◌≡◌, ◌⊎◌};
+ghost use Rattle.s390x_c.specs.Bundle.{BundlesFunctionsTo, BundlesTo, IsBundleCall, IsBundleRefusal, IsBundled, reason_of_bundle};
 
-use s390x_bundle::{BundleError, Member, bundle};
+use s390x_bundle::{BundleError, bundle, members_of};
 use s390x_calls::{MOST_BYTES, Reason, Status, put_entries};
 use s390x_job_bundle::{BundleTextError, NamedJob, read_bundle};
-use std::alloc::{AllocError, Global};
+use std::alloc::Global;
 
 /// The image at a base of several functions that call each other by name. The input is their text.
 ///
@@ -82,27 +82,6 @@ fn image_of_functions(
         Ok(bundle) => put_entries(&bundle.image.bytes, out, count),
         Err(error) => refusal(error, reason),
     }
-}
-
-// The function as a member of a bundle.
-fn member(function: NamedJob) -> Member
-    ensures { result ≡ member_of function }
-{
-    let job = function.job;
-    Member {
-        name: function.name,
-        function: job.function,
-        info: job.info,
-        state: job.state,
-        symbols: job.symbols,
-    }
-}
-
-// The functions as members of a bundle.
-fn members_of(alloc: Global, functions: Vec<NamedJob>) -> Result<Vec<Member>, AllocError>
-    ensures { IfOk result (λ members. members.items ≡ map member_of functions.items) }
-{
-    functions.into_iter().map(member).collect(alloc)
 }
 
 // How the call ends for functions without an image.

@@ -1,14 +1,14 @@
 //! The image of a job's function at a base.
-ghost use Rattle.std.specs.Prelude.{◌≡◌, ◌⊎◌, IfOk};
-ghost use Rattle.s390x_image.specs.Symbols.{no_symbols};
-ghost use Rattle.s390x_c.specs.Image.{IsImageCall, IsLinked, IsRefusalOf, LinksJobTo, LinksTo, MayRefuse, with_lines};
+ghost use Rattle.std.specs.Prelude.{◌≡◌, ◌⊎◌};
+ghost use Rattle.s390x_c.specs.Image.{IsImageCall, IsLinked, IsRefusalOf, LinksJobTo, LinksTo, MayRefuse};
 
 use crate::refused::refusal_status;
-use s390x_base::{EmitError, NoMemory};
+use s390x_base::EmitError;
+use s390x_bundle::symbol_table;
 use s390x_calls::{MOST_BYTES, Place, Reason, Status, put_entries};
 use s390x_emit_int::{ImageError, emit_image};
-use s390x_image::{LinkError, SymbolTable};
-use s390x_job::{Job, LineError, SymbolLine, read_lines};
+use s390x_image::LinkError;
+use s390x_job::{Job, LineError, read_lines};
 use std::alloc::Global;
 
 /// The image of a job's function at a base, with the symbols of the job's own lines. The input is the job's text.
@@ -89,17 +89,6 @@ fn image_of_job(
         Ok(image) => put_entries(&image.bytes, out, count),
         Err(error) => refusal(alloc, job, error, reason),
     }
-}
-
-// The symbols of these lines.
-fn symbol_table(alloc: Global, lines: &[SymbolLine]) -> Result<SymbolTable, NoMemory>
-    ensures { IfOk result (λ table. table ≡ with_lines no_symbols lines.now) }
-{
-    let mut table = SymbolTable::new(alloc);
-    for line in lines {
-        table.insert(line.name, line.address)?;
-    }
-    Ok(table)
 }
 
 // How the call ends for a function that has no image by this error.

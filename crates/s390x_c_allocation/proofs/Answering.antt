@@ -27,29 +27,17 @@ use Rattle.s390x_calls.specs.declared.status.Status.TheVariants as status
 -- a plan's first fault is the answer
 pub fault_told : (p : PlannedJob) (f : PlanFault) (reason reason' : PlanReason) (s : Status) → IsFault (check_of p) f → IsFaultTold f reason reason' s
     → ChecksPlanTo reason reason' p s
-fault_told p f reason reason' status.Done cause told = absurd told
-fault_told p f reason reason' status.Syntax cause told = absurd told
-fault_told p f reason reason' status.Refused cause told = absurd told
-fault_told p f reason reason' status.LinkRefused cause told = absurd told
-fault_told p f reason reason' status.TooLong cause told = absurd told
 fault_told p f reason reason' status.NoMemory cause told = told.1
 fault_told p f reason reason' status.PlanRefused (inl none) told = absurd (told.0 none)
 fault_told p f reason reason' status.PlanRefused (inr cause) told = record { first = f; named = told.0; cause = cause; told = told.1 }
-fault_told p f reason reason' status.BundleRefused cause told = absurd told
-fault_told p f reason reason' status.TooSmall cause told = absurd told
+fault_told p f reason reason' s cause told = absurd told
 
 -- a report is written
 pub report_put : (j : Job) (out out' : List OperandEntry) (count count' : ℕ) (reason : Reason) (s : Status) → (report_of j).first ≡ None
     → PutsEntries (report_of j).entries out out' count' s → ReportsJobTo out out' count count' reason reason j s
 report_put j out out' count count' reason status.Done valid put = (record { valid = valid; held = put }, refl)
-report_put j out out' count count' reason status.Syntax valid put = absurd put
-report_put j out out' count count' reason status.Refused valid put = absurd put
-report_put j out out' count count' reason status.LinkRefused valid put = absurd put
-report_put j out out' count count' reason status.TooLong valid put = absurd put
-report_put j out out' count count' reason status.NoMemory valid put = absurd put
-report_put j out out' count count' reason status.PlanRefused valid put = absurd put
-report_put j out out' count count' reason status.BundleRefused valid put = absurd put
 report_put j out out' count count' reason status.TooSmall valid put = (record { valid = valid; small = put }, refl)
+report_put j out out' count count' reason s valid put = absurd put
 
 -- the same of a fault, where the layout is a call's
 pub faulty : (p : PlannedJob) (layout : FrameLayout) (f : PlanFault) (reason reason' : PlanReason) (s : Status) → layout ≡ p.job.state.layout
@@ -68,14 +56,10 @@ faultless p layout function reason same answered walks =
 pub reports : (out out' : List OperandEntry) (count count' : ℕ) (reason reason' : Reason) (j : Job) (s : Status) → CanBeReported out j
     → ReportsJobTo out out' count count' reason reason' j s → (s ≡ status.Done) ⊎ (s ≡ status.NoMemory)
 reports out out' count count' reason reason' j status.Done can ends = inl refl
-reports out out' count count' reason reason' j status.Syntax can ends = absurd ends
 reports out out' count count' reason reason' j status.Refused can ends = absurd (none-some _ (sym can.valid ∙ ends.0.first))
-reports out out' count count' reason reason' j status.LinkRefused can ends = absurd ends
-reports out out' count count' reason reason' j status.TooLong can ends = absurd ends
 reports out out' count count' reason reason' j status.NoMemory can ends = inr refl
-reports out out' count count' reason reason' j status.PlanRefused can ends = absurd ends
-reports out out' count count' reason reason' j status.BundleRefused can ends = absurd ends
 reports out out' count count' reason reason' j status.TooSmall can ends = absurd (omega (arith, can.room, ends.0.small.lacks))
+reports out out' count count' reason reason' j s can ends = absurd ends
 
 -- what is all right isn't an error
 ok_not_err : {T E : Type 0} (r : Result T E) (e : E) → IsOk r → r ≡ Err e → ⊥
@@ -85,14 +69,9 @@ ok_not_err r e ok err = true≢false (sym (subst IsOk err ok))
 pub checks : (reason reason' : PlanReason) (p : PlannedJob) (s : Status) → HasNoFault p → ChecksPlanTo reason reason' p s
     → (s ≡ status.Done) ⊎ (s ≡ status.NoMemory)
 checks reason reason' p status.Done valid ends = inl refl
-checks reason reason' p status.Syntax valid ends = absurd ends
-checks reason reason' p status.Refused valid ends = absurd ends
-checks reason reason' p status.LinkRefused valid ends = absurd ends
-checks reason reason' p status.TooLong valid ends = absurd ends
 checks reason reason' p status.NoMemory valid ends = inr refl
 checks reason reason' p status.PlanRefused valid ends = absurd (ok_not_err (check_of p) ends.first valid ends.cause)
-checks reason reason' p status.BundleRefused valid ends = absurd ends
-checks reason reason' p status.TooSmall valid ends = absurd ends
+checks reason reason' p s valid ends = absurd ends
 
 pub reports_completed : (input : List ℕ) (out out' : List OperandEntry) (count count' : ℕ) (reason reason' : Reason) (number : ℕ)
     → IsOperandsCall input out out' count count' reason reason' number → IsReported input out → (number ≡ 0) ⊎ (number ≡ 9)

@@ -19,15 +19,10 @@ no_job input none is = none is.0 is.1 is.2
 pub on_text : {A : Type 0} (input : List ℕ) (IsItsText : A → Type 0) (IsWrong Unwritten Kept : Type 0) (Ends : A → Status → Type 0) (a : A)
     (s : Status) → length input ≤ 16777216 → IsItsText a → (Ends a status.Syntax → ⊥) → (Ends a status.TooLong → ⊥) → (Ends a status.NoMemory → Unwritten × Kept)
     → Ends a s → EndsTo input IsItsText IsWrong Unwritten Kept Ends s
-on_text input of wrong unwritten kept Ends a status.Done small text no_syntax no_length short ends = record { short = small; what = a; text = text; ends = ends }
 on_text input of wrong unwritten kept Ends a status.Syntax small text no_syntax no_length short ends = absurd (no_syntax ends)
-on_text input of wrong unwritten kept Ends a status.Refused small text no_syntax no_length short ends = record { short = small; what = a; text = text; ends = ends }
-on_text input of wrong unwritten kept Ends a status.LinkRefused small text no_syntax no_length short ends = record { short = small; what = a; text = text; ends = ends }
 on_text input of wrong unwritten kept Ends a status.TooLong small text no_syntax no_length short ends = absurd (no_length ends)
 on_text input of wrong unwritten kept Ends a status.NoMemory small text no_syntax no_length short ends = ((short ends).0, (short ends).1, small)
-on_text input of wrong unwritten kept Ends a status.PlanRefused small text no_syntax no_length short ends = record { short = small; what = a; text = text; ends = ends }
-on_text input of wrong unwritten kept Ends a status.BundleRefused small text no_syntax no_length short ends = record { short = small; what = a; text = text; ends = ends }
-on_text input of wrong unwritten kept Ends a status.TooSmall small text no_syntax no_length short ends = record { short = small; what = a; text = text; ends = ends }
+on_text input of wrong unwritten kept Ends a s small text no_syntax no_length short ends = record { short = small; what = a; text = text; ends = ends }
 
 -- the same of the text of a job
 pub on_job : (input : List ℕ) (reason reason' : Reason) (Unwritten : Type 0) (Ends : Job → Status → Type 0) (j : Job) (s : Status)
@@ -45,16 +40,9 @@ ended : {A R : Type 0} (input : List ℕ) (IsText : List ℕ → Type 0) (IsFirs
     → EndsTo input IsItsText (IsNoText IsText IsFirstWrong at_line input reason') Unwritten Kept Ends s → (s ≡ status.Done) ⊎ (s ≡ status.NoMemory)
 ended input is_text first at_line reason' of unwritten kept Ends holds law it status.Done so = inl refl
 ended input is_text first at_line reason' of unwritten kept Ends holds law it status.Syntax so = absurd (so.0.none it.is)
-ended input is_text first at_line reason' of unwritten kept Ends holds law it status.Refused so = law so.what status.Refused (it.holds so.what so.text) so.ends
-ended input is_text first at_line reason' of unwritten kept Ends holds law it status.LinkRefused so =
-    law so.what status.LinkRefused (it.holds so.what so.text) so.ends
 ended input is_text first at_line reason' of unwritten kept Ends holds law it status.TooLong so = absurd (omega (arith, so.0, it.short))
 ended input is_text first at_line reason' of unwritten kept Ends holds law it status.NoMemory so = inr refl
-ended input is_text first at_line reason' of unwritten kept Ends holds law it status.PlanRefused so =
-    law so.what status.PlanRefused (it.holds so.what so.text) so.ends
-ended input is_text first at_line reason' of unwritten kept Ends holds law it status.BundleRefused so =
-    law so.what status.BundleRefused (it.holds so.what so.text) so.ends
-ended input is_text first at_line reason' of unwritten kept Ends holds law it status.TooSmall so = law so.what status.TooSmall (it.holds so.what so.text) so.ends
+ended input is_text first at_line reason' of unwritten kept Ends holds law it s so = law so.what s (it.holds so.what so.text) so.ends
 
 -- the numbers of done and of want of memory
 numbered : (s : Status) (number : ℕ) → number ≡ number_of_status s → (s ≡ status.Done) ⊎ (s ≡ status.NoMemory) → (number ≡ 0) ⊎ (number ≡ 9)

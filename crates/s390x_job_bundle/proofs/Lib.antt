@@ -3,6 +3,8 @@ pub mod Sorts
 pub mod JobLines
 pub mod Heads
 pub mod Cutting
+pub mod Closers
+pub mod Begun
 pub mod Reading
 pub mod Stopping
 pub mod Sizes

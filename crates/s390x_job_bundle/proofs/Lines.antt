@@ -1,5 +1,5 @@
 -- Texts as lists of lines.
-use Rattle.std.proofs.Common.{◌≡◌, ℕ, zero, suc, ◌+◌, false, List, [], ◌∷◌, ◌++◌, length, take, refl, sym, ap, ◌∙◌, inl, inr, append_assoc, append-nil}
+use Rattle.std.proofs.Common.{◌≡◌, ℕ, zero, suc, ◌+◌, false, List, [], ◌∷◌, ◌++◌, length, take, refl, sym, ap, ◌∙◌, inl, inr, arith, append_assoc, append-nil}
 use Rattle.std.specs.Prelude.{◌==◌}
 use Rattle.s390x_job_fields.specs.Marks.{upto, past}
 use Rattle.s390x_job.specs.Completions.{pieces_from, pieces, text_of_lines}
@@ -55,3 +55,10 @@ text_cut s h = cut 10 s h
 
 pub first_line : (s : List ℕ) → (length (upto 10 s) ≡ length s → ⊥) → pieces s ≡ upto 10 s ∷ pieces (past 10 s)
 first_line s h = pieces_cut s h
+
+-- the first m lines, where one more than those in front is among them
+pub take_front : (front : List (List ℕ)) (w : List ℕ) (back : List (List ℕ)) (m n : ℕ) → m ≡ length front + (n + 1) → take m (front ++ w ∷ back) ≡ front ++ w ∷ take n back
+take_front [] w back zero n e = absurd (omega (arith, e))
+take_front [] w back (suc m) n e = let f : m ≡ n = omega (arith, e) in ap (λ k. w ∷ take k back) f
+take_front (v ∷ front) w back zero n e = absurd (omega (arith, e))
+take_front (v ∷ front) w back (suc m) n e = ap (λ t. v ∷ t) (take_front front w back m n (omega (arith, e)))

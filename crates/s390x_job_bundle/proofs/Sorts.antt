@@ -214,42 +214,20 @@ pub next_level : (p : Place) (c : Class) (q : Place) → next_place p c ≡ Some
 next_level (Header rank bound) (Head r first past) q e = omega (arith, ap level (chosen (may_follow rank bound r first) (Header r past) q e))
 next_level (Header rank bound) OpenBlock q e = omega (arith, ap level (only (Within 0) q e))
 next_level (Header rank bound) CloseJob q e = omega (arith, ap level (only AtEnd q e))
-next_level (Header rank bound) OpenLoop q e = absurd cc
-next_level (Header rank bound) CloseLoop q e = absurd cc
-next_level (Header rank bound) Instruction q e = absurd cc
-next_level (Header rank bound) Never q e = absurd cc
-next_level (Within d) (Head r first past) q e = absurd cc
-next_level (Within d) Never q e = absurd cc
 next_level (Within d) OpenLoop q e = omega (arith, ap level (chosen (nat_lt d 9) (Within (suc d)) q e))
 next_level (Within d) Instruction q e = omega (arith, ap level (only (Within d) q e))
 next_level (Within zero) OpenBlock q e = omega (arith, ap level (only (Within 0) q e))
 next_level (Within zero) CloseJob q e = omega (arith, ap level (only AtEnd q e))
-next_level (Within zero) CloseLoop q e = absurd cc
-next_level (Within (suc d)) OpenBlock q e = absurd cc
-next_level (Within (suc d)) CloseJob q e = absurd cc
 next_level (Within (suc d)) CloseLoop q e = omega (arith, ap level (only (Within d) q e))
-next_level AtEnd c q e = absurd cc
+next_level p c q e = absurd cc
 
 -- only the last line leads to the end
 pub end_by : (p : Place) (c : Class) → next_place p c ≡ Some AtEnd → is_ending (sort_of c) ≡ true
 end_by (Header rank bound) (Head r first past) e = let f = chosen (may_follow rank bound r first) (Header r past) AtEnd e in absurd cc
-end_by (Header rank bound) OpenBlock e = absurd cc
 end_by (Header rank bound) CloseJob e = refl
-end_by (Header rank bound) OpenLoop e = absurd cc
-end_by (Header rank bound) CloseLoop e = absurd cc
-end_by (Header rank bound) Instruction e = absurd cc
-end_by (Header rank bound) Never e = absurd cc
-end_by (Within d) (Head r first past) e = absurd cc
-end_by (Within d) Never e = absurd cc
 end_by (Within d) OpenLoop e = let f = chosen (nat_lt d 9) (Within (suc d)) AtEnd e in absurd cc
-end_by (Within d) Instruction e = absurd cc
-end_by (Within zero) OpenBlock e = absurd cc
 end_by (Within zero) CloseJob e = refl
-end_by (Within zero) CloseLoop e = absurd cc
-end_by (Within (suc d)) OpenBlock e = absurd cc
-end_by (Within (suc d)) CloseJob e = absurd cc
-end_by (Within (suc d)) CloseLoop e = absurd cc
-end_by AtEnd c e = absurd cc
+end_by p c e = absurd cc
 
 -- and it leads nowhere else
 pub end_to : (p : Place) (c : Class) (q : Place) → is_ending (sort_of c) ≡ true → next_place p c ≡ Some q → q ≡ AtEnd

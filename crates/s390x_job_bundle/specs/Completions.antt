@@ -19,22 +19,22 @@ abbrev pub ends : List (List ℕ) → ℕ
 ends [] = 0
 ends (w ∷ ws) = if bytes_eq w (codes "end") then ends ws + 1 else ends ws
 
--- whether one of the lines is `close`
-abbrev pub is_closed : List (List ℕ) → Bool
-is_closed [] = false
-is_closed (w ∷ ws) = if bytes_eq w close_line then true else is_closed ws
+-- whether one of the lines is this one
+abbrev pub has_line : List ℕ → List (List ℕ) → Bool
+has_line l [] = false
+has_line l (w ∷ ws) = if bytes_eq w l then true else has_line l ws
 
 -- what the last job lacks, where more lines begin with `function ` than are `end`: an `endloop` for each loop that is open, and `end`
 abbrev pub job_ending : List (List ℕ) → List ℕ
 job_ending ws = if nat_lt (ends ws) (heads ws) then closing (opens ws - closes ws) else []
 
--- a line `close`, where none of the lines is one
-abbrev pub close_ending : List (List ℕ) → List ℕ
-close_ending ws = if is_closed ws then [] else close_line ++ 10 ∷ []
+-- this line, where none of the lines is one
+abbrev pub line_ending : List ℕ → List (List ℕ) → List ℕ
+line_ending l ws = if has_line l ws then [] else l ++ 10 ∷ []
 
--- the text of lines, completed
+-- the text of lines, completed: by the end of the last job, then a line `close` where none of the lines is one
 abbrev pub bundle_completion : List (List ℕ) → List ℕ
-bundle_completion ws = text_of_lines ws ++ (job_ending ws ++ close_ending ws)
+bundle_completion ws = text_of_lines ws ++ (job_ending ws ++ line_ending close_line ws)
 
 -- the bytes are the text of functions
 abbrev pub IsBundleText : List ℕ → Type 0

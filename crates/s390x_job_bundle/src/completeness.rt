@@ -1,7 +1,7 @@
 //! Lines of a text, completed to the text of functions.
 ghost use Rattle.std.specs.Prelude.{◌≡◌, ◌++◌, IfOk, OnOk, map, take, codes};
 ghost use Rattle.std.specs.Str.{bytes_eq};
-ghost use Rattle.s390x_job_bundle.specs.Completions.{bundle_completion, close_ending, ends, heads, is_closed, job_ending};
+ghost use Rattle.s390x_job_bundle.specs.Completions.{bundle_completion, ends, has_line, heads, job_ending, line_ending};
 
 use s390x_job::{count_closes, count_opens, put, put_closing, put_joined};
 use std::alloc::{AllocError, Global};
@@ -56,11 +56,12 @@ fn count_ends(ws: &[&[u8]]) -> usize
     n
 }
 
-fn is_closed(ws: &[&[u8]]) -> bool
-    ensures { result ≡ is_closed (map (λ w. w.now) ws.now) }
+/// Whether one of the lines is this one.
+pub fn has_line(line: &[u8], ws: &[&[u8]]) -> bool
+    ensures { result ≡ has_line line.now (map (λ w. w.now) ws.now) }
 {
     for w in ws {
-        if closes_text(w) {
+        if *w == line {
             return true;
         }
     }
@@ -77,15 +78,16 @@ fn put_job_ending(out: &mut Vec<u8>, ws: &[&[u8]]) -> Result<(), AllocError>
     Ok(())
 }
 
-// A line `close`, where none of the lines is one.
-fn put_close_ending(out: &mut Vec<u8>, ws: &[&[u8]]) -> Result<(), AllocError>
+/// Appends this line, where none of the lines is one.
+pub fn put_line_ending(out: &mut Vec<u8>, line: &[u8], ws: &[&[u8]]) -> Result<(), AllocError>
     ensures { OnOk result
-        (out.new.items ≡ out.old.items ++ close_ending (map (λ w. w.now) ws.now)) }
+        (out.new.items ≡ out.old.items ++ line_ending line.now (map (λ w. w.now) ws.now)) }
 {
-    if is_closed(ws) {
+    if has_line(line, ws) {
         return Ok(());
     }
-    put(out, b"close\n")
+    put(out, line)?;
+    put(out, b"\n")
 }
 
 /// The text of lines, completed.
@@ -95,6 +97,6 @@ pub fn complete(alloc: Global, ws: &[&[u8]]) -> Result<Vec<u8>, AllocError>
     let mut out = Vec::new(alloc);
     put_joined(&mut out, ws)?;
     put_job_ending(&mut out, ws)?;
-    put_close_ending(&mut out, ws)?;
+    put_line_ending(&mut out, b"close", ws)?;
     Ok(out)
 }

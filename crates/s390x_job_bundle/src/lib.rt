@@ -9,7 +9,7 @@ mod head;
 mod named_job;
 mod reader;
 
-pub use completeness::complete;
+pub use completeness::{complete, has_line, put_line_ending};
 pub use cut::{count_lines, job_size, read_job};
 pub use error::BundleTextError;
 pub use find::find_functions;

@@ -5,6 +5,7 @@ use Rattle.s390x_alloc.specs.declared.plan.BlockPlan.{BlockPlan}
 use Rattle.s390x_alloc.specs.declared.plan.Edit.{Edit}
 use Rattle.s390x_alloc.specs.declared.plan.Edit.TheVariants.{Move, Step}
 use Rattle.s390x_alloc.specs.declared.plan.EntryPair.{EntryPair}
+use Rattle.s390x_job_bundle.proofs.Lines.{take_front}
 use Rattle.s390x_job_plan.specs.Errors.{FitsPlan, Follows, IsPlanStuckAt, IsRead, told_lines, stage_of, line_value}
 use Rattle.s390x_job_plan.specs.Lines.{Closing, Heading, IsLine, Opening, PlanLine, line_of, line_text}
 use Rattle.s390x_job_plan.specs.Order.{Stage, AtStart, Ahead, InEntry, InEdits, AtEnd, next_stage, run}
@@ -147,13 +148,6 @@ pub no_place : (front : List (List ℕ)) (d : Progress) (w : List ℕ) (l : Line
 no_place front d w l t read none more f =
     let e : run None (map line_of more) ≡ Some AtEnd = ap (λ o. run o (map line_of more)) (sym none) ∙ ap (λ k. run (next_stage (stage_of d) k) (map line_of more)) (sym (read_value w l read)) ∙ told_run front (w ∷ more) d t f in
     absurd cc
-
--- the first m lines, where one more than those in front is among them
-pub take_front : (front : List (List ℕ)) (w : List ℕ) (back : List (List ℕ)) (m n : ℕ) → m ≡ length front + (n + 1) → take m (front ++ w ∷ back) ≡ front ++ w ∷ take n back
-take_front [] w back zero n e = absurd (omega (arith, e))
-take_front [] w back (suc m) n e = let f : m ≡ n = omega (arith, e) in ap (λ k. w ∷ take k back) f
-take_front (v ∷ front) w back zero n e = absurd (omega (arith, e))
-take_front (v ∷ front) w back (suc m) n e = ap (λ t. v ∷ t) (take_front front w back m n (omega (arith, e)))
 
 -- a line with which no plan goes on
 pub stuck_line : (front : List (List ℕ)) (w : List ℕ) (back : List (List ℕ)) → ((more : List (List ℕ)) → FitsPlan (front ++ w ∷ more) → ⊥) → IsPlanStuckAt (front ++ w ∷ back) (length front)

@@ -1,9 +1,11 @@
 -- How long a completion is.
-use Rattle.std.proofs.Common.{ℕ, ◌+◌, ◌*◌, ◌<◌, ◌≤◌, Bool, true, false, List, [], ◌∷◌, ◌++◌, length, arith, length-append}
+use Rattle.std.proofs.Common.{ℕ, ◌+◌, ◌*◌, ◌<◌, ◌≤◌, Bool, true, false, List, [], ◌++◌, length, arith, length-append}
 use Rattle.std.specs.Prelude.{codes, ◌-◌, if◌then◌else◌}
 use Rattle.s390x_job.specs.Completions.{closes, closing, text_of_lines, opens}
 use Rattle.s390x_job.proofs.Sizes.{closing_size, opens_few}
-use Rattle.s390x_job_plan.specs.Completions.{has_line, job_ending, line_ending, plan_completion}
+use Rattle.s390x_job_bundle.specs.Completions.{has_line, line_ending}
+use Rattle.s390x_job_bundle.proofs.Sizes.{line_ending_size}
+use Rattle.s390x_job_plan.specs.Completions.{job_ending, plan_completion}
 
 job_ending_size : (ws : List (List ℕ)) → length (job_ending ws) ≤ 8 * opens ws + 4
 job_ending_size ws = one (has_line (codes "end") ws)
@@ -11,13 +13,6 @@ job_ending_size ws = one (has_line (codes "end") ws)
     one : (t : Bool) → length (if t then [] else closing (opens ws - closes ws)) ≤ 8 * opens ws + 4
     one true = omega arith
     one false = omega (arith, closing_size (opens ws - closes ws))
-
-line_ending_size : (l : List ℕ) (ws : List (List ℕ)) → length (line_ending l ws) ≤ length l + 1
-line_ending_size l ws = one (has_line l ws)
-  where
-    one : (t : Bool) → length (if t then [] else l ++ 10 ∷ []) ≤ length l + 1
-    one true = omega arith
-    one false = omega (arith, length-append l (10 ∷ []))
 
 pub completion_size : (ws : List (List ℕ)) → length (text_of_lines ws) < 268435456 → length (plan_completion ws) < 4294967295
 completion_size ws h =

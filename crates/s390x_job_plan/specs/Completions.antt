@@ -1,7 +1,7 @@
 -- The line that a syntax error names, by completions.
-use Rattle.std.specs.Prelude.{◌≡◌, ℕ, ◌-◌, Bool, true, false, List, [], ◌∷◌, ◌++◌, codes, if◌then◌else◌}
-use Rattle.std.specs.Str.{bytes_eq}
+use Rattle.std.specs.Prelude.{◌≡◌, ℕ, ◌-◌, List, [], ◌++◌, codes, if◌then◌else◌}
 use Rattle.s390x_job.specs.Completions.{IsFirstWrongLine, closes, closing, text_of_lines, opens}
+use Rattle.s390x_job_bundle.specs.Completions.{has_line, line_ending}
 use Rattle.s390x_job_plan.specs.Text.{IsPlanned, text_of_planned}
 use Rattle.s390x_job_plan.specs.declared.planned_job.PlannedJob.{PlannedJob}
 
@@ -9,18 +9,9 @@ use Rattle.s390x_job_plan.specs.declared.planned_job.PlannedJob.{PlannedJob}
 abbrev pub plan_limit : ℕ
 plan_limit = 268435456
 
--- whether one of the lines is this one
-abbrev pub has_line : List ℕ → List (List ℕ) → Bool
-has_line l [] = false
-has_line l (w ∷ ws) = if bytes_eq w l then true else has_line l ws
-
 -- what the job lacks, where none of the lines is `end`: an `endloop` for each loop that is open, and `end`
 abbrev pub job_ending : List (List ℕ) → List ℕ
 job_ending ws = if has_line (codes "end") ws then [] else closing (opens ws - closes ws)
-
--- this line, where none of the lines is one
-abbrev pub line_ending : List ℕ → List (List ℕ) → List ℕ
-line_ending l ws = if has_line l ws then [] else l ++ 10 ∷ []
 
 -- the text of lines, completed: by the end of the job, then a line `plan`, then a line `close`, each where none of the lines is one
 abbrev pub plan_completion : List (List ℕ) → List ℕ

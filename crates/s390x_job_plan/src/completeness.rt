@@ -1,21 +1,11 @@
 //! Lines of a text, completed to the text of a planned job.
 ghost use Rattle.std.specs.Prelude.{◌≡◌, ◌++◌, IfOk, OnOk, map};
 ghost use Rattle.s390x_job.specs.Completions.{text_of_lines};
-ghost use Rattle.s390x_job_plan.specs.Completions.{has_line, job_ending, line_ending, plan_completion};
+ghost use Rattle.s390x_job_plan.specs.Completions.{job_ending, plan_completion};
 
-use s390x_job::{count_closes, count_opens, put, put_closing, put_joined};
+use s390x_job::{count_closes, count_opens, put_closing, put_joined};
+use s390x_job_bundle::{has_line, put_line_ending};
 use std::alloc::{AllocError, Global};
-
-fn has_line(line: &[u8], ws: &[&[u8]]) -> bool
-    ensures { result ≡ has_line line.now (map (λ w. w.now) ws.now) }
-{
-    for w in ws {
-        if *w == line {
-            return true;
-        }
-    }
-    false
-}
 
 /// The text of lines, each with its line feed.
 pub fn join(alloc: Global, ws: &[&[u8]]) -> Result<Vec<u8>, AllocError>
@@ -34,18 +24,6 @@ fn put_job_ending(out: &mut Vec<u8>, ws: &[&[u8]]) -> Result<(), AllocError>
         return Ok(());
     }
     put_closing(out, count_opens(ws).saturating_sub(count_closes(ws)))
-}
-
-// This line, where none of the lines is one.
-fn put_line_ending(out: &mut Vec<u8>, line: &[u8], ws: &[&[u8]]) -> Result<(), AllocError>
-    ensures { OnOk result
-        (out.new.items ≡ out.old.items ++ line_ending line.now (map (λ w. w.now) ws.now)) }
-{
-    if has_line(line, ws) {
-        return Ok(());
-    }
-    put(out, line)?;
-    put(out, b"\n")
 }
 
 /// The text of lines, completed.

@@ -1,4 +1,4 @@
--- The reply to words that ask for a job with the registers of a plan.
+-- The answer to words that ask for a job with the registers of a plan.
 use Rattle.std.proofs.Common.{◌≡◌, ℕ, inl, inr, Global, List, String, ◌∙◌}
 use Rattle.std.specs.Prelude.{codes, ◌++◌, ◌≢◌, IfOk, MatchResult, Result, Ok, Err, string_bytes}
 use Rattle.std.specs.Fmt.{decimal}
@@ -10,19 +10,14 @@ use Rattle.s390x_alloc.specs.Walks.{EveryWalkReadsAlike}
 use Rattle.s390x_alloc.specs.declared.fault.PlanFault.{PlanFault}
 use Rattle.s390x_alloc.specs.declared.fault.PlanFault.TheVariants as fault
 use Rattle.s390x_base.specs.declared.error.NoMemory.{NoMemory}
-use Rattle.s390x_tool.specs.Words.{IsForm}
-use Rattle.s390x_tool.specs.declared.words.Command.TheVariants.{Allocate}
 use Rattle.s390x_inst.specs.declared.function.AllocatedFunction.{AllocatedFunction}
 use Rattle.s390x_job.specs.Completions.{pieces}
 use Rattle.s390x_job.specs.Jobs.{text_of_job}
 use Rattle.s390x_job_plan.specs.Completions.{IsFirstWrongOfPlanned, IsPlannedText}
 use Rattle.s390x_job_plan.specs.Text.{IsPlannedOf}
 use Rattle.s390x_job_plan.specs.declared.planned_job.PlannedJob.{PlannedJob}
-use Rattle.s390x_tool.proofs.Parts.{whole_part}
 use Rattle.s390x_tool.specs.Allocated.{IsAllocateAnswer, IsPlanRefusal, fault_line}
-use Rattle.s390x_tool.specs.Ends.{IsRead}
 use Rattle.s390x_tool.specs.Lines.{IsMade, line}
-use Rattle.s390x_tool.specs.Replies.{CallContext, IsReply}
 use Rattle.s390x_tool.specs.declared.status.Status.{Status}
 use Rattle.s390x_tool.specs.declared.status.Status.TheVariants as status
 
@@ -52,19 +47,3 @@ pub answer_of_fault : (input : List ℕ) (s : Status) (text : List ℕ) (p : Pla
 answer_of_fault input s text p f is (inl none) (inl told) = absurd (told.0 none)
 answer_of_fault input s text p f is (inr cause) (inl told) = rw told.1 (record { planned = p; is = is; first = f; named = told.0; cause = cause; spelled = told.2 })
 answer_of_fault input s text p f is cause (inr short) = rw short.0 short.1
-
--- the program's reply
-pub reply_to_allocate : (f : CallContext) (input : List ℕ) (s : Status) (text : List ℕ) → IsForm f.words Allocate → IsRead f.left f.left' input → f.faults' ≡ f.faults
-    → IsAllocateAnswer input s text → IsReply f s text
-reply_to_allocate f input status.Ok text form read same answer = inl (record { command = Allocate; form = form; input = input; read = read; same = same; answer = answer })
-reply_to_allocate f input status.PlanRefused text form read same answer = record { command = Allocate; form = form; input = input; read = read; same = same; answer = answer }
-reply_to_allocate f input status.Syntax text form read same answer = record { command = Allocate; form = form; input = input; read = read; same = same; answer = answer }
-reply_to_allocate f input status.NoMemory text form read same answer = (record { command = Allocate; form = form; left = whole_part f.left f.left' input read; same = same }, answer)
-reply_to_allocate f input status.Usage text form read same answer = absurd answer
-reply_to_allocate f input status.Refused text form read same answer = absurd answer
-reply_to_allocate f input status.LinkRefused text form read same answer = absurd answer
-reply_to_allocate f input status.ReadFault text form read same answer = absurd answer
-reply_to_allocate f input status.WriteFault text form read same answer = absurd answer
-reply_to_allocate f input status.InputTooLong text form read same answer = absurd answer
-reply_to_allocate f input status.BadWord text form read same answer = absurd answer
-reply_to_allocate f input status.BundleRefused text form read same answer = absurd answer

@@ -34,29 +34,19 @@ use Rattle.s390x_operands.specs.declared.constraint.OperandError.TheVariants as 
 use Rattle.s390x_tool.specs.Lines.{line, IsMade, IsRefusal, IsLinkRefusal, IsOperandRefusal}
 use Rattle.s390x_tool.specs.Emitted.{emit_text}
 use Rattle.s390x_tool.specs.Answers.{IsAnswer, IsCodeOfJob, IsEmitReply, IsImageAt, IsImageReply, IsJobReply, IsLinked, IsOperandsReply, IsRunReply, IsShowReply, job_cause, link_cause_of, operands_cause_of, symbols_of}
+use Rattle.s390x_tool.proofs.Replying.{of_job}
 use Rattle.s390x_tool.specs.declared.words.JobCommand.{JobCommand}
-use Rattle.s390x_tool.specs.declared.words.JobCommand.TheVariants.{Image, Emit, Run, Operands, Show}
+use Rattle.s390x_tool.specs.declared.words.JobCommand.TheVariants.{Image}
 use Rattle.s390x_tool.specs.declared.status.Status.{Status}
 use Rattle.s390x_tool.specs.declared.status.Status.TheVariants as status
 
 -- a command's reply to the job of the input is the answer
 pub answer_of_job : (command : JobCommand) (input : List ℕ) (s : Status) (text : List ℕ) (j : Job)
     → IsJob j → text_of_job j ≡ input → ((k : Job) → IsJob k → text_of_job k ≡ input → SameJob j k) → IsJobReply command j s text → IsAnswer command input s text
-answer_of_job (Image base) input status.Syntax text j is spelled only reply = absurd reply
 answer_of_job (Image base) input status.NoMemory text j is spelled only reply = reply
-answer_of_job (Image base) input s text j is spelled only reply = record { job = j; is = is; spelled = spelled; one = only; reply = reply }
-answer_of_job Emit input status.Syntax text j is spelled only reply = absurd reply
-answer_of_job Emit input status.NoMemory text j is spelled only reply = reply
-answer_of_job Emit input s text j is spelled only reply = record { job = j; is = is; spelled = spelled; one = only; reply = reply }
-answer_of_job (Run base steps) input status.Syntax text j is spelled only reply = absurd reply
-answer_of_job (Run base steps) input status.NoMemory text j is spelled only reply = reply
-answer_of_job (Run base steps) input s text j is spelled only reply = record { job = j; is = is; spelled = spelled; one = only; reply = reply }
-answer_of_job Operands input status.Syntax text j is spelled only reply = absurd reply
-answer_of_job Operands input status.NoMemory text j is spelled only reply = reply
-answer_of_job Operands input s text j is spelled only reply = record { job = j; is = is; spelled = spelled; one = only; reply = reply }
-answer_of_job Show input status.Syntax text j is spelled only reply = absurd reply
-answer_of_job Show input status.NoMemory text j is spelled only reply = reply
-answer_of_job Show input s text j is spelled only reply = record { job = j; is = is; spelled = spelled; one = only; reply = reply }
+answer_of_job command input status.NoMemory text j is spelled only reply = reply
+answer_of_job command input status.Syntax text j is spelled only reply = absurd (of_job command j status.Syntax text reply)
+answer_of_job command input s text j is spelled only reply = record { job = j; is = is; spelled = spelled; one = only; reply = reply }
 
 -- a syntax error is the answer
 pub answer_of_syntax : (command : JobCommand) (input : List ℕ) (s : Status) (text : List ℕ) (number : ℕ)

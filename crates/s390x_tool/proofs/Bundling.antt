@@ -1,4 +1,4 @@
--- The reply to words that ask for an image of several functions.
+-- The answer to words that ask for an image of several functions.
 use Rattle.std.proofs.Common.{◌≡◌, ℕ, inl, inr, List, map, subst}
 use Rattle.std.specs.Prelude.{codes, ◌++◌, ◌≢◌}
 use Rattle.std.specs.Fmt.{decimal}
@@ -12,13 +12,9 @@ use Rattle.s390x_bundle.specs.declared.member.Member.{Member}
 use Rattle.s390x_job_bundle.specs.Completions.{IsBundleText, IsFirstWrongOfBundle}
 use Rattle.s390x_job_bundle.specs.Text.{AreFunctionsOf}
 use Rattle.s390x_job_bundle.specs.declared.named_job.NamedJob.{NamedJob}
-use Rattle.s390x_tool.specs.Words.{IsForm}
-use Rattle.s390x_tool.specs.declared.words.Command.TheVariants.{Bundle as AskBundle}
-use Rattle.s390x_tool.proofs.Parts.{whole_part}
-use Rattle.s390x_tool.specs.Bundled.{IsBundleAnswer, IsBundleRefusal, member_of, refusal_of_bundle}
-use Rattle.s390x_tool.specs.Ends.{IsRead}
+use Rattle.s390x_bundle.specs.Members.{member_of}
+use Rattle.s390x_tool.specs.Bundled.{IsBundleAnswer, IsBundleRefusal, refusal_of_bundle}
 use Rattle.s390x_tool.specs.Lines.{IsMade, line}
-use Rattle.s390x_tool.specs.Replies.{CallContext, IsReply}
 use Rattle.s390x_tool.specs.declared.status.Status.{Status}
 use Rattle.s390x_tool.specs.declared.status.Status.TheVariants as status
 
@@ -46,19 +42,3 @@ pub answer_of_bundle_refusal : (base : ℕ) (input : List ℕ) (s : Status) (tex
 answer_of_bundle_refusal base input s text functions members e are is none (inl refusal) =
     rw refusal.1 (record { functions = functions; are = are; error = e; named = refusal.0; cause = subst (λ ms. HasNoImage base ms e) is none; spelled = refusal.2 })
 answer_of_bundle_refusal base input s text functions members e are is none (inr short) = rw short.0 short.1
-
--- the program's reply
-pub reply_to_bundle : (f : CallContext) (base : ℕ) (input : List ℕ) (s : Status) (text : List ℕ) → IsForm f.words (AskBundle base) → IsRead f.left f.left' input → f.faults' ≡ f.faults
-    → IsBundleAnswer base input s text → IsReply f s text
-reply_to_bundle f base input status.Ok text form read same answer = inl (record { command = AskBundle base; form = form; input = input; read = read; same = same; answer = answer })
-reply_to_bundle f base input status.BundleRefused text form read same answer = record { command = AskBundle base; form = form; input = input; read = read; same = same; answer = answer }
-reply_to_bundle f base input status.Syntax text form read same answer = record { command = AskBundle base; form = form; input = input; read = read; same = same; answer = answer }
-reply_to_bundle f base input status.NoMemory text form read same answer = (record { command = AskBundle base; form = form; left = whole_part f.left f.left' input read; same = same }, answer)
-reply_to_bundle f base input status.Usage text form read same answer = absurd answer
-reply_to_bundle f base input status.Refused text form read same answer = absurd answer
-reply_to_bundle f base input status.LinkRefused text form read same answer = absurd answer
-reply_to_bundle f base input status.ReadFault text form read same answer = absurd answer
-reply_to_bundle f base input status.WriteFault text form read same answer = absurd answer
-reply_to_bundle f base input status.InputTooLong text form read same answer = absurd answer
-reply_to_bundle f base input status.BadWord text form read same answer = absurd answer
-reply_to_bundle f base input status.PlanRefused text form read same answer = absurd answer

@@ -7,14 +7,17 @@ use Rattle.s390x_job.specs.Jobs.{IsJob}
 use Rattle.s390x_job.specs.Same.{SameJob}
 use Rattle.s390x_job.specs.declared.job.Job.{Job}
 use Rattle.s390x_tool.specs.Causes.{FaultCountRose}
+use Rattle.s390x_tool.specs.Ends.{most_bytes}
 use Rattle.s390x_tool.specs.Words.{IsForm}
-use Rattle.s390x_tool.specs.Answers.{IsAccepted, IsJobReply, IsUnrefused, Links}
+use Rattle.s390x_tool.specs.Answers.{IsAccepted, IsAnswer, IsJobReply, IsUnrefused, Links}
+use Rattle.s390x_tool.specs.Simulated.{IsSimulateReply}
 use Rattle.s390x_tool.proofs.Told.{same_command}
 use Rattle.s390x_tool.proofs.SameJob.{same_cause, same_links}
 use Rattle.s390x_tool.proofs.SameOperands.{same_operands_cause}
-use Rattle.s390x_tool.proofs.Asking.{about, answered, not_generated, not_simulation}
+use Rattle.s390x_tool.proofs.Asking.{IsDoneStatus, answered, done_delivered, done_reply, not_about_input, not_generated, not_simulation}
 use Rattle.s390x_tool.proofs.Replying.{of_job}
-use Rattle.s390x_tool.specs.Replies.{CallContext, IsReply, IsDelivered}
+use Rattle.s390x_tool.specs.Replies.{CallContext, IsAnswered, IsInputAnswer, IsInputTooLong, IsReadFault, IsReply, IsDelivered}
+use Rattle.s390x_tool.specs.declared.words.Command.{Command}
 use Rattle.s390x_tool.specs.declared.words.Command.TheVariants.{OnJob, Generate, Simulate}
 use Rattle.s390x_tool.specs.declared.words.JobCommand.{JobCommand}
 use Rattle.s390x_tool.specs.declared.words.JobCommand.TheVariants.{Image, Emit, Run, Operands, Show}
@@ -73,73 +76,49 @@ linked_not (Run base steps) j text links reply =
     let none = links reply.code reply.is in
     cc
 
--- the reply to an accepted input
-completed_reply : (f : CallContext) (s : Status) (text : List ℕ) (command : JobCommand) (input : List ℕ)
-    → IsReply f s text → IsForm f.words (OnJob command) → f.left ≡ Some input → IsAccepted command input → (FaultCountRose f.faults f.faults' → ⊥)
-    → (s ≡ status.Ok) ⊎ (s ≡ status.NoMemory)
-completed_reply f status.Ok text command input reply form left accepted quiet = inl refl
-completed_reply f status.NoMemory text command input reply form left accepted quiet = inr refl
-completed_reply f status.Usage text command input reply form left accepted quiet = absurd (reply.0.none (OnJob command) form)
-completed_reply f status.ReadFault text command input reply form left accepted quiet = absurd (quiet reply.0.rose)
-completed_reply f status.WriteFault text command input reply form left accepted quiet = absurd reply
-completed_reply f status.InputTooLong text command input reply form left accepted quiet =
-    let less = read_less f.left f.left' input reply.0.long.taken left reply.0.long.consumed in
-    absurd (omega (arith, reply.0.long.long, accepted.short))
-completed_reply f status.Syntax text command input reply form left accepted quiet =
-    let whole = read_whole f.left f.left' input reply.input left reply.read.taken reply.read.end in
-    let answer = answered f status.Syntax text (OnJob command) reply form in
-    absurd (answer.no_job accepted.job accepted.is (accepted.spelled ∙ whole))
-completed_reply f status.Refused text command input reply form left accepted quiet =
-    let whole = read_whole f.left f.left' input reply.input left reply.read.taken reply.read.end in
-    let answer = answered f status.Refused text (OnJob command) reply form in
-    let same = answer.one accepted.job accepted.is (accepted.spelled ∙ whole) in
+-- an input that isn't too long was read whole, where no read fails
+pub no_more_than : (f : CallContext) (input : List ℕ) → f.left ≡ Some input → length input ≤ most_bytes → (FaultCountRose f.faults f.faults' → ⊥) → (IsReadFault f → ⊥) × (IsInputTooLong f → ⊥)
+no_more_than f input left short quiet =
+    (λ r. quiet r.rose, λ r. let less = read_less f.left f.left' input r.long.taken left r.long.consumed in omega (arith, less, r.long.long, short))
+
+-- the answer is that to all of the input
+pub answered_whole : (f : CallContext) (s : Status) (text : List ℕ) (command : Command) (input : List ℕ) (reply : IsAnswered f s text) → IsForm f.words command → f.left ≡ Some input → IsInputAnswer command input s text
+answered_whole f s text command input reply form left =
+    subst (λ i. IsInputAnswer command i s text) (sym (read_whole f.left f.left' input reply.input left reply.read.taken reply.read.end)) (answered f s text command reply form)
+
+-- the answer to an accepted input
+accepted_answer : (command : JobCommand) (input : List ℕ) (s : Status) (text : List ℕ) → IsAnswer command input s text → IsAccepted command input → IsDoneStatus s
+accepted_answer command input status.Ok text answer accepted = inl refl
+accepted_answer command input status.NoMemory text answer accepted = inr refl
+accepted_answer command input status.Syntax text answer accepted = absurd (answer.no_job accepted.job accepted.is accepted.spelled)
+accepted_answer command input status.Refused text answer accepted =
+    let same = answer.one accepted.job accepted.is accepted.spelled in
     absurd (refused_not command answer.job accepted.job text answer.reply answer.is accepted.is same accepted.valid)
-completed_reply f status.LinkRefused text command input (inl reply) form left accepted quiet =
-    let whole = read_whole f.left f.left' input reply.input left reply.read.taken reply.read.end in
-    let answer = answered f status.LinkRefused text (OnJob command) reply form in
-    let same = answer.one accepted.job accepted.is (accepted.spelled ∙ whole) in
+accepted_answer command input status.LinkRefused text answer accepted =
+    let same = answer.one accepted.job accepted.is accepted.spelled in
     absurd (linked_not command answer.job text (same_links command answer.job accepted.job answer.is accepted.is same accepted.links) answer.reply)
-completed_reply f status.LinkRefused text command input (inr reply) form left accepted quiet = absurd (not_simulation f status.LinkRefused text (OnJob command) reply form tt)
-completed_reply f status.BadWord text command input reply form left accepted quiet = absurd (not_simulation f status.BadWord text (OnJob command) reply form tt)
-completed_reply f status.PlanRefused text command input reply form left accepted quiet =
-    let answer = answered f status.PlanRefused text (OnJob command) reply form in
-    absurd (of_job command answer.job status.PlanRefused text answer.reply)
-completed_reply f status.BundleRefused text command input reply form left accepted quiet =
-    let answer = answered f status.BundleRefused text (OnJob command) reply form in
-    absurd (of_job command answer.job status.BundleRefused text answer.reply)
+accepted_answer command input s text answer accepted = absurd (of_job command answer.job s text answer.reply)
 
 -- how a call on an accepted input ends, where nothing failed
 pub completed : (f : CallContext) (told told' : Option (List ℕ)) (faults faults' : ℕ) (s : Status) (text : List ℕ) (result : Status)
     → IsReply f s text → IsDelivered told told' faults faults' s text result
     → (command : JobCommand) (input : List ℕ) → IsForm f.words (OnJob command) → f.left ≡ Some input → IsAccepted command input
     → (FaultCountRose f.faults f.faults' → ⊥) → (FaultCountRose faults faults' → ⊥) → (result ≡ status.Ok) ⊎ (result ≡ status.NoMemory)
-completed f told told' faults faults' s text result reply (inl whole) command input form left accepted quiet silent =
-    rw (sym whole.0) at (completed_reply f s text command input reply form left accepted quiet)
-completed f told told' faults faults' s text result reply (inr part) command input form left accepted quiet silent = absurd (silent part.2)
-
--- the reply to words that ask for a generated function
-generated_reply : (f : CallContext) (s : Status) (text : List ℕ) (count start : ℕ) → IsReply f s text → IsForm f.words (Generate count start) → (s ≡ status.Ok) ⊎ (s ≡ status.NoMemory)
-generated_reply f status.Ok text count start reply form = inl refl
-generated_reply f status.NoMemory text count start reply form = inr refl
-generated_reply f status.Usage text count start reply form = absurd (reply.0.none (Generate count start) form)
-generated_reply f status.ReadFault text count start reply form = absurd (about f.words reply.0.command (Generate count start) reply.0.form form reply.0.about)
-generated_reply f status.InputTooLong text count start reply form = absurd (about f.words reply.0.command (Generate count start) reply.0.form form reply.0.about)
-generated_reply f status.WriteFault text count start reply form = absurd reply
-generated_reply f status.Syntax text count start reply form = absurd (answered f status.Syntax text (Generate count start) reply form)
-generated_reply f status.Refused text count start reply form = absurd (answered f status.Refused text (Generate count start) reply form)
-generated_reply f status.LinkRefused text count start (inl reply) form = absurd (answered f status.LinkRefused text (Generate count start) reply form)
-generated_reply f status.LinkRefused text count start (inr reply) form = absurd (not_generated f status.LinkRefused text count start reply form)
-generated_reply f status.BadWord text count start reply form = absurd (not_generated f status.BadWord text count start reply form)
-generated_reply f status.PlanRefused text count start reply form = absurd (answered f status.PlanRefused text (Generate count start) reply form)
-generated_reply f status.BundleRefused text count start reply form = absurd (answered f status.BundleRefused text (Generate count start) reply form)
+completed f told told' faults faults' s text result reply delivered command input form left accepted quiet silent =
+    done_delivered told told' faults faults' s text result delivered silent
+    (done_reply f s text (OnJob command) reply form (no_more_than f input left accepted.short quiet)
+    (λ r. accepted_answer command input s text (answered_whole f s text (OnJob command) input r form left) accepted)
+    (λ r. absurd (not_simulation f s text (OnJob command) r form tt)))
 
 -- how a call ends that asks for a generated function, where no write failed
 pub generated_result : (f : CallContext) (told told' : Option (List ℕ)) (faults faults' : ℕ) (s : Status) (text : List ℕ) (result : Status)
     → IsReply f s text → IsDelivered told told' faults faults' s text result
     → (count start : ℕ) → IsForm f.words (Generate count start) → (FaultCountRose faults faults' → ⊥) → (result ≡ status.Ok) ⊎ (result ≡ status.NoMemory)
-generated_result f told told' faults faults' s text result reply (inl whole) count start form silent =
-    rw (sym whole.0) at (generated_reply f s text count start reply form)
-generated_result f told told' faults faults' s text result reply (inr part) count start form silent = absurd (silent part.2)
+generated_result f told told' faults faults' s text result reply delivered count start form silent =
+    done_delivered told told' faults faults' s text result delivered silent
+    (done_reply f s text (Generate count start) reply form (not_about_input f (Generate count start) form (λ none. none))
+    (λ r. absurd (answered f s text (Generate count start) r form))
+    (λ r. absurd (not_generated f s text count start r form)))
 
 -- the reply to words that ask for a simulation which nothing refuses
 usable : (words : List (List ℕ)) (base word count steps start base' word' count' steps' start' : ℕ) → IsForm words (Simulate base word count steps start) → IsForm words (Simulate base' word' count' steps' start')
@@ -150,30 +129,19 @@ usable words base word count steps start base' word' count' steps' start' a b no
     let word_is : word ≡ word' = cc in
     subst (λ w. start_cause base' w ≡ None) word_is (subst (λ b. start_cause b word ≡ None) base_is none)
 
-simulated_reply : (f : CallContext) (s : Status) (text : List ℕ) (base word count steps start : ℕ) → IsReply f s text → IsForm f.words (Simulate base word count steps start) → start_cause base word ≡ None
-    → (s ≡ status.Ok) ⊎ (s ≡ status.NoMemory)
-simulated_reply f status.Ok text base word count steps start reply form none = inl refl
-simulated_reply f status.NoMemory text base word count steps start reply form none = inr refl
-simulated_reply f status.Usage text base word count steps start reply form none = absurd (reply.0.none (Simulate base word count steps start) form)
-simulated_reply f status.ReadFault text base word count steps start reply form none = absurd (about f.words reply.0.command (Simulate base word count steps start) reply.0.form form reply.0.about)
-simulated_reply f status.InputTooLong text base word count steps start reply form none = absurd (about f.words reply.0.command (Simulate base word count steps start) reply.0.form form reply.0.about)
-simulated_reply f status.WriteFault text base word count steps start reply form none = absurd reply
-simulated_reply f status.Syntax text base word count steps start reply form none = absurd (answered f status.Syntax text (Simulate base word count steps start) reply form)
-simulated_reply f status.Refused text base word count steps start reply form none = absurd (answered f status.Refused text (Simulate base word count steps start) reply form)
-simulated_reply f status.PlanRefused text base word count steps start reply form none = absurd (answered f status.PlanRefused text (Simulate base word count steps start) reply form)
-simulated_reply f status.BundleRefused text base word count steps start reply form none = absurd (answered f status.BundleRefused text (Simulate base word count steps start) reply form)
-simulated_reply f status.LinkRefused text base word count steps start (inl reply) form none = absurd (answered f status.LinkRefused text (Simulate base word count steps start) reply form)
-simulated_reply f status.LinkRefused text base word count steps start (inr reply) form none =
-    let clash = sym (usable f.words base word count steps start reply.base reply.word reply.count reply.steps reply.start form reply.form none) ∙ reply.told.cause in
-    absurd cc
-simulated_reply f status.BadWord text base word count steps start reply form none =
-    let clash = sym (usable f.words base word count steps start reply.base reply.word reply.count reply.steps reply.start form reply.form none) ∙ reply.told.cause in
-    absurd cc
+unrefused : (base word count steps start : ℕ) (s : Status) (text : List ℕ) → IsSimulateReply base word count steps start s text → start_cause base word ≡ None → IsDoneStatus s
+unrefused base word count steps start status.Ok text reply none = inl refl
+unrefused base word count steps start status.NoMemory text reply none = inr refl
+unrefused base word count steps start status.LinkRefused text reply none = let clash = sym none ∙ reply.cause in absurd cc
+unrefused base word count steps start status.BadWord text reply none = let clash = sym none ∙ reply.cause in absurd cc
+unrefused base word count steps start s text reply none = absurd reply
 
 -- how a call ends that asks for one, where no write failed
 pub simulated_result : (f : CallContext) (told told' : Option (List ℕ)) (faults faults' : ℕ) (s : Status) (text : List ℕ) (result : Status)
     → IsReply f s text → IsDelivered told told' faults faults' s text result
     → (base word count steps start : ℕ) → IsForm f.words (Simulate base word count steps start) → start_cause base word ≡ None → (FaultCountRose faults faults' → ⊥) → (result ≡ status.Ok) ⊎ (result ≡ status.NoMemory)
-simulated_result f told told' faults faults' s text result reply (inl whole) base word count steps start form none silent =
-    rw (sym whole.0) at (simulated_reply f s text base word count steps start reply form none)
-simulated_result f told told' faults faults' s text result reply (inr part) base word count steps start form none silent = absurd (silent part.2)
+simulated_result f told told' faults faults' s text result reply delivered base word count steps start form none silent =
+    done_delivered told told' faults faults' s text result delivered silent
+    (done_reply f s text (Simulate base word count steps start) reply form (not_about_input f (Simulate base word count steps start) form (λ about. about))
+    (λ r. absurd (answered f s text (Simulate base word count steps start) r form))
+    (λ r. unrefused r.base r.word r.count r.steps r.start s text r.told (usable f.words base word count steps start r.base r.word r.count r.steps r.start form r.form none)))

@@ -1,7 +1,7 @@
 -- The text of several lines.
 use Rattle.std.proofs.Common.{◌≡◌, ℕ, List, [], ◌∷◌, ◌++◌, refl, sym, ap, ◌∙◌, append_assoc}
 use Rattle.std.specs.Prelude.{Result, Ok, Err, OnOk}
-use Rattle.s390x_tool.specs.Emitted.{text_of_lines}
+use Rattle.s390x_job.specs.Completions.{text_of_lines}
 
 pub lines_text_append : (a b : List (List ℕ)) → text_of_lines (a ++ b) ≡ text_of_lines a ++ text_of_lines b
 lines_text_append [] b = refl

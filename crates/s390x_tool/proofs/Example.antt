@@ -18,7 +18,8 @@ use Rattle.s390x_bundle.specs.Table.{symbols_of}
 use Rattle.s390x_bundle.specs.declared.member.Member.{Member}
 use Rattle.s390x_job_bundle.specs.Text.{close_line, text_of_functions}
 use Rattle.s390x_job_bundle.specs.declared.named_job.NamedJob.{NamedJob}
-use Rattle.s390x_tool.specs.Bundled.{CanBeBundled, IsBundleAccepted, member_of}
+use Rattle.s390x_bundle.specs.Members.{member_of}
+use Rattle.s390x_tool.specs.Bundled.{CanBeBundled, IsBundleAccepted}
 use Rattle.s390x_tool.specs.Example.{one_function}
 use Rattle.s390x_job.proofs.PlainJob.{plain_job, vec}
 use Rattle.s390x_tool.proofs.ReturnJob.{is_job, job, job_text}

@@ -126,13 +126,4 @@ pub reply_to_generate : (f : CallContext) (n start : ℕ) (s : Status) (text : L
     → IsGenerateReply n start s text → IsReply f s text
 reply_to_generate f n start status.Ok text form kept same told = inr (inl (record { count = n; start = start; form = form; kept = kept; same = same; told = told }))
 reply_to_generate f n start status.NoMemory text form kept same told = (record { command = Generate n start; form = form; left = kept; same = same }, told)
-reply_to_generate f n start status.Usage text form kept same told = absurd told
-reply_to_generate f n start status.ReadFault text form kept same told = absurd told
-reply_to_generate f n start status.InputTooLong text form kept same told = absurd told
-reply_to_generate f n start status.WriteFault text form kept same told = absurd told
-reply_to_generate f n start status.Syntax text form kept same told = absurd told
-reply_to_generate f n start status.Refused text form kept same told = absurd told
-reply_to_generate f n start status.LinkRefused text form kept same told = absurd told
-reply_to_generate f n start status.BadWord text form kept same told = absurd told
-reply_to_generate f n start status.PlanRefused text form kept same told = absurd told
-reply_to_generate f n start status.BundleRefused text form kept same told = absurd told
+reply_to_generate f n start s text form kept same told = absurd told

@@ -1,6 +1,6 @@
 -- What follows from a reply and how it was written.
 use Rattle.std.proofs.Common.{◌≡◌, ℕ, ◌⊎◌, inl, inr, List, refl, sym, ◌∙◌}
-use Rattle.std.specs.Prelude.{Option}
+use Rattle.std.specs.Prelude.{Option, codes}
 use Rattle.s390x_tool.specs.Words.{IsForm, IsNoForm}
 use Rattle.s390x_tool.specs.declared.words.Command.{Command}
 use Rattle.s390x_tool.specs.declared.words.Command.TheVariants.{OnJob, Generate, Simulate, Allocate, Bundle}
@@ -8,11 +8,11 @@ use Rattle.s390x_tool.specs.declared.words.JobCommand.{JobCommand}
 use Rattle.s390x_tool.specs.declared.words.JobCommand.TheVariants.{Image, Emit, Run, Operands, Show}
 use Rattle.s390x_job.specs.declared.job.Job.{Job}
 use Rattle.s390x_tool.proofs.Parts.{whole_part}
-use Rattle.s390x_tool.specs.Answers.{IsAnswer, IsJobReply}
+use Rattle.s390x_tool.specs.Answers.{IsJobReply}
 use Rattle.s390x_tool.specs.Causes.{FaultCountRose}
 use Rattle.s390x_tool.specs.Ends.{IsPartRead, IsRead, IsTooLong, most_bytes, too_many}
-use Rattle.s390x_tool.specs.Lines.{IsUnread}
-use Rattle.s390x_tool.specs.Replies.{CallContext, IsAboutInput, IsReply, IsDelivered, IsDone, IsReadFor}
+use Rattle.s390x_tool.specs.Lines.{IsUnread, line}
+use Rattle.s390x_tool.specs.Replies.{CallContext, IsAboutInput, IsAnswered, IsInputAnswer, IsReply, IsDelivered, IsDone, IsReadFor}
 use Rattle.s390x_tool.specs.declared.input.InputError.{InputError}
 use Rattle.s390x_tool.specs.declared.input.InputError.TheVariants as input
 use Rattle.s390x_tool.specs.declared.status.Status.{Status}
@@ -39,21 +39,54 @@ of_job (Run base steps) j s text reply = absurd reply
 of_job Operands j s text reply = absurd reply
 of_job Show j s text reply = absurd reply
 
--- the answer to a command about a job is the reply
-pub reply_to_job : (f : CallContext) (command : JobCommand) (input : List ℕ) (s : Status) (text : List ℕ) → IsForm f.words (OnJob command) → IsRead f.left f.left' input → f.faults' ≡ f.faults
-    → IsAnswer command input s text → IsReply f s text
-reply_to_job f command input status.Ok text form read same answer = inl (record { command = OnJob command; form = form; input = input; read = read; same = same; answer = answer })
-reply_to_job f command input status.Syntax text form read same answer = record { command = OnJob command; form = form; input = input; read = read; same = same; answer = answer }
-reply_to_job f command input status.Refused text form read same answer = record { command = OnJob command; form = form; input = input; read = read; same = same; answer = answer }
-reply_to_job f command input status.LinkRefused text form read same answer = inl (record { command = OnJob command; form = form; input = input; read = read; same = same; answer = answer })
-reply_to_job f command input status.NoMemory text form read same answer = (record { command = OnJob command; form = form; left = whole_part f.left f.left' input read; same = same }, answer)
-reply_to_job f command input status.Usage text form read same answer = absurd (of_job command answer.job status.Usage text answer.reply)
-reply_to_job f command input status.ReadFault text form read same answer = absurd (of_job command answer.job status.ReadFault text answer.reply)
-reply_to_job f command input status.WriteFault text form read same answer = absurd (of_job command answer.job status.WriteFault text answer.reply)
-reply_to_job f command input status.InputTooLong text form read same answer = absurd (of_job command answer.job status.InputTooLong text answer.reply)
-reply_to_job f command input status.BadWord text form read same answer = absurd (of_job command answer.job status.BadWord text answer.reply)
-reply_to_job f command input status.PlanRefused text form read same answer = absurd (of_job command answer.job status.PlanRefused text answer.reply)
-reply_to_job f command input status.BundleRefused text form read same answer = absurd (of_job command answer.job status.BundleRefused text answer.reply)
+-- the statuses of answers to what was read
+abbrev IsOfAnswer : Status → Type 0
+IsOfAnswer status.Usage = ⊥
+IsOfAnswer status.ReadFault = ⊥
+IsOfAnswer status.WriteFault = ⊥
+IsOfAnswer status.InputTooLong = ⊥
+IsOfAnswer status.BadWord = ⊥
+IsOfAnswer s = Unit {0}
+
+of_answer : (command : Command) (input : List ℕ) (s : Status) (text : List ℕ) → IsInputAnswer command input s text → IsOfAnswer s
+of_answer command input status.Ok text answer = tt
+of_answer command input status.Syntax text answer = tt
+of_answer command input status.Refused text answer = tt
+of_answer command input status.LinkRefused text answer = tt
+of_answer command input status.NoMemory text answer = tt
+of_answer command input status.PlanRefused text answer = tt
+of_answer command input status.BundleRefused text answer = tt
+of_answer (OnJob command) input s text answer = absurd (of_job command answer.job s text answer.reply)
+of_answer (Generate count start) input s text answer = absurd answer
+of_answer (Simulate base word count steps start) input s text answer = absurd answer
+of_answer Allocate input s text answer = absurd answer
+of_answer (Bundle base) input s text answer = absurd answer
+
+-- what was read, and the line, where memory doesn't suffice for the answer
+short_answer : (f : CallContext) (command : Command) (input text : List ℕ) → IsRead f.left f.left' input → IsInputAnswer command input status.NoMemory text
+    → IsReadFor command f × (text ≡ line (codes "no memory"))
+short_answer f (OnJob command) input text read answer = (whole_part f.left f.left' input read, answer)
+short_answer f (Generate count start) input text read answer = absurd answer
+short_answer f (Simulate base word count steps start) input text read answer = absurd answer
+short_answer f Allocate input text read answer = (whole_part f.left f.left' input read, answer)
+short_answer f (Bundle base) input text read answer = (whole_part f.left f.left' input read, answer)
+
+reply_answered : (f : CallContext) (s : Status) (text : List ℕ) → IsAnswered f s text → IsReply f s text
+reply_answered f status.Ok text a = inl a
+reply_answered f status.LinkRefused text a = inl a
+reply_answered f status.Syntax text a = a
+reply_answered f status.Refused text a = a
+reply_answered f status.PlanRefused text a = a
+reply_answered f status.BundleRefused text a = a
+reply_answered f status.NoMemory text a =
+    let short = short_answer f a.command a.input text a.read a.answer in
+    (record { command = a.command; form = a.form; left = short.0; same = a.same }, short.1)
+reply_answered f s text a = absurd (of_answer a.command a.input s text a.answer)
+
+-- the answer to the command that the words are is the reply
+pub reply_to_input : (f : CallContext) (command : Command) (input : List ℕ) (s : Status) (text : List ℕ) → IsForm f.words command → IsRead f.left f.left' input → f.faults' ≡ f.faults
+    → IsInputAnswer command input s text → IsReply f s text
+reply_to_input f command input s text form read same answer = reply_answered f s text (record { command = command; form = form; input = input; read = read; same = same; answer = answer })
 
 -- a part was read for a command about the input
 read_for : (command : Command) (f : CallContext) → IsAboutInput command → IsPartRead f.left f.left' too_many → IsReadFor command f
@@ -85,13 +118,10 @@ usage_reply f status.WriteFault text none reply = absurd reply
 usage_reply f status.Ok text none (inl reply) = absurd (none reply.command reply.form)
 usage_reply f status.Ok text none (inr (inl reply)) = absurd (none (Generate reply.count reply.start) reply.form)
 usage_reply f status.Ok text none (inr (inr reply)) = absurd (none (Simulate reply.base reply.word reply.count reply.steps reply.start) reply.form)
-usage_reply f status.Syntax text none reply = absurd (none reply.command reply.form)
-usage_reply f status.Refused text none reply = absurd (none reply.command reply.form)
 usage_reply f status.LinkRefused text none (inl reply) = absurd (none reply.command reply.form)
 usage_reply f status.LinkRefused text none (inr reply) = absurd (none (Simulate reply.base reply.word reply.count reply.steps reply.start) reply.form)
 usage_reply f status.BadWord text none reply = absurd (none (Simulate reply.base reply.word reply.count reply.steps reply.start) reply.form)
-usage_reply f status.PlanRefused text none reply = absurd (none reply.command reply.form)
-usage_reply f status.BundleRefused text none reply = absurd (none reply.command reply.form)
+usage_reply f s text none reply = absurd (none reply.command reply.form)
 
 -- a delivered status is the reply's or tells of a failed write
 delivered_status : (told told' : Option (List ℕ)) (faults faults' : ℕ) (s : Status) (text : List ℕ) (result : Status)

@@ -20,7 +20,8 @@ use Rattle.s390x_job.specs.Same.{SameJob}
 use Rattle.s390x_job.specs.declared.job.Job.{Job}
 use Rattle.s390x_image.specs.Causes.{link_cause}
 use Rattle.s390x_image.specs.Symbols.{no_symbols}
-use Rattle.s390x_tool.specs.Answers.{IsCodeOfJob, Links, job_cause, with_symbols}
+use Rattle.s390x_bundle.specs.Table.{with_lines}
+use Rattle.s390x_tool.specs.Answers.{IsCodeOfJob, Links, job_cause}
 use Rattle.s390x_tool.specs.declared.words.JobCommand.{JobCommand}
 use Rattle.s390x_tool.specs.declared.words.JobCommand.TheVariants.{Image, Emit, Run, Operands, Show}
 use Rattle.s390x_tool.proofs.SameTree.{LineTree, lines_tree, lines_for, line_blocks_cause, line_blocks_size, line_ranges, parts_code, line_at, line_places, line_environment, line_steps_from, same_blocks_cause, same_function_code, same_starts, same_block_starts, same_blocks_size}
@@ -141,9 +142,9 @@ same_code j k code a b e h =
 -- what links of one links of the other
 pub same_links : (command : JobCommand) (j k : Job) → IsJob j → IsJob k → SameJob j k → Links command k → Links command j
 same_links (Image base) j k a b e links =
-    λ code is. ap (λ ss. link_cause code base (with_symbols no_symbols ss)) (same_symbols j k a b e) ∙ links code (same_code j k code a b e is)
+    λ code is. ap (λ ss. link_cause code base (with_lines no_symbols ss)) (same_symbols j k a b e) ∙ links code (same_code j k code a b e is)
 same_links Emit j k a b e links = tt
 same_links Operands j k a b e links = tt
 same_links Show j k a b e links = tt
 same_links (Run base steps) j k a b e links =
-    λ code is. ap (λ ss. link_cause code base (with_symbols no_symbols ss)) (same_symbols j k a b e) ∙ links code (same_code j k code a b e is)
+    λ code is. ap (λ ss. link_cause code base (with_lines no_symbols ss)) (same_symbols j k a b e) ∙ links code (same_code j k code a b e is)

@@ -15,7 +15,8 @@ use Rattle.s390x_bundle.specs.declared.member.Member.{Member}
 use Rattle.s390x_job_bundle.specs.Text.{AreFunctions, SameFunctions}
 use Rattle.s390x_job_bundle.specs.declared.named_job.NamedJob.{NamedJob}
 use Rattle.s390x_tool.specs.Answers.{IsCodeOfJob}
-use Rattle.s390x_tool.specs.Bundled.{CanBeBundled, member_of}
+use Rattle.s390x_bundle.specs.Members.{member_of}
+use Rattle.s390x_tool.specs.Bundled.{CanBeBundled}
 use Rattle.s390x_tool.proofs.SameJob.{same_cause, same_code, same_symbols}
 
 abbrev pub members : List NamedJob → List Member

@@ -31,11 +31,4 @@ reply_to_simulate f base word count steps start status.LinkRefused text form kep
 reply_to_simulate f base word count steps start status.BadWord text form kept same told =
     record { base = base; word = word; count = count; steps = steps; start = start; form = form; kept = kept; same = same; told = told }
 reply_to_simulate f base word count steps start status.NoMemory text form kept same told = (record { command = Simulate base word count steps start; form = form; left = kept; same = same }, told)
-reply_to_simulate f base word count steps start status.Usage text form kept same told = absurd told
-reply_to_simulate f base word count steps start status.ReadFault text form kept same told = absurd told
-reply_to_simulate f base word count steps start status.InputTooLong text form kept same told = absurd told
-reply_to_simulate f base word count steps start status.WriteFault text form kept same told = absurd told
-reply_to_simulate f base word count steps start status.Syntax text form kept same told = absurd told
-reply_to_simulate f base word count steps start status.Refused text form kept same told = absurd told
-reply_to_simulate f base word count steps start status.PlanRefused text form kept same told = absurd told
-reply_to_simulate f base word count steps start status.BundleRefused text form kept same told = absurd told
+reply_to_simulate f base word count steps start s text form kept same told = absurd told

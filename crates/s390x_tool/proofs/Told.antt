@@ -60,36 +60,20 @@ pub none_alone : (w : List ℕ) → w ≢ codes "emit" → w ≢ codes "operands
 none_alone w no_emit no_operands no_show no_alloc (OnJob Emit) form = no_emit (ap (λ ws. get_or ws 0 []) form.spelled)
 none_alone w no_emit no_operands no_show no_alloc (OnJob Operands) form = no_operands (ap (λ ws. get_or ws 0 []) form.spelled)
 none_alone w no_emit no_operands no_show no_alloc (OnJob Show) form = no_show (ap (λ ws. get_or ws 0 []) form.spelled)
-none_alone w no_emit no_operands no_show no_alloc (OnJob (Image base)) form = absurd (omega (arith, ap length form.spelled))
-none_alone w no_emit no_operands no_show no_alloc (OnJob (Run base steps)) form = absurd (omega (arith, ap length form.spelled))
-none_alone w no_emit no_operands no_show no_alloc (Generate count start) form = absurd (omega (arith, ap length form.spelled))
-none_alone w no_emit no_operands no_show no_alloc (Simulate base word count steps start) form = absurd (omega (arith, ap length form.spelled))
 none_alone w no_emit no_operands no_show no_alloc Allocate form = no_alloc (ap (λ ws. get_or ws 0 []) form.spelled)
-none_alone w no_emit no_operands no_show no_alloc (Bundle base) form = absurd (omega (arith, ap length form.spelled))
+none_alone w no_emit no_operands no_show no_alloc c form = absurd (omega (arith, ap length form.spelled))
 
 -- a word with one behind it
 pub none_with_one : (w x : List ℕ) → w ≢ codes "image" → w ≢ codes "bundle" → IsNoForm (w ∷ x ∷ [])
 none_with_one w x no_image no_bundle (OnJob (Image base)) form = no_image (ap (λ ws. get_or ws 0 []) form.spelled)
-none_with_one w x no_image no_bundle (OnJob Emit) form = absurd (omega (arith, ap length form.spelled))
-none_with_one w x no_image no_bundle (OnJob (Run base steps)) form = absurd (omega (arith, ap length form.spelled))
-none_with_one w x no_image no_bundle (OnJob Operands) form = absurd (omega (arith, ap length form.spelled))
-none_with_one w x no_image no_bundle (OnJob Show) form = absurd (omega (arith, ap length form.spelled))
-none_with_one w x no_image no_bundle (Generate count start) form = absurd (omega (arith, ap length form.spelled))
-none_with_one w x no_image no_bundle (Simulate base word count steps start) form = absurd (omega (arith, ap length form.spelled))
-none_with_one w x no_image no_bundle Allocate form = absurd (omega (arith, ap length form.spelled))
 none_with_one w x no_image no_bundle (Bundle base) form = no_bundle (ap (λ ws. get_or ws 0 []) form.spelled)
+none_with_one w x no_image no_bundle c form = absurd (omega (arith, ap length form.spelled))
 
 -- a word with two behind it
 pub none_with_two : (w x y : List ℕ) → w ≢ codes "run" → w ≢ codes "gen" → IsNoForm (w ∷ x ∷ y ∷ [])
 none_with_two w x y no_run no_gen (OnJob (Run base steps)) form = no_run (ap (λ ws. get_or ws 0 []) form.spelled)
 none_with_two w x y no_run no_gen (Generate count start) form = no_gen (ap (λ ws. get_or ws 0 []) form.spelled)
-none_with_two w x y no_run no_gen (OnJob (Image base)) form = absurd (omega (arith, ap length form.spelled))
-none_with_two w x y no_run no_gen (OnJob Emit) form = absurd (omega (arith, ap length form.spelled))
-none_with_two w x y no_run no_gen (OnJob Operands) form = absurd (omega (arith, ap length form.spelled))
-none_with_two w x y no_run no_gen (OnJob Show) form = absurd (omega (arith, ap length form.spelled))
-none_with_two w x y no_run no_gen (Simulate base word count steps start) form = absurd (omega (arith, ap length form.spelled))
-none_with_two w x y no_run no_gen Allocate form = absurd (omega (arith, ap length form.spelled))
-none_with_two w x y no_run no_gen (Bundle base) form = absurd (omega (arith, ap length form.spelled))
+none_with_two w x y no_run no_gen c form = absurd (omega (arith, ap length form.spelled))
 
 -- the first letter of the first word
 abbrev letter : List (List ℕ) → ℕ
@@ -98,64 +82,34 @@ letter ws = get_or (get_or ws 0 []) 0 0
 -- `image` with a word that is no number
 pub none_of_image : (x : List ℕ) → ((n : ℕ) → n < 2 ^ 64 → x ≢ decimal n) → IsNoForm (codes "image" ∷ x ∷ [])
 none_of_image x none (OnJob (Image base)) form = none base form.range (ap (λ ws. get_or ws 1 []) form.spelled)
-none_of_image x none (OnJob Emit) form = absurd (omega (arith, ap length form.spelled))
-none_of_image x none (OnJob (Run base steps)) form = absurd (omega (arith, ap length form.spelled))
-none_of_image x none (OnJob Operands) form = absurd (omega (arith, ap length form.spelled))
-none_of_image x none (OnJob Show) form = absurd (omega (arith, ap length form.spelled))
-none_of_image x none (Generate count start) form = absurd (omega (arith, ap length form.spelled))
-none_of_image x none (Simulate base word count steps start) form = absurd (omega (arith, ap length form.spelled))
-none_of_image x none Allocate form = absurd (omega (arith, ap length form.spelled))
 none_of_image x none (Bundle base) form = absurd (omega (arith, ap letter form.spelled))
+none_of_image x none c form = absurd (omega (arith, ap length form.spelled))
 
 -- `bundle` with a word that is no number
 pub none_of_bundle : (x : List ℕ) → ((n : ℕ) → n < 2 ^ 64 → x ≢ decimal n) → IsNoForm (codes "bundle" ∷ x ∷ [])
-none_of_bundle x none Allocate form = absurd (omega (arith, ap length form.spelled))
 none_of_bundle x none (Bundle base) form = none base form.range (ap (λ ws. get_or ws 1 []) form.spelled)
 none_of_bundle x none (OnJob (Image base)) form = absurd (omega (arith, ap letter form.spelled))
-none_of_bundle x none (OnJob Emit) form = absurd (omega (arith, ap length form.spelled))
-none_of_bundle x none (OnJob (Run base steps)) form = absurd (omega (arith, ap length form.spelled))
-none_of_bundle x none (OnJob Operands) form = absurd (omega (arith, ap length form.spelled))
-none_of_bundle x none (OnJob Show) form = absurd (omega (arith, ap length form.spelled))
-none_of_bundle x none (Generate count start) form = absurd (omega (arith, ap length form.spelled))
-none_of_bundle x none (Simulate base word count steps start) form = absurd (omega (arith, ap length form.spelled))
+none_of_bundle x none c form = absurd (omega (arith, ap length form.spelled))
 
 -- `run` with words that aren't its numbers
 pub none_of_run : (x y : List ℕ) → ((m n : ℕ) → m < 2 ^ 64 → n ≤ 1000000 → x ≡ decimal m → y ≡ decimal n → ⊥) → IsNoForm (codes "run" ∷ x ∷ y ∷ [])
 none_of_run x y none (OnJob (Run base steps)) form =
     none base steps form.range.0 form.range.1 (ap (λ ws. get_or ws 1 []) form.spelled) (ap (λ ws. get_or ws 2 []) form.spelled)
 none_of_run x y none (Generate count start) form = absurd (omega (arith, ap letter form.spelled))
-none_of_run x y none (OnJob (Image base)) form = absurd (omega (arith, ap length form.spelled))
-none_of_run x y none (OnJob Emit) form = absurd (omega (arith, ap length form.spelled))
-none_of_run x y none (OnJob Operands) form = absurd (omega (arith, ap length form.spelled))
-none_of_run x y none (OnJob Show) form = absurd (omega (arith, ap length form.spelled))
-none_of_run x y none (Simulate base word count steps start) form = absurd (omega (arith, ap length form.spelled))
-none_of_run x y none Allocate form = absurd (omega (arith, ap length form.spelled))
-none_of_run x y none (Bundle base) form = absurd (omega (arith, ap length form.spelled))
+none_of_run x y none c form = absurd (omega (arith, ap length form.spelled))
 
 -- `gen` with words that aren't its numbers
 pub none_of_generate : (x y : List ℕ) → ((m n : ℕ) → m ≤ 100000 → n < 2 ^ 32 → x ≡ decimal m → y ≡ decimal n → ⊥) → IsNoForm (codes "gen" ∷ x ∷ y ∷ [])
 none_of_generate x y none (Generate count start) form =
     none count start form.range.0 form.range.1 (ap (λ ws. get_or ws 1 []) form.spelled) (ap (λ ws. get_or ws 2 []) form.spelled)
 none_of_generate x y none (OnJob (Run base steps)) form = absurd (omega (arith, ap letter form.spelled))
-none_of_generate x y none (OnJob (Image base)) form = absurd (omega (arith, ap length form.spelled))
-none_of_generate x y none (OnJob Emit) form = absurd (omega (arith, ap length form.spelled))
-none_of_generate x y none (OnJob Operands) form = absurd (omega (arith, ap length form.spelled))
-none_of_generate x y none (OnJob Show) form = absurd (omega (arith, ap length form.spelled))
-none_of_generate x y none (Simulate base word count steps start) form = absurd (omega (arith, ap length form.spelled))
-none_of_generate x y none Allocate form = absurd (omega (arith, ap length form.spelled))
-none_of_generate x y none (Bundle base) form = absurd (omega (arith, ap length form.spelled))
+none_of_generate x y none c form = absurd (omega (arith, ap length form.spelled))
 
 -- a word with five behind it
 pub none_with_five : (w b a n s x : List ℕ) → w ≢ codes "smp" → IsNoForm (w ∷ b ∷ a ∷ n ∷ s ∷ x ∷ [])
 none_with_five w b a n s x no_smp (Simulate base word count steps start) form = no_smp (ap (λ ws. get_or ws 0 []) form.spelled)
-none_with_five w b a n s x no_smp (OnJob (Image base)) form = absurd (omega (arith, ap length form.spelled))
 none_with_five w b a n s x no_smp (OnJob Emit) form = absurd (omega (arith, ap length form.spelled))
-none_with_five w b a n s x no_smp (OnJob (Run base steps)) form = absurd (omega (arith, ap length form.spelled))
-none_with_five w b a n s x no_smp (OnJob Operands) form = absurd (omega (arith, ap length form.spelled))
-none_with_five w b a n s x no_smp (OnJob Show) form = absurd (omega (arith, ap length form.spelled))
-none_with_five w b a n s x no_smp (Generate count start) form = absurd (omega (arith, ap length form.spelled))
-none_with_five w b a n s x no_smp Allocate form = absurd (omega (arith, ap length form.spelled))
-none_with_five w b a n s x no_smp (Bundle base) form = absurd (omega (arith, ap length form.spelled))
+none_with_five w b a n s x no_smp c form = absurd (omega (arith, ap length form.spelled))
 
 -- `smp` with words that aren't its numbers
 pub none_of_simulation : (b a n s x : List ℕ) → ((base word count steps start : ℕ) → IsInRange (Simulate base word count steps start) → b ≡ decimal base → a ≡ decimal word → n ≡ decimal count → s ≡ decimal steps → x ≡ decimal start → ⊥)
@@ -163,35 +117,21 @@ pub none_of_simulation : (b a n s x : List ℕ) → ((base word count steps star
 none_of_simulation b a n s x none (Simulate base word count steps start) form =
     none base word count steps start form.range (ap (λ ws. get_or ws 1 []) form.spelled) (ap (λ ws. get_or ws 2 []) form.spelled) (ap (λ ws. get_or ws 3 []) form.spelled)
     (ap (λ ws. get_or ws 4 []) form.spelled) (ap (λ ws. get_or ws 5 []) form.spelled)
-none_of_simulation b a n s x none (OnJob (Image base)) form = absurd (omega (arith, ap length form.spelled))
 none_of_simulation b a n s x none (OnJob Emit) form = absurd (omega (arith, ap length form.spelled))
-none_of_simulation b a n s x none (OnJob (Run base steps)) form = absurd (omega (arith, ap length form.spelled))
-none_of_simulation b a n s x none (OnJob Operands) form = absurd (omega (arith, ap length form.spelled))
-none_of_simulation b a n s x none (OnJob Show) form = absurd (omega (arith, ap length form.spelled))
-none_of_simulation b a n s x none (Generate count start) form = absurd (omega (arith, ap length form.spelled))
-none_of_simulation b a n s x none Allocate form = absurd (omega (arith, ap length form.spelled))
-none_of_simulation b a n s x none (Bundle base) form = absurd (omega (arith, ap length form.spelled))
+none_of_simulation b a n s x none c form = absurd (omega (arith, ap length form.spelled))
 
 -- six words, each by its number
 pub six_words : {Z : Type 0} (ws : List (String Z)) (a b c d e f : String Z) → 6 ≤ length ws → length ws < 7 → a ≡ get_or ws 0 a → b ≡ get_or ws 1 b → c ≡ get_or ws 2 c → d ≡ get_or ws 3 d → e ≡ get_or ws 4 e → f ≡ get_or ws 5 f
     → texts ws ≡ string_bytes a ∷ string_bytes b ∷ string_bytes c ∷ string_bytes d ∷ string_bytes e ∷ string_bytes f ∷ []
-six_words [] a b c d e f most least p q r s t u = absurd (omega (arith, most))
-six_words (u ∷ []) a b c d e f most least p q r s t w = absurd (omega (arith, most))
-six_words (u ∷ v ∷ []) a b c d e f most least p q r s t w = absurd (omega (arith, most))
-six_words (u ∷ v ∷ x ∷ []) a b c d e f most least p q r s t w = absurd (omega (arith, most))
-six_words (u ∷ v ∷ x ∷ y ∷ []) a b c d e f most least p q r s t w = absurd (omega (arith, most))
-six_words (u ∷ v ∷ x ∷ y ∷ z ∷ []) a b c d e f most least p q r s t w = absurd (omega (arith, most))
 six_words (a ∷ b ∷ c ∷ d ∷ e ∷ f ∷ []) a' b' c' d' e' f' most least p q r s t u = rw p (rw q (rw r (rw s (rw t (rw u refl)))))
 six_words (u ∷ v ∷ x ∷ y ∷ z ∷ w ∷ g ∷ ws) a b c d e f most least p q r s t o = absurd (omega (arith, least))
+six_words ws a b c d e f most least p q r s t u = absurd (omega (arith, most))
 
 -- as many words as no command has
 pub none_of_length : (words : List (List ℕ)) → length words ≢ 1 → length words ≢ 2 → length words ≢ 3 → length words ≢ 6 → IsNoForm words
 none_of_length words one two three six (OnJob (Image base)) form = two (ap length form.spelled)
 none_of_length words one two three six (OnJob (Run base steps)) form = three (ap length form.spelled)
 none_of_length words one two three six (Generate count start) form = three (ap length form.spelled)
-none_of_length words one two three six (OnJob Emit) form = one (ap length form.spelled)
-none_of_length words one two three six (OnJob Operands) form = one (ap length form.spelled)
-none_of_length words one two three six (OnJob Show) form = one (ap length form.spelled)
 none_of_length words one two three six (Simulate base word count steps start) form = six (ap length form.spelled)
-none_of_length words one two three six Allocate form = one (ap length form.spelled)
 none_of_length words one two three six (Bundle base) form = two (ap length form.spelled)
+none_of_length words one two three six c form = one (ap length form.spelled)

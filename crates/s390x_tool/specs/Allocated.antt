@@ -13,6 +13,7 @@ use Rattle.s390x_job.specs.Jobs.{IsJob, text_of_job}
 use Rattle.s390x_job_plan.specs.Completions.{IsFirstWrongOfPlanned, IsPlannedText}
 use Rattle.s390x_job_plan.specs.Text.{IsPlanned, IsPlannedOf, text_of_planned}
 use Rattle.s390x_job_plan.specs.declared.planned_job.PlannedJob.{PlannedJob}
+use Rattle.s390x_tool.specs.Ends.{most_bytes}
 use Rattle.s390x_tool.specs.Lines.{line, operand_error_name}
 use Rattle.s390x_tool.specs.declared.status.Status.{Status}
 use Rattle.s390x_tool.specs.declared.status.Status.TheVariants as status
@@ -81,6 +82,6 @@ IsAllocateAnswer input s text = ⊥
 
 -- the input is the text of a planned job, whose plan has no fault
 pub record IsPlanAccepted (input : List ℕ) : Type 0 where
-  pub short : length input ≤ 16777216
+  pub short : length input ≤ most_bytes
   pub planned : IsPlannedText input
   pub faultless : (p : PlannedJob) → IsPlanned p → text_of_planned p ≡ input → IsOk (plan_contents p.job.state.layout p.job.function.blocks.items p.plan.blocks.items)

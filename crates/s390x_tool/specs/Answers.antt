@@ -1,5 +1,5 @@
 -- The answers to a command and its whole input.
-use Rattle.std.specs.Prelude.{ℕ, ◌≡◌, ◌≤◌, List, [], ◌∷◌, ◌++◌, length, codes, Option, Some, None}
+use Rattle.std.specs.Prelude.{ℕ, ◌≡◌, ◌≤◌, List, ◌++◌, length, codes, Option, Some, None}
 use Rattle.std.specs.Fmt.{decimal}
 use Rattle.hex.specs.Hex.{encode_lower}
 use Rattle.s390x_base.specs.declared.error.EmitError.{EmitError}
@@ -10,32 +10,28 @@ use Rattle.s390x_typed_steps.specs.Ranges.{BlocksInRange}
 use Rattle.s390x_image.specs.declared.error.LinkError.{LinkError}
 use Rattle.s390x_image.specs.Causes.{link_cause}
 use Rattle.s390x_image.specs.Fields.{with_fields_filled}
-use Rattle.s390x_image.specs.Symbols.{Symbols, no_symbols, with_address}
+use Rattle.s390x_image.specs.Symbols.{Symbols, no_symbols}
+use Rattle.s390x_bundle.specs.Table.{with_lines}
 use Rattle.s390x_job.specs.Jobs.{text_of_job, IsJob}
 use Rattle.s390x_job.specs.Same.{SameJob}
 use Rattle.s390x_job.specs.Completions.{pieces, IsFirstWrong}
 use Rattle.s390x_job.specs.declared.job.Job.{Job}
-use Rattle.s390x_job.specs.declared.job.SymbolLine.{SymbolLine}
 use Rattle.s390x_execution.specs.Text.{IsRunText}
 use Rattle.s390x_tool.specs.Emitted.{emit_text}
 use Rattle.s390x_operands.specs.declared.constraint.OperandError.{OperandError}
 use Rattle.s390x_text_rows.specs.Texts.{Text}
 use Rattle.s390x_listing.specs.Operands.{operands_listing}
 use Rattle.s390x_listing.specs.Texts.{texts_listing}
+use Rattle.s390x_tool.specs.Ends.{most_bytes}
 use Rattle.s390x_tool.specs.Lines.{line, error_name, link_error_name, operand_error_name}
 use Rattle.s390x_tool.specs.declared.words.JobCommand.{JobCommand}
 use Rattle.s390x_tool.specs.declared.words.JobCommand.TheVariants.{Image, Emit, Run, Operands, Show}
 use Rattle.s390x_tool.specs.declared.status.Status.{Status}
 use Rattle.s390x_tool.specs.declared.status.Status.TheVariants as status
 
--- a table with the symbols of these lines, each in place of an earlier one
-abbrev pub with_symbols : Symbols → List SymbolLine → Symbols
-with_symbols table [] = table
-with_symbols table (s ∷ ss) = with_symbols (with_address table s.name s.address) ss
-
 -- the addresses of a job's symbols
 abbrev pub symbols_of : Job → Symbols
-symbols_of j = with_symbols no_symbols j.symbols.items
+symbols_of j = with_lines no_symbols j.symbols.items
 
 -- the first cause by which emission refuses a job's function
 abbrev pub job_cause : Job → Option EmitError
@@ -211,7 +207,7 @@ IsUnrefused Show j = job_cause j ≡ None
 
 -- the input is the text of a job, which nothing refuses, nor its linking, where the command links it
 pub record IsAccepted (command : JobCommand) (input : List ℕ) : Type 0 where
-  pub short : length input ≤ 16777216
+  pub short : length input ≤ most_bytes
   pub job : Job
   pub is : IsJob job
   pub spelled : text_of_job job ≡ input

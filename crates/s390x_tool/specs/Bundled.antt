@@ -5,6 +5,7 @@ use Rattle.hex.specs.Hex.{encode_lower}
 use Rattle.s390x_base.specs.declared.ir.ExternalName.{ExternalName}
 use Rattle.s390x_buffer.specs.declared.entries.MachBufferFinalized.{MachBufferFinalized}
 use Rattle.s390x_job.specs.Completions.{pieces}
+use Rattle.s390x_bundle.specs.Members.{member_of}
 use Rattle.s390x_bundle.specs.Bundled.{HasNoImage, IsImageOfMembers, duplicate_of}
 use Rattle.s390x_bundle.specs.Emitted.{AreEmitted, first_refused}
 use Rattle.s390x_bundle.specs.Joined.{misplaced_member, unlinked_member}
@@ -15,13 +16,10 @@ use Rattle.s390x_bundle.specs.declared.member.Member.{Member}
 use Rattle.s390x_job_bundle.specs.Completions.{IsBundleText, IsFirstWrongOfBundle}
 use Rattle.s390x_job_bundle.specs.Text.{AreFunctions, AreFunctionsOf, text_of_functions}
 use Rattle.s390x_job_bundle.specs.declared.named_job.NamedJob.{NamedJob}
+use Rattle.s390x_tool.specs.Ends.{most_bytes}
 use Rattle.s390x_tool.specs.Lines.{error_name, line, link_error_name}
 use Rattle.s390x_tool.specs.declared.status.Status.{Status}
 use Rattle.s390x_tool.specs.declared.status.Status.TheVariants as status
-
--- a function of the text as a member: what its job says of registers and memory means nothing there
-abbrev pub member_of : NamedJob → Member
-member_of f = record { name = f.name; function = f.job.function; info = f.job.info; state = f.job.state; symbols = f.job.symbols }
 
 -- `bundle CAUSE uN`
 abbrev pub named_refusal : List ℕ → ExternalName → List ℕ
@@ -88,7 +86,7 @@ pub record CanBeBundled (base : ℕ) (members : List Member) : Type 0 where
 
 -- the input is the text of functions, which nothing keeps from standing in one image
 pub record IsBundleAccepted (base : ℕ) (input : List ℕ) : Type 0 where
-  pub short : length input ≤ 16777216
+  pub short : length input ≤ most_bytes
   pub functions : List NamedJob
   pub are : AreFunctions functions
   pub spelled : text_of_functions functions ≡ input

@@ -10,6 +10,7 @@ use Rattle.s390x_buffer.specs.declared.entries.HandlerEntry.{HandlerEntry}
 use Rattle.s390x_buffer.specs.declared.entries.PatchEntry.{PatchEntry}
 use Rattle.s390x_buffer.specs.declared.entries.MapEntry.{MapEntry}
 use Rattle.s390x_buffer.specs.declared.entries.MachBufferFinalized.{MachBufferFinalized}
+use Rattle.s390x_job.specs.Completions.{text_of_lines}
 use Rattle.s390x_job_fields.specs.Atoms.{trap_text}
 use Rattle.s390x_job_fields.specs.Bytes.{bytes_text}
 use Rattle.s390x_job_fields.specs.Lists.{list_text}
@@ -87,11 +88,6 @@ code_lines f = map reloc_line f.relocs.items ++ (map trap_line f.traps.items ++ 
 -- the lines of calls with a try, patchable calls and stack maps
 abbrev pub site_lines : MachBufferFinalized → List (List ℕ)
 site_lines f = map try_line f.try_call_sites.items ++ (map patch_line f.patchable_sites.items ++ map map_line f.stack_maps.items)
-
--- each line with a line feed
-abbrev pub text_of_lines : List (List ℕ) → List ℕ
-text_of_lines [] = []
-text_of_lines (l ∷ ls) = l ++ (10 ∷ text_of_lines ls)
 
 -- the text of a finished code: its bytes, its alignment, and its tables in order, each entry's line in the table's order
 abbrev pub emit_text : MachBufferFinalized → List ℕ

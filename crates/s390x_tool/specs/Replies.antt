@@ -23,6 +23,9 @@ pub record CallContext : Type 0 where
   pub faults : ℕ
   pub faults' : ℕ
 
+abbrev pub call_context : (words : List (List ℕ)) → (left left' : Option (List ℕ)) → (faults faults' : ℕ) → CallContext
+call_context words left left' faults faults' = record { words = words; left = left; left' = left'; faults = faults; faults' = faults' }
+
 -- the words are no command, and nothing was read
 pub record IsUsage (f : CallContext) : Type 0 where
   pub none : IsNoForm f.words

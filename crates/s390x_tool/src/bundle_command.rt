@@ -1,19 +1,18 @@
 //! The reply to the command `bundle`.
-ghost use Rattle.std.specs.Prelude.{◌≡◌, ◌<◌, ◌++◌, ◌∷◌, IfOk, codes, length, map};
+ghost use Rattle.std.specs.Prelude.{◌<◌, length};
 ghost use Rattle.std.specs.Cow.{cow_str_bytes};
-ghost use Rattle.std.specs.Fmt.{decimal};
 ghost use Rattle.s390x_job_bundle.specs.Completions.{bundle_limit};
 ghost use Rattle.s390x_job_bundle.specs.Text.{AreFunctionsOf};
-ghost use Rattle.s390x_tool.specs.Bundled.{IsBundleAnswer, IsBundleRefusal, inner_refusal, member_of, named_refusal};
+ghost use Rattle.s390x_tool.specs.Bundled.{IsBundleAnswer, IsBundleRefusal, inner_refusal, named_refusal};
 ghost use Rattle.s390x_tool.specs.Lines.{IsMade, line};
 
 use crate::error_names::{emit_error_name, link_error_name};
 use crate::reply::{Reply, in_hex, no_memory, syntax, text_reply};
 use crate::status::Status;
 use s390x_base::ExternalName;
-use s390x_bundle::{BundleError, Member, bundle};
+use s390x_bundle::{BundleError, bundle, members_of};
 use s390x_job_bundle::{BundleTextError, NamedJob, read_bundle};
-use std::alloc::{AllocError, Global};
+use std::alloc::Global;
 
 /// The answer to `bundle` at this base and its whole input:
 ///
@@ -44,27 +43,6 @@ fn image_of_functions(alloc: Global, base: u64, input: &[u8], functions: Vec<Nam
         Ok(bundle) => in_hex(alloc, &bundle.image.bytes),
         Err(error) => bundle_refused(alloc, error),
     }
-}
-
-// The function as a member of a bundle.
-fn member(function: NamedJob) -> Member
-    ensures { result ≡ member_of function }
-{
-    let job = function.job;
-    Member {
-        name: function.name,
-        function: job.function,
-        info: job.info,
-        state: job.state,
-        symbols: job.symbols,
-    }
-}
-
-/// The functions as members of a bundle; an error where there is no memory for their list.
-pub fn members_of(alloc: Global, functions: Vec<NamedJob>) -> Result<Vec<Member>, AllocError>
-    ensures { IfOk result (λ members. members.items ≡ map member_of functions.items) }
-{
-    functions.into_iter().map(member).collect(alloc)
 }
 
 /// The reply to functions that are not put into one image.

@@ -1,14 +1,15 @@
 //! The text of `emit`: the finished code and its tables, a line for each entry.
 ghost use Rattle.std.specs.Prelude.{◌≡◌, ℕ, List, [], ◌∷◌, ◌++◌, map, IfOk, OnOk, string_bytes};
-ghost use Rattle.s390x_job_fields.specs.Atoms.{trap_text};
+ghost use Rattle.s390x_job.specs.Completions.{text_of_lines};
 ghost use Rattle.s390x_job_fields.specs.Bytes.{bytes_text};
 ghost use Rattle.s390x_job_fields.specs.Lists.{more_text, open_text};
-ghost use Rattle.s390x_tool.specs.Emitted.{call_line, code_lines, emit_text, handler_entry_text, code_head_lines, reloc_kind_text, text_of_lines, map_line, numbered_lines, patch_line, reloc_line, site_lines, start_offset_lines, trap_line, try_line};
+ghost use Rattle.s390x_tool.specs.Emitted.{call_line, code_lines, emit_text, handler_entry_text, code_head_lines, reloc_kind_text, map_line, numbered_lines, patch_line, reloc_line, site_lines, start_offset_lines, trap_line, try_line};
 
-use s390x_base::{CodeOffset, Reloc, TrapCode, TrapKind};
+use s390x_base::{CodeOffset, Reloc};
 use s390x_buffer::{
     HandlerEntry, MachBufferFinalized, MapEntry, PatchEntry, RelocEntry, TrapEntry, TryEntry,
 };
+use s390x_job_fields::atoms::put_trap;
 use std::alloc::{AllocError, Global};
 
 /// The text of a finished code: `code` with its bytes in hex, `align` with its alignment in bytes, and then a line for each
@@ -125,15 +126,15 @@ impl Entry for RelocEntry {
 
     fn put(&self, out: &mut String) -> Result<(), AllocError> {
         let offset = self.offset;
-        let kind = kind_name(self.kind);
+        let kind = reloc_kind_name(self.kind);
         let name = self.name.0;
         let addend = self.addend;
         writeln!(out, "reloc {offset} {kind} u{name} {addend}")
     }
 }
 
-// The name of a kind of relocation.
-fn kind_name(kind: Reloc) -> &'static str
+/// The name of a kind of relocation.
+pub fn reloc_kind_name(kind: Reloc) -> &'static str
     ensures { result.now ≡ reloc_kind_text kind }
 {
     match kind {
@@ -151,20 +152,6 @@ impl Entry for TrapEntry {
         write!(out, "trap {offset} ")?;
         put_trap(out, self.code)?;
         out.push_str("\n")
-    }
-}
-
-// The name of a trap code, `user` and its number for a user code.
-fn put_trap(out: &mut String, code: TrapCode) -> Result<(), AllocError>
-    ensures { OnOk result (string_bytes out.new ≡ string_bytes out.old ++ trap_text code) }
-{
-    match code.kind() {
-        TrapKind::StackOverflow => out.push_str("stk_ovf"),
-        TrapKind::IntegerOverflow => out.push_str("int_ovf"),
-        TrapKind::HeapOutOfBounds => out.push_str("heap_oob"),
-        TrapKind::IntegerDivisionByZero => out.push_str("int_divz"),
-        TrapKind::BadConversionToInteger => out.push_str("bad_toint"),
-        TrapKind::User(number) => write!(out, "user{number}"),
     }
 }
 

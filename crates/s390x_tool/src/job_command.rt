@@ -1,10 +1,9 @@
 //! The answer to a command and its whole input.
 ghost use Rattle.std.specs.Prelude.{◌≡◌, ◌<◌, ◌⊎◌, length, IfOk, IfErr, Some, None};
 ghost use Rattle.std.specs.Cow.{cow_str_bytes};
-ghost use Rattle.s390x_image.specs.Symbols.{no_symbols};
 ghost use Rattle.s390x_job.specs.Completions.{text_limit};
 ghost use Rattle.s390x_job.specs.Jobs.{IsJob};
-ghost use Rattle.s390x_tool.specs.Answers.{IsAnswer, IsCodeOfJob, IsEmitReply, IsImageReply, IsJobReply, IsLinked, IsOperandsReply, IsRunReply, IsShowReply, job_cause, link_cause_of, texts_of, with_symbols};
+ghost use Rattle.s390x_tool.specs.Answers.{IsAnswer, IsCodeOfJob, IsEmitReply, IsImageReply, IsJobReply, IsLinked, IsOperandsReply, IsRunReply, IsShowReply, job_cause, link_cause_of, texts_of};
 
 use crate::JobCommand;
 use crate::reply::{
@@ -12,12 +11,12 @@ use crate::reply::{
     with_text,
 };
 use crate::status::Status;
-use s390x_base::NoMemory;
 use s390x_buffer::MachBufferFinalized;
+use s390x_bundle::symbol_table;
 use s390x_emit_int::{emit_function, linked_code_runs_as_typed};
 use s390x_execution::run_text;
-use s390x_image::{Image, LinkError, SymbolTable, link};
-use s390x_job::{Job, LineError, SymbolLine, read_lines};
+use s390x_image::{Image, LinkError, link};
+use s390x_job::{Job, LineError, read_lines};
 use s390x_listing::{listed_operands, listed_texts};
 use s390x_text::{TextError, valid_blocks_have_texts};
 use std::alloc::Global;
@@ -127,8 +126,8 @@ fn image_reply(alloc: Global, base: u64, job: &Job, code: &MachBufferFinalized) 
     }
 }
 
-// The image of the job's code at the base, with the job's symbols.
-fn link_job(
+/// The image of the job's code at the base, with the job's symbols; an error by the first cause by which linking refuses it, or for want of memory.
+pub fn link_job(
     alloc: Global,
     base: u64,
     job: &Job,
@@ -168,15 +167,4 @@ fn run_reply(alloc: Global, base: u64, steps: u32, job: &Job, code: &MachBufferF
         Ok(image) => with_text(run_text(alloc, job, code, &image, steps)),
         Err(error) => link_refused(error),
     }
-}
-
-// The symbols of these lines.
-fn symbol_table(alloc: Global, lines: &[SymbolLine]) -> Result<SymbolTable, NoMemory>
-    ensures { IfOk result (λ table. table ≡ with_symbols no_symbols lines.now) }
-{
-    let mut table = SymbolTable::new(alloc);
-    for line in lines {
-        table.insert(line.name, line.address)?;
-    }
-    Ok(table)
 }

@@ -21,14 +21,14 @@ mod top_call;
 mod words;
 
 pub use alloc_command::alloc_reply;
-pub use bundle_command::{bundle_refused, bundle_reply, members_of};
-pub use emitted::emitted_text;
+pub use bundle_command::{bundle_refused, bundle_reply};
+pub use emitted::{emitted_text, reloc_kind_name};
 pub use ends::{Failed, Sink, Source};
 pub use error_names::{emit_error_line, emit_error_name};
 pub use gen_command::generate;
 pub use in_memory::{BytesSink, BytesSource};
 pub use input::read_input;
-pub use job_command::answer;
+pub use job_command::{answer, link_job};
 pub use law::{
     no_blocks_are_accepted, no_functions_are_accepted, one_function_is_accepted,
     one_job_is_accepted, one_step_is_accepted,
@@ -41,4 +41,4 @@ pub use smp_command::simulate;
 pub use standard::{StdSink, StdSource};
 pub use status::Status;
 pub use top_call::run;
-pub use words::{Command, JobCommand, read_words};
+pub use words::{Command, JobCommand, read_number, read_words};

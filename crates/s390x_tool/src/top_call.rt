@@ -9,7 +9,7 @@ ghost use Rattle.s390x_tool.specs.Answers.{IsAccepted};
 ghost use Rattle.s390x_tool.specs.Bundled.{IsBundleAccepted};
 ghost use Rattle.s390x_tool.specs.Causes.{FaultCountRose};
 ghost use Rattle.s390x_tool.specs.Ends.{IsTooLong, too_many};
-ghost use Rattle.s390x_tool.specs.Replies.{IsAboutInput, IsDelivered, IsDone, IsEnded, IsInputAnswer, IsReply};
+ghost use Rattle.s390x_tool.specs.Replies.{IsAboutInput, IsDelivered, IsDone, IsEnded, IsInputAnswer, IsReply, call_context};
 ghost use Rattle.s390x_tool.specs.Words.{IsForm, IsNoForm, texts};
 
 use crate::alloc_command::alloc_reply;
@@ -35,26 +35,16 @@ pub fn run<S: Source, K: Sink>(
 ) -> Status
     // The words and the input have this reply, and its text was written whole, or else a prefix of it.
     ensures ended { IsEnded
-        (record {
-          words = texts words.now;
-          left = S.left source.old;
-          left' = S.left source.new;
-          faults = S.faults source.old;
-          faults' = S.faults source.new;
-        }) (K.told sink.old)
+        (call_context (texts words.now) (S.left source.old) (S.left source.new)
+        (S.faults source.old) (S.faults source.new)) (K.told sink.old)
         (K.told sink.new) (K.faults sink.old) (K.faults sink.new) result }
     // At `Ok` the source held the text of one job, and the sink was told the command's text for it; or it held the text of functions, and the sink was told
     // their image, which does only what they and their calls of each other allow; or it held a job and a plan, and the sink was told the job with the function
     // that the plan gives; or, with nothing read, that for a generated function or a simulation.
     ensures ok { result ≡ Status.Ok
         → IsDone
-        (record {
-          words = texts words.now;
-          left = S.left source.old;
-          left' = S.left source.new;
-          faults = S.faults source.old;
-          faults' = S.faults source.new;
-        }) (K.told sink.old)
+        (call_context (texts words.now) (S.left source.old) (S.left source.new)
+        (S.faults source.old) (S.faults source.new)) (K.told sink.old)
         (K.told sink.new) }
     // A generated function is done, where no write fails.
     ensures generates { (count start : ℕ) → IsForm (texts words.now) (Generate count start)
@@ -106,13 +96,8 @@ pub fn run<S: Source, K: Sink>(
 // The reply to these words and to what the source holds.
 fn reply_to<S: Source>(alloc: Global, words: &[String], source: &mut S) -> Reply
     ensures { IsReply
-        (record {
-          words = texts words.now;
-          left = S.left source.old;
-          left' = S.left source.new;
-          faults = S.faults source.old;
-          faults' = S.faults source.new;
-        }) result.status
+        (call_context (texts words.now) (S.left source.old) (S.left source.new)
+        (S.faults source.old) (S.faults source.new)) result.status
         (cow_str_bytes result.text) }
 {
     let Some(command) = read_words(words) else {

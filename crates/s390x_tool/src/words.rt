@@ -233,8 +233,8 @@ fn read_simulation(base: &str, word: &str, count: &str, steps: &str, start: &str
     })
 }
 
-// The number below 2^64 that this word writes, in decimal without leading zeros.
-fn read_number(word: &str) -> Option<u64>
+/// The number below 2^64 that this word writes, in decimal without leading zeros; none where it writes none.
+pub fn read_number(word: &str) -> Option<u64>
     ensures some { IfSome result (λ n. word.now ≡ decimal n) }
     ensures none { IfNone result ((n : ℕ) → n < 2 ^ 64 → word.now ≢ decimal n) }
 {

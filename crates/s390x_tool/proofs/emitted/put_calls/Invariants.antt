@@ -1,5 +1,6 @@
 use Rattle.std.proofs.Common.{◌≡◌, ◌++◌, drop, map, string_bytes}
-use Rattle.s390x_tool.specs.Emitted.{call_line, text_of_lines}
+use Rattle.s390x_job.specs.Completions.{text_of_lines}
+use Rattle.s390x_tool.specs.Emitted.{call_line}
 use Rattle.s390x_tool.proofs.emitted.put_calls.Given as goal
 
 -- what is written, with the lines of the calls that are left

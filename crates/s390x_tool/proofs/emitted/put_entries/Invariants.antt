@@ -1,5 +1,5 @@
 use Rattle.std.proofs.Common.{◌≡◌, ◌++◌, drop, map, string_bytes}
-use Rattle.s390x_tool.specs.Emitted.{text_of_lines}
+use Rattle.s390x_job.specs.Completions.{text_of_lines}
 use Rattle.s390x_tool.proofs.emitted.put_entries.Given as goal
 
 -- what is written, with the lines of the entries that are left

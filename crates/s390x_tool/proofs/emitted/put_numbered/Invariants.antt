@@ -1,5 +1,6 @@
 use Rattle.std.proofs.Common.{◌≡◌, ◌++◌, drop, string_bytes}
-use Rattle.s390x_tool.specs.Emitted.{text_of_lines, numbered_lines}
+use Rattle.s390x_job.specs.Completions.{text_of_lines}
+use Rattle.s390x_tool.specs.Emitted.{numbered_lines}
 use Rattle.s390x_tool.proofs.emitted.put_numbered.Given as goal
 
 -- what is written, with the lines of the offsets that are left
