@@ -1,0 +1,175 @@
+//! Uses of labels: how far they reach, what they make of bytes, and which is refused first.
+ghost use Rattle.std.specs.Prelude.{◌≡◌, []};
+
+use crate::words::{first_word, label_use, number, relocation, text_of};
+use s390x_base::{ConstantData, EmitError, MachLabel, VCodeConstant};
+use s390x_buffer::{LabelUse, MachBuffer, MachBufferFinalized, MachInstLabelUse};
+use s390x_case_runner::LineError;
+use std::alloc::Global;
+
+/// How far a kind of use reaches forth and back, how many bytes it has, whether it has a veneer, and that one's size.
+pub fn range_of(alloc: Global, name: &str) -> Result<String, LineError> {
+    let kind = label_use(alloc, name)?;
+    let reach = (
+        kind.max_pos_range(),
+        kind.max_neg_range(),
+        kind.patch_size(),
+    );
+    text_of(alloc, (reach, kind.supports_veneer(), kind.veneer_size()))
+}
+
+/// The size of the largest veneer, and the alignment of uses.
+pub fn veneers(alloc: Global) -> Result<String, LineError> {
+    text_of(alloc, (LabelUse::worst_case_veneer_size(), LabelUse::ALIGN))
+}
+
+/// The use that a relocation with an addend asks for.
+pub fn use_of_relocation(alloc: Global, words: &str) -> Result<String, LineError> {
+    let (name, addend) = first_word(words)?;
+    let kind = relocation(alloc, name)?;
+    text_of(alloc, LabelUse::from_reloc(kind, number(addend)? as i64))
+}
+
+/// The bytes of a use, patched: its kind, its bytes, its offset and its label's.
+pub fn patched_bytes(alloc: Global, words: &str) -> Result<String, LineError> {
+    let (name, words) = first_word(words)?;
+    let (digits, words) = first_word(words)?;
+    let (offset, target) = first_word(words)?;
+    let kind = label_use(alloc, name)?;
+    let Ok(mut bytes) = hex::decode(alloc, digits) else {
+        return Err(LineError::Unreadable);
+    };
+    patch(kind, &mut bytes, number(offset)?, number(target)?)?;
+    Ok(hex::encode(alloc, &bytes)?)
+}
+
+// Patches the bytes of a use, where there are as many as it has and the label is in reach.
+fn patch(kind: LabelUse, bytes: &mut [u8], offset: u32, target: u32) -> Result<(), LineError> {
+    let is_even = (offset as u64 + target as u64) % 2 == 0;
+    let is_near = target as u64 <= offset as u64 + kind.max_pos_range() as u64
+        && offset as u64 <= target as u64 + kind.max_neg_range() as u64;
+    if bytes.len() as u64 == kind.patch_size() as u64 && is_even && is_near {
+        kind.patch(bytes, offset, target);
+        Ok(())
+    } else {
+        Err(LineError::Unreadable)
+    }
+}
+
+/// The first six bytes of a word, a label behind it and eight bytes more, with a use of the label: its kind, the word, the
+/// use's offset, and whether the label is `bound`.
+pub fn used_bytes(alloc: Global, words: &str) -> Result<String, LineError> {
+    let (name, words) = first_word(words)?;
+    let (digits, words) = first_word(words)?;
+    let (offset, label) = first_word(words)?;
+    let kind = label_use(alloc, name)?;
+    let Ok(word) = u32::from_str_radix(digits, 16) else {
+        return Err(LineError::Unreadable);
+    };
+    match with_use(alloc, word, number(offset)?, kind, label == "bound") {
+        Ok(code) => bytes_text(alloc, code.bytes.get(..6)),
+        Err(error) => text_of(alloc, error),
+    }
+}
+
+// Bytes in hexadecimal digits; `others` where there aren't as many.
+fn bytes_text(alloc: Global, bytes: Option<&[u8]>) -> Result<String, LineError> {
+    match bytes {
+        Some(bytes) => Ok(hex::encode(alloc, bytes)?),
+        None => Ok(String::from_str(alloc, "others")?),
+    }
+}
+
+// A label that is drawn and bound here.
+fn here(buffer: &mut MachBuffer) -> Result<MachLabel, EmitError>
+    requires { buffer.old.constants ≡ [] }
+    ensures { buffer.new.constants ≡ buffer.old.constants }
+{
+    let label = buffer.get_label()?;
+    buffer.bind_label(label)?;
+    Ok(label)
+}
+
+// A word, a label behind it and eight bytes more, with a use of the label at an offset.
+fn with_use(
+    alloc: Global,
+    word: u32,
+    offset: u32,
+    kind: LabelUse,
+    is_bound: bool,
+) -> Result<MachBufferFinalized, EmitError> {
+    let mut buffer = MachBuffer::new(alloc, 0, &[])?;
+    buffer.put4(word)?;
+    let label = if is_bound {
+        here(&mut buffer)?
+    } else {
+        buffer.get_label()?
+    };
+    buffer.put8(0)?;
+    buffer.use_label_at_offset(offset, label, kind)?;
+    buffer.finish()
+}
+
+/// The refusal of two uses, of which one is odd and the other's label was never bound: whether the first one is `odd`.
+pub fn refused_of_two(alloc: Global, word: &str) -> Result<String, LineError> {
+    match with_two_uses(alloc, word == "odd") {
+        Ok(_) => Ok(String::from_str(alloc, "None")?),
+        Err(error) => text_of(alloc, error),
+    }
+}
+
+// Two uses, of which one is odd and the other's label was never bound.
+fn with_two_uses(alloc: Global, is_odd_first: bool) -> Result<MachBufferFinalized, EmitError> {
+    let mut buffer = MachBuffer::new(alloc, 0, &[])?;
+    let bound = here(&mut buffer)?;
+    let unbound = buffer.get_label()?;
+    buffer.put8(0)?;
+    let (first, second) = if is_odd_first {
+        (bound, unbound)
+    } else {
+        (unbound, bound)
+    };
+    buffer.use_label_at_offset(1, first, LabelUse::BranchRI)?;
+    buffer.use_label_at_offset(1, second, LabelUse::BranchRI)?;
+    buffer.finish()
+}
+
+/// A short branch over so many bytes, a constant: its bytes, and where the constants start.
+pub fn short_branch(alloc: Global, word: &str) -> Result<String, LineError> {
+    let mut constants = Vec::new(alloc);
+    constants
+        .push(zeros(alloc, number(word)?)?)
+        .map_err(|_| LineError::NoMemory)?;
+    constants
+        .push(zeros(alloc, 1)?)
+        .map_err(|_| LineError::NoMemory)?;
+    match branch_to_second(alloc, &constants) {
+        Ok(code) => {
+            let branch = bytes_text(alloc, code.bytes.get(..4))?;
+            let starts = &code.constant_starts;
+            Ok(format!(in alloc; "{branch} {starts:?}")?)
+        }
+        Err(error) => text_of(alloc, error),
+    }
+}
+
+// A constant of so many zeros.
+fn zeros(alloc: Global, count: u32) -> Result<ConstantData, LineError> {
+    let mut bytes = Vec::new(alloc);
+    for _ in 0..count {
+        bytes.push(0).map_err(|_| LineError::NoMemory)?;
+    }
+    Ok(ConstantData { bytes, align: 1 })
+}
+
+// A short branch to the second of these constants.
+fn branch_to_second(
+    alloc: Global,
+    constants: &[ConstantData],
+) -> Result<MachBufferFinalized, EmitError> {
+    let mut buffer = MachBuffer::new(alloc, 0, constants)?;
+    let label = buffer.get_label_for_constant(VCodeConstant(1))?;
+    buffer.use_label_at_offset(0, label, LabelUse::BranchRI)?;
+    buffer.put4(0xa7f4_0000)?;
+    buffer.finish()
+}
