@@ -20,7 +20,8 @@ pub fn is_line_met(alloc: Global, line: &str) -> Result<bool, LineError> {
         return Err(LineError::Unreadable);
     };
     let (call, words) = asked.split_once(" ").unwrap_or((asked, ""));
-    Ok(answer(alloc, call, words)?.as_str() == told)
+    let answer = answer(alloc, call, words)?;
+    Ok(answer.as_str() == told)
 }
 
 // What a call answers: of comparisons, traps and instructions.

@@ -40,5 +40,5 @@ pub fn user_code(alloc: Global, word: &str) -> Result<String, LineError> {
     let Ok(number) = u8::try_from(number(word)?) else {
         return Err(LineError::Unreadable);
     };
-    text_of(alloc, TrapCode::user(number).map(TrapCode::user_code))
+    text_of(alloc, TrapCode::user(number).map(|code| code.user_code()))
 }

@@ -31,7 +31,8 @@ fn terminator_name<I: MachInst>(inst: &I) -> &'static str {
 
 /// How an instruction calls.
 pub fn kind_of_call(alloc: Global, name: &str) -> Result<String, LineError> {
-    let kind = match instruction(alloc, name)?.call_type() {
+    let inst = instruction(alloc, name)?;
+    let kind = match inst.call_type() {
         CallType::None => "None",
         CallType::Regular => "Regular",
         CallType::TailCall => "TailCall",
@@ -45,7 +46,8 @@ pub fn does_nothing(alloc: Global, word: &str) -> Result<String, LineError> {
     if size == 1 {
         return Err(LineError::Unreadable);
     }
-    let name = match <Inst as MachInst>::gen_nop(size) {
+    let inst = <Inst as MachInst>::gen_nop(size);
+    let name = match &inst {
         Inst::Nop0 => "Nop0",
         Inst::Nop2 => "Nop2",
         _ => "other",
