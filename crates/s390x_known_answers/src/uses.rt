@@ -39,7 +39,7 @@ pub fn patched_bytes(alloc: Global, words: &str) -> Result<String, LineError> {
     let Ok(mut bytes) = hex::decode(alloc, digits) else {
         return Err(LineError::Unreadable);
     };
-    patch(kind, &mut bytes, number(offset)?, number(target)?)?;
+    patch(kind, bytes.as_mut_slice(), number(offset)?, number(target)?)?;
     Ok(hex::encode(alloc, &bytes)?)
 }
 
