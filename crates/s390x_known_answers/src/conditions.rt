@@ -1,26 +1,29 @@
 //! The masks of comparisons, and the codes of traps.
 
-use crate::words::{float_comparison, integer_comparison, number, text_of};
+use crate::accesses;
+use crate::words::{FLOAT_COMPARISONS, INTEGER_COMPARISONS, named, number, text_of};
 use s390x_base::{Cond, TrapCode};
 use s390x_case_runner::LineError;
 use std::alloc::Global;
 
-/// The mask of a comparison of integers.
-pub fn integer_mask(alloc: Global, name: &str) -> Result<String, LineError> {
-    let comparison = integer_comparison(alloc, name)?;
-    text_of(alloc, Cond::from_intcc(comparison).bits())
-}
-
-/// The mask of a comparison of floats.
-pub fn float_mask(alloc: Global, name: &str) -> Result<String, LineError> {
-    let comparison = float_comparison(alloc, name)?;
-    text_of(alloc, Cond::from_floatcc(comparison).bits())
-}
-
-/// The kind and the user code of a named trap code.
-pub fn trap_kind(alloc: Global, name: &str) -> Result<String, LineError> {
-    let code = trap_code(name)?;
-    text_of(alloc, (code.kind(), code.user_code()))
+/// What a call with its words answers.
+pub fn answer(alloc: Global, call: &str, words: &str) -> Result<String, LineError> {
+    match call {
+        "from_intcc" => {
+            let comparison = named(alloc, &INTEGER_COMPARISONS, words)?;
+            text_of(alloc, Cond::from_intcc(comparison).bits())
+        }
+        "from_floatcc" => {
+            let comparison = named(alloc, &FLOAT_COMPARISONS, words)?;
+            text_of(alloc, Cond::from_floatcc(comparison).bits())
+        }
+        "trap" => {
+            let code = trap_code(words)?;
+            text_of(alloc, (code.kind(), code.user_code()))
+        }
+        "user" => user_code(alloc, words),
+        _ => accesses::answer(alloc, call, words),
+    }
 }
 
 // The trap code of a constant's name.
@@ -35,8 +38,8 @@ fn trap_code(name: &str) -> Result<TrapCode, LineError> {
     }
 }
 
-/// The number of the user code of a number, where there is one.
-pub fn user_code(alloc: Global, word: &str) -> Result<String, LineError> {
+// The number of the user code of a number, where there is one.
+fn user_code(alloc: Global, word: &str) -> Result<String, LineError> {
     let Ok(number) = u8::try_from(number(word)?) else {
         return Err(LineError::Unreadable);
     };

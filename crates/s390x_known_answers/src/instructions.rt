@@ -17,8 +17,20 @@ pub fn instruction(alloc: Global, name: &str) -> Result<Inst, LineError> {
         }),
         "Call" => Ok(call(alloc, CallConv::SystemV, None)),
         "Call of Tail" => Ok(call(alloc, CallConv::Tail, None)),
-        "Call with a continuation" => Ok(call(alloc, CallConv::SystemV, Some(continuation(alloc)))),
-        "ReturnCall" => Ok(tail_call(alloc)),
+        "Call with a continuation" => {
+            let continuation = TryCallInfo {
+                continuation: MachLabel(1),
+                exception_handlers: Vec::new(alloc),
+            };
+            Ok(call(alloc, CallConv::SystemV, Some(continuation)))
+        }
+        "ReturnCall" => Ok(Inst::ReturnCall {
+            info: ReturnCallInfo {
+                dest: CallInstDest::Indirect { reg: gpr(3) },
+                uses: Vec::new(alloc),
+                callee_pop_size: 0,
+            },
+        }),
         _ => without_lists(name),
     }
 }
@@ -53,25 +65,6 @@ fn call(alloc: Global, callee_conv: CallConv, try_call_info: Option<TryCallInfo>
             try_call_info,
             patchable: false,
             stack_map: None,
-        },
-    }
-}
-
-// A continuation without handlers.
-fn continuation(alloc: Global) -> TryCallInfo {
-    TryCallInfo {
-        continuation: MachLabel(1),
-        exception_handlers: Vec::new(alloc),
-    }
-}
-
-// A tail call to the address in `%r3`.
-fn tail_call(alloc: Global) -> Inst {
-    Inst::ReturnCall {
-        info: ReturnCallInfo {
-            dest: CallInstDest::Indirect { reg: gpr(3) },
-            uses: Vec::new(alloc),
-            callee_pop_size: 0,
         },
     }
 }

@@ -3,7 +3,6 @@
 #![tactic(auto)]
 
 mod accesses;
-mod calls;
 mod conditions;
 mod instructions;
 mod moves;
@@ -12,7 +11,7 @@ mod tables;
 mod uses;
 mod words;
 
-use crate::calls::is_line_met;
+use crate::conditions::answer;
 use s390x_case_runner::{Judge, LineError, Verdict, judge_input};
 use std::alloc::Global;
 use std::process::ExitCode;
@@ -31,12 +30,22 @@ impl Judge for AnswerJudge {
         if line.starts_with("#") {
             return Ok(None);
         }
-        let is_met = is_line_met(alloc, line)?;
+        let is_met = is_as_told(alloc, line)?;
         Ok(Some(Verdict {
             line: number,
             is_met,
         }))
     }
+}
+
+// Whether a call answers what its line tells: the call with its words, ` = `, and its answer.
+fn is_as_told(alloc: Global, line: &str) -> Result<bool, LineError> {
+    let Some((asked, told)) = line.split_once(" = ") else {
+        return Err(LineError::Unreadable);
+    };
+    let (call, words) = asked.split_once(" ").unwrap_or((asked, ""));
+    let answer = answer(alloc, call, words)?;
+    Ok(answer.as_str() == told)
 }
 
 fn main(rt: HostRuntime) -> ExitCode {

@@ -1,22 +1,40 @@
 //! What a register allocator asks of an instruction, and what it makes.
 
 use crate::instructions::instruction;
-use crate::words::{class, number, text_of, value_type};
+use crate::uses;
+use crate::words::{CLASSES, TYPES, named, number, text_of};
 use s390x_case_runner::LineError;
 use s390x_inst::Inst;
 use s390x_operands::{CallType, MachInst, MachTerminator};
 use std::alloc::Global;
 
-/// Whether what an instruction overwrites counts for the function.
-pub fn included_in_clobbers(alloc: Global, name: &str) -> Result<String, LineError> {
-    let inst = instruction(alloc, name)?;
-    text_of(alloc, inst.is_included_in_clobbers())
-}
-
-/// How an instruction ends a block.
-pub fn terminator(alloc: Global, name: &str) -> Result<String, LineError> {
-    let inst = instruction(alloc, name)?;
-    Ok(String::from_str(alloc, terminator_name(&inst))?)
+/// What a call with its words answers.
+pub fn answer(alloc: Global, call: &str, words: &str) -> Result<String, LineError> {
+    match call {
+        "is_included_in_clobbers" => {
+            let inst = instruction(alloc, words)?;
+            text_of(alloc, inst.is_included_in_clobbers())
+        }
+        "is_term" => {
+            let inst = instruction(alloc, words)?;
+            Ok(String::from_str(alloc, terminator_name(&inst))?)
+        }
+        "call_type" => {
+            let inst = instruction(alloc, words)?;
+            Ok(String::from_str(alloc, name_of_call(&inst))?)
+        }
+        "gen_nop" => nop_name(alloc, words),
+        "rc_for_type" => {
+            let ty = named(alloc, &TYPES, words)?;
+            text_of(alloc, <Inst as MachInst>::rc_for_type(ty))
+        }
+        "canonical_type_for_rc" => {
+            let class = named(alloc, &CLASSES, words)?;
+            text_of(alloc, <Inst as MachInst>::canonical_type_for_rc(class))
+        }
+        "constants" => constants(alloc),
+        _ => uses::answer(alloc, call, words),
+    }
 }
 
 // How an instruction ends a block, for a caller that knows the trait alone.
@@ -29,19 +47,17 @@ fn terminator_name<I: MachInst>(inst: &I) -> &'static str {
     }
 }
 
-/// How an instruction calls.
-pub fn kind_of_call(alloc: Global, name: &str) -> Result<String, LineError> {
-    let inst = instruction(alloc, name)?;
-    let kind = match inst.call_type() {
+// How an instruction calls.
+fn name_of_call(inst: &Inst) -> &'static str {
+    match inst.call_type() {
         CallType::None => "None",
         CallType::Regular => "Regular",
         CallType::TailCall => "TailCall",
-    };
-    Ok(String::from_str(alloc, kind)?)
+    }
 }
 
-/// The instruction that does nothing, for a wanted size.
-pub fn does_nothing(alloc: Global, word: &str) -> Result<String, LineError> {
+// The instruction that does nothing, for a wanted size.
+fn nop_name(alloc: Global, word: &str) -> Result<String, LineError> {
     let size = number(word)? as usize;
     if size == 1 {
         return Err(LineError::Unreadable);
@@ -55,21 +71,9 @@ pub fn does_nothing(alloc: Global, word: &str) -> Result<String, LineError> {
     Ok(String::from_str(alloc, name)?)
 }
 
-/// The class and the type of the register for a value of a type.
-pub fn register_for(alloc: Global, name: &str) -> Result<String, LineError> {
-    let ty = value_type(alloc, name)?;
-    text_of(alloc, <Inst as MachInst>::rc_for_type(ty))
-}
-
-/// The type of a whole register of a class.
-pub fn type_of_class(alloc: Global, name: &str) -> Result<String, LineError> {
-    let class = class(alloc, name)?;
-    text_of(alloc, <Inst as MachInst>::canonical_type_for_rc(class))
-}
-
-/// What is the same of all instructions: the bytes of those that do nothing and of a trap, the greatest size, what an
-/// instruction adds to an island, and where a function must and had better begin.
-pub fn constants(alloc: Global) -> Result<String, LineError> {
+// What is the same of all instructions: the bytes of those that do nothing and of a trap, the greatest size, what an
+// instruction adds to an island, and where a function must and had better begin.
+fn constants(alloc: Global) -> Result<String, LineError> {
     let Ok(units) = <Inst as MachInst>::gen_nop_units(alloc) else {
         return Err(LineError::NoMemory);
     };

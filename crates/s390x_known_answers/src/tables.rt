@@ -6,10 +6,13 @@ use s390x_buffer::{MachBuffer, MachBufferFinalized, TryEntry, TryHandler};
 use s390x_case_runner::LineError;
 use std::alloc::Global;
 
-/// The entries of a table of the finished buffer.
-pub fn table(alloc: Global, name: &str) -> Result<String, LineError> {
+/// What a call with its words answers.
+pub fn answer(alloc: Global, call: &str, words: &str) -> Result<String, LineError> {
+    if call != "table" {
+        return Err(LineError::Unreadable);
+    }
     match finished_buffer(alloc) {
-        Ok(code) => table_text(alloc, name, &code),
+        Ok(code) => table_text(alloc, words, &code),
         Err(error) => text_of(alloc, error),
     }
 }
@@ -44,7 +47,6 @@ fn sites_text(alloc: Global, sites: &[TryEntry]) -> Result<String, LineError> {
 fn finished_buffer(alloc: Global) -> Result<MachBufferFinalized, EmitError> {
     let mut buffer = with_traps(alloc)?;
     add_references(&mut buffer)?;
-    add_handlers(&mut buffer)?;
     buffer.finish()
 }
 
@@ -60,17 +62,13 @@ fn with_traps(alloc: Global) -> Result<MachBuffer, EmitError> {
     Ok(buffer)
 }
 
-// Relocations, calls and a stack map.
+// Relocations, calls and a stack map, and a call with two handlers, whose labels are never bound.
 fn add_references(buffer: &mut MachBuffer) -> Result<(), EmitError> {
     buffer.add_reloc(Reloc::S390xPLTRel32Dbl, ExternalName(1), 2)?;
     buffer.add_reloc_at_offset(1, Reloc::Abs8, ExternalName(2), -1)?;
     buffer.add_call_site()?;
     buffer.add_patchable_call_site(6)?;
-    buffer.push_user_stack_map(1, 9)
-}
-
-// A call with two handlers, whose labels are never bound.
-fn add_handlers(buffer: &mut MachBuffer) -> Result<(), EmitError> {
+    buffer.push_user_stack_map(1, 9)?;
     let handlers = [
         TryHandler {
             tag: Some(7),

@@ -1,41 +1,45 @@
 //! Uses of labels: how far they reach, what they make of bytes, and which is refused first.
 ghost use Rattle.std.specs.Prelude.{◌≡◌, []};
 
-use crate::words::{first_word, label_use, number, relocation, text_of};
+use crate::tables;
+use crate::words::{RELOCATIONS, USES, first_word, named, number, text_of};
 use s390x_base::{ConstantData, EmitError, MachLabel, VCodeConstant};
 use s390x_buffer::{LabelUse, MachBuffer, MachBufferFinalized, MachInstLabelUse};
 use s390x_case_runner::LineError;
-use std::alloc::Global;
+use std::alloc::{AllocError, Global};
 
-/// How far a kind of use reaches forth and back, how many bytes it has, whether it has a veneer, and that one's size.
-pub fn range_of(alloc: Global, name: &str) -> Result<String, LineError> {
-    let kind = label_use(alloc, name)?;
-    let reach = (
-        kind.max_pos_range(),
-        kind.max_neg_range(),
-        kind.patch_size(),
-    );
-    text_of(alloc, (reach, kind.supports_veneer(), kind.veneer_size()))
+/// What a call with its words answers.
+pub fn answer(alloc: Global, call: &str, words: &str) -> Result<String, LineError> {
+    match call {
+        "range" => {
+            let kind = named(alloc, &USES, words)?;
+            let reach = (
+                kind.max_pos_range(),
+                kind.max_neg_range(),
+                kind.patch_size(),
+            );
+            text_of(alloc, (reach, kind.supports_veneer(), kind.veneer_size()))
+        }
+        "veneers" => text_of(alloc, (LabelUse::worst_case_veneer_size(), LabelUse::ALIGN)),
+        "from_reloc" => {
+            let (name, addend) = first_word(words)?;
+            let kind = named(alloc, &RELOCATIONS, name)?;
+            text_of(alloc, LabelUse::from_reloc(kind, number(addend)? as i64))
+        }
+        "patch" => patched_bytes(alloc, words),
+        "use" => text_with(alloc, used(alloc, words)?, 6),
+        "two_uses" => text_with(alloc, with_two_uses(alloc, words == "odd"), 0),
+        "short_branch" => short_branch(alloc, words),
+        _ => tables::answer(alloc, call, words),
+    }
 }
 
-/// The size of the largest veneer, and the alignment of uses.
-pub fn veneers(alloc: Global) -> Result<String, LineError> {
-    text_of(alloc, (LabelUse::worst_case_veneer_size(), LabelUse::ALIGN))
-}
-
-/// The use that a relocation with an addend asks for.
-pub fn use_of_relocation(alloc: Global, words: &str) -> Result<String, LineError> {
-    let (name, addend) = first_word(words)?;
-    let kind = relocation(alloc, name)?;
-    text_of(alloc, LabelUse::from_reloc(kind, number(addend)? as i64))
-}
-
-/// The bytes of a use, patched: its kind, its bytes, its offset and its label's.
-pub fn patched_bytes(alloc: Global, words: &str) -> Result<String, LineError> {
+// The bytes of a use, patched: its kind, its bytes, its offset and its label's.
+fn patched_bytes(alloc: Global, words: &str) -> Result<String, LineError> {
     let (name, words) = first_word(words)?;
     let (digits, words) = first_word(words)?;
     let (offset, target) = first_word(words)?;
-    let kind = label_use(alloc, name)?;
+    let kind = named(alloc, &USES, name)?;
     let Ok(mut bytes) = hex::decode(alloc, digits) else {
         return Err(LineError::Unreadable);
     };
@@ -56,27 +60,32 @@ fn patch(kind: LabelUse, bytes: &mut [u8], offset: u32, target: u32) -> Result<(
     }
 }
 
-/// The first six bytes of a word, a label behind it and eight bytes more, with a use of the label: its kind, the word, the
-/// use's offset, and whether the label is `bound`.
-pub fn used_bytes(alloc: Global, words: &str) -> Result<String, LineError> {
+// A word, a label behind it and eight bytes more, with a use of the label: its kind, the word, the use's offset, and whether
+// the label is `bound`.
+fn used(alloc: Global, words: &str) -> Result<Result<MachBufferFinalized, EmitError>, LineError> {
     let (name, words) = first_word(words)?;
     let (digits, words) = first_word(words)?;
     let (offset, label) = first_word(words)?;
-    let kind = label_use(alloc, name)?;
+    let kind = named(alloc, &USES, name)?;
     let Ok(word) = u32::from_str_radix(digits, 16) else {
         return Err(LineError::Unreadable);
     };
-    match with_use(alloc, word, number(offset)?, kind, label == "bound") {
-        Ok(code) => bytes_text(alloc, code.bytes.get(..6)),
-        Err(error) => text_of(alloc, error),
-    }
+    Ok(with_use(alloc, word, number(offset)?, kind, label == "bound"))
 }
 
-// Bytes in hexadecimal digits; `others` where there aren't as many.
-fn bytes_text(alloc: Global, bytes: Option<&[u8]>) -> Result<String, LineError> {
-    match bytes {
-        Some(bytes) => Ok(hex::encode(alloc, bytes)?),
-        None => Ok(String::from_str(alloc, "others")?),
+// The first bytes of finished code in hexadecimal digits, and where its constants start, or why it is refused.
+fn text_with(
+    alloc: Global,
+    finished: Result<MachBufferFinalized, EmitError>,
+    count: usize,
+) -> Result<String, LineError> {
+    match finished {
+        Ok(code) => {
+            let digits = hex::encode(alloc, code.bytes.get(..count).unwrap_or(b"".as_slice()))?;
+            let starts = &code.constant_starts;
+            Ok(format!(in alloc; "{digits} {starts:?}")?)
+        }
+        Err(error) => text_of(alloc, error),
     }
 }
 
@@ -110,14 +119,6 @@ fn with_use(
     buffer.finish()
 }
 
-/// The refusal of two uses, of which one is odd and the other's label was never bound: whether the first one is `odd`.
-pub fn refused_of_two(alloc: Global, word: &str) -> Result<String, LineError> {
-    match with_two_uses(alloc, word == "odd") {
-        Ok(_) => Ok(String::from_str(alloc, "None")?),
-        Err(error) => text_of(alloc, error),
-    }
-}
-
 // Two uses, of which one is odd and the other's label was never bound.
 fn with_two_uses(alloc: Global, is_odd_first: bool) -> Result<MachBufferFinalized, EmitError> {
     let mut buffer = MachBuffer::new(alloc, 0, &[])?;
@@ -134,32 +135,25 @@ fn with_two_uses(alloc: Global, is_odd_first: bool) -> Result<MachBufferFinalize
     buffer.finish()
 }
 
-/// A short branch over so many bytes, a constant: its bytes, and where the constants start.
-pub fn short_branch(alloc: Global, word: &str) -> Result<String, LineError> {
-    let mut constants = Vec::new(alloc);
-    constants
-        .push(zeros(alloc, number(word)?)?)
-        .map_err(|_| LineError::NoMemory)?;
-    constants
-        .push(zeros(alloc, 1)?)
-        .map_err(|_| LineError::NoMemory)?;
-    match branch_to_second(alloc, &constants) {
-        Ok(code) => {
-            let branch = bytes_text(alloc, code.bytes.get(..4))?;
-            let starts = &code.constant_starts;
-            Ok(format!(in alloc; "{branch} {starts:?}")?)
-        }
-        Err(error) => text_of(alloc, error),
-    }
+// A short branch over so many bytes, a constant: its bytes, and where the constants start.
+fn short_branch(alloc: Global, word: &str) -> Result<String, LineError> {
+    let constants = zeros(alloc, number(word)?)?;
+    text_with(alloc, branch_to_second(alloc, &constants), 4)
 }
 
-// A constant of so many zeros.
-fn zeros(alloc: Global, count: u32) -> Result<ConstantData, LineError> {
+// A constant of so many zeros, and one of a single one.
+fn zeros(alloc: Global, count: u32) -> Result<Vec<ConstantData>, AllocError> {
     let mut bytes = Vec::new(alloc);
     for _ in 0..count {
-        bytes.push(0).map_err(|_| LineError::NoMemory)?;
+        bytes.push(0)?;
     }
-    Ok(ConstantData { bytes, align: 1 })
+    vec![in alloc;
+        ConstantData { bytes, align: 1 },
+        ConstantData {
+            bytes: vec![in alloc; 0]?,
+            align: 1
+        },
+    ]
 }
 
 // A short branch to the second of these constants.

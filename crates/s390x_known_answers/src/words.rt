@@ -6,7 +6,8 @@ use s390x_case_runner::LineError;
 use std::alloc::Global;
 use std::fmt::Debug;
 
-const INTEGER_COMPARISONS: [IntCC; 10] = [
+/// The comparisons of integers.
+pub const INTEGER_COMPARISONS: [IntCC; 10] = [
     IntCC::Equal,
     IntCC::NotEqual,
     IntCC::SignedLessThan,
@@ -19,7 +20,8 @@ const INTEGER_COMPARISONS: [IntCC; 10] = [
     IntCC::UnsignedLessThanOrEqual,
 ];
 
-const FLOAT_COMPARISONS: [FloatCC; 14] = [
+/// The comparisons of floats.
+pub const FLOAT_COMPARISONS: [FloatCC; 14] = [
     FloatCC::Ordered,
     FloatCC::Unordered,
     FloatCC::Equal,
@@ -36,7 +38,8 @@ const FLOAT_COMPARISONS: [FloatCC; 14] = [
     FloatCC::UnorderedOrGreaterThanOrEqual,
 ];
 
-const TYPES: [ValueType; 16] = [
+/// The types of values.
+pub const TYPES: [ValueType; 16] = [
     ValueType::I8,
     ValueType::I16,
     ValueType::I32,
@@ -55,16 +58,19 @@ const TYPES: [ValueType; 16] = [
     ValueType::F64X2,
 ];
 
-const CLASSES: [RegClass; 2] = [RegClass::Int, RegClass::Float];
+/// The classes of registers.
+pub const CLASSES: [RegClass; 2] = [RegClass::Int, RegClass::Float];
 
-const USES: [LabelUse; 4] = [
+/// The kinds of uses of labels.
+pub const USES: [LabelUse; 4] = [
     LabelUse::BranchRI,
     LabelUse::BranchRIL,
     LabelUse::PCRel32,
     LabelUse::PCRel32Dbl,
 ];
 
-const RELOCATIONS: [Reloc; 3] = [Reloc::S390xPCRel32Dbl, Reloc::S390xPLTRel32Dbl, Reloc::Abs8];
+/// The kinds of relocations.
+pub const RELOCATIONS: [Reloc; 3] = [Reloc::S390xPCRel32Dbl, Reloc::S390xPLTRel32Dbl, Reloc::Abs8];
 
 /// A word, and those behind it.
 pub fn first_word(words: &str) -> Result<(&str, &str), LineError> {
@@ -76,38 +82,8 @@ pub fn number(word: &str) -> Result<u32, LineError> {
     word.parse().map_err(|_| LineError::Unreadable)
 }
 
-/// The comparison of integers of this name.
-pub fn integer_comparison(alloc: Global, name: &str) -> Result<IntCC, LineError> {
-    named(alloc, &INTEGER_COMPARISONS, name)
-}
-
-/// The comparison of floats of this name.
-pub fn float_comparison(alloc: Global, name: &str) -> Result<FloatCC, LineError> {
-    named(alloc, &FLOAT_COMPARISONS, name)
-}
-
-/// The type of this name.
-pub fn value_type(alloc: Global, name: &str) -> Result<ValueType, LineError> {
-    named(alloc, &TYPES, name)
-}
-
-/// The class of this name.
-pub fn class(alloc: Global, name: &str) -> Result<RegClass, LineError> {
-    named(alloc, &CLASSES, name)
-}
-
-/// The kind of use of this name.
-pub fn label_use(alloc: Global, name: &str) -> Result<LabelUse, LineError> {
-    named(alloc, &USES, name)
-}
-
-/// The kind of relocation of this name.
-pub fn relocation(alloc: Global, name: &str) -> Result<Reloc, LineError> {
-    named(alloc, &RELOCATIONS, name)
-}
-
-// The one of these whose `Debug` is this name.
-fn named<T: Copy + Debug>(alloc: Global, all: &[T], name: &str) -> Result<T, LineError> {
+/// The one of these whose `Debug` is this name.
+pub fn named<T: Copy + Debug>(alloc: Global, all: &[T], name: &str) -> Result<T, LineError> {
     for one in all {
         if format!(in alloc; "{one:?}")?.as_str() == name {
             return Ok(*one);
