@@ -147,13 +147,11 @@ fn zeros(alloc: Global, count: u32) -> Result<Vec<ConstantData>, AllocError> {
     for _ in 0..count {
         bytes.push(0)?;
     }
-    vec![in alloc;
-        ConstantData { bytes, align: 1 },
-        ConstantData {
-            bytes: vec![in alloc; 0]?,
-            align: 1
-        },
-    ]
+    let mut constants = Vec::new(alloc);
+    constants.push(ConstantData { bytes, align: 1 })?;
+    let bytes = vec![in alloc; 0]?;
+    constants.push(ConstantData { bytes, align: 1 })?;
+    Ok(constants)
 }
 
 // A short branch to the second of these constants.
