@@ -1,5 +1,5 @@
 //! How an operand is reached: the helpers before the access, and the operand that stands in it.
-ghost use Rattle.std.specs.Prelude.{◌≡◌, ◌+◌, ◌≤◌, ◌+ℤ◌, ◌-ℤ◌, ◌≤ℤ◌, negsuc, [], ◌∷◌, true, false, cond, pos, unsigned_abs, None, Some, IfSome, MatchResult};
+ghost use Rattle.std.specs.Prelude.{◌≡◌, ◌+◌, ◌≤◌, ◌+ℤ◌, ◌-ℤ◌, ◌≤ℤ◌, negsuc, [], ◌∷◌, true, false, if◌then◌else◌, pos, unsigned_abs, None, Some, IfSome, MatchResult};
 ghost use Rattle.s390x_base.specs.declared.error.EmitError.TheVariants.{ScratchConflict, OffsetOutOfRange};
 ghost use Rattle.s390x_inst.specs.Memory.{trusted};
 ghost use Rattle.s390x_inst.specs.declared.args.MemArg.TheVariants.{RegOffset, BXD12};
@@ -72,7 +72,7 @@ fn far_offset(reg: Reg, off: i32, flags: MachMemFlags) -> Result<Lowering, EmitE
 
 /// The offset as an unsigned displacement of 12 bits.
 pub fn short_displacement(off: i128) -> Option<UImm12>
-    ensures { result ≡ cond (fits_12 off) (Some (unsigned_abs off)) None }
+    ensures { result ≡ (if fits_12 off then Some (unsigned_abs off) else None) }
 {
     if 0 <= off && off <= 4095 {
         UImm12::maybe_from_u64(off as u64)
@@ -83,7 +83,7 @@ pub fn short_displacement(off: i128) -> Option<UImm12>
 
 /// The offset as a signed displacement of 20 bits.
 pub fn long_displacement(off: i128) -> Option<SImm20>
-    ensures { result ≡ cond (fits_20 off) (Some off) None }
+    ensures { result ≡ (if fits_20 off then Some off else None) }
 {
     if -524288 <= off && off <= 524287 {
         SImm20::maybe_from_i64(off as i64)
@@ -94,7 +94,7 @@ pub fn long_displacement(off: i128) -> Option<SImm20>
 
 // The offset as a signed immediate of 32 bits.
 fn immediate(off: i128) -> Option<i32>
-    ensures { result ≡ cond (fits_32 off) (Some off) None }
+    ensures { result ≡ (if fits_32 off then Some off else None) }
 {
     if -2147483648 <= off && off <= 2147483647 {
         Some(off as i32)

@@ -1,7 +1,7 @@
 //! Instructions with a memory operand: why one is refused, and its emission.
 #![tactic(auto, using(s390x_buffer::proofs::Extending::extends_on, s390x_buffer::proofs::Extending::extends_same))]
 
-ghost use Rattle.std.specs.Prelude.{◌≡◌, ◌≤◌, ◌+◌, [], ◌∷◌, ◌++◌, ◌&&◌, not, true, None, Some, Option, length, OnOk, IfErr, IfSome, cond};
+ghost use Rattle.std.specs.Prelude.{◌≡◌, ◌≤◌, ◌+◌, [], ◌∷◌, ◌++◌, ◌&&◌, not, true, None, Some, Option, length, OnOk, IfErr, IfSome, if◌then◌else◌};
 ghost use Rattle.s390x_base.specs.declared.error.EmitError.TheVariants.{NoMemory, ScratchConflict, OffsetOutOfRange};
 ghost use Rattle.s390x_base.specs.declared.trap.TrapKind.{TrapKind};
 ghost use Rattle.s390x_buffer.specs.Extends.{Extends};
@@ -333,8 +333,8 @@ impl MemoryInst {
     pub fn with_loaded_address(&self) -> Option<MemoryInst>
         requires { may_encode self.now ≡ true }
         ensures row { option_map memory_instruction_of result
-            ≡ cond (accesses_relative (Some (memory_instruction_of self.now)))
-            (without_relative (Some (memory_instruction_of self.now))) None }
+            ≡ (if accesses_relative (Some (memory_instruction_of self.now))
+            then without_relative (Some (memory_instruction_of self.now)) else None) }
         ensures encodes { IfSome result (λ x. may_encode x ≡ true) }
     {
         let StorageRows::OneRegister {

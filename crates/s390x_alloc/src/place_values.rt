@@ -1,5 +1,5 @@
 //! The values that stand in places, by their numbers.
-ghost use Rattle.std.specs.Prelude.{◌≡◌, None, Some, IfOk, cond, not, filter};
+ghost use Rattle.std.specs.Prelude.{◌≡◌, if◌then◌else◌, None, Some, IfOk, not, filter};
 ghost use Rattle.s390x_alloc.specs.Contents.{is_in_set};
 ghost use Rattle.s390x_alloc.specs.Locations.{value_in, value_of};
 ghost use Rattle.s390x_alloc.specs.Same.{same_place};
@@ -74,7 +74,7 @@ impl PlaceValues {
     /// Nothing stands in a place.
     pub fn clear(&mut self, place: Place)
         ensures { (q : AnyPlace) → value_of self.new q
-            ≡ cond (same_place q place) None (value_of self.old q) }
+            ≡ (if same_place q place then None else value_of self.old q) }
     {
         match place {
             Place::Reg(preg) => self.clear_register(preg),
@@ -87,7 +87,7 @@ impl PlaceValues {
     /// Nothing stands in the registers of a set.
     pub fn clear_set(&mut self, set: PRegSet)
         ensures { (q : AnyPlace) → value_of self.new q
-            ≡ cond (is_in_set set q) None (value_of self.old q) }
+            ≡ (if is_in_set set q then None else value_of self.old q) }
     {
         self.in_registers
             .retain(|register| !set.contains(register.preg));
@@ -96,7 +96,7 @@ impl PlaceValues {
     /// A value stands in a place, in place of what stood there. After `AllocError` nothing may stand there.
     pub fn set(&mut self, place: Place, value: usize) -> Result<(), AllocError>
         ensures { IfOk result (λ _. (q : AnyPlace) → value_of self.new q
-            ≡ cond (same_place q place) (Some value) (value_of self.old q)) }
+            ≡ (if same_place q place then Some value else value_of self.old q)) }
     {
         match place {
             Place::Reg(preg) => {
@@ -113,7 +113,7 @@ impl PlaceValues {
     /// What stands in `from` stands in `to` too, in place of what stood there. After `AllocError` nothing may stand there.
     pub fn copy(&mut self, to: Place, from: Place) -> Result<(), AllocError>
         ensures { IfOk result (λ _. (q : AnyPlace) → value_of self.new q
-            ≡ cond (same_place q to) (value_of self.old from) (value_of self.old q)) }
+            ≡ (if same_place q to then value_of self.old from else value_of self.old q)) }
     {
         match self.get(from) {
             Some(value) => self.set(to, value),

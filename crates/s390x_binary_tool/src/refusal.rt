@@ -1,6 +1,7 @@
 //! The reply to the command `refusal`.
 ghost use Rattle.std.specs.Prelude.{◌≡◌, ◌<◌, ◌++◌, IfOk, OnOk, length, string_bytes};
 ghost use Rattle.std.specs.Cow.{cow_slice_items};
+ghost use Rattle.s390x_job.specs.Completions.{text_limit};
 ghost use Rattle.s390x_tool.specs.declared.status.Status.TheVariants as status;
 ghost use Rattle.s390x_binary_tool.specs.Made.{IsMadeReply};
 ghost use Rattle.s390x_binary_tool.specs.declared.status.BinaryStatus.TheVariants.{Shared};
@@ -16,7 +17,7 @@ use std::alloc::{AllocError, Global};
 
 /// The answer to `refusal` and its whole input.
 pub fn refusal(alloc: Global, input: &[u8]) -> BinaryReply
-    requires { length input.now < 4294967295 }
+    requires { length input.now < text_limit }
     ensures { IsRefusalAnswer input.now result.status (cow_slice_items result.text) }
 {
     match read_lines(alloc, input) {

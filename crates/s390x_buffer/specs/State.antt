@@ -1,5 +1,5 @@
 -- What callers see of a buffer, and the causes of refusal of its calls.
-use Rattle.std.specs.Prelude.{◌≡◌, ℕ, ◌+◌, ◌≤◌, List, [], ◌∷◌, length, map, replicate, Option, Some, None, Bool, true, false, cond, ◌||◌, ◌&&◌, nat_lt, nat_eq}
+use Rattle.std.specs.Prelude.{◌≡◌, ℕ, ◌+◌, ◌≤◌, List, [], ◌∷◌, length, map, replicate, slice_index_or, Option, Some, None, Bool, true, false, cond, ◌||◌, ◌&&◌, nat_lt, nat_eq}
 use Rattle.std.specs.List.{slice_get}
 use Rattle.s390x_base.specs.declared.ir.ConstantData.{ConstantData}
 use Rattle.s390x_base.specs.declared.error.EmitError.{EmitError}
@@ -132,6 +132,10 @@ new_cause n cs = cond (all_aligned cs) (cond (nat_lt (n + length cs) label_limit
 -- the label of a constant
 abbrev pub constant_label : BufferState → ℕ → ℕ
 constant_label s c = s.block_count + c
+
+-- a label that isn't bound so far
+abbrev pub IsUnbound : BufferState → ℕ → Type 0
+IsUnbound s l = slice_index_or s.labels l None ≡ None
 
 -- a label that isn't a constant's
 abbrev pub IsNoConstant : BufferState → ℕ → Type 0

@@ -1,5 +1,5 @@
 //! The buffer that emission writes into.
-ghost use Rattle.std.specs.Prelude.{◌≡◌, ◌≢◌, ◌+◌, ◌<◌, ◌≤◌, ◌++◌, ◌∷◌, [], Some, None, true, false, length, map, set, get_or, replicate, MatchResult, IfOk};
+ghost use Rattle.std.specs.Prelude.{◌≡◌, ◌≢◌, ◌+◌, ◌<◌, ◌≤◌, ◌++◌, ◌∷◌, [], Some, None, true, false, length, map, set, replicate, MatchResult, IfOk};
 ghost use Rattle.std.specs.Int.{to_be_bytes, w32, w64};
 ghost use Rattle.s390x_buffer.specs.Branches.{BranchesLead};
 ghost use Rattle.s390x_buffer.specs.Finish.{length_cause, patch_cause, finish_cause, FailsWithEither, Finished};
@@ -7,7 +7,7 @@ ghost use Rattle.s390x_buffer.specs.Extends.{Extends, ExtendsExcept};
 ghost use Rattle.s390x_buffer.specs.BlockEnd.{has_use, with_jump, with_conditional, cut, inverted_alone, both_ended, ended_by, at_block_end, KeepsTables};
 ghost use Rattle.s390x_buffer.specs.declared.entries.RecordedBranches.TheVariants.{NoBranch};
 ghost use Rattle.s390x_base.specs.declared.error.EmitError.TheVariants.{NoMemory};
-ghost use Rattle.s390x_buffer.specs.State.{BufferState, FailsWith, poisoned_buffer, mark_cause, put_cause, draw_cause, label_cause, handlers_cause, labels_below, constant_cause, new_cause, fresh_buffer, constant_of, constant_label, is_alignment, all_aligned, IsNoConstant, align_of, limit, label_limit};
+ghost use Rattle.s390x_buffer.specs.State.{BufferState, FailsWith, poisoned_buffer, mark_cause, put_cause, draw_cause, label_cause, handlers_cause, labels_below, constant_cause, new_cause, fresh_buffer, constant_of, constant_label, is_alignment, all_aligned, IsUnbound, IsNoConstant, align_of, limit, label_limit};
 
 use crate::block_end::{
     drop_use, ends_at, invert_uses, put_last, six_bytes, with_conditional, with_jump,
@@ -432,7 +432,7 @@ impl MachBuffer {
 
     /// Binds a label at the current offset, and forgets all recorded branches. Refused by `UnboundLabel` where it isn't this buffer's.
     pub fn bind_label(&mut self, label: MachLabel) -> Result<(), EmitError>
-        requires unbound { get_or self.old.labels label.0 None ≡ None }
+        requires unbound { IsUnbound self.old label.0 }
         requires no_constant { IsNoConstant self.old label.0 }
         ensures answer { MatchResult result
             (λ _. (label_cause self.old label.0 ≡ None)

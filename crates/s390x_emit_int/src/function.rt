@@ -1,9 +1,9 @@
 //! Emitting a function: its blocks, and then its constants.
 
-ghost use Rattle.std.specs.Prelude.{◌≡◌, ℕ, ◌+◌, ◌<◌, ◌≤◌, ◌⊎◌, List, OnOk, length, map, cond, get_or, None, Some, MatchResult, nat_lt, false};
+ghost use Rattle.std.specs.Prelude.{◌≡◌, ℕ, ◌+◌, ◌<◌, ◌≤◌, ◌⊎◌, List, OnOk, length, map, cond, None, Some, MatchResult, nat_lt, false};
 ghost use Rattle.s390x_base.specs.declared.error.EmitError.TheVariants.{NoMemory, LabelOutOfRange, BadStackState};
 ghost use Rattle.s390x_buffer.specs.Extends.{Extends};
-ghost use Rattle.s390x_buffer.specs.State.{constant_of, new_cause, put_cause, fresh_buffer, limit, label_limit};
+ghost use Rattle.s390x_buffer.specs.State.{IsUnbound, constant_of, new_cause, put_cause, fresh_buffer, limit, label_limit};
 ghost use Rattle.s390x_buffer.specs.Constants.{constants_end};
 ghost use Rattle.s390x_inst.specs.declared.state.IsaFlags.{IsaFlags};
 ghost use Rattle.s390x_typed_steps.specs.Causes.{unless, declared_in, declared_of, block_cause, blocks_cause, nominal_behind, tree_cause};
@@ -193,7 +193,7 @@ fn emit_blocks(
     requires few { length blocks.now ≤ 4294967295 }
     requires count { sink.old.block_count ≡ length blocks.now }
     requires room { HasRoom sink.old }
-    requires free { (l : ℕ) → l < length blocks.now → get_or sink.old.labels l None ≡ None }
+    requires free { (l : ℕ) → l < length blocks.now → IsUnbound sink.old l }
     requires short { length sink.old.bytes < limit }
     ensures answer { OnOk result
         (sink.new

@@ -1,21 +1,21 @@
 //! Instructions with a memory operand: their machine rows.
-ghost use Rattle.std.specs.Prelude.{◌≡◌, ◌<◌, ◌&&◌, if◌then◌else◌, true, None, Some, IfSome, get_or, length};
+ghost use Rattle.std.specs.Prelude.{◌≡◌, ◌&&◌, if◌then◌else◌, true, None, Some, IfSome};
 ghost use Rattle.std.specs.Option.{option_map};
 ghost use Rattle.s390x_address.specs.Rows.{memory_instruction_of, storage_form_of, relative_encodes, rows_encode, may_encode, rows_take_general, has_12_bits};
 ghost use Rattle.s390x_inst.specs.Loads.{as_load, by_load};
 ghost use Rattle.s390x_inst.specs.Stores.{as_store, by_store};
 ghost use Rattle.s390x_rows.specs.declared.opcodes.TheConstants as opcodes;
 ghost use Rattle.s390x_typed_steps.specs.General.{low_byte, low_halfword};
-ghost use Rattle.s390x_typed_steps.specs.Memory.{load, load_memory, load_rows, store, store_memory, store_rows, store_immediate, SiForm, SilForm, is_range, multiple, load_and_operate, compare_and_swap, memory};
+ghost use Rattle.s390x_typed_steps.specs.Memory.{load, load_memory, store, store_memory, store_immediate, SiForm, SilForm, is_range, multiple, load_and_operate, compare_and_swap, memory};
 ghost use Rattle.s390x_typed_steps.specs.Storage.{alu_rx, alu_rxy, cmp_rx, cmp_rxy, cmp_ril, atomic_rsy};
 
 use crate::registers::{is_reused, two_general};
 use s390x_address::{MemoryInst, StorageRows, general, holds_scratch, is_numbered, number};
 use s390x_base::{Reg, Writable};
 use s390x_emit_vec::vector_memory_rows;
-use s390x_inst::{ALUOp, CmpOp, Inst, Load, LoadOp, MemArg, Store, StoreOp};
+use s390x_inst::{ALUOp, CmpOp, Inst, Load, MemArg, Store};
 use s390x_rows::opcodes;
-use s390x_typed_steps::{LOAD_ROWS, RegisterRows, STORE_ROWS, low_byte, rows_of_alu, rows_of_cmp};
+use s390x_typed_steps::{low_byte, rows_of_alu, rows_of_cmp, rows_of_load, rows_of_store};
 
 // An access by one register.
 #[inline(always)]
@@ -47,38 +47,13 @@ fn access(
     }
 }
 
-// The rows at a place of their table, which is borrowed, so that it needn't be copied.
-#[inline(always)]
-fn rows_at(rows: &[RegisterRows], place: usize) -> RegisterRows
-    requires { place < length rows.now }
-    ensures { (z : RegisterRows) → result ≡ get_or rows.now place z }
-{
-    rows[place]
-}
-
-// The rows of a load.
-#[inline(always)]
-fn load_rows(op: LoadOp) -> RegisterRows
-    ensures { result ≡ load_rows op }
-{
-    rows_at(&LOAD_ROWS, op.place())
-}
-
-// The rows of a store.
-#[inline(always)]
-fn store_rows(op: StoreOp) -> RegisterRows
-    ensures { result ≡ store_rows op }
-{
-    rows_at(&STORE_ROWS, op.place())
-}
-
 /// The machine rows and the operand of a load into a register, which is written alone.
 #[inline(always)]
 pub fn memory_of_load(load: &Load) -> MemoryInst
     ensures row { Some (memory_instruction_of result) ≡ load_memory load.now }
     ensures encodes { may_encode result ≡ true }
 {
-    let rows = load_rows(load.op);
+    let rows = rows_of_load(load.op);
     access(
         false,
         load.rd.to_reg(),
@@ -95,7 +70,7 @@ pub fn memory_of_store(store: &Store) -> MemoryInst
     ensures row { Some (memory_instruction_of result) ≡ store_memory store.now }
     ensures encodes { may_encode result ≡ true }
 {
-    let rows = store_rows(store.op);
+    let rows = rows_of_store(store.op);
     access(true, store.rd, rows.rx, rows.rxy, rows.ril, &store.mem)
 }
 

@@ -157,7 +157,7 @@ fn read_as(row: &MachineRow, bytes: usize, n: u64) -> Option<Reading>
     if slots[0] != row.opcode as u32 {
         return None;
     }
-    if !allows(row.allowed, &slots) {
+    if !allows(&row.allowed, &slots) {
         return None;
     }
     Some(Reading {

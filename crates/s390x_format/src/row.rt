@@ -1,5 +1,5 @@
 //! Machine rows.
-ghost use Rattle.std.specs.Prelude.{◌≡◌, ℕ, List, slice_index};
+ghost use Rattle.std.specs.Prelude.{◌≡◌};
 ghost use Rattle.s390x_format.specs.Rows.{is_allowed};
 
 use crate::facility::FacilityRule;
@@ -49,40 +49,33 @@ pub struct Row {
     pub opcode: u16,
 }
 
-/// Whether the row allows the masks and immediates in the slots. Most rows allow any, and that is asked first.
-pub fn allows(allowed: Allowed, slots: &[u32; 10]) -> bool
-    ensures { result ≡ is_allowed allowed slots.now }
+/// Whether the row allows the masks and immediates in the slots.
+pub fn allows(allowed: &Allowed, slots: &[u32; 10]) -> bool
+    ensures { result ≡ is_allowed allowed.now slots.now }
 {
-    match allowed {
-        Allowed::Any => true,
-        // The slots of masks and immediates of 8 bits; slot 8 has the wider immediate.
-        limited => is_within(limited, slots[5], slots[6], slots[7], slots[8]),
-    }
-}
-
-/// Whether a row allows these masks and immediates. It is no part of its callers' code, in which a jump by a table would cost a row that allows
-/// any more than a comparison.
-#[inline(never)]
-fn is_within(allowed: Allowed, first: u32, second: u32, third: u32, wide: u32) -> bool
-    ensures { (slots : List ℕ) → slice_index slots 5 ≡ first → slice_index slots 6 ≡ second
-        → slice_index slots 7 ≡ third → slice_index slots 8 ≡ wide
-        → result ≡ is_allowed allowed slots }
-{
+    // Slots 5 to 7 have the masks and immediates of 8 bits, slot 8 the wider immediate.
     match allowed {
         Allowed::Any => true,
         Allowed::FirstMask { low, high } => {
-            u32::from(low) <= first && first <= u32::from(high) && second == 0 && third == 0
+            u32::from(*low) <= slots[5]
+                && slots[5] <= u32::from(*high)
+                && slots[6] == 0
+                && slots[7] == 0
         }
-        Allowed::CountMode => (first == 0 || first == 8) && second == 0,
-        Allowed::ComparedLanes => first <= 4 && second <= 1,
+        Allowed::CountMode => (slots[5] == 0 || slots[5] == 8) && slots[6] == 0,
+        Allowed::ComparedLanes => slots[5] <= 4 && slots[6] <= 1,
         Allowed::DoublewordPair => {
-            (first == 0 || first == 1 || first == 4 || first == 5) && second == 0 && third == 0
+            (slots[5] == 0 || slots[5] == 1 || slots[5] == 4 || slots[5] == 5)
+                && slots[6] == 0
+                && slots[7] == 0
         }
-        Allowed::RotateBits => first < 64 && second < 64 && third < 64,
+        Allowed::RotateBits => slots[5] < 64 && slots[6] < 64 && slots[7] < 64,
         Allowed::RotateBitsOrTest => {
-            (first < 64 || (128 <= first && first < 192)) && second < 64 && third < 64
+            (slots[5] < 64 || (128 <= slots[5] && slots[5] < 192)) && slots[6] < 64 && slots[7] < 64
         }
-        Allowed::BitRange => third < 4 && first < (8 << third) && second < (8 << third),
-        Allowed::ReplicatedLane => first < 4 && wide < (1 << (4 - first)),
+        Allowed::BitRange => slots[7] < 4
+            && slots[5] < (8 << slots[7])
+            && slots[6] < (8 << slots[7]),
+        Allowed::ReplicatedLane => slots[5] < 4 && slots[8] < (1 << (4 - slots[5])),
     }
 }

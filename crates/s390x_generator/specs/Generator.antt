@@ -15,6 +15,10 @@ use Rattle.s390x_inst.specs.declared.inst.Inst.TheVariants.{AluRRR, AluRR, Load6
 use Rattle.s390x_inst.specs.declared.ops.ALUOp.TheVariants.{Add64}
 use Rattle.s390x_typed_steps.specs.Tree.{Tree, block_tree}
 
+-- a generated function of at most so many blocks has no cause of refusal
+abbrev pub most_blocks : ℕ
+most_blocks = 100000
+
 -- the next number of a linear congruential sequence modulo 2 ^ 32
 abbrev pub next_number : ℕ → ℕ
 next_number x = (x * 1664525 + 1013904223) % 4294967296

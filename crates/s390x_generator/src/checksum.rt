@@ -1,9 +1,9 @@
 //! The sum of bytes.
-ghost use Rattle.std.specs.Prelude.{◌≡◌, ◌%◌, sum};
+ghost use Rattle.std.specs.Prelude.{◌≡◌, ◌%◌, ◌^◌, sum};
 
 /// The sum of the bytes modulo 2^32.
 pub fn byte_sum(bytes: &[u8]) -> u32
-    ensures { result ≡ sum bytes.now % 4294967296 }
+    ensures { result ≡ sum bytes.now % 2 ^ 32 }
 {
     let mut total: u32 = 0;
     for byte in bytes {

@@ -1,5 +1,5 @@
 //! The addresses of symbols.
-ghost use Rattle.std.specs.Prelude.{◌≡◌, IfOk, MatchResult, cond, nat_eq};
+ghost use Rattle.std.specs.Prelude.{◌≡◌, ◌==◌, if◌then◌else◌, IfOk, MatchResult};
 ghost use Rattle.s390x_base.specs.declared.ir.ExternalName.{ExternalName as Name};
 ghost use Rattle.s390x_image.specs.Symbols.{no_symbols, address_of, with_address};
 
@@ -47,7 +47,7 @@ impl SymbolTable {
         ensures addresses { IfOk result
             (λ _. (other : Name)
             → address_of self.new other
-            ≡ cond (nat_eq other.0 name.0) (Some address) (address_of self.old other)) }
+            ≡ (if other.0 == name.0 then Some address else address_of self.old other)) }
     {
         match self.addresses.insert(name.0, address) {
             Ok(_) => Ok(()),

@@ -4,6 +4,10 @@ use Rattle.std.specs.Str.{bytes_eq}
 use Rattle.s390x_job.specs.Jobs.{text_of_job, IsJob}
 use Rattle.s390x_job.specs.declared.job.Job.{Job}
 
+-- a text that is read has fewer bytes, so that each line's number, from 1, is below 2 ^ 32
+abbrev pub text_limit : ℕ
+text_limit = 4294967295
+
 -- the lines of a text that end with a line feed; w is what the first one begins with
 abbrev pub pieces_from : List ℕ → List ℕ → List (List ℕ)
 pieces_from w [] = []

@@ -1,7 +1,7 @@
 //! The lines of a text, and what completes them: shared by the readers of texts that hold jobs.
-ghost use Rattle.std.specs.Prelude.{◌≡◌, ℕ, ◌<◌, ◌≤◌, ◌++◌, List, IfOk, OnOk, Decides, length, map, take, codes};
+ghost use Rattle.std.specs.Prelude.{◌≡◌, ℕ, ◌<◌, ◌≤◌, ◌++◌, List, IfOk, OnOk, IsTrue, ◌↔◌, length, map, take, codes};
 ghost use Rattle.std.specs.Str.{bytes_eq};
-ghost use Rattle.s390x_job.specs.Completions.{IsFirstWrongLine, IsStuck, pieces, text_of_lines, opens, closes, closing};
+ghost use Rattle.s390x_job.specs.Completions.{IsFirstWrongLine, IsStuck, pieces, text_of_lines, opens, closes, closing, text_limit};
 
 use crate::split::before;
 use s390x_job_fields::number::tail;
@@ -115,13 +115,13 @@ pub trait Completes {
     fn is_whole(alloc: Global, bytes: &[u8]) -> Result<bool, AllocError>
         requires { (vs : List (List ℕ)) × (length (text_of_lines vs) < limit)
             × (bytes.now ≡ completed vs) }
-        ensures { IfOk result (λ b. Decides b (IsWhole bytes.now)) };
+        ensures { IfOk result (λ b. IsTrue b ↔ IsWhole bytes.now) };
 }
 
 /// Whether the lines can be completed to a text.
 fn can_be_completed<T: Completes>(alloc: Global, ws: &[&[u8]]) -> Result<bool, AllocError>
     requires { length (text_of_lines (map (λ w. w.now) ws.now)) < T.limit }
-    ensures { IfOk result (λ b. Decides b (T.IsWhole (T.completed (map (λ w. w.now) ws.now)))) }
+    ensures { IfOk result (λ b. IsTrue b ↔ T.IsWhole (T.completed (map (λ w. w.now) ws.now))) }
 {
     let text = T::complete(alloc, ws)?;
     let is_whole = T::is_whole(alloc, &text)?;
@@ -153,7 +153,7 @@ fn first_wrong_of_lines<T: Completes>(
 
 /// The number of the first wrong line of these bytes, where no more than `top` of their lines can be completed.
 pub fn first_wrong<T: Completes>(alloc: Global, bytes: &[u8], top: usize) -> Result<u32, AllocError>
-    requires fits { length bytes.now < 4294967295 }
+    requires fits { length bytes.now < text_limit }
     requires short { length bytes.now < T.limit }
     requires stuck { IsStuck T.IsWhole T.completed bytes.now top }
     ensures { IfOk result

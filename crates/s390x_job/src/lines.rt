@@ -8,7 +8,7 @@ ghost use Rattle.s390x_job.specs.Errors.{IsReadJob, IsError};
 ghost use Rattle.s390x_job.specs.Jobs.{text_of_job, IsJob};
 ghost use Rattle.s390x_job.specs.Same.{SameJob};
 ghost use Rattle.s390x_job.specs.declared.job.Job.{Job};
-ghost use Rattle.s390x_job.specs.Completions.{ends_job, completion, IsText};
+ghost use Rattle.s390x_job.specs.Completions.{ends_job, completion, IsText, text_limit};
 
 use crate::build::{Body, Progress, Stage, add, job_of, make_room, push, start};
 use crate::completing::{
@@ -48,7 +48,7 @@ fn last_is_end(ws: &[&[u8]]) -> bool
 struct JobText;
 
 impl Completes for JobText {
-    ghost limit = { 4294967295 };
+    ghost limit = { text_limit };
 
     ghost completed = { completion };
 
@@ -180,7 +180,7 @@ pub fn find_job(alloc: Global, bytes: &[u8]) -> Result<ParseOutcome, AllocError>
 }
 
 fn read_inner(alloc: Global, bytes: &[u8]) -> Result<Result<Job, LineError>, AllocError>
-    requires { length bytes.now < 4294967295 }
+    requires { length bytes.now < text_limit }
     ensures { IfOk result
         (λ r. MatchResult r (λ j. IsJob j × (text_of_job j ≡ bytes.now)) (IsError bytes.now)) }
 {
@@ -194,7 +194,7 @@ fn read_inner(alloc: Global, bytes: &[u8]) -> Result<Result<Job, LineError>, All
 }
 
 fn read_all(alloc: Global, bytes: &[u8]) -> Result<Job, LineError>
-    requires { length bytes.now < 4294967295 }
+    requires { length bytes.now < text_limit }
     ensures job { IfOk result (λ j. IsJob j × (text_of_job j ≡ bytes.now)) }
     ensures error { IfErr result (IsError bytes.now) }
 {
@@ -211,7 +211,7 @@ fn read_all(alloc: Global, bytes: &[u8]) -> Result<Job, LineError>
 /// otherwise by as many lines `endloop` as lines begin with `Loop ` beyond those that are `endloop`, and a line
 /// `end`. `NoMemory` comes for want of memory alone.
 pub fn read_lines(alloc: Global, bytes: &[u8]) -> Result<Job, LineError>
-    requires { length bytes.now < 4294967295 }
+    requires { length bytes.now < text_limit }
     ensures job { IfOk result (λ j. IsJob j × (text_of_job j ≡ bytes.now)) }
     ensures error { IfErr result (IsError bytes.now) }
     ensures one { (j : Job) → IsJob j → text_of_job j ≡ bytes.now → IfOk result (λ r. SameJob r j) }

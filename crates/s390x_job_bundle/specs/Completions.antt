@@ -5,6 +5,10 @@ use Rattle.s390x_job.specs.Completions.{IsFirstWrongLine, closes, closing, text_
 use Rattle.s390x_job_bundle.specs.Text.{AreFunctions, close_line, text_of_functions}
 use Rattle.s390x_job_bundle.specs.declared.named_job.NamedJob.{NamedJob}
 
+-- a text of functions that is read has fewer bytes, 2 ^ 28: completed, it ends below `text_limit` of s390x_job
+abbrev pub bundle_limit : ℕ
+bundle_limit = 268435456
+
 -- how many lines begin with `function `
 abbrev pub heads : List (List ℕ) → ℕ
 heads [] = 0

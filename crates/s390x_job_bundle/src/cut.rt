@@ -1,6 +1,6 @@
 //! The lines of a text, and the part of it that is a job.
 ghost use Rattle.std.specs.Prelude.{◌≡◌, ◌≤◌, ◌<◌, IfOk, MatchResult, length};
-ghost use Rattle.s390x_job.specs.Completions.{pieces};
+ghost use Rattle.s390x_job.specs.Completions.{pieces, text_limit};
 ghost use Rattle.s390x_job.specs.Jobs.{IsJob, text_of_job};
 ghost use Rattle.s390x_job_bundle.specs.Cut.{IsCutAt};
 ghost use Rattle.s390x_job_bundle.specs.Errors.{HasNoJob};
@@ -49,7 +49,7 @@ pub fn job_size(bytes: &[u8]) -> usize
 
 /// The job whose text this is, else the number of its first wrong line; an error for want of memory alone.
 pub fn read_job(alloc: Global, part: &[u8]) -> Result<Result<Job, u32>, AllocError>
-    requires { length part.now < 4294967295 }
+    requires { length part.now < text_limit }
     ensures { IfOk result
         (λ r. MatchResult r (λ j. IsJob j × (text_of_job j ≡ part.now)) (HasNoJob part.now)) }
 {

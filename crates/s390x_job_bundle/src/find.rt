@@ -1,6 +1,6 @@
 //! The functions of a text.
 ghost use Rattle.std.specs.Prelude.{◌≡◌, ◌+◌, ◌≤◌, ◌<◌, IfOk, length};
-ghost use Rattle.s390x_job.specs.Completions.{pieces};
+ghost use Rattle.s390x_job.specs.Completions.{pieces, text_limit};
 ghost use Rattle.s390x_job_bundle.specs.Errors.{IsParseOutcome};
 
 use crate::cut::{count_lines, job_size, read_job};
@@ -27,7 +27,7 @@ fn lines_before(bytes: &[u8], rest: &[u8]) -> usize
 
 /// The functions whose text this is. Where there are none, a number of its lines: no more of them can be completed to the text of functions.
 pub fn find_functions(alloc: Global, bytes: &[u8]) -> Result<ParseOutcome, AllocError>
-    requires { length bytes.now < 4294967295 }
+    requires { length bytes.now < text_limit }
     ensures { IfOk result (IsParseOutcome bytes.now) }
 {
     let mut functions = Vec::new(alloc);

@@ -1,6 +1,6 @@
 //! The exact reader of several functions' text.
 ghost use Rattle.std.specs.Prelude.{◌<◌, IfErr, IfOk, MatchResult, length};
-ghost use Rattle.s390x_job_bundle.specs.Completions.{IsBundleText, bundle_completion};
+ghost use Rattle.s390x_job_bundle.specs.Completions.{IsBundleText, bundle_completion, bundle_limit};
 ghost use Rattle.s390x_job_bundle.specs.Errors.{HasNoFunctions};
 ghost use Rattle.s390x_job_bundle.specs.Text.{AreFunctionsOf};
 
@@ -15,7 +15,7 @@ use std::alloc::{AllocError, Global};
 struct BundleText;
 
 impl Completes for BundleText {
-    ghost limit = { 268435456 };
+    ghost limit = { bundle_limit };
 
     ghost completed = { bundle_completion };
 
@@ -37,7 +37,7 @@ fn read_inner(
     alloc: Global,
     bytes: &[u8],
 ) -> Result<Result<Vec<NamedJob>, BundleTextError>, AllocError>
-    requires { length bytes.now < 268435456 }
+    requires { length bytes.now < bundle_limit }
     ensures { IfOk result
         (λ r. MatchResult r (λ functions. AreFunctionsOf bytes.now functions.items)
         (HasNoFunctions bytes.now)) }
@@ -57,7 +57,7 @@ fn read_inner(
 /// completed to such a text. Completing adds, where more of the lines begin with `function ` than are `end`, a line `endloop` for each line that begins with
 /// `Loop ` beyond those that are `endloop`, and a line `end`; then a line `close`, where none is one. `NoMemory` comes for want of memory alone.
 pub fn read_bundle(alloc: Global, bytes: &[u8]) -> Result<Vec<NamedJob>, BundleTextError>
-    requires { length bytes.now < 268435456 }
+    requires { length bytes.now < bundle_limit }
     ensures functions { IfOk result (λ functions. AreFunctionsOf bytes.now functions.items) }
     ensures error { IfErr result (HasNoFunctions bytes.now) }
 {

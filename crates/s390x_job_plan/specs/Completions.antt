@@ -5,6 +5,10 @@ use Rattle.s390x_job.specs.Completions.{IsFirstWrongLine, closes, closing, text_
 use Rattle.s390x_job_plan.specs.Text.{IsPlanned, text_of_planned}
 use Rattle.s390x_job_plan.specs.declared.planned_job.PlannedJob.{PlannedJob}
 
+-- a text of a planned job that is read has fewer bytes, 2 ^ 28: completed, it ends below `text_limit` of s390x_job
+abbrev pub plan_limit : ℕ
+plan_limit = 268435456
+
 -- whether one of the lines is this one
 abbrev pub has_line : List ℕ → List (List ℕ) → Bool
 has_line l [] = false

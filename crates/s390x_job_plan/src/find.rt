@@ -1,6 +1,6 @@
 //! The planned job of a text.
-ghost use Rattle.std.specs.Prelude.{◌≡◌, ◌<◌, Decides, IfOk, length, map};
-ghost use Rattle.s390x_job.specs.Completions.{text_of_lines};
+ghost use Rattle.std.specs.Prelude.{◌≡◌, ◌<◌, ◌↔◌, IsTrue, IfOk, length, map};
+ghost use Rattle.s390x_job.specs.Completions.{text_limit, text_of_lines};
 ghost use Rattle.s390x_job_plan.specs.Errors.{IsParseOutcome, IsPlanOutcome};
 
 use crate::completeness::join;
@@ -50,7 +50,7 @@ pub fn find_plan(alloc: Global, lines: &[&[u8]]) -> Result<PlanOutcome, AllocErr
 // Whether the text ends with its last line.
 fn is_all(alloc: Global, lines: &[&[u8]], bytes: &[u8]) -> Result<bool, AllocError>
     ensures { IfOk result
-        (λ b. Decides b (text_of_lines (map (λ w. w.now) lines.now) ≡ bytes.now)) }
+        (λ b. IsTrue b ↔ (text_of_lines (map (λ w. w.now) lines.now) ≡ bytes.now)) }
 {
     let text = join(alloc, lines)?;
     Ok(text.as_slice() == bytes)
@@ -58,7 +58,7 @@ fn is_all(alloc: Global, lines: &[&[u8]], bytes: &[u8]) -> Result<bool, AllocErr
 
 /// The planned job whose text this is. Where there is none, a number of its lines: no more of them can be completed to the text of a planned job.
 pub fn find_planned(alloc: Global, bytes: &[u8]) -> Result<ParseOutcome, AllocError>
-    requires { length bytes.now < 4294967295 }
+    requires { length bytes.now < text_limit }
     ensures { IfOk result (IsParseOutcome bytes.now) }
 {
     let size = job_size(bytes);

@@ -1,6 +1,6 @@
 //! The exact reader of a planned job's text.
 ghost use Rattle.std.specs.Prelude.{◌<◌, IfErr, IfOk, MatchResult, length};
-ghost use Rattle.s390x_job_plan.specs.Completions.{IsPlannedText, plan_completion};
+ghost use Rattle.s390x_job_plan.specs.Completions.{IsPlannedText, plan_completion, plan_limit};
 ghost use Rattle.s390x_job_plan.specs.Errors.{HasNoPlan};
 ghost use Rattle.s390x_job_plan.specs.Text.{IsPlannedOf};
 
@@ -15,7 +15,7 @@ use std::alloc::{AllocError, Global};
 struct PlannedText;
 
 impl Completes for PlannedText {
-    ghost limit = { 268435456 };
+    ghost limit = { plan_limit };
 
     ghost completed = { plan_completion };
 
@@ -34,7 +34,7 @@ impl Completes for PlannedText {
 }
 
 fn read_inner(alloc: Global, bytes: &[u8]) -> Result<Result<PlannedJob, PlanTextError>, AllocError>
-    requires { length bytes.now < 268435456 }
+    requires { length bytes.now < plan_limit }
     ensures { IfOk result (λ r. MatchResult r (IsPlannedOf bytes.now) (HasNoPlan bytes.now)) }
 {
     match find_planned(alloc, bytes)? {
@@ -54,7 +54,7 @@ fn read_inner(alloc: Global, bytes: &[u8]) -> Result<Result<PlannedJob, PlanText
 /// completed to such a text. Completing adds, where none of the lines is `end`, a line `endloop` for each line that begins with `Loop ` beyond those that are
 /// `endloop`, and a line `end`; then a line `plan`, where none is one; then a line `close`, where none is one. `NoMemory` comes for want of memory alone.
 pub fn read_plan(alloc: Global, bytes: &[u8]) -> Result<PlannedJob, PlanTextError>
-    requires { length bytes.now < 268435456 }
+    requires { length bytes.now < plan_limit }
     ensures planned { IfOk result (IsPlannedOf bytes.now) }
     ensures error { IfErr result (HasNoPlan bytes.now) }
 {

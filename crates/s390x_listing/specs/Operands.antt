@@ -32,7 +32,7 @@ operand_text (Reuse k) kind r = codes "reuse(" ++ (decimal k ++ (codes ") " ++ r
 -- an operand, `fixed P`, or `clobber [P,P]`
 abbrev pub item_text : Reported → List ℕ
 item_text (Operand r constraint kind pos) = operand_text constraint kind r
-item_text (Fixed p) = codes "fixed_listing " ++ real_text p
+item_text (Fixed p) = codes "fixed " ++ real_text p
 item_text (Clobbers s) = codes "clobber " ++ list_text real_text (members_of (has s))
 
 -- items, each behind a comma and a space

@@ -30,7 +30,15 @@ impl OperandList {
         &self.items
     }
 
+    /// Forgets what was reported, and keeps the room for it.
+    pub fn clear(&mut self)
+        ensures { self.new.items.items ≡ [] }
+    {
+        self.items.clear();
+    }
+
     // Keeps one item.
+    #[inline(always)]
     fn take(&mut self, item: Reported) -> Result<(), OperandError>
         ensures { Takes false item self.old.items.items self.new.items.items result }
     {

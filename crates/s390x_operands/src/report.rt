@@ -13,6 +13,7 @@ use s390x_base::{PReg, Reg, RegPair, Writable, WritableRegPair, gpr_preg};
 use s390x_inst::MemArg;
 
 /// Reports a register that is read.
+#[inline(always)]
 pub fn report_use<V: OperandVisitor>(v: &mut V, denied: bool, reg: &Reg) -> Result<(), OperandError>
     ensures { Reports denied (reported_use reg.now ∷ []) (V.items v.old) (V.items v.new)
         (V.denies v.old) (V.denies v.new) result }
@@ -21,6 +22,7 @@ pub fn report_use<V: OperandVisitor>(v: &mut V, denied: bool, reg: &Reg) -> Resu
 }
 
 /// Reports a register that is written.
+#[inline(always)]
 pub fn report_def<V: OperandVisitor>(
     v: &mut V,
     denied: bool,
@@ -164,6 +166,7 @@ pub fn report_inputs<V: OperandVisitor>(
 }
 
 /// Reports an output and inputs.
+#[inline(always)]
 pub fn report_output<V: OperandVisitor>(
     v: &mut V,
     denied: bool,

@@ -1,6 +1,5 @@
 //! The texts of integer instructions with an operand in memory.
-ghost use Rattle.std.specs.Prelude.{◌≡◌, ◌<◌, ◌∷◌, [], None, Some, get_or, length, string_bytes};
-ghost use Rattle.s390x_typed_steps.specs.Memory.{load_rows, store_rows};
+ghost use Rattle.std.specs.Prelude.{◌≡◌, ◌∷◌, [], None, Some, string_bytes};
 ghost use Rattle.s390x_job_fields.specs.Atoms.{reg_text};
 ghost use Rattle.s390x_text_rows.specs.Texts.{Prints, PrintsWhere};
 ghost use Rattle.s390x_text_rows.specs.Operands.{reused_text};
@@ -12,30 +11,10 @@ use crate::error::TextError;
 use crate::operand::Reused;
 use crate::storage::{Place, access2, address_rows, rs_access_then, rs_access3, rx_access};
 use s390x_base::Reg;
-use s390x_inst::{ALUOp, CmpOp, EmitState, Inst, LoadOp, StoreOp};
+use s390x_inst::{ALUOp, CmpOp, EmitState, Inst};
 use s390x_rows::opcodes;
-use s390x_typed_steps::{LOAD_ROWS, RegisterRows, STORE_ROWS, rows_of_alu, rows_of_cmp};
+use s390x_typed_steps::{RegisterRows, rows_of_alu, rows_of_cmp, rows_of_load, rows_of_store};
 use std::alloc::Global;
-
-// The rows at a place of their table, which isn't copied.
-fn rows_at(rows: &[RegisterRows], place: usize) -> RegisterRows
-    requires { place < length rows.now }
-    ensures { result ≡ get_or rows.now place (record { rx = None; rxy = None; ril = None }) }
-{
-    rows[place]
-}
-
-fn load_rows(op: LoadOp) -> RegisterRows
-    ensures { result ≡ load_rows op }
-{
-    rows_at(&LOAD_ROWS, op.place())
-}
-
-fn store_rows(op: StoreOp) -> RegisterRows
-    ensures { result ≡ store_rows op }
-{
-    rows_at(&STORE_ROWS, op.place())
-}
 
 /// Appends the text of a load, on a machine that has rows relative to the instruction or lacks them; None for another instruction.
 pub fn put_load(
@@ -57,7 +36,7 @@ pub fn put_load(
                 state,
                 mem: &load.mem,
             },
-            load_rows(load.op),
+            rows_of_load(load.op),
             &load.rd,
         )),
         None => None,
@@ -105,7 +84,7 @@ pub fn put_store(
                 state,
                 mem: &store.mem,
             },
-            store_rows(store.op),
+            rows_of_store(store.op),
             &store.rd,
         )),
         None => put_immediate_store(alloc, out, has, state, inst),

@@ -1,6 +1,7 @@
 //! The reply to the command `alloc`.
 ghost use Rattle.std.specs.Prelude.{◌≡◌, ◌<◌, ◌++◌, ◌∷◌, [], codes, length};
 ghost use Rattle.std.specs.Cow.{cow_str_bytes};
+ghost use Rattle.s390x_job_plan.specs.Completions.{plan_limit};
 ghost use Rattle.s390x_job_plan.specs.Text.{IsPlannedOf};
 ghost use Rattle.s390x_tool.specs.Allocated.{IsAllocateAnswer, IsPlanRefusal, numbered_fault};
 ghost use Rattle.s390x_tool.specs.Lines.{IsMade, line};
@@ -21,7 +22,7 @@ use std::alloc::Global;
 /// - `Syntax`, where the input is the text of no job with a plan: the number of its first wrong line;
 /// - `NoMemory`, which may come in place of any of these.
 pub fn alloc_reply(alloc: Global, input: &[u8]) -> Reply
-    requires { length input.now < 268435456 }
+    requires { length input.now < plan_limit }
     ensures { IsAllocateAnswer input.now result.status (cow_str_bytes result.text) }
 {
     match read_plan(alloc, input) {

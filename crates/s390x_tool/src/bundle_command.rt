@@ -2,6 +2,7 @@
 ghost use Rattle.std.specs.Prelude.{◌≡◌, ◌<◌, ◌++◌, ◌∷◌, IfOk, codes, length, map};
 ghost use Rattle.std.specs.Cow.{cow_str_bytes};
 ghost use Rattle.std.specs.Fmt.{decimal};
+ghost use Rattle.s390x_job_bundle.specs.Completions.{bundle_limit};
 ghost use Rattle.s390x_job_bundle.specs.Text.{AreFunctionsOf};
 ghost use Rattle.s390x_tool.specs.Bundled.{IsBundleAnswer, IsBundleRefusal, inner_refusal, member_of, named_refusal};
 ghost use Rattle.s390x_tool.specs.Lines.{IsMade, line};
@@ -21,7 +22,7 @@ use std::alloc::{AllocError, Global};
 /// - `Syntax`, where it is the text of no functions: the number of its first wrong line;
 /// - `NoMemory`, which may come in place of any of these.
 pub fn bundle_reply(alloc: Global, base: u64, input: &[u8]) -> Reply
-    requires { length input.now < 268435456 }
+    requires { length input.now < bundle_limit }
     ensures { IsBundleAnswer base input.now result.status (cow_str_bytes result.text) }
 {
     match read_bundle(alloc, input) {

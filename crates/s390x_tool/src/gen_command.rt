@@ -1,7 +1,7 @@
 //! The reply to the command `gen`.
 ghost use Rattle.std.specs.Prelude.{◌≤◌};
 ghost use Rattle.std.specs.Cow.{cow_str_bytes};
-ghost use Rattle.s390x_generator.specs.Generator.{IsGenerated};
+ghost use Rattle.s390x_generator.specs.Generator.{IsGenerated, most_blocks};
 ghost use Rattle.s390x_tool.specs.Generated.{IsGenerateReply, summary_line};
 ghost use Rattle.s390x_tool.specs.Lines.{IsMade};
 
@@ -18,7 +18,7 @@ const BASE: u64 = 4096;
 
 /// How many bytes the image of the generated function of so many blocks has, and their sum.
 pub fn generate(alloc: Global, count: u32, start: u32) -> Reply
-    requires { count ≤ 100000 }
+    requires { count ≤ most_blocks }
     ensures { IsGenerateReply count start result.status (cow_str_bytes result.text) }
 {
     match generated_function(alloc, count, start) {
@@ -29,7 +29,7 @@ pub fn generate(alloc: Global, count: u32, start: u32) -> Reply
 
 // What is told of the function's image, or of its refusal.
 fn image_told(alloc: Global, count: u32, start: u32, function: &AllocatedFunction) -> Reply
-    requires few { count ≤ 100000 }
+    requires few { count ≤ most_blocks }
     requires generated { IsGenerated count start function.now }
     ensures { IsGenerateReply count start result.status (cow_str_bytes result.text) }
 {

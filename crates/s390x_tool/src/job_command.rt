@@ -2,6 +2,7 @@
 ghost use Rattle.std.specs.Prelude.{◌≡◌, ◌<◌, ◌⊎◌, length, IfOk, IfErr, Some, None};
 ghost use Rattle.std.specs.Cow.{cow_str_bytes};
 ghost use Rattle.s390x_image.specs.Symbols.{no_symbols};
+ghost use Rattle.s390x_job.specs.Completions.{text_limit};
 ghost use Rattle.s390x_job.specs.Jobs.{IsJob};
 ghost use Rattle.s390x_tool.specs.Answers.{IsAnswer, IsCodeOfJob, IsEmitReply, IsImageReply, IsJobReply, IsLinked, IsOperandsReply, IsRunReply, IsShowReply, job_cause, link_cause_of, texts_of, with_symbols};
 
@@ -24,7 +25,7 @@ use std::borrow::CowStr;
 
 /// The answer to a command and its whole input.
 pub fn answer(alloc: Global, command: JobCommand, input: &[u8]) -> Reply
-    requires { length input.now < 4294967295 }
+    requires { length input.now < text_limit }
     ensures { IsAnswer command input.now result.status (cow_str_bytes result.text) }
 {
     match read_lines(alloc, input) {

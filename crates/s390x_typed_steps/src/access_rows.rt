@@ -1,4 +1,4 @@
-//! The machine rows of each load and each store of one register.
+//! The machine rows of each load and each store of one register. A row is read through a borrow of its table, which indexing by itself would copy.
 ghost use Rattle.std.specs.Prelude.{◌≡◌};
 ghost use Rattle.s390x_typed_steps.specs.Memory.{load_rows, store_rows, layout_rows};
 
@@ -67,22 +67,24 @@ pub const WHOLE_ROWS: [WholeRows; LAYOUT_COUNT] = [
 ];
 
 /// The rows of a load.
+#[inline(always)]
 pub fn rows_of_load(op: LoadOp) -> RegisterRows
     ensures { result ≡ load_rows op }
 {
-    LOAD_ROWS[op.place()]
+    (&LOAD_ROWS)[op.place()]
 }
 
 /// The rows of a store.
+#[inline(always)]
 pub fn rows_of_store(op: StoreOp) -> RegisterRows
     ensures { result ≡ store_rows op }
 {
-    STORE_ROWS[op.place()]
+    (&STORE_ROWS)[op.place()]
 }
 
 /// The rows of loads and stores of a whole vector register in a layout.
 pub fn rows_of_layout(layout: WholeLayout) -> WholeRows
     ensures { result ≡ layout_rows layout }
 {
-    WHOLE_ROWS[layout.place()]
+    (&WHOLE_ROWS)[layout.place()]
 }

@@ -1,5 +1,5 @@
-//! The machine rows of each operator on general registers (cranelift-codegen, `emit.rs`).
-ghost use Rattle.std.specs.Prelude.{◌≡◌, ◌<◌, get_or, length};
+//! The machine rows of each operator on general registers (cranelift-codegen, `emit.rs`). A row is read through a borrow of its table, which indexing by itself would copy.
+ghost use Rattle.std.specs.Prelude.{◌≡◌};
 ghost use Rattle.s390x_typed_steps.specs.Opcodes.{alu_rows, cmp_rows, of_four, of_one, of_two, opcode_of_part, rotate_rows, shift_opcode, unary_two};
 
 use s390x_inst::{ALUOp, CmpOp, RxSBGOp, ShiftOp, UnaryOp};
@@ -187,47 +187,39 @@ pub const ROTATE_ROWS: [RotateRows; ROTATE_COUNT] = [
     RotateRows { change: opcodes::RXSBG, test: Some(opcodes::RXSBG) }, // Xor
 ];
 
-// The rows at a place of their table, which is long for a goal.
-fn alu_rows_at(rows: &[AluRows], place: usize) -> AluRows
-    requires { place < length rows.now }
-    ensures { (z : AluRows) → result ≡ get_or rows.now place z }
-{
-    rows[place]
-}
-
 /// The rows of an operator.
 pub fn rows_of_alu(op: ALUOp) -> AluRows
     ensures { result ≡ alu_rows op }
 {
-    alu_rows_at(&ALU_ROWS, op as usize)
+    (&ALU_ROWS)[op as usize]
 }
 
 /// The rows of a comparison.
 pub fn rows_of_cmp(op: CmpOp) -> CmpRows
     ensures { result ≡ cmp_rows op }
 {
-    CMP_ROWS[op as usize]
+    (&CMP_ROWS)[op as usize]
 }
 
 /// The row of an operator on one register. None where it has none.
 pub fn row_of_unary(op: UnaryOp) -> Option<u16>
     ensures { result ≡ unary_two op }
 {
-    UNARY_ROWS[op as usize]
+    (&UNARY_ROWS)[op as usize]
 }
 
 /// The row of a shift.
 pub fn row_of_shift(op: ShiftOp) -> u16
     ensures { result ≡ shift_opcode op }
 {
-    SHIFT_ROWS[op as usize]
+    (&SHIFT_ROWS)[op as usize]
 }
 
 /// The rows that rotate.
 pub fn rows_of_rotate(op: RxSBGOp) -> RotateRows
     ensures { result ≡ rotate_rows op }
 {
-    ROTATE_ROWS[op as usize]
+    (&ROTATE_ROWS)[op as usize]
 }
 
 /// The opcode of the row on a part. None where there is none.

@@ -1,5 +1,5 @@
-//! The machine row of each operator on vectors: its opcode and the code of its elements' size (cranelift-codegen, `emit.rs`).
-ghost use Rattle.std.specs.Prelude.{◌≡◌, ◌<◌, get_or, length};
+//! The machine row of each operator on vectors: its opcode and the code of its elements' size (cranelift-codegen, `emit.rs`). A row is read through a borrow of its table, which indexing by itself would copy.
+ghost use Rattle.std.specs.Prelude.{◌≡◌};
 ghost use Rattle.s390x_typed_steps.specs.VectorOpcodes.{binary_row, unary_row, shift_row, comparison_row, element_comparison_row};
 
 use crate::vector_opcode::VectorOpcode;
@@ -231,45 +231,37 @@ pub const VEC_ELEMENT_COMPARISON_ROWS: [VectorOpcode; VEC_ELEMENT_COMPARISON_COU
     VectorOpcode { opcode: opcodes::VECL, code: 4 }, // UCmp128
 ];
 
-// The row at a place of its table, which is long for a goal.
-fn row_at(rows: &[VectorOpcode], place: usize) -> VectorOpcode
-    requires { place < length rows.now }
-    ensures { (z : VectorOpcode) → result ≡ get_or rows.now place z }
-{
-    rows[place]
-}
-
 /// The row of an operator on two vectors.
 pub fn row_of_vec_binary(op: VecBinaryOp) -> VectorOpcode
     ensures { result ≡ binary_row op }
 {
-    row_at(&VEC_BINARY_ROWS, op as usize)
+    (&VEC_BINARY_ROWS)[op as usize]
 }
 
 /// The row of an operator on one vector.
 pub fn row_of_vec_unary(op: VecUnaryOp) -> VectorOpcode
     ensures { result ≡ unary_row op }
 {
-    VEC_UNARY_ROWS[op as usize]
+    (&VEC_UNARY_ROWS)[op as usize]
 }
 
 /// The row of a shift or rotation of each element.
 pub fn row_of_vec_shift(op: VecShiftOp) -> VectorOpcode
     ensures { result ≡ shift_row op }
 {
-    VEC_SHIFT_ROWS[op as usize]
+    (&VEC_SHIFT_ROWS)[op as usize]
 }
 
 /// The row of a comparison of each element.
 pub fn row_of_vec_comparison(op: VecIntCmpOp) -> VectorOpcode
     ensures { result ≡ comparison_row op }
 {
-    VEC_COMPARISON_ROWS[op as usize]
+    (&VEC_COMPARISON_ROWS)[op as usize]
 }
 
 /// The row of a comparison of one element.
 pub fn row_of_vec_element_comparison(op: VecIntEltCmpOp) -> VectorOpcode
     ensures { result ≡ element_comparison_row op }
 {
-    VEC_ELEMENT_COMPARISON_ROWS[op as usize]
+    (&VEC_ELEMENT_COMPARISON_ROWS)[op as usize]
 }
