@@ -19,29 +19,12 @@ pub fn answer(alloc: Global, call: &str, words: &str) -> Result<String, LineErro
 
 // The move of so many bits between registers of a class.
 fn move_by_bits(alloc: Global, words: &str) -> Result<String, LineError> {
-    let (to, from) = (writable_gpr(2), gpr(3));
-    let (vector_to, vector_from) = (writable_vr(18), vr(3));
     match words {
-        "32 Int" => move_text(alloc, Inst::mov32(to, from), gpr(2), from),
-        "64 Int" => move_text(alloc, Inst::mov64(to, from), gpr(2), from),
-        "32 Float" => move_text(
-            alloc,
-            Inst::mov32(vector_to, vector_from),
-            vr(18),
-            vector_from,
-        ),
-        "64 Float" => move_text(
-            alloc,
-            Inst::mov64(vector_to, vector_from),
-            vr(18),
-            vector_from,
-        ),
-        "128 Float" => move_text(
-            alloc,
-            Inst::mov128(vector_to, vector_from),
-            vr(18),
-            vector_from,
-        ),
+        "32 Int" => general_text(alloc, &Inst::mov32(writable_gpr(2), gpr(3))),
+        "64 Int" => general_text(alloc, &Inst::mov64(writable_gpr(2), gpr(3))),
+        "32 Float" => vector_text(alloc, &Inst::mov32(writable_vr(18), vr(3))),
+        "64 Float" => vector_text(alloc, &Inst::mov64(writable_vr(18), vr(3))),
+        "128 Float" => vector_text(alloc, &Inst::mov128(writable_vr(18), vr(3))),
         _ => Err(LineError::Unreadable),
     }
 }
@@ -53,23 +36,42 @@ fn move_by_type(alloc: Global, words: &str) -> Result<String, LineError> {
     match class {
         "Int" if ty.bits() <= 64 => {
             let inst = <Inst as MachInst>::gen_move(writable_gpr(2), gpr(3), ty);
-            move_text(alloc, inst, gpr(2), gpr(3))
+            general_text(alloc, &inst)
         }
         "Float" => {
             let inst = <Inst as MachInst>::gen_move(writable_vr(18), vr(3), ty);
-            move_text(alloc, inst, vr(18), vr(3))
+            vector_text(alloc, &inst)
         }
         _ => Err(LineError::Unreadable),
     }
 }
 
-// The variant of a move to a register from another one.
-fn move_text(alloc: Global, inst: Inst, to: Reg, from: Reg) -> Result<String, LineError> {
-    let name = match inst.is_move() {
-        Some((rd, rm)) if rd.to_reg() == to && rm == from => move_name(&inst),
-        _ => "others",
+// The variant of a move from `%r3` to `%r2`.
+fn general_text(alloc: Global, inst: &Inst) -> Result<String, LineError> {
+    let name = if is_move_of(inst, gpr(2), gpr(3)) {
+        move_name(inst)
+    } else {
+        "others"
     };
     Ok(String::from_str(alloc, name)?)
+}
+
+// The variant of a move from `%v3` to `%v18`.
+fn vector_text(alloc: Global, inst: &Inst) -> Result<String, LineError> {
+    let name = if is_move_of(inst, vr(18), vr(3)) {
+        move_name(inst)
+    } else {
+        "others"
+    };
+    Ok(String::from_str(alloc, name)?)
+}
+
+// Whether it moves the one register to the other.
+fn is_move_of(inst: &Inst, to: Reg, from: Reg) -> bool {
+    match inst.is_move() {
+        Some((rd, rm)) => rd.to_reg() == to && rm == from,
+        None => false,
+    }
 }
 
 // The variant of a move.
