@@ -10,14 +10,8 @@ use std::alloc::Global;
 /// What a call with its words answers.
 pub fn answer(alloc: Global, call: &str, words: &str) -> Result<String, LineError> {
     match call {
-        "gen_load" => {
-            let ty = named(alloc, &TYPES, words)?;
-            access_text(alloc, Inst::gen_load(writable_gpr(2), address(), ty))
-        }
-        "gen_store" => {
-            let ty = named(alloc, &TYPES, words)?;
-            access_text(alloc, Inst::gen_store(address(), gpr(2), ty))
-        }
+        "gen_load" => load_made(alloc, words),
+        "gen_store" => store_made(alloc, words),
         _ => moves::answer(alloc, call, words),
     }
 }
@@ -27,18 +21,33 @@ fn address() -> MemArg {
     MemArg::reg_plus_off(gpr(7), 40, MachMemFlags::trusted())
 }
 
-// A load's or a store's variant, where there is one.
-fn access_text(alloc: Global, inst: Option<Inst>) -> Result<String, LineError> {
-    let Some(inst) = inst else {
-        return Ok(String::from_str(alloc, "None")?);
-    };
+// The load of a type.
+fn load_made(alloc: Global, name: &str) -> Result<String, LineError> {
+    let ty = named(alloc, &TYPES, name)?;
+    match &Inst::gen_load(writable_gpr(2), address(), ty) {
+        Some(inst) => access_text(alloc, inst),
+        None => Ok(String::from_str(alloc, "None")?),
+    }
+}
+
+// The store of a type.
+fn store_made(alloc: Global, name: &str) -> Result<String, LineError> {
+    let ty = named(alloc, &TYPES, name)?;
+    match &Inst::gen_store(address(), gpr(2), ty) {
+        Some(inst) => access_text(alloc, inst),
+        None => Ok(String::from_str(alloc, "None")?),
+    }
+}
+
+// A load's or a store's variant.
+fn access_text(alloc: Global, inst: &Inst) -> Result<String, LineError> {
     if let Some(load) = inst.as_load() {
         return if_expected(alloc, load.rd.to_reg(), &load.mem, text_of(alloc, load.op)?);
     }
     if let Some(store) = inst.as_store() {
         return if_expected(alloc, store.rd, &store.mem, text_of(alloc, store.op)?);
     }
-    match &inst {
+    match inst {
         Inst::Vector(vector) => vector_access_text(alloc, vector),
         _ => Ok(String::from_str(alloc, "other")?),
     }
