@@ -227,6 +227,8 @@ end_by (Header rank bound) (Head r first past) e = let f = chosen (may_follow ra
 end_by (Header rank bound) CloseJob e = refl
 end_by (Within d) OpenLoop e = let f = chosen (nat_lt d 9) (Within (suc d)) AtEnd e in absurd cc
 end_by (Within zero) CloseJob e = refl
+end_by (Within zero) OpenBlock e = absurd cc
+end_by (Within zero) CloseLoop e = absurd cc
 end_by p c e = absurd cc
 
 -- and it leads nowhere else
