@@ -178,7 +178,7 @@ typedef struct {
     size_t relocations_room;
     s390x_trap *traps;
     size_t traps_room;
-    uint32_t *call_sites;  /* where each call without a try returns to */
+    uint32_t *call_sites;  /* where each call without a try returns to, and where each tail call ends */
     size_t call_sites_room;
     s390x_try *tries;
     size_t tries_room;

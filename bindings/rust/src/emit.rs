@@ -101,7 +101,7 @@ pub struct Code {
     pub relocations: Vec<Relocation>,
     /// The traps.
     pub traps: Vec<Trap>,
-    /// Where each call without a try returns to.
+    /// Where each call without a try returns to, and where each tail call ends.
     pub call_sites: Vec<u32>,
     /// The calls with a try.
     pub tries: Vec<Try>,
