@@ -1,5 +1,5 @@
 """Compares the C interface with what is known of the program: each case of `emit`, `image`, `show`, `operands`, `bundle` and `alloc` in
-crates/s390x_tool_cases/stdin, and of `refusal` in crates/s390x_binary_cases/stdin, whose answers were taken from elsewhere; and random jobs against
+crates/s390x_tool_cases/stdin, and of `refusal` in crates/s390x_text_tests/stdin, whose answers were taken from elsewhere; and random jobs against
 the program itself, as it is built, or by an unproved build.
 
     checks/bindings_cases.py DEMO [--random N] [--try]
@@ -19,7 +19,7 @@ from random_jobs import CODE_BASE, RandomJob
 
 ROOT = os.path.dirname(os.path.dirname(os.path.abspath(__file__)))
 CASES = os.path.join(ROOT, "crates", "s390x_tool_cases", "stdin")
-BINARY_CASES = os.path.join(ROOT, "crates", "s390x_binary_cases", "stdin")
+BINARY_CASES = os.path.join(ROOT, "crates", "s390x_text_tests", "stdin")
 
 # The first part of them is wrong on purpose, up to this line.
 BEGIN = "# Words that are no command."

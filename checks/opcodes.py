@@ -16,7 +16,7 @@ import sys
 CRATES = os.path.join(os.path.dirname(os.path.abspath(__file__)), "..", "crates")
 CONSTANTS = os.path.join(CRATES, "s390x_rows", "src", "opcodes.rt")
 TABLE = os.path.join(CRATES, "s390x_format", "src", "table.rt")
-TESTS = ("s390x_buffer_tests", "s390x_instruction_tests")
+TESTS = ("s390x_known_answers",)
 LINE = re.compile(r'^ *\$each!\((\w+), (\w+), Allowed::(\w+)(?: \{ low: (\d+), high: (\d+) \})?, \("(\w*)", (\w+), (\w+)\), FacilityRule::(.*?), RowSemantics::(.*)\), // (.+)$', re.M)
 
 # A machine row: the number and the name of its opcode; what its first mask may be; what its mnemonics begin with, end with and stand before;

@@ -17,7 +17,7 @@ ROOT = os.path.dirname(os.path.dirname(os.path.abspath(__file__)))
 PAGE = os.path.join(ROOT, "docs", "REFUSALS.md")
 
 # Crates that aren't part of the product: tests, examples and measurements.
-APART = re.compile(r"_tests$|_bench$|_example$|^s390x_(tool_cases|binary_cases|step_vectors|case_runner|error_texts)$")
+APART = re.compile(r"_tests$|_bench$|_example$|^s390x_(tool_cases|known_answers|step_vectors|case_runner)$")
 
 REFUSES = re.compile(r"(Result|Option|\w+End)\b")
 MEMORY_ALONE = re.compile(r"Result<.*\b(AllocError|NoMemory)>$")

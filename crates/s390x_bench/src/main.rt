@@ -1,7 +1,11 @@
-//! Reads the job on standard input, emits its function as often as its one word says, and prints how many bytes came of it in all.
-//! `bench/emission.sh` tells by it what emission takes apart from reading.
+//! Reads the job on standard input, emits its function as often as its first word says, and decodes an instruction as often as its second one says,
+//! the number of whose first six bytes is the third one. It prints how many bytes came of it in all, and what the decoded fields sum up to.
+//! `bench/emission.sh` tells by it what emission takes apart from reading, and `bench/steps.sh` what `decode` takes.
 #![tactic(auto)]
 
+mod decoding;
+
+use crate::decoding::decode_turns;
 use s390x_emit_int::emit_function;
 use s390x_job::{Job, read_lines};
 use std::alloc::Global;
@@ -12,7 +16,7 @@ use std::process::ExitCode;
 /// Why nothing is printed.
 #[derive(Clone, Copy, PartialEq, Eq, Debug)]
 enum Failure {
-    /// The words aren't one number of turns.
+    /// A word isn't a number, or there is none.
     Usage,
     /// The input isn't there, or isn't the text of a job.
     Input,
@@ -20,10 +24,18 @@ enum Failure {
     Emission,
 }
 
+/// What the words ask for.
+#[derive(Clone, Copy)]
+struct Turns {
+    emissions: u64,
+    decodings: u64,
+    /// The number of the bytes that are decoded.
+    decoded: u64,
+}
+
 fn main(rt: HostRuntime) -> ExitCode {
-    let alloc = rt.alloc();
-    match count_bytes(&rt, alloc, rt.stdin()) {
-        Ok(bytes) => match println!(rt; "bytes {bytes}") {
+    match counts(&rt, rt.alloc(), rt.stdin()) {
+        Ok((bytes, sum)) => match println!(rt; "bytes {bytes} sum {sum}") {
             Ok(()) => ExitCode::SUCCESS,
             Err(_) => ExitCode::FAILURE,
         },
@@ -31,29 +43,47 @@ fn main(rt: HostRuntime) -> ExitCode {
     }
 }
 
-// How many bytes the turns give in all.
-fn count_bytes<R: Read + Drop>(
+// How many bytes the emissions give in all, and what the decoded fields sum up to.
+fn counts<R: Read + Drop>(
     rt: &(impl env::Env + AllocGlobal),
     alloc: Global,
     source: R,
-) -> Result<u64, Failure> {
+) -> Result<(u64, u64), Failure> {
     let turns = turns(rt)?;
     let job = read_job(alloc, source)?;
     let mut bytes: u64 = 0;
-    for _ in 0..turns {
+    for _ in 0..turns.emissions {
         bytes = bytes.saturating_add(emit(alloc, &job)?);
     }
-    Ok(bytes)
+    Ok((bytes, decode_turns(turns.decodings, turns.decoded)))
 }
 
-// The number of turns that the one word writes.
-fn turns(rt: &(impl env::Env + AllocGlobal)) -> Result<u32, Failure> {
+// What the words ask for: no decoding where there is but one.
+fn turns(rt: &(impl env::Env + AllocGlobal)) -> Result<Turns, Failure> {
     let mut args = env::args(rt).map_err(|_: io::Error| Failure::Usage)?;
     args.next();
-    match args.next() {
-        Some(word) => word.as_str().parse().map_err(|_| Failure::Usage),
-        _ => Err(Failure::Usage),
-    }
+    let emissions = match args.next() {
+        Some(word) => number(word.as_str())?,
+        None => return Err(Failure::Usage),
+    };
+    let decodings = match args.next() {
+        Some(word) => number(word.as_str())?,
+        None => 0,
+    };
+    let decoded = match args.next() {
+        Some(word) => number(word.as_str())?,
+        None => 0,
+    };
+    Ok(Turns {
+        emissions,
+        decodings,
+        decoded,
+    })
+}
+
+// The number that a word writes.
+fn number(word: &str) -> Result<u64, Failure> {
+    word.parse().map_err(|_| Failure::Usage)
 }
 
 fn read_job<R: Read + Drop>(alloc: Global, mut source: R) -> Result<Job, Failure> {

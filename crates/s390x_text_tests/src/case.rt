@@ -1,5 +1,6 @@
-//! A run of the program whose answer is known.
+//! A run of the second program whose answer is known, or errors whose texts are.
 
+use crate::errors::texts_of_errors;
 use s390x_base::NoMemory;
 use s390x_binary_tool::run;
 use s390x_tool::{BytesSink, BytesSource};
@@ -10,12 +11,14 @@ use std::alloc::{AllocError, Global};
 pub struct Case {
     /// The number of the line at which it begins.
     pub line: u64,
-    /// The program's words, one space between two of them.
+    /// The program's words, one space between two of them, or the errors' name.
     pub words: String,
+    /// Whether it is about errors, and no run.
+    pub is_of_errors: bool,
     pub input: String,
     /// The number of the status with which the program must end.
     pub status: u8,
-    /// What it must write.
+    /// What it must write, or the errors' texts.
     pub text: String,
     /// Whether the text has the hex digits of what it must write, in a line.
     pub in_hex: bool,
@@ -24,8 +27,18 @@ pub struct Case {
 /// The most bytes that the program can write here; a longer text is another than the wanted one.
 const MOST_BYTES: usize = 65_536;
 
-/// Whether the program ends as it must, and writes what it must.
+/// Whether the program ends as it must, and writes what it must, or the errors have these texts.
 pub fn is_met(alloc: Global, case: Case) -> Result<bool, NoMemory> {
+    if case.is_of_errors {
+        let text = texts_of_errors(alloc, &case.words).map_err(|_| NoMemory)?;
+        Ok(text.as_str() == case.text.as_str())
+    } else {
+        is_run_met(alloc, case)
+    }
+}
+
+// Whether the program ends as it must, and writes what it must.
+fn is_run_met(alloc: Global, case: Case) -> Result<bool, NoMemory> {
     let words = words_of(alloc, &case.words).map_err(|_| NoMemory)?;
     let mut source = BytesSource::new(case.input.into_bytes(), Vec::new(alloc));
     let mut sink = BytesSink::new(alloc, MOST_BYTES, Vec::new(alloc), MOST_BYTES)?;
