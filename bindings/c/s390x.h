@@ -96,7 +96,7 @@ enum s390x_link_cause {
     S390X_TOO_FAR = 6
 };
 
-/* The causes by which functions have no place in one image. The first one is told. */
+/* The causes by which functions make no image, beside those of emission and linking. The first one is told. */
 enum s390x_bundle_cause {
     S390X_DUPLICATE_NAME = 1,    /* a function has an earlier one's name, or a symbol line names it */
     S390X_EMPTY_MEMBER = 2,      /* its code and constants have no bytes */
