@@ -10,8 +10,8 @@
  *   each power of two up to 16 that divides their size.
  * - No call is made in a signal handler, or in the forked child of a process with threads.
  *
- * Nothing is kept between calls, so calls from many threads are independent. Nobody frees: all output goes into the caller's
- * buffers. Numbers are in the machine's own order of bytes.
+ * Nothing is kept between calls, so calls from many threads are independent. Nothing that a call answers has to be freed: all
+ * output goes into the caller's buffers, and a call frees its own memory before it returns. Numbers are in the machine's own order of bytes.
  */
 #ifndef S390X_H
 #define S390X_H
@@ -27,7 +27,7 @@ extern "C" {
 /* The greatest number of bytes of an input. */
 #define S390X_MOST_BYTES 16777216
 
-/* How a call ends. The numbers are those with which the program ends too, and one more. */
+/* How a call ends. The numbers are those with which the program ends too, but for 13, which is another status there. */
 enum s390x_status {
     S390X_DONE = 0,             /* so, or with S390X_NO_MEMORY, ends each call whose input nothing refuses and whose buffers have room */
     S390X_SYNTAX = 3,           /* the input is no such text; reason.line is its first wrong line */
@@ -37,7 +37,8 @@ enum s390x_status {
     S390X_TOO_LONG = 8,         /* the input has more than S390X_MOST_BYTES bytes */
     S390X_NO_MEMORY = 9,        /* there was no memory; it may come in place of any other but S390X_TOO_LONG */
     S390X_PLAN_REFUSED = 11,    /* s390x_check_plan: the plan has a fault; reason.fault is one of s390x_plan_fault */
-    S390X_BUNDLE_REFUSED = 12,  /* s390x_bundle: a function has no place in the image; reason.cause is one of s390x_bundle_cause */
+    S390X_BUNDLE_REFUSED = 12,  /* s390x_bundle: a name comes twice, or a function has no place in the image; reason.cause is one of
+                                   s390x_bundle_cause */
     S390X_TOO_SMALL = 13        /* a buffer is too small; none is written, and the sizes that are needed are */
 };
 
@@ -95,7 +96,7 @@ enum s390x_link_cause {
     S390X_TOO_FAR = 6
 };
 
-/* The causes by which functions have no place in one image. The first one is told. */
+/* The causes by which functions make no image, beside those of emission and linking. The first one is told. */
 enum s390x_bundle_cause {
     S390X_DUPLICATE_NAME = 1,    /* a function has an earlier one's name, or a symbol line names it */
     S390X_EMPTY_MEMBER = 2,      /* its code and constants have no bytes */
@@ -117,9 +118,15 @@ typedef struct {
     int64_t addend;   /* in bytes */
 } s390x_relocation;
 
-/* A trap. */
+/* A trap. Its offset goes by what stops there, a machine instruction at P of N bytes (2 where its first byte is below 0x40, 4 where it is
+ * below 0xc0, else 6):
+ *
+ * - An access of memory, behind the instructions that make its operand's address: P. A load that begins the code: 0; behind one of 6 bytes: 6.
+ * - Any other, a division, a compare and trap, or bytes that are no instruction: P + N - 1, its last byte. A division of 4 bytes at 0: 3;
+ *   a compare and trap of 6 bytes at 8: 13; a `Trap` at 0, which is two zero bytes: 1; a `TrapIf` at 0, whose branch leads to its own
+ *   bytes 2 and 3, which are zeros: 3. */
 typedef struct {
-    uint32_t offset;  /* one byte behind where the instruction that traps begins */
+    uint32_t offset;
     uint32_t code;    /* 1 to 250: a user's; or one of s390x_trap_code */
 } s390x_trap;
 
@@ -136,7 +143,8 @@ typedef struct {
     uint32_t offset;       /* where it returns to */
     size_t handler_count;  /* how many handlers it has */
     size_t first_handler;  /* the place of the first one in the table of handlers */
-    uint64_t frame;        /* from the frame's end up to the stack pointer at the call, in bytes */
+    uint64_t frame;        /* from the stack pointer behind the call up to where the caller's frame begins, in bytes: the sum of outgoing
+                              arguments, fixed storage and clobbers */
 } s390x_try;
 
 /* A handler of a call with a try. */
@@ -170,7 +178,7 @@ typedef struct {
     size_t relocations_room;
     s390x_trap *traps;
     size_t traps_room;
-    uint32_t *call_sites;  /* where each call without a try returns to */
+    uint32_t *call_sites;  /* where each call without a try returns to, and where each tail call ends */
     size_t call_sites_room;
     s390x_try *tries;
     size_t tries_room;

@@ -17,11 +17,18 @@ pub struct Relocation {
     pub addend: i64,
 }
 
-/// A trap.
+/// A trap. Its offset goes by what stops there, a machine instruction at P of N bytes (2 where its first byte is below 0x40, 4 where it is
+/// below 0xc0, else 6):
+///
+/// - An access of memory, behind the instructions that make its operand's address: P. A load that begins the code: 0; behind one of 6
+///   bytes: 6.
+/// - Any other, a division, a compare and trap, or bytes that are no instruction: P + N - 1, its last byte. A division of 4 bytes at 0:
+///   3; a compare and trap of 6 bytes at 8: 13; a `Trap` at 0, which is two zero bytes: 1; a `TrapIf` at 0, whose branch leads to its own
+///   bytes 2 and 3, which are zeros: 3.
 #[repr(C)]
 #[derive(Clone, Copy, PartialEq, Eq, Debug, Default)]
 pub struct Trap {
-    /// One byte behind where the instruction that traps begins.
+    /// In bytes from the code's beginning.
     pub offset: u32,
     /// 1 to 250 for a user's code, 251 to 255 for those of [`TrapCode`](crate::TrapCode) with names, in their order.
     pub code: u32,
@@ -37,7 +44,8 @@ pub struct Try {
     pub handler_count: usize,
     /// The place of the first one in the table of handlers.
     pub first_handler: usize,
-    /// From the frame's end up to the stack pointer at the call, in bytes.
+    /// From the stack pointer behind the call up to where the caller's frame begins, in bytes: the sum of outgoing arguments, fixed storage
+    /// and clobbers.
     pub frame: u64,
 }
 
@@ -93,7 +101,7 @@ pub struct Code {
     pub relocations: Vec<Relocation>,
     /// The traps.
     pub traps: Vec<Trap>,
-    /// Where each call without a try returns to.
+    /// Where each call without a try returns to, and where each tail call ends.
     pub call_sites: Vec<u32>,
     /// The calls with a try.
     pub tries: Vec<Try>,

@@ -14,7 +14,7 @@ use Rattle.s390x_typed_steps.specs.Operands.{is_numbered}
 use Rattle.s390x_typed_steps.specs.Parts.{memory_parts, parts_size}
 use Rattle.s390x_typed_steps.specs.VectorInstruction.{is_vector}
 
--- the buffer's mark, then the causes of the instruction by the buffer's blocks and constants, then its length
+-- that the buffer is poisoned, then the causes of the instruction by the buffer's blocks and constants, then its length
 abbrev pub access_cause : BufferState → MemoryInstruction → Option EmitError
 access_cause s x = first_emit_cause (mark_cause s) (first_emit_cause (memory_cause (declared_in s) x) (put_cause s (parts_size (memory_parts x))))
 

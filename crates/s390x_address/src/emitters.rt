@@ -202,10 +202,10 @@ fn relative_opcode(info: &EmitInfo, accesses: bool, opcode: Option<u16>) -> Opti
 /// accesses memory, and the flags' trap is recorded at it. The row of format RIL-B takes a label, a constant or a symbol, whose distance the
 /// buffer's end or, for a symbol, linking fills in; where it accesses memory, it is used only on a machine that has such rows by `emit_info`.
 ///
-/// It answers want of memory, or exactly the first cause: the buffer's mark (`Failed`), no form for the operand (`BadOperator`), a register that can't
+/// It answers want of memory, or exactly the first cause: the buffer is poisoned (`Failed`), no form for the operand (`BadOperator`), a register that can't
 /// be encoded (`BadRegister`), `%r1` read behind a helper (`ScratchConflict`), an offset, or that of a symbol plus 2, past 32 bits
 /// (`OffsetOutOfRange`), a label that names no block or a constant that isn't declared (`UnboundLabel`), a label in a relative access of more than
-/// two bytes or a constant that is aligned below its relative access (`BadAlignment`), the length (`LabelOutOfRange`). A refused call marks the
+/// two bytes or a constant that is aligned below its relative access (`BadAlignment`), the length (`LabelOutOfRange`). A refused call poisons the
 /// buffer and leaves what stood in it; the state stays as it was (cranelift-codegen, `emit.rs`).
 #[tactic(auto, using(crate::proofs::Encoding::register_encodes))]
 pub fn mem_emit(

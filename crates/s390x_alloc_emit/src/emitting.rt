@@ -27,7 +27,7 @@ pub enum AssignedError {
 /// Appends the instruction with its k-th reported operand replaced by `registers[k]`: `assign`, and `Inst::emit` of what it gives.
 ///
 /// Refused by `Assign` with what `assign` answers, and then the buffer and the state are as they were; or by `Emit` with what `Inst::emit` answers, which
-/// marks the buffer, leaves what stood in it, and the state as it was. Where the instruction is allocatable there (`s390x_alloc_laws`), and the registers meet
+/// poisons the buffer, leaves what stood in it, and the state as it was. Where the instruction is allocatable there (`s390x_alloc_laws`), and the registers meet
 /// its constraints, and give no virtual operand `%r0`, `%r1` or `%r15`, it is refused neither by `Emit(BadRegister)` nor by `Emit(ScratchConflict)`, and what was
 /// appended changes no register but those that its outputs got, the range of a `LoadMultiple64`, and `%r1` where that is reported (`s390x_alloc_laws`).
 pub fn emit_assigned(

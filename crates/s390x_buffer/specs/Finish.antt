@@ -52,7 +52,7 @@ with_constants bs cs = bs ++ constant_bytes (length bs) cs
 abbrev pub unpatched_bytes : BufferState → List ℕ
 unpatched_bytes s = with_constants s.bytes s.constants
 
--- why a buffer can't be finished, before any memory is taken: the mark, then the length
+-- why a buffer can't be finished, before any memory is taken: it is poisoned, or too long
 abbrev pub length_cause : BufferState → Option EmitError
 length_cause s = cond s.is_poisoned (Some Failed) (cond (nat_lt (finished_length s) limit) None (Some LabelOutOfRange))
 
@@ -60,7 +60,7 @@ length_cause s = cond s.is_poisoned (Some Failed) (cond (nat_lt (finished_length
 abbrev pub patch_cause : BufferState → Option EmitError
 patch_cause s = uses_cause (final_labels s) s.uses (unpatched_bytes s)
 
--- why a buffer can't be finished: the mark, the length, then the uses in order
+-- why a buffer can't be finished: it is poisoned, too long, or one of its uses, in order, can't be patched
 abbrev pub finish_cause : BufferState → Option EmitError
 finish_cause s = first_use_cause (length_cause s) (patch_cause s)
 

@@ -70,7 +70,7 @@ fresh_buffer n cs = record {
   is_poisoned = false;
 }
 
--- a refused call leaves the mark, and all else as it was
+-- a refused call leaves the buffer poisoned, and all else as it was
 abbrev pub poisoned_buffer : BufferState → BufferState
 poisoned_buffer s = record s { is_poisoned = true }
 
@@ -87,7 +87,7 @@ limit = 2147483648
 abbrev pub label_limit : ℕ
 label_limit = 4294967296
 
--- a call that is refused for the mark alone
+-- a call that is refused only where the buffer is poisoned
 abbrev pub mark_cause : BufferState → Option EmitError
 mark_cause s = cond s.is_poisoned (Some Failed) None
 

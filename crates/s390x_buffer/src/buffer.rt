@@ -37,7 +37,7 @@ const LONGEST_CODE: usize = 6;
 /// Bytes that grow at the end, the labels in them, and the tables that go with them.
 ///
 /// Labels 0 to the count of blocks less 1 are the blocks'; each declared constant has the next
-/// label, and `get_label` draws those after these. A call that is refused marks the buffer and
+/// label, and `get_label` draws those after these. A call that is refused poisons the buffer and
 /// leaves what stood in it; from then on every call that answers a `Result` answers `Failed`.
 #[derive(Drop)]
 pub struct MachBuffer {
@@ -180,7 +180,7 @@ impl MachBuffer {
         self.is_poisoned = true;
     }
 
-    // A refusal: the mark stands from now on.
+    // A refusal: the buffer is poisoned from now on.
     fn refuse(&mut self, e: EmitError) -> Result<(), EmitError>
         ensures { MatchResult result (λ _. false ≡ true)
             (λ x. (x ≡ e) × (self.new ≡ poisoned_buffer self.old)) }
@@ -208,7 +208,7 @@ impl MachBuffer {
         self.append(bytes)
     }
 
-    // Appends bytes, with the mark and the limit tested before.
+    // Appends bytes. That it isn't poisoned, and the limit, are tested before.
     #[inline(always)]
     fn append(&mut self, bytes: &[u8]) -> Result<(), EmitError>
         requires { length self.old.bytes + length bytes.now < limit }

@@ -113,7 +113,7 @@ pub struct MachBufferFinalized {
     pub starts: Vec<CodeOffset>,
     pub relocs: Vec<RelocEntry>,
     pub traps: Vec<TrapEntry>,
-    /// The return places of calls without a try.
+    /// The return places of calls without a try, and the ends of tail calls.
     pub call_sites: Vec<CodeOffset>,
     pub try_call_sites: Vec<TryEntry>,
     pub patchable_sites: Vec<PatchEntry>,

@@ -14,8 +14,8 @@ use std::alloc::Global;
 /// - `Done`: `out` begins with the image, which has `count` bytes.
 /// - `TooLong`: the input has more than 16777216 bytes.
 /// - `Syntax`: it is no text of functions; `reason.line` is its first wrong line.
-/// - `Refused`, `LinkRefused`, `BundleRefused`: emission or linking refuses a function, or it has no place in the image; `reason.cause` is the
-///   number of the first cause, and `reason.member` that of the function's name.
+/// - `Refused`, `LinkRefused`, `BundleRefused`: emission or linking refuses a function, its name comes twice, or it has no place in the image;
+///   `reason.cause` is the number of the first cause, and `reason.member` that of the function's name.
 /// - `TooSmall`: the image has no room in the buffer; `count` says how many bytes it has.
 /// - `NoMemory`: there was none.
 ///

@@ -22,7 +22,7 @@ pub enum Status {
     NoMemory,
     /// The plan of registers has a fault.
     PlanRefused,
-    /// The functions have no places in one image.
+    /// A name comes twice, or a function has no place in the image.
     BundleRefused,
     /// A buffer is too small.
     TooSmall,

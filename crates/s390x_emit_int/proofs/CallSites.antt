@@ -117,7 +117,7 @@ pub sites_run : (a b : List Site) (s : BufferState) → apply_all s (part_fragme
 sites_run [] b s = refl
 sites_run (x ∷ a) b s = sites_run a b (apply s (AddSite x))
 
--- sites change neither the mark nor the bytes, the labels and the constants
+-- sites poison nothing, and change neither the bytes nor the labels and the constants
 pub record SameSpace (s t : BufferState) : Type 0 where
   pub is_poisoned : t.is_poisoned ≡ s.is_poisoned
   pub labels : t.labels ≡ s.labels

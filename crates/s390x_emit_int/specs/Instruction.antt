@@ -10,7 +10,7 @@ use Rattle.s390x_typed_steps.specs.Tree.{Tree}
 use Rattle.s390x_typed_steps.specs.Sizes.{tree_size}
 use Rattle.s390x_typed_steps.specs.Causes.{first_emit_cause, unless, declared_in, tree_cause}
 
--- why an instruction isn't emitted into a buffer at a nominal size: its mark, the first cause of the instruction's steps by the buffer's blocks and labels, and last the length
+-- why an instruction isn't emitted into a buffer at a nominal size: it is poisoned, the first cause of the instruction's steps by the buffer's blocks and labels, and last the length
 abbrev pub emit_cause : IsaFlags → (nominal : ℕ) → BufferState → Tree → Option EmitError
 emit_cause flags nominal s t =
     cond s.is_poisoned (Some Failed) (first_emit_cause (tree_cause flags (declared_in s) (length s.labels) nominal 0 t) (unless (nat_lt (length s.bytes + tree_size t) limit) LabelOutOfRange))

@@ -29,7 +29,7 @@ use s390x_buffer::MachBuffer;
 use s390x_inst::{EmitInfo, EmitState, Inst, IsaFlags, VecInst};
 use std::alloc::Global;
 
-/// Appends bytes. Refused by `Failed` where the buffer bears the mark, and by `LabelOutOfRange` where the length would reach 2^31;
+/// Appends bytes. Refused by `Failed` where the buffer is poisoned, and by `LabelOutOfRange` where the length would reach 2^31;
 /// the buffer is poisoned then (cranelift-codegen, `emit.rs`, `put`).
 pub fn put(sink: &mut MachBuffer, enc: &[u8]) -> Result<(), EmitError>
     ensures answer { MatchResult result
@@ -69,7 +69,7 @@ fn put_trapped(sink: &mut MachBuffer, enc: &[u8], trap_code: TrapCode) -> Result
     sink.put(&enc[last..])
 }
 
-/// Appends bytes and records a trap at the last of them. Refused by `Failed` where the buffer bears the mark, and by `LabelOutOfRange`
+/// Appends bytes and records a trap at the last of them. Refused by `Failed` where the buffer is poisoned, and by `LabelOutOfRange`
 /// where the length would reach 2^31; the buffer is poisoned then, and what stood in it still stands (cranelift-codegen, `emit.rs`, `put_with_trap`).
 pub fn put_with_trap(
     sink: &mut MachBuffer,
@@ -158,7 +158,7 @@ fn emit_and_advance(
     Ok(sink.cur_offset())
 }
 
-// Appends an instruction to a buffer that bears no mark, or answers its first cause.
+// Appends an instruction to a buffer that isn't poisoned, or answers its first cause.
 fn emit_in(
     alloc: Global,
     flags: IsaFlags,
@@ -198,7 +198,7 @@ pub trait MachInstEmit {
     ghost state_behind: { Emission → Self → Emission };
 
     /// Appends itself to the buffer, with its traps, relocations, labels and the places of its steps but the first. What stood in the buffer
-    /// before still stands there. A refused call marks the buffer, and leaves the state as it was.
+    /// before still stands there. A refused call poisons the buffer, and leaves the state as it was.
     fn emit(
         &self,
         alloc: Global,
@@ -228,8 +228,8 @@ impl MachInstEmit for Inst {
     /// has taken off what its callee pops. A call that isn't patchable, also one in a `Loop`, leaves no outgoing size; all else of the state stays.
     /// A `Jump` and a `CondBr` record their branches, which `end_block` of the buffer may fold.
     ///
-    /// Refused by `Failed` where the buffer bears the mark, then by the first cause of its steps, where the buffer tells the blocks, the
-    /// constants and the labels, and last by `LabelOutOfRange` where the length would reach 2^31. A refused call marks the buffer and leaves what stood in
+    /// Refused by `Failed` where the buffer is poisoned, then by the first cause of its steps, where the buffer tells the blocks, the
+    /// constants and the labels, and last by `LabelOutOfRange` where the length would reach 2^31. A refused call poisons the buffer and leaves what stood in
     /// it, and the state as it was (cranelift-codegen, `emit.rs`).
     fn emit(
         &self,

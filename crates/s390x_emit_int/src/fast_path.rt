@@ -28,7 +28,7 @@ pub enum FastPath {
     Other,
 }
 
-// Whether an operator on two registers needs no facility.
+// Whether an operator of `AluRRR` needs no facility.
 #[inline(always)]
 fn is_base(op: ALUOp) -> bool
     ensures { result ≡ true → alu_facility op ≡ Base }

@@ -31,7 +31,7 @@ use Rattle.s390x_emit_laws.specs.Alone.{IsAppended, StandsAlone, alone, emitted_
 use Rattle.s390x_emit_laws.specs.Behind.{places}
 use Rattle.s390x_emit_laws.proofs.Alone.{appended, appended_behind, own_code}
 
--- a buffer without the mark
+-- a buffer that isn't poisoned
 unmarked : (failed : Bool) (o : Option EmitError) → cond failed (Some Failed) o ≡ None → o ≡ None
 unmarked false o h = h
 unmarked true o h = absurd (cc)

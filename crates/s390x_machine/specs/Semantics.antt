@@ -1,4 +1,5 @@
--- What a machine row does with its fields (Principles of Operation, chapter 7, "General instructions"). This is the only place that knows their order.
+-- What a machine row does with its fields (Principles of Operation, chapter 7, "General instructions"). `OperandSource` of
+-- `s390x_format` tells the order of the registers among them.
 use Rattle.std.specs.Prelude.{ℕ, ◌+◌, ◌-◌, ◌*◌, ◌^◌, ◌%◌, ◌==◌, nat_lt, Bool, true, false, ◌&&◌, if◌then◌else◌, pos, ◌+ℤ◌, List, [], ◌∷◌, Option, Some, None, slice_index}
 use Rattle.s390x_format.specs.declared.fields.Fields.{Fields}
 use Rattle.s390x_lanes.specs.Size.{element_bits, lane_count, size_of_code}

@@ -19,7 +19,7 @@ pub struct Buffers<'a> {
     pub constant_starts: &'a mut [u32],
     pub relocations: &'a mut [Relocation],
     pub traps: &'a mut [Trap],
-    /// Where each call without a try returns to.
+    /// Where each call without a try returns to, and where each tail call ends.
     pub call_sites: &'a mut [u32],
     pub tries: &'a mut [Try],
     /// The handlers of all calls with a try, one call's behind the other's.

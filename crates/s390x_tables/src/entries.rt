@@ -18,7 +18,7 @@ pub struct Relocation {
 #[repr(C)]
 #[derive(Clone, Copy)]
 pub struct Trap {
-    /// One byte behind where the instruction that traps begins, as the original records it.
+    /// Where the instruction begins that stops, at an access of memory; at any other stop its last byte.
     pub offset: u32,
     /// 1 to 250 for a user's code, 251 to 255 for the named ones.
     pub code: u32,
@@ -34,7 +34,7 @@ pub struct Try {
     pub handler_count: usize,
     /// The place of its first handler in the table of handlers.
     pub first_handler: usize,
-    /// What the call's step says of its frame.
+    /// From the stack pointer behind the call up to where the caller's frame begins, in bytes.
     pub frame: u64,
 }
 

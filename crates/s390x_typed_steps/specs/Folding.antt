@@ -29,7 +29,7 @@ abbrev pub body_with_remainder : Option Remainder → Inst → StepBody
 body_with_remainder None i = Whole i
 body_with_remainder (Some r) i = Folded r i
 
--- the last body of a block, before the block `next`; that of a call with a try is a jump. Nothing else is folded
+-- the last body of a block, before the block `next`: only a `Jump` or a `CondBr` is folded; a call with a try ends with a `Jump`
 abbrev pub fold : (next : ℕ) → StepBody → StepBody
 fold next (Whole i) = body_with_remainder (remainder next (branches_of i)) i
 fold next b = b
