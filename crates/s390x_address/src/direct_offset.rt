@@ -153,7 +153,8 @@ pub struct FarAccess {
 fn short_indexed_code(opcode: u8, register: Reg, base: Reg) -> Option<Code>
     ensures { IfSome result
         (λ code. code
-        ≡ bytes_of (rx opcode (number_of register) (number_of base) (number_of scratch) (low_12 0))) }
+        ≡ bytes_of
+        (rx opcode (number_of register) (number_of base) (number_of scratch) (low_12 0))) }
 {
     let index = spilltmp_reg();
     let disp = low_12(UImm12::zero());
@@ -199,8 +200,8 @@ fn register_indexed_code(
 ) -> Option<Code>
     ensures { (ril_opcode : Option ℕ) (accesses : Bool) (flags : AccessFlags)
         → IfSome result
-        (λ code. IsIndexed (RxForm (number_of register) short_opcode long_opcode ril_opcode) accesses base flags
-        code) }
+        (λ code. IsIndexed (RxForm (number_of register) short_opcode long_opcode ril_opcode)
+        accesses base flags code) }
 {
     match short_opcode {
         Some(opcode) => short_indexed_code(opcode, register, base),
