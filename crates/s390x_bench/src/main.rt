@@ -49,7 +49,7 @@ fn counts<R: Read + Drop>(
     alloc: Global,
     source: R,
 ) -> Result<(u64, u64), Failure> {
-    let turns = turns(rt)?;
+    let turns = read_turns(rt)?;
     let job = read_job(alloc, source)?;
     let mut bytes: u64 = 0;
     for _ in 0..turns.emissions {
@@ -59,7 +59,7 @@ fn counts<R: Read + Drop>(
 }
 
 // What the words ask for: no decoding where there is but one.
-fn turns(rt: &(impl env::Env + AllocGlobal)) -> Result<Turns, Failure> {
+fn read_turns(rt: &(impl env::Env + AllocGlobal)) -> Result<Turns, Failure> {
     let mut args = env::args(rt).map_err(|_: io::Error| Failure::Usage)?;
     args.next();
     let emissions = match args.next() {
