@@ -11,7 +11,7 @@ use s390x_image::SymbolTable;
 use s390x_job::SymbolLine;
 use std::alloc::Global;
 
-/// The symbols of these lines, each in place of an earlier one of its name.
+/// The symbols of these lines, each in place of an earlier one of its name. An error comes only when out of memory.
 pub fn symbol_table(alloc: Global, lines: &[SymbolLine]) -> Result<SymbolTable, NoMemory>
     ensures { IfOk result (λ table. table ≡ with_lines no_symbols lines.now) }
 {

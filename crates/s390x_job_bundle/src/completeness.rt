@@ -78,7 +78,7 @@ fn put_job_ending(out: &mut Vec<u8>, ws: &[&[u8]]) -> Result<(), AllocError>
     Ok(())
 }
 
-/// Appends this line, where none of the lines is one.
+/// Appends this line with a line feed, where none of the lines is one. An error comes only when out of memory.
 pub fn put_line_ending(out: &mut Vec<u8>, line: &[u8], ws: &[&[u8]]) -> Result<(), AllocError>
     ensures { OnOk result
         (out.new.items ≡ out.old.items ++ line_ending line.now (map (λ w. w.now) ws.now)) }
