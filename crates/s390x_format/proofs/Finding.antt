@@ -1,5 +1,5 @@
 -- What bytes that are a row's tell, and when they are.
-use Rattle.std.proofs.Common.{◌≡◌, ℕ, zero, suc, ◌+◌, ◌-◌, ◌*◌, ◌/◌, ◌%◌, ◌^◌, ◌<◌, ◌≤◌, true, List, [], ◌∷◌, length, get_or, take, refl, sym, ap, ap₂, subst, ◌∙◌, arith, length-take, Option, Some, None, inl, inr}
+use Rattle.std.proofs.Common.{◌≡◌, ℕ, zero, suc, ◌+◌, ◌-◌, ◌*◌, ◌/◌, ◌%◌, ◌^◌, ◌<◌, ◌≤◌, Bool, true, false, if◌then◌else◌, List, [], ◌∷◌, length, get_or, take, refl, sym, ap, ap₂, subst, ◌∙◌, arith, length-take, Option, Some, None, inl, inr, nat_lt}
 use Rattle.std.proofs.Math.ListN.{get_or-eq_default}
 use Rattle.std.proofs.Math.Nat.{mod-eq_of_lt, add_comm, add-mul-div_right, add-mul-mod_self_right, mul_assoc}
 use Rattle.std.proofs.Math.Pow.{pow_pos, pow-add}
@@ -22,7 +22,7 @@ use Rattle.s390x_format.specs.Reading.{be_bytes, be_number, opcode_at, rest_at, 
 use Rattle.s390x_format.proofs.Packing.{layout_slot, field-number, number_lt}
 use Rattle.s390x_format.proofs.FormatFacts.{layout_ok, layout_bits_of, length_some}
 use Rattle.s390x_format.proofs.Bytes.{be_number-be_bytes, be_number_lt}
-use Rattle.s390x_format.proofs.Searching.{placed_at, row_placed}
+use Rattle.s390x_format.proofs.Searching.{Tight, indexed_at, placed_at, row_placed, span_ends, spanned}
 use Rattle.s390x_format.proofs.Fetching.{row_at, same_place, field_opcode, first_place, rest_place}
 
 first_byte : (k n : ℕ) → 1 ≤ k → get_or (be_bytes k n) 0 0 ≡ n / 2 ^ (8 * k - 8) % 256
@@ -114,16 +114,32 @@ be_bytes-be_number (b ∷ bs) h =
     (ap (λ (z : ℕ). z % 256) (shr_high b (8 * length bs) (be_number bs) small) ∙ mod-eq_of_lt (h 0))
     (low_bytes (length bs) b (be_number bs) ∙ be_bytes-be_number bs (λ i. h (suc i)))
 
-pub fetched : (rows : List MachineRow) (bs : List ℕ) (d : Reading) (at count : ℕ) → ((i : ℕ) → get_or bs i 0 < 256) → at < length rows → count ≤ length bs →
-    IsReadAs (get_or rows at no_row) count (be_number (take count bs)) d → IsReading rows bs d
-fetched rows bs d at count bytes below le r =
-    let f : FormatKind = (get_or rows at no_row).format in
+-- the first few bytes are those of their number
+taken : (bs : List ℕ) (count : ℕ) → ((i : ℕ) → get_or bs i 0 < 256) → count ≤ length bs → be_bytes count (be_number (take count bs)) ≡ take count bs
+taken bs count bytes le =
     let long : length (take count bs) ≡ count = omega (arith, length-take count bs) in
     let each : (i : ℕ) → get_or (take count bs) i 0 < 256 = λ i. elim (cases_lt i count) [
       | inl lt ↦ rw (get_or-take count bs i 0 lt) (bytes i)
       | inr ge ↦ rw (get_or-eq_default (take count bs) 0 (subst (λ (z : ℕ). z ≤ i) (sym long) ge)) (omega arith)
     ] in
-    let back : be_bytes count (be_number (take count bs)) ≡ take count bs = ap (λ (z : ℕ). be_bytes z (be_number (take count bs))) (sym long) ∙ be_bytes-be_number (take count bs) each in
+    ap (λ (z : ℕ). be_bytes z (be_number (take count bs))) (sym long) ∙ be_bytes-be_number (take count bs) each
+
+second_in : (k n : ℕ) → 2 ≤ k → get_or (be_bytes k n) 1 0 ≡ n / 2 ^ (8 * k - 16) % 256
+unfolding be_bytes
+second_in zero n h = absurd (omega arith)
+second_in (suc zero) n h = absurd (omega arith)
+second_in (suc (suc k)) n h = let e : 8 * k ≡ 8 * suc (suc k) - 16 = omega arith in ap (λ (z : ℕ). n / 2 ^ z % 256) e
+
+-- the second byte in the leading number
+pub second_byte : (bs : List ℕ) (l : LeadingBytes) → ((i : ℕ) → get_or bs i 0 < 256) → IsLeading bs l → 2 ≤ l.count → get_or bs 1 0 ≡ l.number / 2 ^ (8 * l.count - 16) % 256
+second_byte bs l bytes is two =
+    sym (get_or-take l.count bs 1 0 (omega (arith, two))) ∙ ap (λ (xs : List ℕ). get_or xs 1 0) (sym (taken bs l.count bytes is.enough))
+    ∙ second_in l.count (be_number (take l.count bs)) two ∙ ap (λ (n : ℕ). n / 2 ^ (8 * l.count - 16) % 256) (sym is.number_is)
+
+pub fetched : (rows : List MachineRow) (bs : List ℕ) (d : Reading) (at count : ℕ) → ((i : ℕ) → get_or bs i 0 < 256) → at < length rows → count ≤ length bs →
+    IsReadAs (get_or rows at no_row) count (be_number (take count bs)) d → IsReading rows bs d
+fetched rows bs d at count bytes below le r =
+    let back : be_bytes count (be_number (take count bs)) ≡ take count bs = taken bs count bytes le in
     let e : length_of d.row.format ≡ count = ap length_of r.format ∙ r.bytes_are in
     let n : number (layout_of d.row.format) d.slots ≡ be_number (take count bs) = ap (λ (g : FormatKind). number (layout_of g) d.slots) r.format ∙ r.number_is in
     record {
@@ -170,6 +186,41 @@ placed rows firsts offsets bs d l rest index ok k is e =
     sym (ap (λ (z : ℕ). place_in firsts offsets l.first z) here
     ∙ ap (λ (z : ℕ). place_in firsts offsets z (rest_of (place_of r.format) r.opcode)) (is.first ∙ sym k.first)
     ∙ row_placed rows firsts offsets k.at ok k.below)
+
+-- it stands before the end of the part of its first byte
+pub placed_below : (rows : List MachineRow) (firsts : List FirstByte) (bs : List ℕ) (d : Reading) (l : LeadingBytes) → is_index rows firsts ≡ true → (k : Known rows firsts bs d) → IsLeading bs l →
+    k.at < (get_or firsts l.first no_first_byte).end
+placed_below rows firsts bs d l index k is = (indexed_at rows firsts k.at l.first index k.below (k.first ∙ sym is.first)).1
+
+one_of_three : (s t : Bool) → 2 ≤ (if s then 2 else (if t then 4 else 6))
+one_of_three true t = omega arith
+one_of_three false true = omega arith
+one_of_three false false = omega arith
+
+two_at_least : (b : ℕ) → 2 ≤ fetch_length_of b
+two_at_least b = one_of_three (nat_lt b 64) (nat_lt b 192)
+
+-- an instruction has some bytes
+pub some_bytes : (bs : List ℕ) (l : LeadingBytes) → IsLeading bs l → 2 ≤ l.count
+some_bytes bs l is = subst (λ (n : ℕ). 2 ≤ n) (sym is.count) (two_at_least l.first)
+
+after : (s o n : ℕ) → n ≡ s + o → s ≤ n
+after s o n e = omega (arith, e)
+
+-- a row before that end is in the table, and has as many bytes as the first one tells
+pub record Measured (rows : List MachineRow) (l : LeadingBytes) (at : ℕ) : Type 0 where
+  pub below : at < length rows
+  pub bytes : length_of (get_or rows at no_row).format ≡ l.count
+
+pub measured : (rows : List MachineRow) (firsts : List FirstByte) (offsets bs : List ℕ) (l : LeadingBytes) (rest at : ℕ) → are_rows rows ≡ true → is_index rows firsts ≡ true → IsLeading bs l →
+    at ≡ place_in firsts offsets l.first rest → at < (get_or firsts l.first no_first_byte).end → Measured rows l at
+measured rows firsts offsets bs l rest at ok index is e lt =
+    let start : (get_or firsts l.first no_first_byte).start ≤ at =
+    after (get_or firsts l.first no_first_byte).start (get_or offsets ((get_or firsts l.first no_first_byte).offsets + rest) 0) at e in
+    let tight : Tight (get_or firsts l.first no_first_byte) rows l.first = span_ends rows firsts l.first index in
+    let below : at < length rows = omega (arith, lt, tight.end) in
+    let first = spanned rows firsts l.first at index start lt in
+    record { below = below; bytes = sym (row_at rows at ok below) ∙ ap fetch_length_of first ∙ sym is.count }
 
 -- a reading at a place in the table is one of the row that stands there
 pub read_there : (rows : List MachineRow) (bs : List ℕ) (count at : ℕ) (x : Option PlacedReading) → ((i : ℕ) → get_or bs i 0 < 256) → count ≤ length bs → at < length rows →

@@ -1,9 +1,9 @@
 -- The search for a row, at its place and by halving.
-use Rattle.std.proofs.Common.{◌≡◌, ℕ, zero, suc, ◌+◌, ◌-◌, ◌*◌, ◌^◌, ◌<◌, ◌≤◌, true, ◌&&◌, List, [], ◌∷◌, length, get_or, refl, ap, subst, ◌∙◌, arith, inl, inr, leb-true, eqb-true, nat_le, nat_lt, add-one, ◌==◌}
+use Rattle.std.proofs.Common.{◌≡◌, ℕ, zero, suc, ◌+◌, ◌-◌, ◌*◌, ◌^◌, ◌<◌, ◌≤◌, Bool, true, false, ◌&&◌, if◌then◌else◌, List, [], ◌∷◌, length, get_or, refl, ap, subst, ◌∙◌, arith, inl, inr, leb-true, eqb-true, nat_le, nat_lt, add-one, ◌==◌}
 use Rattle.std.proofs.Math.Pow.{pow_pos, pow-add}
 use Rattle.std.proofs.Math.Nat.{mul_assoc}
 use Rattle.std.proofs.lemmas.Nat.{mul-le}
-use Rattle.std.proofs.lemmas.Bool.{and_parts, cases_order, ltb-true}
+use Rattle.std.proofs.lemmas.Bool.{and_parts, cases_order, cases_Bool, cases_lt, eqb-false, ltb-true}
 use Rattle.s390x_format.specs.declared.row.MachineRow.{MachineRow}
 use Rattle.s390x_format.specs.declared.index.FirstByte.{FirstByte}
 use Rattle.s390x_format.specs.Formats.{place_of}
@@ -89,6 +89,96 @@ pub span_ends : (rs : List MachineRow) (ps : List FirstByte) (i : ℕ) → is_in
 span_ends rs ps i h =
     let e : 0 + i ≡ i = omega arith in
     subst (λ (k : ℕ). Tight (get_or ps i no_first_byte) rs k) e (tight_from 0 ps rs i (and_parts (are_indexed 0 rs ps) (are_tight 0 ps rs) h).1)
+
+-- ---- the rows of a part
+
+-- a place of a part, other than j
+record Within (start end j p : ℕ) : Type 0 where
+  low : start ≤ p
+  high : p < end
+  other : p ≡ j → ⊥
+
+within_next : (start end j i0 i : ℕ) → Within start end j (i0 + suc i) → Within start end j (i0 + 1 + i)
+within_next start end j i0 i w = record { low = omega (arith, w.low); high = omega (arith, w.high); other = λ e. w.other (omega (arith, e)) }
+
+counted : (t : Bool) (n m : ℕ) → (t ≡ true → n + 1 ≤ m) → (t ≡ false → n ≤ m) → (if t then 1 else 0) + n ≤ m
+counted true n m y o = let h = y refl in omega (arith, h)
+counted false n m y o = let h = o refl in omega (arith, h)
+
+less_one : (n m : ℕ) → n ≤ m - 1 → 1 ≤ m → n + 1 ≤ m
+less_one n m h one = omega (arith, h, one)
+
+-- from i0 on no more rows have a first byte than there are places for them
+few_below : (b start end j i0 : ℕ) (rs : List MachineRow) → ((i : ℕ) → i < length rs → first_byte_of (get_or rs i no_row) ≡ b → Within start end j (i0 + i)) → rows_with b rs ≤ end - i0
+unfolding rows_with
+few_below b start end j i0 [] h = omega arith
+few_below b start end j i0 (r ∷ rs) h =
+    let later : rows_with b rs ≤ end - (i0 + 1) = few_below b start end j (i0 + 1) rs (λ i lt e. within_next start end j i0 i (h (suc i) (omega arith) e)) in
+    counted (first_byte_of r == b) (rows_with b rs) (end - i0)
+    (λ same. let w : Within start end j (i0 + 0) = h zero (omega arith) (eqb-true _ _ same) in omega (arith, w.high, later))
+    (λ differs. omega (arith, later))
+
+-- and fewer, where j is yet to come
+few_around : (b start end j i0 : ℕ) (rs : List MachineRow) → i0 ≤ j → j < end → ((i : ℕ) → i < length rs → first_byte_of (get_or rs i no_row) ≡ b → Within start end j (i0 + i)) → rows_with b rs + 1 ≤ end - i0
+unfolding rows_with
+few_around b start end j i0 [] le lt h = omega arith
+few_around b start end j i0 (r ∷ rs) le lt h =
+    elim (cases_lt i0 j) [
+      | inl less ↦
+          let later : rows_with b rs + 1 ≤ end - (i0 + 1) = few_around b start end j (i0 + 1) rs (omega (arith, less)) lt (λ i l e. within_next start end j i0 i (h (suc i) (omega arith) e)) in
+          let whole : rows_with b (r ∷ rs) ≤ end - i0 - 1 =
+          counted (first_byte_of r == b) (rows_with b rs) (end - i0 - 1) (λ same. omega (arith, later)) (λ differs. omega (arith, later)) in
+          less_one (rows_with b (r ∷ rs)) (end - i0) whole (omega (arith, le, lt))
+      | inr here ↦
+          let later : rows_with b rs ≤ end - (i0 + 1) = few_below b start end j (i0 + 1) rs (λ i l e. within_next start end j i0 i (h (suc i) (omega arith) e)) in
+          let whole : rows_with b (r ∷ rs) ≤ end - i0 - 1 =
+          counted (first_byte_of r == b) (rows_with b rs) (end - i0 - 1)
+          (λ same. let w : Within start end j (i0 + 0) = h zero (omega arith) (eqb-true _ _ same) in absurd (w.other (omega (arith, here, le))))
+          (λ differs. omega (arith, later)) in
+          less_one (rows_with b (r ∷ rs)) (end - i0) whole (omega (arith, le, lt))
+    ]
+
+few_within : (b start end j i0 : ℕ) (rs : List MachineRow) → i0 ≤ start → start ≤ j → j < end → ((i : ℕ) → i < length rs → first_byte_of (get_or rs i no_row) ≡ b → Within start end j (i0 + i)) → rows_with b rs + 1 ≤ end - start
+unfolding rows_with
+few_within b start end j i0 [] le low lt h = omega arith
+few_within b start end j i0 (r ∷ rs) le low lt h =
+    elim (cases_lt i0 start) [
+      | inl less ↦
+          let later : rows_with b rs + 1 ≤ end - start = few_within b start end j (i0 + 1) rs (omega (arith, less)) low lt (λ i l e. within_next start end j i0 i (h (suc i) (omega arith) e)) in
+          let whole : rows_with b (r ∷ rs) ≤ end - start - 1 =
+          counted (first_byte_of r == b) (rows_with b rs) (end - start - 1)
+          (λ same. let w : Within start end j (i0 + 0) = h zero (omega arith) (eqb-true _ _ same) in absurd (omega (arith, w.low, less)))
+          (λ differs. omega (arith, later)) in
+          less_one (rows_with b (r ∷ rs)) (end - start) whole (omega (arith, low, lt))
+      | inr here ↦
+          let same : i0 ≡ start = omega (arith, here, le) in
+          subst (λ (k : ℕ). rows_with b (r ∷ rs) + 1 ≤ end - k) same (few_around b start end j i0 (r ∷ rs) (omega (arith, le, low)) lt h)
+    ]
+
+within_part : (rs : List MachineRow) (ps : List FirstByte) (b j i : ℕ) → is_index rs ps ≡ true → (first_byte_of (get_or rs j no_row) == b) ≡ false → i < length rs → first_byte_of (get_or rs i no_row) ≡ b →
+    Within (get_or ps b no_first_byte).start (get_or ps b no_first_byte).end j (0 + i)
+within_part rs ps b j i index differs l e =
+    let span = indexed_at rs ps i b index l e in
+    record {
+      low = omega (arith, span.0);
+      high = omega (arith, span.1);
+      other = λ q.
+          let here : i ≡ j = omega (arith, q) in
+          eqb-false _ _ differs (subst (λ (k : ℕ). first_byte_of (get_or rs k no_row) ≡ b) here e);
+    }
+
+-- each row of a first byte's part has the first byte, since the part has no more rows than have it
+pub spanned : (rs : List MachineRow) (ps : List FirstByte) (b j : ℕ) → is_index rs ps ≡ true → (get_or ps b no_first_byte).start ≤ j → j < (get_or ps b no_first_byte).end →
+    first_byte_of (get_or rs j no_row) ≡ b
+spanned rs ps b j index low lt =
+    elim (cases_Bool (first_byte_of (get_or rs j no_row) == b)) [
+      | inl same ↦ eqb-true _ _ same
+      | inr differs ↦
+          let t : Tight (get_or ps b no_first_byte) rs b = span_ends rs ps b index in
+          let few : rows_with b rs + 1 ≤ (get_or ps b no_first_byte).end - (get_or ps b no_first_byte).start =
+          few_within b (get_or ps b no_first_byte).start (get_or ps b no_first_byte).end j 0 rs (omega arith) low lt (λ i l e. within_part rs ps b j i index differs l e) in
+          absurd (omega (arith, t.few, few))
+    ]
 
 pub halved : (s m m' n : ℕ) → 2 ^ s * m ≤ n → 1 ≤ m → 2 * m' ≤ m → (2 ^ (s + 1) * m' ≤ n) × (2 ^ (s + 1) ≤ 2 * n + 1)
 halved s m m' n h one le =

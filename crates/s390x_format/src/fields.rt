@@ -45,10 +45,14 @@ pub fn imm_class(kind: FormatKind) -> Imm
     }
 }
 
-fn read_imm(class: Imm, bits: u32) -> i64
-    ensures { result ≡ imm_of class bits }
+/// What the bits of a format's immediate stand for. Most instructions have none, and bits of zero stand for 0 in each format.
+fn read_imm(kind: FormatKind, bits: u32) -> i64
+    ensures { result ≡ imm_of (imm_class_of kind) bits }
 {
-    match class {
+    if bits == 0 {
+        return 0;
+    }
+    match imm_class(kind) {
         Imm::Unsigned => i64::from(bits),
         Imm::Signed16 => i64::from(((bits % 65536) as u16).cast_signed()),
         Imm::Half16 => 2 * i64::from(((bits % 65536) as u16).cast_signed()),
@@ -76,7 +80,7 @@ pub fn view(d: &Reading) -> Fields
     Fields {
         regs: [s[1] as u8, s[2] as u8, s[3] as u8, s[4] as u8],
         masks: [s[5] as u8, s[6] as u8, s[7] as u8],
-        imm: read_imm(imm_class(d.row.format), s[8]),
+        imm: read_imm(d.row.format, s[8]),
         disp: read_disp(s[9]),
     }
 }

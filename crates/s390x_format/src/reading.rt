@@ -1,5 +1,6 @@
 //! Reading an instruction's bytes as the values in its slots.
 ghost use Rattle.std.specs.Prelude.{◌≡◌, ℕ, ◌+◌, ◌-◌, ◌*◌, ◌^◌, ◌<◌, ◌≤◌, true, length, take, get_or, slice_index, IfSome, MatchOption};
+ghost use Rattle.s390x_format.specs.Formats.{length_of};
 ghost use Rattle.s390x_format.specs.Rows.{fetch_length_of, are_rows, rises, rows_with};
 ghost use Rattle.s390x_format.specs.Reading.{be_bytes, be_number, opcode_at, rest_at, no_row, reading_in, IsLeading, IsReadAs, IsReading, IsPlacedReading};
 ghost use Rattle.s390x_format.specs.Index.{is_index, are_placed, has_room};
@@ -98,26 +99,27 @@ fn opcode_of(rest: RestPlace, total: u8, n: u64) -> u16
     }
 }
 
-/// The rest of the opcode of a number of `total` bits, where it stands there.
-fn rest_of(rest: RestPlace, total: u8, n: u64) -> u8
-    requires low { 16 ≤ total }
-    requires high { total ≤ 48 }
-    ensures { result ≡ rest_at rest total n }
-{
-    match rest {
-        RestPlace::Nowhere => 0,
-        RestPlace::LowHalf => ((n >> (total - 16)) % 16) as u8,
-        RestPlace::SecondByte => ((n >> (total - 16)) % 256) as u8,
-        RestPlace::LastByte => (n % 256) as u8,
-    }
-}
-
 /// The bytes with which an instruction begins, as a number.
 #[derive(Clone, Copy)]
 pub struct LeadingBytes {
     pub first: u8,
     pub count: usize,
     pub number: u64,
+}
+
+/// The rest of the opcode with which the bytes begin, where it stands there.
+fn rest_of(rest: RestPlace, bytes: &[u8], leading: LeadingBytes) -> u8
+    requires leading { IsLeading bytes.now leading }
+    requires some { 2 ≤ leading.count }
+    requires enough { leading.count ≤ length bytes.now }
+    ensures { result ≡ rest_at rest (8 * leading.count) leading.number }
+{
+    match rest {
+        RestPlace::Nowhere => 0,
+        RestPlace::LowHalf => bytes[1] % 16,
+        RestPlace::SecondByte => bytes[1],
+        RestPlace::LastByte => (leading.number % 256) as u8,
+    }
 }
 
 /// As many bytes as the first one tells; `None` exactly where there are fewer.
@@ -141,15 +143,13 @@ fn leading_bytes(bytes: &[u8]) -> Option<LeadingBytes>
     })
 }
 
-/// The values of a number in the slots of a row.
+/// The values of a number in the slots of a row of that many bytes.
 fn read_as(row: &MachineRow, bytes: usize, n: u64) -> Option<Reading>
-    requires { n < 2 ^ (8 * bytes) }
+    requires below { n < 2 ^ (8 * bytes) }
+    requires length { length_of row.now.format ≡ bytes }
     ensures sound { IfSome result (λ d. IsReadAs row.now bytes n d) }
     ensures complete { (d : Reading) → IsReadAs row.now bytes n d → result ≡ Some d }
 {
-    if length(row.format) != bytes {
-        return None;
-    }
     let Unpacked { slots, has_zeros } = unpack_as(row.format, n);
     if !has_zeros {
         return None;
@@ -169,10 +169,11 @@ fn read_as(row: &MachineRow, bytes: usize, n: u64) -> Option<Reading>
     })
 }
 
-/// The values of a number in the slots of the row at a place in the table, with the place.
+/// The values of a number in the slots of the row of that many bytes at a place in the table, with the place.
 fn read_at(rows: &[MachineRow], at: usize, bytes: usize, n: u64) -> Option<PlacedReading>
     requires below { n < 2 ^ (8 * bytes) }
     requires place { at < length rows.now }
+    requires length { length_of (get_or rows.now at no_row).format ≡ bytes }
     ensures sound { IfSome result
         (λ p. (p.at ≡ at) × IsReadAs (get_or rows.now at no_row) bytes n p.reading) }
     ensures complete { (d : Reading) → IsReadAs (get_or rows.now at no_row) bytes n d
@@ -182,6 +183,21 @@ fn read_at(rows: &[MachineRow], at: usize, bytes: usize, n: u64) -> Option<Place
         Some(reading) => Some(PlacedReading { at, reading }),
         None => None,
     }
+}
+
+/// What `read_at` answers of a row of any length.
+fn read_any(rows: &[MachineRow], at: usize, bytes: usize, n: u64) -> Option<PlacedReading>
+    requires below { n < 2 ^ (8 * bytes) }
+    requires place { at < length rows.now }
+    ensures sound { IfSome result
+        (λ p. (p.at ≡ at) × IsReadAs (get_or rows.now at no_row) bytes n p.reading) }
+    ensures complete { (d : Reading) → IsReadAs (get_or rows.now at no_row) bytes n d
+        → reading_in result ≡ Some d }
+{
+    if length(rows[at].format) != bytes {
+        return None;
+    }
+    read_at(rows, at, bytes, n)
 }
 
 /// The row of the table that the bytes begin with, its place, and its values.
@@ -201,9 +217,10 @@ pub fn read(
 {
     match leading_bytes(bytes) {
         Some(l) => {
-            let rest = rest_of(firsts[l.first as usize].rest, 8 * l.count as u8, l.number);
+            let rest = rest_of(firsts[l.first as usize].rest, bytes, l);
             let at = row_place(firsts, offsets, l.first, rest);
-            if at < rows.len() {
+            // All rows up to there have the first byte, which tells their length.
+            if at < firsts[l.first as usize].end {
                 read_at(rows, at, l.count, l.number)
             } else {
                 None
@@ -235,7 +252,7 @@ pub fn read_counted<L: Ledger>(
         Some(l) => {
             let opcode = opcode_of(firsts[l.first as usize].rest, 8 * l.count as u8, l.number);
             match search(rows, firsts, l.first, opcode, steps) {
-                Some(at) => read_at(rows, at, l.count, l.number),
+                Some(at) => read_any(rows, at, l.count, l.number),
                 None => None,
             }
         }

@@ -10,16 +10,16 @@ use Rattle.s390x_format.proofs.reading.read_as.Goals as goal
 pub returns-clause-sound : goal.returns-clause-sound
 returns-clause-sound c =
     let un = c.unpack_as-has_zeros.ensures.values in
-    let total : bits (layout_of c.args.row.now.format) ≡ 8 * c.args.bytes = layout_bits_of c.args.row.now.format ∙ ap (λ (z : ℕ). 8 * z) (sym c.length.ensures ∙ c.if-length-bytes.false) in
+    let total : bits (layout_of c.args.row.now.format) ≡ 8 * c.args.bytes = layout_bits_of c.args.row.now.format ∙ ap (λ (z : ℕ). 8 * z) c.requires.length in
     let zeros : zero_bits (layout_of c.args.row.now.format) c.args.n ≡ true = sym c.unpack_as-has_zeros.ensures.zeros ∙ c.if-not-has_zeros.false in
     record {
       format = refl;
       opcode = refl;
-      bytes_are = sym c.length.ensures ∙ c.if-length-bytes.false;
+      bytes_are = c.requires.length;
       fit = (c.unpack_as-has_zeros.ensures.ten, λ k lt. rw (un k lt) (field_lt (layout_of c.args.row.now.format) c.args.n k (layout_slot _ k (layout_ok c.args.row.now.format) lt).0));
       code = c.if-slots-row.false;
       number_is = back (layout_of c.args.row.now.format) c.args.n c.unpack_as-has_zeros.result.slots (λ k l. (layout_slot _ k (layout_ok c.args.row.now.format) l).0) un c.unpack_as-has_zeros.ensures.ten
-          (subst (λ (b : ℕ). c.args.n < 2 ^ b) (sym total) c.requires) zeros;
+          (subst (λ (b : ℕ). c.args.n < 2 ^ b) (sym total) c.requires.below) zeros;
       allowed = sym c.allows.ensures ∙ c.if-not-allows.false;
     }
 

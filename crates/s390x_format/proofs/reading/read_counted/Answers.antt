@@ -13,8 +13,8 @@ pub returns-in-Some-search-clause-sound : goal.returns-in-Some-search-clause-sou
 returns-in-Some-search-clause-sound g c =
     let is : IsLeading c.args.bytes.now c.in-Some.l = c.in-Some.ensures in
     let f : HasOpcode c.args.rows.now c.opcode_of-opcode.result c.in-Some-search.at = c.in-Some-search.ensures.row in
-    fetched_some c.args.rows.now c.args.bytes.now c.in-Some.l.count c.opcode_of-opcode.result c.in-Some-search.at c.read_at.result
-    (λ i. omega (arith, c.type_inv.bytes i)) is.enough f (rw is.number_is at c.read_at.ensures.sound)
+    fetched_some c.args.rows.now c.args.bytes.now c.in-Some.l.count c.opcode_of-opcode.result c.in-Some-search.at c.read_any.result
+    (λ i. omega (arith, c.type_inv.bytes i)) is.enough f (rw is.number_is at c.read_any.ensures.sound)
 
 pub returns-in-Some-search-clause-complete : goal.returns-in-Some-search-clause-complete
 returns-in-Some-search-clause-complete g c d h =
@@ -23,7 +23,7 @@ returns-in-Some-search-clause-complete g c d h =
     let f : HasOpcode c.args.rows.now c.opcode_of-opcode.result c.in-Some-search.at = c.in-Some-search.ensures.row in
     let e : (get_or c.args.rows.now k.at no_row).opcode ≡ c.opcode_of-opcode.result = code_here c.args.rows.now c.args.firsts.now c.args.bytes.now d c.in-Some.l c.opcode_of-opcode.result k is c.opcode_of-opcode.ensures in
     let r : k.at ≡ c.in-Some-search.at = found c.args.rows.now c.args.bytes.now d c.opcode_of-opcode.result c.in-Some-search.at c.requires.rising c.args.firsts.now k e f in
-    c.read_at.ensures.complete d (read_here c.args.rows.now c.args.firsts.now c.args.bytes.now d c.in-Some.l c.in-Some-search.at k is r)
+    c.read_any.ensures.complete d (read_here c.args.rows.now c.args.firsts.now c.args.bytes.now d c.in-Some.l c.in-Some-search.at k is r)
 
 pub returns-in-None-search-clause-complete : goal.returns-in-None-search-clause-complete
 returns-in-None-search-clause-complete g c d h =
