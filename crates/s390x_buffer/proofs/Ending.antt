@@ -208,3 +208,14 @@ keeps_end (Some next) s = keeps_by s.branches next.0 s
 
 pub keeps_ended : (next : Option MachLabel) (s t : BufferState) → t ≡ at_block_end next s → KeepsTables s t
 keeps_ended next s t e = subst (KeepsTables s) (sym e) (keeps_end next s)
+
+-- without the last one, those before it are left
+last_removed : (us : List LabelFixup) (i : ℕ) → i + 1 ≡ length us → take i us ≡ remove us i
+last_removed [] i e = absurd (omega (arith, e))
+last_removed (u ∷ []) zero e = refl
+last_removed (u ∷ (v ∷ us)) zero e = absurd (omega (arith, e))
+last_removed (u ∷ us) (suc i) e = ap (λ l. u ∷ l) (last_removed us i (omega (arith, e)))
+
+-- the last of all, where it is the branch's
+pub last_dropped : (start l : ℕ) (us : List LabelFixup) (i : ℕ) (z : LabelFixup) → i + 1 ≡ length us → is_branch_use start l (get_or us i z) ≡ true → take i us ≡ without_use start l us
+last_dropped start l us i z e own = last_removed us i e ∙ sym (last_found start l us i z (omega (arith, e)) own (none_behind start l us (i + 1) (omega (arith, e))))

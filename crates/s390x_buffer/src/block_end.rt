@@ -123,8 +123,8 @@ fn last_use(uses: &[LabelFixup], start: CodeOffset, target: MachLabel) -> Option
     None
 }
 
-/// Drops the last use of a branch.
-pub fn drop_use(uses: &mut Vec<LabelFixup>, start: CodeOffset, target: MachLabel)
+// Drops the last use of a branch, wherever it stands.
+fn drop_any_use(uses: &mut Vec<LabelFixup>, start: CodeOffset, target: MachLabel)
     ensures { uses.new.items ≡ without_use start target.0 uses.old.items }
 {
     match last_use(uses, start, target) {
@@ -133,6 +133,22 @@ pub fn drop_use(uses: &mut Vec<LabelFixup>, start: CodeOffset, target: MachLabel
         }
         None => {}
     }
+}
+
+/// Drops the last use of a branch. Most often it is the last of all.
+#[tactic(auto, using(crate::proofs::Ending::last_dropped))]
+pub fn drop_use(uses: &mut Vec<LabelFixup>, start: CodeOffset, target: MachLabel)
+    ensures { uses.new.items ≡ without_use start target.0 uses.old.items }
+{
+    let count = uses.len();
+    if count != 0 {
+        let last = count - 1;
+        if is_branch_use(uses[last], start, target) {
+            uses.truncate(last);
+            return;
+        }
+    }
+    drop_any_use(uses, start, target);
 }
 
 /// Drops the uses of a conditional branch and of the one behind it, and puts one of a branch to the second one's label.

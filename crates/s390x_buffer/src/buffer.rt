@@ -888,9 +888,7 @@ fn unbound(alloc: Global, count: u64) -> Result<Vec<Option<CodeOffset>>, AllocEr
     ensures { IfOk result (λ v. v.items ≡ replicate count None) }
 {
     let mut labels = Vec::new(alloc);
-    for _i in 0..count {
-        labels.push(None)?;
-    }
+    labels.resize(count as usize, None)?;
     Ok(labels)
 }
 

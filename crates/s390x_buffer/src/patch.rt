@@ -43,7 +43,11 @@ fn read4(bytes: &[u8], at: usize) -> u64
 fn half_between(offset: CodeOffset, target: CodeOffset) -> u32
     ensures { result ≡ half_between offset target }
 {
-    ((8589934592 + u64::from(target) - u64::from(offset)) / 2 % 4294967296) as u32
+    if target >= offset {
+        (target - offset) / 2
+    } else {
+        u32::MAX - (offset - target - 1) / 2
+    }
 }
 
 // The distance, modulo 2^32.
@@ -105,12 +109,13 @@ fn reaches(kind: LabelUse, offset: CodeOffset, target: CodeOffset) -> bool
 }
 
 // Whether the sum of a table's word and the distance is a signed word.
-fn fits_sum(kind: LabelUse, word: u64, offset: CodeOffset, target: CodeOffset) -> bool
-    requires { word < 4294967296 }
-    ensures { result ≡ sum_fits kind word offset target }
+fn fits_sum(bytes: &[u8], kind: LabelUse, offset: CodeOffset, target: CodeOffset) -> bool
+    requires { offset + 4 ≤ length bytes.now }
+    ensures { result ≡ sum_fits kind (word_from bytes.now offset) offset target }
 {
     match kind {
         LabelUse::PCRel32 => {
+            let word = read4(bytes, offset as usize);
             let sum = (word + 2147483648) % 4294967296 + u64::from(target);
             u64::from(offset) <= sum && sum < u64::from(offset) + 4294967296
         }
@@ -122,11 +127,9 @@ fn fits_sum(kind: LabelUse, word: u64, offset: CodeOffset, target: CodeOffset) -
 fn is_patchable(bytes: &[u8], kind: LabelUse, offset: CodeOffset, target: CodeOffset) -> bool
     ensures { result ≡ can_patch kind offset target bytes.now }
 {
-    if u64::from(offset) + u64::from(kind.patch_size()) > bytes.len() as u64 {
-        return false;
-    }
-    let word = read4(bytes, offset as usize);
-    reaches(kind, offset, target) && fits_sum(kind, word, offset, target)
+    u64::from(offset) + u64::from(kind.patch_size()) <= bytes.len() as u64
+        && reaches(kind, offset, target)
+        && fits_sum(bytes, kind, offset, target)
 }
 
 // Why the use can't be patched.
@@ -147,6 +150,7 @@ fn use_cause(bytes: &[u8], labels: &[Option<CodeOffset>], fixup: LabelFixup) -> 
 /// that the earlier ones left: by `UnboundLabel` where its label was never bound, and by
 /// `LabelOutOfRange` where its distance is odd or out of its range, a patched `PCRel32` sum
 /// leaves signed 32 bits, or its bytes lie past the end.
+#[inline(never)]
 pub fn patch_uses(
     bytes: &mut [u8],
     labels: &[Option<CodeOffset>],
