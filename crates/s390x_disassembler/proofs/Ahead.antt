@@ -104,16 +104,6 @@ read_line base c code bytes more rest behind m ms code_is at same is =
     none_left [] t e x y = y
     none_left (l ∷ ls) t e x y = absurd (omega (arith, e, at.place, x.0, x.1.inside))
 
-pub next_line : (base : ℕ) (c code rest bytes more : List ℕ) → IsBytes c → 0 < length rest → Ahead base c code rest → ((u r : List ℕ) → IsBytes u → IsFirstLine (address_of base (length code)) rest u r → (bytes ≡ u) × (more ≡ r)) → IsNext base c code bytes more
-next_line base c code rest bytes more hc some a reads = next a.lines a.covers a.spells
-  where
-    next : (ls : List Line) → Covers c (length code) (length c) ls → Spells base c ls rest → IsNext base c code bytes more
-    next [] x e = absurd (omega (arith, some, ap length e))
-    next (m ∷ ms) x e =
-        let at = at_line base c code rest m ms e.0 x.0 x.1 x.2 e.1 e.2 in
-        let t = reads (bytes_at c m) e.0 (part_bytes c m hc) at.first in
-        read_line base c code bytes more rest e.0 m ms a.code_is at t.0 t.1
-
 -- where no line is read, there is none
 pub no_line : (base : ℕ) (c code rest : List ℕ) → IsBytes c → 0 < length rest → Ahead base c code rest → ((u r : List ℕ) → IsBytes u → IsFirstLine (address_of base (length code)) rest u r → ⊥) → ⊥
 no_line base c code rest hc some a none = next a.lines a.covers a.spells
@@ -134,7 +124,3 @@ all_read base c code a = read a.lines a.covers a.spells
     read : (ls : List Line) → Covers c (length code) (length c) ls → Spells base c ls [] → code ≡ c
     read [] x e = a.code_is ∙ take_all (length code) c (omega (arith, x))
     read (l ∷ ls) x e = absurd (no_begin base c l e.0 e.1)
-
-pub no_bytes : (s : List ℕ) → length s ≡ 0 → s ≡ []
-no_bytes [] e = refl
-no_bytes (x ∷ s) e = absurd (omega (arith, e))

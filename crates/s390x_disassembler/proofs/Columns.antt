@@ -1,10 +1,9 @@
 -- A line that has its address and its bytes is read by them.
 use Rattle.std.proofs.Common.{◌≡◌, ℕ, ◌^◌, ◌<◌, false, true, List, [], ◌∷◌, ◌++◌, drop, append_assoc, sym, ap, subst, ◌∙◌, Option, Some, None, inl, inr}
-use Rattle.std.specs.Prelude.{Result, Ok, Err, MatchOption}
+use Rattle.std.specs.Prelude.{Ok, MatchOption}
 use Rattle.std.specs.Fmt.{digits}
 use Rattle.std.proofs.lemmas.List.{append_cancel_left}
 use Rattle.hex.specs.Hex.{encode_lower, decode_of, IsBytes}
-use Rattle.hex.specs.declared.error.FromHexError.{FromHexError}
 use Rattle.hex.proofs.HexLemmas.{decode_of-encode_lower}
 use Rattle.s390x_format.specs.declared.decoder.Located.{Located}
 use Rattle.s390x_disassembler.specs.Words.{NoBlank}
@@ -57,16 +56,3 @@ pub kept_known : {T : Type 0} (r : Option T) (items after : T → List ℕ) (tex
     → text ≡ line ++ more → is_unit u ≡ true → IsKnownLine text line bytes u rest → MatchOption r ⊥ (λ p. (items p ≡ u) × (after p ≡ rest))
 kept_known None items after text line bytes more u rest kept is unit k = let e : is_unit bytes ≡ true = ap is_unit k.same ∙ unit in cc
 kept_known (Some p) items after text line bytes more u rest kept is unit k = (kept.1 ∙ k.same, kept.2 ∙ append_cancel_left line more rest (sym is ∙ k.text_is))
-
-ok_not_err : (v : List ℕ) (e : FromHexError) → ◌≡◌ {A = Result (List ℕ) FromHexError} (Ok v) (Err e) → ⊥
-ok_not_err v e h = cc
-
-ok_same : (x y : List ℕ) → ◌≡◌ {A = Result (List ℕ) FromHexError} (Ok x) (Ok y) → x ≡ y
-ok_same x y e = cc
-
--- what is answered for digits
-pub decoded_ok : (w bytes : List ℕ) → decode_of w ≡ Ok bytes → (v : List ℕ) → decode_of w ≡ Ok v → bytes ≡ v
-decoded_ok w bytes e v h = ok_same bytes v (sym e ∙ h)
-
-pub decoded_err : (w bytes : List ℕ) (e : FromHexError) → decode_of w ≡ Err e → (v : List ℕ) → decode_of w ≡ Ok v → bytes ≡ v
-decoded_err w bytes e d v h = absurd (ok_not_err v e (sym h ∙ d))

@@ -29,23 +29,8 @@ first_blank (x ∷ xs) (y ∷ ys) p q h g e =
     record { before = ap₂ (λ (z : ℕ) (zs : List ℕ). z ∷ zs) (ap (λ (s : List ℕ). get_or s 0 0) e) t.before; after = t.after }
 
 digit_not_blank : (k : ℕ) → slice_index lower_digits k ≡ 32 → ⊥
-digit_not_blank zero e = omega (arith, e)
-digit_not_blank (suc zero) e = omega (arith, e)
-digit_not_blank (suc (suc zero)) e = omega (arith, e)
-digit_not_blank (suc (suc (suc zero))) e = omega (arith, e)
-digit_not_blank (suc (suc (suc (suc zero)))) e = omega (arith, e)
-digit_not_blank (suc (suc (suc (suc (suc zero))))) e = omega (arith, e)
-digit_not_blank (suc (suc (suc (suc (suc (suc zero)))))) e = omega (arith, e)
-digit_not_blank (suc (suc (suc (suc (suc (suc (suc zero))))))) e = omega (arith, e)
-digit_not_blank (suc (suc (suc (suc (suc (suc (suc (suc zero)))))))) e = omega (arith, e)
-digit_not_blank (suc (suc (suc (suc (suc (suc (suc (suc (suc zero))))))))) e = omega (arith, e)
-digit_not_blank (suc (suc (suc (suc (suc (suc (suc (suc (suc (suc zero)))))))))) e = omega (arith, e)
-digit_not_blank (suc (suc (suc (suc (suc (suc (suc (suc (suc (suc (suc zero))))))))))) e = omega (arith, e)
-digit_not_blank (suc (suc (suc (suc (suc (suc (suc (suc (suc (suc (suc (suc zero)))))))))))) e = omega (arith, e)
-digit_not_blank (suc (suc (suc (suc (suc (suc (suc (suc (suc (suc (suc (suc (suc zero))))))))))))) e = omega (arith, e)
-digit_not_blank (suc (suc (suc (suc (suc (suc (suc (suc (suc (suc (suc (suc (suc (suc zero)))))))))))))) e = omega (arith, e)
 digit_not_blank (suc (suc (suc (suc (suc (suc (suc (suc (suc (suc (suc (suc (suc (suc (suc zero))))))))))))))) e = omega (arith, e)
-digit_not_blank (suc (suc (suc (suc (suc (suc (suc (suc (suc (suc (suc (suc (suc (suc (suc (suc k)))))))))))))))) e = omega (arith, e)
+digit_not_blank k e = omega (arith, e)
 
 pub NoBlank-hex : (bs : List ℕ) → NoBlank (encode_lower bs)
 unfolding encode_with

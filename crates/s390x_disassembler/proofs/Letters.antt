@@ -12,39 +12,23 @@ IsPlaced s v = place_in (letters_for s) (name_in (letters_for s) v) % 256 ≡ v
 
 pub size_placed : (v : ℕ) → v < 5 → IsPlaced Size v
 unfolding name_in place_in
-size_placed zero lt = refl
-size_placed (suc zero) lt = refl
-size_placed (suc (suc zero)) lt = refl
-size_placed (suc (suc (suc zero))) lt = refl
-size_placed (suc (suc (suc (suc zero)))) lt = refl
 size_placed (suc (suc (suc (suc (suc v))))) lt = absurd (omega arith)
+size_placed v lt = refl
 
 pub half_placed : (v : ℕ) → v < 5 → IsPlaced HalfwordSize v
 unfolding name_in place_in
-half_placed zero lt = refl
-half_placed (suc zero) lt = refl
-half_placed (suc (suc zero)) lt = refl
-half_placed (suc (suc (suc zero))) lt = refl
-half_placed (suc (suc (suc (suc zero)))) lt = refl
 half_placed (suc (suc (suc (suc (suc v))))) lt = absurd (omega arith)
+half_placed v lt = refl
 
 plain_placed : (v : ℕ) → v < 5 → IsPlaced SizeAndCode (v + 8 * 0)
 unfolding name_in place_in
-plain_placed zero lt = refl
-plain_placed (suc zero) lt = refl
-plain_placed (suc (suc zero)) lt = refl
-plain_placed (suc (suc (suc zero))) lt = refl
-plain_placed (suc (suc (suc (suc zero)))) lt = refl
 plain_placed (suc (suc (suc (suc (suc v))))) lt = absurd (omega arith)
+plain_placed v lt = refl
 
 set_placed : (v : ℕ) → v < 5 → IsPlaced SizeAndCode (v + 8 * 1)
 unfolding name_in place_in
-set_placed zero lt = refl
-set_placed (suc zero) lt = refl
-set_placed (suc (suc zero)) lt = refl
-set_placed (suc (suc (suc zero))) lt = refl
-set_placed (suc (suc (suc (suc zero)))) lt = refl
 set_placed (suc (suc (suc (suc (suc v))))) lt = absurd (omega arith)
+set_placed v lt = refl
 
 pub code_placed : (v c : ℕ) → v < 5 → c < 2 → IsPlaced SizeAndCode (v + 8 * c)
 code_placed v zero lv lc = plain_placed v lv

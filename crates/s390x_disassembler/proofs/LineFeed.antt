@@ -13,23 +13,8 @@ use Rattle.s390x_disassembler.proofs.Distinct.{line_and_rest}
 use Rattle.s390x_disassembler.proofs.FieldText.{IsClear, clear_both, clear_digits, located_clear}
 
 digit_clear : (k : ℕ) → slice_index lower_digits k ≡ 10 → ⊥
-digit_clear zero e = omega (arith, e)
-digit_clear (suc zero) e = omega (arith, e)
-digit_clear (suc (suc zero)) e = omega (arith, e)
-digit_clear (suc (suc (suc zero))) e = omega (arith, e)
-digit_clear (suc (suc (suc (suc zero)))) e = omega (arith, e)
-digit_clear (suc (suc (suc (suc (suc zero))))) e = omega (arith, e)
-digit_clear (suc (suc (suc (suc (suc (suc zero)))))) e = omega (arith, e)
-digit_clear (suc (suc (suc (suc (suc (suc (suc zero))))))) e = omega (arith, e)
-digit_clear (suc (suc (suc (suc (suc (suc (suc (suc zero)))))))) e = omega (arith, e)
-digit_clear (suc (suc (suc (suc (suc (suc (suc (suc (suc zero))))))))) e = omega (arith, e)
-digit_clear (suc (suc (suc (suc (suc (suc (suc (suc (suc (suc zero)))))))))) e = omega (arith, e)
-digit_clear (suc (suc (suc (suc (suc (suc (suc (suc (suc (suc (suc zero))))))))))) e = omega (arith, e)
-digit_clear (suc (suc (suc (suc (suc (suc (suc (suc (suc (suc (suc (suc zero)))))))))))) e = omega (arith, e)
-digit_clear (suc (suc (suc (suc (suc (suc (suc (suc (suc (suc (suc (suc (suc zero))))))))))))) e = omega (arith, e)
-digit_clear (suc (suc (suc (suc (suc (suc (suc (suc (suc (suc (suc (suc (suc (suc zero)))))))))))))) e = omega (arith, e)
 digit_clear (suc (suc (suc (suc (suc (suc (suc (suc (suc (suc (suc (suc (suc (suc (suc zero))))))))))))))) e = omega (arith, e)
-digit_clear (suc (suc (suc (suc (suc (suc (suc (suc (suc (suc (suc (suc (suc (suc (suc (suc k)))))))))))))))) e = omega (arith, e)
+digit_clear k e = omega (arith, e)
 
 hex_clear : (bs : List ℕ) → IsClear (encode_lower bs)
 unfolding encode_with

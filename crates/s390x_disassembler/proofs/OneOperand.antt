@@ -58,11 +58,8 @@ integer_read kind a o p slot m text before after rest z np reads_is each set is 
 
 -- ---- registers and masks
 pub regs_at : (kind : FormatKind) (s : List ℕ) (j : ℕ) → j < 4 → slice_index (fields_of kind s).regs j ≡ slice_index s (1 + j)
-regs_at kind s zero lt = refl
-regs_at kind s (suc zero) lt = refl
-regs_at kind s (suc (suc zero)) lt = refl
-regs_at kind s (suc (suc (suc zero))) lt = refl
 regs_at kind s (suc (suc (suc (suc j)))) lt = absurd (omega arith)
+regs_at kind s j lt = refl
 
 pub regs_small : (kind : FormatKind) (s : List ℕ) (j : ℕ) → SlotsFit (layout_of kind) s → j < 4 → slice_index s (1 + j) < 2 ^ 8
 regs_small kind s zero fit lt = slot_below kind s 1 (omega arith) fit
@@ -72,10 +69,8 @@ regs_small kind s (suc (suc (suc zero))) fit lt = slot_below kind s 4 (omega ari
 regs_small kind s (suc (suc (suc (suc j)))) fit lt = absurd (omega arith)
 
 pub masks_at : (kind : FormatKind) (s : List ℕ) (j : ℕ) → j < 3 → slice_index (fields_of kind s).masks j ≡ slice_index s (5 + j)
-masks_at kind s zero lt = refl
-masks_at kind s (suc zero) lt = refl
-masks_at kind s (suc (suc zero)) lt = refl
 masks_at kind s (suc (suc (suc j))) lt = absurd (omega arith)
+masks_at kind s j lt = refl
 
 pub masks_small : (kind : FormatKind) (s : List ℕ) (j : ℕ) → SlotsFit (layout_of kind) s → j < 3 → slice_index s (5 + j) < 2 ^ 8
 masks_small kind s zero fit lt = slot_below kind s 5 (omega arith) fit
@@ -134,9 +129,7 @@ unnamed_read kind a text before after rest =
 -- ---- immediates
 imm_plain : (c : Imm) (n : ℕ) → is_unsigned c ≡ true → imm_of c n ≡ pos n
 imm_plain ClassUnsigned n e = refl
-imm_plain ClassSigned16 n e = cc
-imm_plain Half16 n e = cc
-imm_plain Half32 n e = cc
+imm_plain c n e = cc
 
 pub unsigned_is : (kind : FormatKind) (a : ℕ) (s : List ℕ) → SlotsFit (layout_of kind) s → suits kind Unsigned ≡ true → IsInteger kind a Unsigned [] 8 (2 ^ 32) s (pos (slice_index s 8))
 unsigned_is kind a s fit suit =
@@ -280,14 +273,11 @@ two_choices false true u v t z hp hq = hq refl
 two_choices false false u v t z hp hq = refl
 
 three_choices : (p q r : Bool) (u v w t z : ℕ) → (p ≡ true → u ≡ t) → (q ≡ true → v ≡ t) → (r ≡ true → w ≡ t) → (if r then w else (if q then v else (if p then u else z))) ≡ (if p || q || r then t else z)
-three_choices true true true u v w t z hp hq hr = hr refl
 three_choices true true false u v w t z hp hq hr = hq refl
-three_choices true false true u v w t z hp hq hr = hr refl
 three_choices true false false u v w t z hp hq hr = hp refl
-three_choices false true true u v w t z hp hq hr = hr refl
 three_choices false true false u v w t z hp hq hr = hq refl
-three_choices false false true u v w t z hp hq hr = hr refl
 three_choices false false false u v w t z hp hq hr = refl
+three_choices p q r u v w t z hp hq hr = hr refl
 
 pub storage_read : (kind : FormatKind) (a base x b : ℕ) (text before middle after rest last : List ℕ) → IsSet 9 (signed_read (number_on text) % 2 ^ 20) before middle → rest ≡ signed_left (number_on text)
     → AreRegisters rest x b last → IsSet (1 + base) b middle after → IsRead kind a (Storage base) text before after last

@@ -40,34 +40,14 @@ last_one letters f NonzeroMask [] h e = refl
 last_one letters f NonzeroMask (p ∷ os) h e = absurd (omega (arith, eqb-true (length (p ∷ os)) 0 h))
 last_one letters f UnnamedMask [] h e = refl
 last_one letters f UnnamedMask (p ∷ os) h e = absurd (omega (arith, eqb-true (length (p ∷ os)) 0 h))
-last_one letters f (General j) os h e = cc
-last_one letters f (Float j) os h e = cc
-last_one letters f (Vector j) os h e = cc
-last_one letters f (Access j) os h e = cc
-last_one letters f (Mask j) os h e = cc
-last_one letters f Unsigned os h e = cc
-last_one letters f Signed16 os h e = cc
-last_one letters f Signed32 os h e = cc
-last_one letters f Target os h e = cc
-last_one letters f (Storage b) os h e = cc
-last_one letters f (Indexed i b) os h e = cc
+last_one letters f o os h e = cc
 
 order_rest : (o : Operand) (os : List Operand) → is_in_order (o ∷ os) ≡ true → is_in_order os ≡ true
 order_rest NonzeroMask [] h = refl
 order_rest NonzeroMask (p ∷ os) h = absurd (omega (arith, eqb-true (length (p ∷ os)) 0 h))
 order_rest UnnamedMask [] h = refl
 order_rest UnnamedMask (p ∷ os) h = absurd (omega (arith, eqb-true (length (p ∷ os)) 0 h))
-order_rest (General j) os h = h
-order_rest (Float j) os h = h
-order_rest (Vector j) os h = h
-order_rest (Access j) os h = h
-order_rest (Mask j) os h = h
-order_rest Unsigned os h = h
-order_rest Signed16 os h = h
-order_rest Signed32 os h = h
-order_rest Target os h = h
-order_rest (Storage b) os h = h
-order_rest (Indexed i b) os h = h
+order_rest o os h = h
 
 -- what is left of the operands, and what of the values is known
 pub record IsLeft (kind : FormatKind) (a separator : ℕ) (letters : List ℕ) (os : List Operand) (values slots text more : List ℕ) : Type 0 where
@@ -167,6 +147,3 @@ left_else kind a separator i os d slots text nay lt letters values more left =
     let e : i + 1 ≡ suc i = omega arith in
     subst (λ (n : ℕ). IsLeft kind a separator letters (drop n os) values slots text more) (sym e)
     (skip_one kind a separator letters (slice_index_or os i d) (drop (suc i) os) values slots text more nay (subst (λ (ps : List Operand). IsLeft kind a separator letters ps values slots text more) (drop-cons os i d lt) left))
-
-pub left_begin : (kind : FormatKind) (a : ℕ) (letters : List ℕ) (os : List Operand) (values slots text more : List ℕ) → AreWritten kind a 32 letters os values text more → AreKnown kind letters os values slots → IsLeft kind a 32 letters os values slots text more
-left_begin kind a letters os values slots text more h g = record { written = h; known = g }

@@ -307,10 +307,6 @@ none_behind base text code bytes rest more lines some left so part first reads =
     λ c hc s. omega (arith, left, ap length ((has.next c more hc (subst (λ (t : List ℕ). IsSource base c t) has.text_is s)).ends part))
 
 -- ---- answers
-pub code_read : (base : ℕ) (text code rest : List ℕ) (lines : ℕ) → length rest ≡ 0 → IsSoFar base text code rest lines → IsSource base code text
-code_read base text code [] lines none so = subst (λ (t : List ℕ). IsSource base code t) (sym (so.text_is ∙ append-nil so.before)) so.source
-code_read base text code (x ∷ rest) lines none so = absurd (omega (arith, none))
-
 pub only_read : (base : ℕ) (text code rest : List ℕ) (lines : ℕ) → length rest ≡ 0 → IsSoFar base text code rest lines → IsOnlySource base code text
 only_read base text code [] lines none so = λ c hc s. all_read base c code (so.ahead c [] hc (subst (λ (t : List ℕ). IsSource base c t) so.text_is s))
 only_read base text code (x ∷ rest) lines none so = absurd (omega (arith, none))

@@ -21,14 +21,7 @@ use Rattle.s390x_disassembler.proofs.Start.{told, written_place, IsKnownAt}
 -- no letters are of the opcode
 opcode_plain : (s : Suffix) (p v : ℕ) → told_value s p 0 v ≡ v
 opcode_plain Plain p v = refl
-opcode_plain ThirdSize p v = refl
-opcode_plain Return p v = refl
-opcode_plain SizeAndCode p v = refl
-opcode_plain Size p v = refl
-opcode_plain HalfwordSize p v = refl
-opcode_plain Condition p v = refl
-opcode_plain Trap p v = refl
-opcode_plain Jump p v = refl
+opcode_plain s p v = refl
 
 -- a legible row's parts
 pub record Legible (row : MachineRow) (s : Suffix) (os : List Operand) : Type 0 where

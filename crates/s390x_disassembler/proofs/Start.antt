@@ -96,11 +96,7 @@ told_plain Plain p k v e = refl
 told_plain ThirdSize p k v e = if_no (k == 7) p v (not_true (k == 7) e)
 told_plain Return p k v e = if_no (k == 1) p v (not_true (k == 1) e)
 told_plain SizeAndCode p k v e = let n = or_parts (k == 5) (k == 6) (not_true ((k == 5) || (k == 6)) e) in if_no (k == 5) (p % 8) _ n.0 ∙ if_no (k == 6) (p / 8) v n.1
-told_plain Size p k v e = if_no (k == 5) p v (not_true (k == 5) e)
-told_plain HalfwordSize p k v e = if_no (k == 5) p v (not_true (k == 5) e)
-told_plain Condition p k v e = if_no (k == 5) p v (not_true (k == 5) e)
-told_plain Trap p k v e = if_no (k == 5) p v (not_true (k == 5) e)
-told_plain Jump p k v e = if_no (k == 5) p v (not_true (k == 5) e)
+told_plain s p k v e = if_no (k == 5) p v (not_true (k == 5) e)
 
 -- the values of the masks where a row allows one
 abbrev IsPinnedAt : MachineRow → List ℕ → ℕ → Type 0
@@ -141,12 +137,7 @@ pinned from DoublewordPair values k h e =
       | inl x ↦ at_slot row values k 6 x (sym (eqb-true (slice_index values 6) 0 q.1))
       | inr x ↦ at_slot row values k 7 x (sym (eqb-true (slice_index values 7) 0 p.1))
     ]
-pinned from Any values k h e = cc
-pinned from ComparedLanes values k h e = cc
-pinned from RotateBits values k h e = cc
-pinned from RotateBitsOrTest values k h e = cc
-pinned from BitRange values k h e = cc
-pinned from ReplicatedLane values k h e = cc
+pinned from al values k h e = cc
 
 -- ---- letters
 sized : (al : Allowed) (values : List ℕ) → is_allowed al values ≡ true → is_sized al ≡ true → slice_index values 5 < 5
@@ -156,27 +147,14 @@ sized (FirstMask low high) values h e =
     let r = and_parts (nat_le low (slice_index values 5)) (nat_le (slice_index values 5) high) q.0 in
     omega (arith, leb-true (slice_index values 5) high r.1, leb-true high 4 e)
 sized ReplicatedLane values h e = let r = and_parts (nat_lt (slice_index values 5) 4) (nat_lt (slice_index values 8) (2 ^ (4 - slice_index values 5))) h in omega (arith, ltb-true (slice_index values 5) 4 r.0)
-sized Any values h e = cc
-sized CountMode values h e = cc
-sized ComparedLanes values h e = cc
-sized DoublewordPair values h e = cc
-sized RotateBits values h e = cc
-sized RotateBitsOrTest values h e = cc
-sized BitRange values h e = cc
+sized al values h e = cc
 
 ranged : (al : Allowed) (values : List ℕ) → is_allowed al values ≡ true → has_bit_range al ≡ true → slice_index values 7 < 5
 ranged BitRange values h e =
     let p = and_parts (nat_lt (slice_index values 7) 4 && nat_lt (slice_index values 5) (8 * 2 ^ slice_index values 7)) (nat_lt (slice_index values 6) (8 * 2 ^ slice_index values 7)) h in
     let r = and_parts (nat_lt (slice_index values 7) 4) (nat_lt (slice_index values 5) (8 * 2 ^ slice_index values 7)) p.0 in
     omega (arith, ltb-true (slice_index values 7) 4 r.0)
-ranged Any values h e = cc
-ranged (FirstMask low high) values h e = cc
-ranged CountMode values h e = cc
-ranged ComparedLanes values h e = cc
-ranged DoublewordPair values h e = cc
-ranged RotateBits values h e = cc
-ranged RotateBitsOrTest values h e = cc
-ranged ReplicatedLane values h e = cc
+ranged al values h e = cc
 
 record AreLanes (values : List ℕ) : Type 0 where
   size : slice_index values 5 < 5
@@ -186,14 +164,7 @@ lanes : (al : Allowed) (values : List ℕ) → is_allowed al values ≡ true →
 lanes ComparedLanes values h e =
     let r = and_parts (nat_le (slice_index values 5) 4) (nat_le (slice_index values 6) 1) h in
     record { size = omega (arith, leb-true (slice_index values 5) 4 r.0); code = omega (arith, leb-true (slice_index values 6) 1 r.1) }
-lanes Any values h e = cc
-lanes (FirstMask low high) values h e = cc
-lanes CountMode values h e = cc
-lanes DoublewordPair values h e = cc
-lanes RotateBits values h e = cc
-lanes RotateBitsOrTest values h e = cc
-lanes BitRange values h e = cc
-lanes ReplicatedLane values h e = cc
+lanes al values h e = cc
 
 -- the value in a slot is known, or an operand tells it
 abbrev pub IsKnownAt : MachineRow → Suffix → List ℕ → List Operand → List ℕ → ℕ → ℕ → Type 0

@@ -66,25 +66,10 @@ is_asked _ _ = false
 asked_is_had : (f : IsaFlags) (n : Facility) (asked : InstructionSet) → is_asked n asked ≡ true → has_facility f asked ≡ true → has_needed n f ≡ true
 asked_is_had f Base asked is has = refl
 asked_is_had f Mie3 Asked.MIE3 is has = has
-asked_is_had f Mie3 Asked.Base is has = absurd (cc)
-asked_is_had f Mie3 Asked.MIE4 is has = absurd (cc)
-asked_is_had f Mie3 Asked.VXRS_EXT2 is has = absurd (cc)
-asked_is_had f Mie3 Asked.VXRS_EXT3 is has = absurd (cc)
 asked_is_had f Mie4 Asked.MIE4 is has = has
-asked_is_had f Mie4 Asked.Base is has = absurd (cc)
-asked_is_had f Mie4 Asked.MIE3 is has = absurd (cc)
-asked_is_had f Mie4 Asked.VXRS_EXT2 is has = absurd (cc)
-asked_is_had f Mie4 Asked.VXRS_EXT3 is has = absurd (cc)
 asked_is_had f VxrsExt2 Asked.VXRS_EXT2 is has = has
-asked_is_had f VxrsExt2 Asked.Base is has = absurd (cc)
-asked_is_had f VxrsExt2 Asked.MIE3 is has = absurd (cc)
-asked_is_had f VxrsExt2 Asked.MIE4 is has = absurd (cc)
-asked_is_had f VxrsExt2 Asked.VXRS_EXT3 is has = absurd (cc)
 asked_is_had f VxrsExt3 Asked.VXRS_EXT3 is has = has
-asked_is_had f VxrsExt3 Asked.Base is has = absurd (cc)
-asked_is_had f VxrsExt3 Asked.MIE3 is has = absurd (cc)
-asked_is_had f VxrsExt3 Asked.MIE4 is has = absurd (cc)
-asked_is_had f VxrsExt3 Asked.VXRS_EXT2 is has = absurd (cc)
+asked_is_had f n asked is has = absurd (cc)
 
 -- ---- rows whose facility is told by the opcode alone
 

@@ -140,12 +140,7 @@ whole_as_given flags L after i plain = go (accesses_relative (memory i)) flags.n
 body_as_given : (flags : IsaFlags) (L : Layout) (after : ℕ) (b : StepBody) → DoesAsGiven flags L (step_of after (body_for flags b)) (step_of after b)
 body_as_given flags L after (Whole (CondBreak mask)) = same refl
 body_as_given flags L after (Whole i) = whole_as_given flags L after i refl
-body_as_given flags L after (Loaded i) = same refl
-body_as_given flags L after (Folded r i) = same refl
-body_as_given flags L after (CallStep c) = same refl
-body_as_given flags L after NoLoad = same refl
-body_as_given flags L after (TailOpening target first_saved is_lost) = same refl
-body_as_given flags L after (TailJump target) = same refl
+body_as_given flags L after b = same refl
 
 -- ---- lists of steps
 

@@ -1,5 +1,5 @@
 -- A tree on a machine by its flags: what its members give stands before what those behind them give, with the same labels and nominal sizes.
-use Rattle.std.proofs.Common.{◌≡◌, ℕ, ◌+◌, ◌<◌, Bool, true, false, ◌&&◌, List, [], ◌∷◌, Some, get_or, length, drop, map, refl, ap, ◌∙◌}
+use Rattle.std.proofs.Common.{◌≡◌, ℕ, ◌+◌, ◌<◌, Bool, true, false, ◌&&◌, List, Some, get_or, length, drop, refl, ap, ◌∙◌}
 use Rattle.s390x_base.specs.declared.error.EmitError.{EmitError}
 use Rattle.s390x_inst.specs.Emission.{Emission}
 use Rattle.s390x_inst.specs.declared.inst.Inst.{Inst}
@@ -10,7 +10,7 @@ use Rattle.s390x_typed_steps.specs.Calls.{safepoint}
 use Rattle.s390x_typed_steps.specs.Causes.{Declared, first_emit_cause, body_fresh_labels, body_nominal_after, fresh_labels, nominal_behind, tree_cause}
 use Rattle.s390x_typed_steps.specs.Memory.{memory, accesses_relative}
 use Rattle.s390x_typed_steps.specs.Stack.{nominal_after, state_after}
-use Rattle.s390x_typed_steps.specs.Tree.{StepBody, Tree, Whole, Loaded, Folded, CallStep, NoLoad, TailOpening, TailJump, empty, leaf, leaves, loop_node, prepend, tree, block_tree}
+use Rattle.s390x_typed_steps.specs.Tree.{StepBody, Tree, Whole, Loaded, Folded, CallStep, NoLoad, TailOpening, TailJump, empty, leaf, loop_node, prepend, tree, block_tree}
 use Rattle.s390x_typed_steps.proofs.Causes.{joined_cause}
 use Rattle.s390x_typed_steps.proofs.Trees.{behind, block_behind, joined, prepend_joined, prepend_nominal}
 
@@ -18,10 +18,6 @@ pub for_joined : (flags : IsaFlags) (t u : Tree) → tree_for flags (joined t u)
 for_joined flags empty u = refl
 for_joined flags (leaf b t) u = ap (leaf (body_for flags b)) (for_joined flags t u)
 for_joined flags (loop_node mask members t) u = ap (loop_node mask (tree_for flags members)) (for_joined flags t u)
-
-pub for_leaves : (flags : IsaFlags) (bs : List StepBody) (rest : Tree) → tree_for flags (leaves bs rest) ≡ leaves (map (body_for flags) bs) (tree_for flags rest)
-for_leaves flags [] rest = refl
-for_leaves flags (b ∷ bs) rest = ap (leaf (body_for flags b)) (for_leaves flags bs rest)
 
 -- what an instruction becomes stands before the rest
 pub for_prepend : (flags : IsaFlags) (e : Emission) (i : Inst) (rest : Tree) → tree_for flags (prepend e i rest) ≡ joined (tree_for flags (prepend e i empty)) (tree_for flags rest)
@@ -102,12 +98,7 @@ and_false false b e = refl
 
 body_same : (flags : IsaFlags) (b : StepBody) → flags.no_relative_memory ≡ false → body_for flags b ≡ b
 body_same flags (Whole i) e = ap (λ t. whole_or_loaded t i) (and_false (accesses_relative (memory i)) flags.no_relative_memory e)
-body_same flags (Loaded i) e = refl
-body_same flags (Folded r i) e = refl
-body_same flags (CallStep c) e = refl
-body_same flags NoLoad e = refl
-body_same flags (TailOpening target first_saved is_lost) e = refl
-body_same flags (TailJump target) e = refl
+body_same flags b e = refl
 
 pub for_relative_machine : (flags : IsaFlags) (t : Tree) → flags.no_relative_memory ≡ false → tree_for flags t ≡ t
 for_relative_machine flags empty e = refl

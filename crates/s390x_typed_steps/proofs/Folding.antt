@@ -1,6 +1,6 @@
 -- Folding changes neither what refuses a function nor the numbers of its steps and labels, and makes no block longer.
 use Rattle.std.proofs.Common.{◌≡◌, ℕ, zero, suc, ◌+◌, ◌-◌, ◌≤◌, List, [], ◌∷◌, length, Option, Some, None, Bool, true, false, cond, nat_eq, refl, sym, ap, ap₂, ◌∙◌, arith}
-use Rattle.std.proofs.Math.Nat.{le-max_right, max-le}
+use Rattle.std.proofs.Math.Nat.{max-le}
 use Rattle.s390x_base.specs.declared.error.EmitError.{EmitError}
 use Rattle.s390x_base.specs.declared.error.EmitError.TheVariants.{BadStackState}
 use Rattle.s390x_base.specs.declared.ir.MachLabel.{MachLabel}
@@ -215,15 +215,6 @@ folded_length b (t ∷ ts) = ap suc (folded_length (b + 1) ts)
 pub folded_blocks_masked : (b : ℕ) (ts : List Tree) → BlocksInRange ts → BlocksMasked (folded_from b ts)
 folded_blocks_masked b [] h = tt
 folded_blocks_masked b (t ∷ ts) h = (before_masked (next_block b ts) t (tree_masked t h.0), folded_blocks_masked (b + 1) ts h.1)
-
--- what is emitted at last is no longer than it was at any time
-pub peak_last : (b before : ℕ) (ts : List Tree) → before + blocks_size (folded_from b ts) ≤ peak_from b before ts
-peak_last b before [] = omega arith
-peak_last b before (t ∷ ts) =
-    let shorter = folded_before (next_block b ts) t in
-    let last = peak_last (b + 1) (before + tree_size shorter) ts in
-    let more = le-max_right (before + tree_size t) (peak_from (b + 1) (before + tree_size shorter) ts) in
-    omega (arith, last, more)
 
 -- and no longer than the blocks are as they are given
 pub peak_few : (b before : ℕ) (ts : List Tree) → peak_from b before ts ≤ before + blocks_size ts

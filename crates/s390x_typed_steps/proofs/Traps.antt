@@ -46,10 +46,6 @@ above_append : (low : ℕ) (a b : List TrapEntry) → Above low a → Above low 
 above_append low [] b h k = k
 above_append low (e ∷ a) b h k = (h.0, above_append low a b h.1 k)
 
-below_append : (high : ℕ) (a b : List TrapEntry) → Below high a → Below high b → Below high (a ++ b)
-below_append high [] b h k = k
-below_append high (e ∷ a) b h k = (h.0, below_append high a b h.1 k)
-
 above_more : (low lower : ℕ) (es : List TrapEntry) → lower ≤ low → Above low es → Above lower es
 above_more low lower [] le h = tt
 above_more low lower (e ∷ es) le h = (omega (arith, h.0), above_more low lower es le h.1)
@@ -88,16 +84,8 @@ none_behind (e ∷ a) b o none = ap (λ rest. cond (e.offset == o) (Some e.code)
 
 part_above : (p : ℕ) (part : CodePart) → Above p (part_traps p part)
 part_above p (Trapping m byte code) = (omega arith, tt)
-part_above p (Row m) = tt
-part_above p (Branch mask target) = tt
-part_above p (Relative opcode register target) = tt
-part_above p (RelativeConstant opcode register constant) = tt
-part_above p (RelativeSymbol opcode register name offset) = tt
-part_above p (SymbolValue name offset) = tt
 part_above p (TrapHere code) = (omega arith, tt)
-part_above p (TableWord before target) = tt
-part_above p (CallSymbol link name) = tt
-part_above p (SiteHere site) = tt
+part_above p part = tt
 
 parts_above : (p : ℕ) (parts : List CodePart) → Above p (parts_traps p parts)
 parts_above p [] = tt
@@ -128,16 +116,9 @@ rows_inside (m ∷ ms) = rows_inside ms
 
 branch_inside : (i : Inst) → Inside (branch_parts i)
 unfolding length_of
-branch_inside (Jump dest) = tt
-branch_inside (CondBr taken not_taken mask) = tt
-branch_inside (IndirectBr rn targets) = tt
-branch_inside (Ret link) = tt
 branch_inside (JTSequence ridx other mask targets) = words_inside 0 targets.items
-branch_inside (LabelAddress dst label) = tt
-branch_inside (LoadSymbolReloc rd reloc) = tt
 branch_inside (Trap code) = (omega arith, tt)
 branch_inside (TrapIf mask code) = (omega arith, tt)
-branch_inside Debugtrap = tt
 branch_inside (Vector v) = rows_inside (composite_rows v)
 branch_inside i = tt
 
@@ -179,12 +160,7 @@ relative_part_inside opcode register code m e = absurd (cc)
 
 relative_inside : (form : StorageForm) (code : Option TrapKind) (m : MemArg) → is_relative m ≡ true → Inside (relative_parts form code m)
 relative_inside (RxForm register short long (Some opcode)) code m e = relative_part_inside opcode register code m e
-relative_inside (RxForm register short long None) code m e = tt
-relative_inside (RsForm first second short long) code m e = tt
-relative_inside (SiForm imm short long) code m e = tt
-relative_inside (SilForm bits opcode) code m e = tt
-relative_inside (VrxForm register opcode mask) code m e = tt
-relative_inside (FloatForm register short long) code m e = tt
+relative_inside form code m e = tt
 
 operand_inside : (form : StorageForm) (code : Option TrapKind) (m : MemArg) → Inside (operand_parts form code m)
 operand_inside form code m = go (is_relative m) refl
@@ -229,13 +205,9 @@ step_inside (Plain i) = instruction_inside (single_instruction i) (stop_code i) 
 step_inside (Shortened NothingLeft i) = tt
 step_inside (Shortened (BranchLeft mask b) i) = tt
 step_inside (LoadedStep i) = memory_inside (loaded_memory i) [] tt
-step_inside Opening = tt
-step_inside (Back mask target) = tt
-step_inside (Break mask target) = tt
 step_inside (CallingStep c) = call_inside c.link c.target c.sites
-step_inside NoLoadStep = tt
-step_inside (TailOpeningStep target first_saved is_lost) = tt
 step_inside (TailJumpStep target) = tail_inside target
+step_inside s = tt
 
 step_below : (p : ℕ) (s : Step) → Below (p + step_size s) (step_traps p s)
 step_below p s = parts_below p (p + step_size s) (step_parts s) (omega arith) (step_inside s)

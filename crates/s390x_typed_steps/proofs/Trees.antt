@@ -1,7 +1,6 @@
 -- The tree of a loop's members is that of its list; a member comes before those behind it.
-use Rattle.std.proofs.Common.{◌≡◌, ℕ, suc, ◌+◌, ◌<◌, ◌≤◌, Bool, true, false, cond, Option, Some, None, List, [], ◌∷◌, ◌++◌, length, get_or, drop, drop-cons, refl, sym, ap, ◌∙◌, Vec, Global, arith}
+use Rattle.std.proofs.Common.{◌≡◌, ℕ, suc, ◌+◌, ◌<◌, Bool, true, false, cond, Option, Some, None, List, [], ◌∷◌, ◌++◌, length, get_or, drop, drop-cons, refl, sym, ap, ◌∙◌, Vec, Global, arith}
 use Rattle.std.specs.Prelude.{pos, ◌-ℤ◌}
-use Rattle.std.proofs.lemmas.List.{drop_all}
 use Rattle.s390x_typed_steps.specs.Tree.{StepBody, Tree, Whole, empty, leaf, leaves, loop_node, prepend, row_tree, tree, block_tree}
 use Rattle.s390x_base.specs.declared.ir.ValueType.{ValueType}
 use Rattle.s390x_base.specs.declared.ir.ValueType.TheVariants.{I8X8}
@@ -46,10 +45,6 @@ pub behind : (e : Emission) (is : List Inst) (k : ℕ) (i : Inst) → k < length
 behind e is k i lt at =
     let k1 : suc k ≡ k + 1 = omega arith in
     ap (tree e) (drop-cons is k i lt ∙ ap (λ x. x ∷ drop (suc k) is) (sym at) ∙ ap (λ m. i ∷ drop m is) k1)
-
--- where the index has passed the last, nothing is left
-pub drained : (e : Emission) (is : List Inst) (k : ℕ) → length is ≤ k → tree e (drop k is) ≡ empty
-drained e is k h = ap (tree e) (drop_all k is h)
 
 -- one tree before another
 abbrev pub joined : (t u : Tree) → Tree
@@ -98,9 +93,6 @@ pub block_behind : (e : Emission) (is : List Inst) (k : ℕ) (i : Inst) → k < 
 block_behind e is k i lt at =
     let k1 : suc k ≡ k + 1 = omega arith in
     ap (block_tree e) (drop-cons is k i lt ∙ ap (λ x. x ∷ drop (suc k) is) (sym at) ∙ ap (λ m. i ∷ drop m is) k1)
-
-pub block_drained : (e : Emission) (is : List Inst) (k : ℕ) → length is ≤ k → block_tree e (drop k is) ≡ empty
-block_drained e is k h = ap (block_tree e) (drop_all k is h)
 
 -- ---- steps before others
 
