@@ -1,2 +1,4 @@
+pub mod Lines
 pub mod Listing
+pub mod SetTexts
 pub mod Shown

@@ -2,7 +2,11 @@
 #![tactic(auto)]
 
 mod head;
+mod item_list;
+mod items;
+mod members;
 mod operands;
+mod registers;
 mod texts;
 
 pub use operands::listed_operands;

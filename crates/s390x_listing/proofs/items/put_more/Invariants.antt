@@ -1,6 +1,6 @@
 use Rattle.std.proofs.Common.{◌≡◌, ◌++◌, drop, string_bytes}
 use Rattle.s390x_listing.specs.Operands.{more_items}
-use Rattle.s390x_listing.proofs.operands.put_more.Given as goal
+use Rattle.s390x_listing.proofs.items.put_more.Given as goal
 
 -- what is written, with the items that are left
 abbrev pub invariant-loop-item : goal.invariant-loop-item

@@ -1,0 +1,117 @@
+//! A visitor that keeps the items of one instruction.
+ghost use Rattle.std.specs.Prelude.{◌≡◌, ◌++◌, false, []};
+ghost use Rattle.s390x_operands.specs.Visits.{Takes};
+
+use s390x_base::{PReg, PRegSet, Reg};
+use s390x_operands::{
+    OperandConstraint, OperandError, OperandKind, OperandPos, OperandVisitor, Reported,
+};
+use std::alloc::Global;
+
+/// A visitor that keeps what it is told, and denies nothing: the real registers that come before any other item by
+/// themselves, since where all registers are real most lines have no other. It refuses for want of memory alone.
+#[derive(Drop)]
+pub struct ItemList {
+    fixed: Vec<PReg>,
+    others: Vec<Reported>,
+}
+
+impl ItemList {
+    ghost use Rattle.s390x_listing.specs.Lists.{items_in};
+
+    /// A visitor that was told nothing yet.
+    pub fn new(alloc: Global) -> ItemList {
+        ItemList {
+            fixed: Vec::new(alloc),
+            others: Vec::new(alloc),
+        }
+    }
+
+    /// The real registers that came before any other item.
+    pub fn fixed(&self) -> &[PReg]
+        ensures { result.now ≡ self.now.fixed.items }
+    {
+        &self.fixed
+    }
+
+    /// The items behind those.
+    pub fn others(&self) -> &[Reported]
+        ensures { result.now ≡ self.now.others.items }
+    {
+        &self.others
+    }
+
+    /// Forgets what was reported, and keeps the room for it.
+    pub fn clear(&mut self)
+        ensures { items_in self.new ≡ [] }
+    {
+        self.fixed.clear();
+        self.others.clear();
+    }
+
+    // Keeps one item behind all others.
+    #[inline(always)]
+    fn take(&mut self, item: Reported) -> Result<(), OperandError>
+        ensures { Takes false item (items_in self.old) (items_in self.new) result }
+    {
+        match self.others.extend_from_slice(&[item]) {
+            Ok(()) => Ok(()),
+            Err(_) => Err(OperandError::NoMemory),
+        }
+    }
+
+    // Keeps a real register behind all others.
+    #[inline(never)]
+    fn take_late(&mut self, preg: PReg) -> Result<(), OperandError>
+        ensures { Takes false (Reported.Fixed preg) (items_in self.old) (items_in self.new) result }
+    {
+        self.take(Reported::Fixed(preg))
+    }
+
+    // Keeps one of the first real registers.
+    #[inline(always)]
+    fn take_fixed(&mut self, preg: PReg) -> Result<(), OperandError>
+        requires { self.old.others.items ≡ [] }
+        ensures { Takes false (Reported.Fixed preg) (items_in self.old) (items_in self.new) result }
+    {
+        match self.fixed.extend_from_slice(&[preg]) {
+            Ok(()) => Ok(()),
+            Err(_) => Err(OperandError::NoMemory),
+        }
+    }
+}
+
+impl OperandVisitor for ItemList {
+    ghost use Rattle.s390x_listing.specs.Lists.{items_in};
+
+    ghost items = { items_in };
+
+    ghost denies = { λ v. false };
+
+    fn add_operand(
+        &mut self,
+        reg: Reg,
+        constraint: OperandConstraint,
+        kind: OperandKind,
+        pos: OperandPos,
+    ) -> Result<(), OperandError> {
+        self.take(Reported::Operand {
+            reg,
+            constraint,
+            kind,
+            pos,
+        })
+    }
+
+    fn reg_fixed_nonallocatable(&mut self, preg: PReg) -> Result<(), OperandError> {
+        if self.others.is_empty() {
+            self.take_fixed(preg)
+        } else {
+            self.take_late(preg)
+        }
+    }
+
+    fn reg_clobbers(&mut self, regs: PRegSet) -> Result<(), OperandError> {
+        self.take(Reported::Clobbers(regs))
+    }
+}

@@ -1,0 +1,105 @@
+//! The registers of a set, as text.
+ghost use Rattle.std.specs.Prelude.{◌≡◌, ◌++◌, ◌∷◌, [], not, true, OnOk, string_bytes, if◌then◌else◌};
+ghost use Rattle.s390x_base.specs.Sets.{has};
+ghost use Rattle.s390x_job_fields.specs.Atoms.{real_text};
+ghost use Rattle.s390x_job_fields.specs.Lists.{list_text};
+ghost use Rattle.s390x_job_fields.specs.Sets.{members_of};
+ghost use Rattle.s390x_listing.specs.Members.{Listed, general_members, members_text, no_member, vector_members};
+
+use crate::registers::put_register;
+use s390x_base::{PReg, PRegSet, gpr_preg, vr_preg};
+use s390x_job_fields::number::put_char;
+use std::alloc::AllocError;
+
+/// Appends a set's members as a list.
+pub fn put_members(out: &mut String, set: &PRegSet) -> Result<(), AllocError>
+    ensures { OnOk result
+        (string_bytes out.new
+        ≡ string_bytes out.old ++ list_text real_text (members_of (has set.now))) }
+{
+    put_char(out, '[')?;
+    let is_first = put_general(out, set)?;
+    put_vector(out, set, is_first)?;
+    put_char(out, ']')
+}
+
+// The general registers of a set.
+fn put_general(out: &mut String, set: &PRegSet) -> Result<bool, AllocError>
+    ensures { Listed true (general_members (has set.now)) (string_bytes out.old)
+        (string_bytes out.new) result }
+{
+    let mut is_first = true;
+    for n in 0..16 {
+        let register = gpr_preg(n);
+        is_first = put_if(out, set.contains(register), register, is_first)?;
+    }
+    Ok(is_first)
+}
+
+// The vector registers of a set. Most have none.
+fn put_vector(out: &mut String, set: &PRegSet, is_first: bool) -> Result<(), AllocError>
+    ensures { OnOk result
+        (string_bytes out.new
+        ≡ string_bytes out.old ++ members_text is_first (vector_members (has set.now))) }
+{
+    if has_vector(set) {
+        let _ = put_each_vector(out, set, is_first)?;
+    }
+    Ok(())
+}
+
+// Whether a set has a vector register.
+fn has_vector(set: &PRegSet) -> bool
+    ensures { result ≡ not (no_member (vector_members (has set.now))) }
+{
+    let mut found = false;
+    for n in 0..32 {
+        found |= set.contains(vr_preg(n));
+    }
+    found
+}
+
+// The vector registers of a set, one by one.
+fn put_each_vector(out: &mut String, set: &PRegSet, no_other: bool) -> Result<bool, AllocError>
+    ensures { Listed no_other (vector_members (has set.now)) (string_bytes out.old)
+        (string_bytes out.new) result }
+{
+    let mut is_first = no_other;
+    for n in 0..32 {
+        let register = vr_preg(n);
+        is_first = put_if(out, set.contains(register), register, is_first)?;
+    }
+    Ok(is_first)
+}
+
+// A register where it is a member.
+#[inline(always)]
+fn put_if(
+    out: &mut String,
+    is_member: bool,
+    register: PReg,
+    is_first: bool,
+) -> Result<bool, AllocError>
+    ensures { Listed is_first (if is_member then register ∷ [] else []) (string_bytes out.old)
+        (string_bytes out.new) result }
+{
+    if !is_member {
+        return Ok(is_first);
+    }
+    put_member(out, register, is_first)?;
+    Ok(false)
+}
+
+// A register, behind a comma unless it is the first one.
+#[inline(never)]
+fn put_member(out: &mut String, register: PReg, is_first: bool) -> Result<(), AllocError>
+    ensures { OnOk result
+        (string_bytes out.new ≡ string_bytes out.old ++ members_text is_first (register ∷ [])) }
+{
+    if is_first {
+        put_register(out, register)
+    } else {
+        put_char(out, ',')?;
+        put_register(out, register)
+    }
+}
