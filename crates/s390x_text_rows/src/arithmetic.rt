@@ -2,9 +2,10 @@
 ghost use Rattle.std.specs.Prelude.{◌≡◌, ◌∷◌, [], Some, string_bytes};
 ghost use Rattle.std.specs.Option.{option_map};
 ghost use Rattle.s390x_typed_steps.specs.General.{rotation};
+ghost use Rattle.s390x_job_fields.specs.Atoms.{reg_text};
 ghost use Rattle.s390x_text_rows.specs.Texts.{Prints, PrintsWhere, fixed_text, instruction_text};
-ghost use Rattle.s390x_text_rows.specs.Integer.{arithmetic_text, pair_instruction_text, pair_row, unary_operands, alu_part_name, alu_half_name, selected_name};
-ghost use Rattle.s390x_text_rows.specs.Mnemonics.{unary_name};
+ghost use Rattle.s390x_text_rows.specs.Integer.{arithmetic_text, three_text, pair_instruction_text, pair_row, unary_operands, alu_part_name, alu_half_name, selected_name};
+ghost use Rattle.s390x_text_rows.specs.Mnemonics.{unary_name, alu_three_name, alu_two_name};
 
 use crate::error::TextError;
 use crate::mnemonics::{
@@ -57,6 +58,22 @@ fn put_unary(out: &mut String, op: UnaryOp, rd: &Writable<Reg>, rn: &Reg) -> Res
     }
 }
 
+/// Appends the text of an operator with an output and two inputs in registers.
+#[tactic(auto, unfolding(crate::specs::Mnemonics::alu_three_name, crate::specs::Mnemonics::alu_two_name))]
+pub fn put_alu_three(
+    out: &mut String,
+    op: ALUOp,
+    rd: &Writable<Reg>,
+    rn: &Reg,
+    rm: &Reg,
+) -> Result<(), TextError>
+    ensures { Prints result (string_bytes out.old) (string_bytes out.new)
+        (three_text (alu_three_name op) (alu_two_name op) rd.now rn.now (reg_text rm.now)) }
+{
+    let rows = rows_of_alu(op);
+    three(out, rows.three, rows.two, rd, rn, rm)
+}
+
 /// Appends the text of an operator on registers and immediates; None for another instruction.
 #[tactic(auto, unfolding(crate::specs::Mnemonics::alu_three_name, crate::specs::Mnemonics::alu_two_name, crate::specs::Mnemonics::alu_three_halfword_name, crate::specs::Mnemonics::alu_halfword_name))]
 pub fn put_arithmetic(out: &mut String, inst: &Inst) -> Option<Result<(), TextError>>
@@ -64,10 +81,7 @@ pub fn put_arithmetic(out: &mut String, inst: &Inst) -> Option<Result<(), TextEr
         (arithmetic_text inst.now) }
 {
     match inst {
-        Inst::AluRRR { alu_op, rd, rn, rm } => {
-            let rows = rows_of_alu(*alu_op);
-            Some(three(out, rows.three, rows.two, rd.to_reg(), *rn, rm))
-        }
+        Inst::AluRRR { alu_op, rd, rn, rm } => Some(put_alu_three(out, *alu_op, rd, rn, rm)),
         Inst::AluRRSImm16 {
             alu_op,
             rd,
@@ -75,14 +89,7 @@ pub fn put_arithmetic(out: &mut String, inst: &Inst) -> Option<Result<(), TextEr
             imm,
         } => {
             let rows = rows_of_alu(*alu_op);
-            Some(three(
-                out,
-                rows.three_halfword,
-                rows.halfword,
-                rd.to_reg(),
-                *rn,
-                imm,
-            ))
+            Some(three(out, rows.three_halfword, rows.halfword, rd, rn, imm))
         }
         Inst::AluRR { alu_op, rd, ri, rm } => {
             Some(row2(out, alu_two_name(*alu_op), &reused_operand(rd, ri), rm))

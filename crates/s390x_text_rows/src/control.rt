@@ -1,18 +1,18 @@
 //! The texts of instructions that go elsewhere, end a run, name a place or have no bytes.
 ghost use Rattle.std.specs.Prelude.{◌≡◌, ◌++◌, ◌∷◌, [], codes, OnOk, string_bytes};
 ghost use Rattle.s390x_job_fields.specs.Atoms.{reg_text, trap_text};
-ghost use Rattle.s390x_text_rows.specs.Texts.{PrintsWhere, instruction_text};
+ghost use Rattle.s390x_text_rows.specs.Texts.{Prints, PrintsWhere, fixed_text, instruction_text};
 ghost use Rattle.s390x_text_rows.specs.Operands.{cond_text, label_text};
 ghost use Rattle.s390x_text_rows.specs.Control.{branch_text, labels_text, convention_text, args_text, rets_text, allocate_text, reloc_text, table_sum_text, table_text, control_text};
 
 use crate::error::TextError;
 use crate::operand::{Operand, cond_name};
+use crate::piece::{put, put_integer, put_natural};
 use crate::register_names::put_reg;
 use crate::row::{fixed1, fixed2, spelled1, text_result};
 use s390x_base::{Cond, MachLabel, Reg, TrapCode, Writable};
 use s390x_inst::{ArgPair, Inst, RetPair, SymbolReloc};
 use s390x_job_fields::atoms::{put_name, put_trap};
-use s390x_job_fields::number::{put, put_integer, put_natural};
 use std::alloc::AllocError;
 
 // A branch to a block under a condition.
@@ -114,7 +114,7 @@ fn put_table_load(out: &mut String, index: Reg) -> Result<(), AllocError>
         ≡ string_bytes out.old ++ (codes " ; larl %r1, 14 ; agf %r1, 0(" ++ reg_text index)) }
 {
     put(out, " ; larl %r1, 14 ; agf %r1, 0(")?;
-    put_reg(out, index)
+    put_reg(out, &index)
 }
 
 fn put_table_jump(out: &mut String) -> Result<(), AllocError>
@@ -153,9 +153,9 @@ fn put_convention(out: &mut String, held: Reg, wanted: Reg) -> Result<(), AllocE
         (string_bytes out.new ≡ string_bytes out.old ++ convention_text held wanted) }
 {
     put(out, " ")?;
-    put_reg(out, held)?;
+    put_reg(out, &held)?;
     put(out, "=")?;
-    put_reg(out, wanted)
+    put_reg(out, &wanted)
 }
 
 fn put_arg(out: &mut String, arg: &ArgPair) -> Result<(), AllocError>
@@ -246,8 +246,45 @@ fn put_symbol_load(
     put(out, "bras %r1, 12 ; data ")?;
     put_reloc(out, reloc)?;
     put(out, " ; lg ")?;
-    put_reg(out, rd.to_reg())?;
+    put_reg(out, &rd.to_reg())?;
     put(out, ", 0(%r1)")
+}
+
+/// Appends the text of a branch to one of two blocks.
+pub fn put_conditional_branch(
+    out: &mut String,
+    cond: Cond,
+    taken: MachLabel,
+    not_taken: MachLabel,
+) -> Result<(), TextError>
+    ensures { Prints result (string_bytes out.old) (string_bytes out.new)
+        (fixed_text
+        (branch_text cond taken.0
+        ++ (codes " ; " ++ instruction_text (codes "jg") (label_text not_taken.0 ∷ [])))) }
+{
+    Ok(put_two_branches(out, cond, taken, not_taken)?)
+}
+
+/// Appends the text of a trap under a condition.
+pub fn put_conditional_trap(out: &mut String, cond: Cond, code: TrapCode) -> Result<(), TextError>
+    ensures { Prints result (string_bytes out.old) (string_bytes out.new)
+        (fixed_text ((codes "jg" ++ (cond_text cond ++ codes " .+2 # trap=")) ++ trap_text code)) }
+{
+    Ok(put_trap_if(out, cond, code)?)
+}
+
+/// Appends the text of a load of a symbol's address from behind a branch.
+pub fn put_symbol_address(
+    out: &mut String,
+    rd: Writable<Reg>,
+    reloc: SymbolReloc,
+) -> Result<(), TextError>
+    ensures { Prints result (string_bytes out.old) (string_bytes out.new)
+        (fixed_text
+        (codes "bras %r1, 12 ; data "
+        ++ (reloc_text reloc ++ (codes " ; lg " ++ (reg_text rd ++ codes ", 0(%r1)"))))) }
+{
+    Ok(put_symbol_load(out, rd, reloc)?)
 }
 
 /// Appends the text of an instruction that goes elsewhere, ends a run, names a place or has no bytes; None for another one. Loops, calls and

@@ -1,20 +1,84 @@
 //! The texts of integer instructions with an operand in memory.
-ghost use Rattle.std.specs.Prelude.{◌≡◌, ◌∷◌, [], None, Some, string_bytes};
+ghost use Rattle.std.specs.Prelude.{◌≡◌, ◌∷◌, [], None, Some, MatchOption, string_bytes};
+ghost use Rattle.s390x_inst.specs.Loads.{as_load};
+ghost use Rattle.s390x_inst.specs.Stores.{as_store};
 ghost use Rattle.s390x_job_fields.specs.Atoms.{reg_text};
 ghost use Rattle.s390x_text_rows.specs.Texts.{Prints, PrintsWhere};
 ghost use Rattle.s390x_text_rows.specs.Operands.{reused_text};
 ghost use Rattle.s390x_text_rows.specs.Mnemonics.{alu_short_name, alu_long_name, cmp_short_name, cmp_long_name, cmp_relative_name};
-ghost use Rattle.s390x_text_rows.specs.Storage.{rx, access_where, load_text, store_text, immediate_store_text, storage_operator_text};
+ghost use Rattle.s390x_text_rows.specs.Storage.{rx, address_rows, access_where, load_text, store_text, immediate_store_text, storage_operator_text};
 
 use crate::arithmetic::reused_operand;
 use crate::error::TextError;
 use crate::operand::Reused;
 use crate::storage::{Place, access2, address_rows, rs_access_then, rs_access3, rx_access};
-use s390x_base::Reg;
-use s390x_inst::{ALUOp, CmpOp, EmitState, Inst};
+use s390x_base::{Reg, Writable};
+use s390x_inst::{ALUOp, CmpOp, EmitState, Inst, LoadOp, MemArg, StoreOp};
 use s390x_rows::opcodes;
 use s390x_typed_steps::{RegisterRows, rows_of_alu, rows_of_cmp, rows_of_load, rows_of_store};
 use std::alloc::Global;
+
+// A load whose operands stand in the instruction.
+#[derive(Clone, Copy)]
+struct BorrowedLoad<'a> {
+    op: LoadOp,
+    rd: &'a Writable<Reg>,
+    mem: &'a MemArg,
+}
+
+// A store whose operands stand in the instruction.
+#[derive(Clone, Copy)]
+struct BorrowedStore<'a> {
+    op: StoreOp,
+    rd: &'a Reg,
+    mem: &'a MemArg,
+}
+
+// The load that an instruction is, which isn't copied.
+#[rattlefmt::skip]
+#[inline(always)]
+fn borrowed_load<'a>(inst: &'a Inst) -> Option<BorrowedLoad<'a>>
+    ensures { MatchOption result (as_load inst.now ≡ None)
+        (λ l. as_load inst.now ≡ Some (record { op = l.op; rd = l.rd.now; mem = l.mem.now })) }
+{
+    match inst {
+        Inst::Load32 { rd, mem } => Some(BorrowedLoad { op: LoadOp::Load32, rd, mem }),
+        Inst::Load32ZExt8 { rd, mem } => Some(BorrowedLoad { op: LoadOp::Load32ZExt8, rd, mem }),
+        Inst::Load32SExt8 { rd, mem } => Some(BorrowedLoad { op: LoadOp::Load32SExt8, rd, mem }),
+        Inst::Load32ZExt16 { rd, mem } => Some(BorrowedLoad { op: LoadOp::Load32ZExt16, rd, mem }),
+        Inst::Load32SExt16 { rd, mem } => Some(BorrowedLoad { op: LoadOp::Load32SExt16, rd, mem }),
+        Inst::Load64 { rd, mem } => Some(BorrowedLoad { op: LoadOp::Load64, rd, mem }),
+        Inst::Load64ZExt8 { rd, mem } => Some(BorrowedLoad { op: LoadOp::Load64ZExt8, rd, mem }),
+        Inst::Load64SExt8 { rd, mem } => Some(BorrowedLoad { op: LoadOp::Load64SExt8, rd, mem }),
+        Inst::Load64ZExt16 { rd, mem } => Some(BorrowedLoad { op: LoadOp::Load64ZExt16, rd, mem }),
+        Inst::Load64SExt16 { rd, mem } => Some(BorrowedLoad { op: LoadOp::Load64SExt16, rd, mem }),
+        Inst::Load64ZExt32 { rd, mem } => Some(BorrowedLoad { op: LoadOp::Load64ZExt32, rd, mem }),
+        Inst::Load64SExt32 { rd, mem } => Some(BorrowedLoad { op: LoadOp::Load64SExt32, rd, mem }),
+        Inst::LoadRev16 { rd, mem } => Some(BorrowedLoad { op: LoadOp::LoadRev16, rd, mem }),
+        Inst::LoadRev32 { rd, mem } => Some(BorrowedLoad { op: LoadOp::LoadRev32, rd, mem }),
+        Inst::LoadRev64 { rd, mem } => Some(BorrowedLoad { op: LoadOp::LoadRev64, rd, mem }),
+        _ => None,
+    }
+}
+
+// The store of a register that an instruction is, which isn't copied.
+#[rattlefmt::skip]
+#[inline(always)]
+fn borrowed_store<'a>(inst: &'a Inst) -> Option<BorrowedStore<'a>>
+    ensures { MatchOption result (as_store inst.now ≡ None)
+        (λ s. as_store inst.now ≡ Some (record { op = s.op; rd = s.rd.now; mem = s.mem.now })) }
+{
+    match inst {
+        Inst::Store8 { rd, mem } => Some(BorrowedStore { op: StoreOp::Store8, rd, mem }),
+        Inst::Store16 { rd, mem } => Some(BorrowedStore { op: StoreOp::Store16, rd, mem }),
+        Inst::Store32 { rd, mem } => Some(BorrowedStore { op: StoreOp::Store32, rd, mem }),
+        Inst::Store64 { rd, mem } => Some(BorrowedStore { op: StoreOp::Store64, rd, mem }),
+        Inst::StoreRev16 { rd, mem } => Some(BorrowedStore { op: StoreOp::StoreRev16, rd, mem }),
+        Inst::StoreRev32 { rd, mem } => Some(BorrowedStore { op: StoreOp::StoreRev32, rd, mem }),
+        Inst::StoreRev64 { rd, mem } => Some(BorrowedStore { op: StoreOp::StoreRev64, rd, mem }),
+        _ => None,
+    }
+}
 
 /// Appends the text of a load, on a machine that has rows relative to the instruction or lacks them; None for another instruction.
 pub fn put_load(
@@ -27,17 +91,17 @@ pub fn put_load(
     ensures { PrintsWhere result (string_bytes out.old) (string_bytes out.new)
         (load_text has_relative state.now inst.now) }
 {
-    match inst.as_load() {
+    match borrowed_load(inst) {
         Some(load) => Some(rx_access(
             out,
             Place {
                 alloc,
                 has_relative,
                 state,
-                mem: &load.mem,
+                mem: load.mem,
             },
             rows_of_load(load.op),
-            &load.rd,
+            load.rd,
         )),
         None => None,
     }
@@ -75,17 +139,17 @@ pub fn put_store(
     ensures { PrintsWhere result (string_bytes out.old) (string_bytes out.new)
         (store_text has_relative state.now inst.now) }
 {
-    match inst.as_store() {
+    match borrowed_store(inst) {
         Some(store) => Some(rx_access(
             out,
             Place {
                 alloc,
                 has_relative,
                 state,
-                mem: &store.mem,
+                mem: store.mem,
             },
             rows_of_store(store.op),
-            &store.rd,
+            store.rd,
         )),
         None => put_immediate_store(alloc, out, has_relative, state, inst),
     }
@@ -124,6 +188,27 @@ fn put_comparison(out: &mut String, place: Place, op: CmpOp, rn: &Reg) -> Result
     rx_access(out, place, rows, rn)
 }
 
+/// Appends the text of a load of an address.
+pub fn put_address(
+    alloc: Global,
+    out: &mut String,
+    has_relative: bool,
+    state: &EmitState,
+    rd: &Writable<Reg>,
+    mem: &MemArg,
+) -> Result<(), TextError>
+    ensures { Prints result (string_bytes out.old) (string_bytes out.new)
+        (access_where has_relative address_rows state.now (reg_text rd.now ∷ []) mem.now []) }
+{
+    let place = Place {
+        alloc,
+        has_relative,
+        state,
+        mem,
+    };
+    access2(out, place, &address_rows(), rd)
+}
+
 /// Appends the text of an operator with an operand in memory, of a multiple, of an address or of a locked access; None for another
 /// instruction.
 #[rattlefmt::skip]
@@ -143,7 +228,7 @@ pub fn put_storage_operator(
         Inst::CmpRX { op, rn, mem } => Some(put_comparison(out, Place { alloc, has_relative, state, mem }, *op, rn)),
         Inst::LoadMultiple64 { rt, rt2, mem } => Some(rs_access3(out, Place { alloc, has_relative, state, mem }, None, Some(opcodes::LMG), rt, rt2)),
         Inst::StoreMultiple64 { rt, rt2, mem } => Some(rs_access3(out, Place { alloc, has_relative, state, mem }, None, Some(opcodes::STMG), rt, rt2)),
-        Inst::LoadAddr { rd, mem } => Some(access2(out, Place { alloc, has_relative, state, mem }, &address_rows(), rd)),
+        Inst::LoadAddr { rd, mem } => Some(put_address(alloc, out, has_relative, state, rd, mem)),
         Inst::AtomicRmw { alu_op, rd, rn, mem } => Some(rs_access3(out, Place { alloc, has_relative, state, mem }, None, rows_of_alu(*alu_op).atomic, rd, rn)),
         Inst::AtomicCas32 { rd, ri, rn, mem } => Some(rs_access3(out, Place { alloc, has_relative, state, mem }, Some(opcodes::CS), Some(opcodes::CSY), &reused_operand(rd, ri), rn)),
         Inst::AtomicCas64 { rd, ri, rn, mem } => Some(rs_access3(out, Place { alloc, has_relative, state, mem }, None, Some(opcodes::CSG), &reused_operand(rd, ri), rn)),

@@ -4,12 +4,12 @@ ghost use Rattle.std.specs.Fmt.{decimal, signed_decimal};
 ghost use Rattle.s390x_job_fields.specs.Atoms.{reg_text, real_text};
 ghost use Rattle.s390x_text_rows.specs.Operands.{reused_text, rotated_text, halves_text, pair_text, reused_pair_text, reused_low_text, is_zero, bracketed_register, amount_text, access_register_text, float_text, cond_text, label_text, name_text, indexed_text};
 
+use crate::piece::{put, put_integer, put_natural};
 use crate::register_names::{put_real, put_reg};
 use s390x_base::{
     Cond, ExternalName, MachLabel, PReg, Reg, RegPair, SImm20, UImm16Shifted, UImm32Shifted,
     Writable, zero_reg,
 };
-use s390x_job_fields::number::{put, put_integer, put_natural};
 use std::alloc::AllocError;
 
 /// A value that a text shows as one operand.
@@ -25,7 +25,7 @@ impl Operand for Reg {
     ghost shown = { reg_text };
 
     fn put(&self, out: &mut String) -> Result<(), AllocError> {
-        put_reg(out, *self)
+        put_reg(out, self)
     }
 }
 
@@ -33,7 +33,7 @@ impl Operand for Writable<Reg> {
     ghost shown = { reg_text };
 
     fn put(&self, out: &mut String) -> Result<(), AllocError> {
-        put_reg(out, self.to_reg())
+        put_reg(out, &self.to_reg())
     }
 }
 
@@ -130,12 +130,12 @@ impl Operand for Reused {
     ghost shown = { λ r. reused_text r.rd r.ri };
 
     fn put(&self, out: &mut String) -> Result<(), AllocError> {
-        put_reg(out, self.rd)?;
+        put_reg(out, &self.rd)?;
         if self.rd == self.ri {
             return Ok(());
         }
         put(out, "<-")?;
-        put_reg(out, self.ri)
+        put_reg(out, &self.ri)
     }
 }
 
@@ -167,9 +167,9 @@ fn put_halves(out: &mut String, pair: RegPair) -> Result<(), AllocError>
     ensures { OnOk result
         (string_bytes out.new ≡ string_bytes out.old ++ halves_text pair.hi pair.lo) }
 {
-    put_reg(out, pair.hi)?;
+    put_reg(out, &pair.hi)?;
     put(out, "/")?;
-    put_reg(out, pair.lo)
+    put_reg(out, &pair.lo)
 }
 
 impl Operand for RegPair {
@@ -177,7 +177,7 @@ impl Operand for RegPair {
 
     fn put(&self, out: &mut String) -> Result<(), AllocError> {
         match (self.hi.to_real_reg(), self.lo.to_real_reg()) {
-            (Some(_), Some(_)) => put_reg(out, self.hi),
+            (Some(_), Some(_)) => put_reg(out, &self.hi),
             _ => put_halves(out, *self),
         }
     }
@@ -195,7 +195,7 @@ impl Operand for ReusedPair {
 
     fn put(&self, out: &mut String) -> Result<(), AllocError> {
         if self.rd.hi == self.ri.hi {
-            return put_reg(out, self.rd.hi);
+            return put_reg(out, &self.rd.hi);
         }
         put_halves(out, self.rd)?;
         put(out, "<-")?;
@@ -215,11 +215,11 @@ impl Operand for ReusedLow {
 
     fn put(&self, out: &mut String) -> Result<(), AllocError> {
         if self.rd.lo == self.ri {
-            return put_reg(out, self.rd.hi);
+            return put_reg(out, &self.rd.hi);
         }
         put_halves(out, self.rd)?;
         put(out, "<-_/")?;
-        put_reg(out, self.ri)
+        put_reg(out, &self.ri)
     }
 }
 
@@ -257,7 +257,7 @@ fn put_bracketed(out: &mut String, r: &Reg) -> Result<(), AllocError>
         return Ok(());
     }
     put(out, "(")?;
-    put_reg(out, *r)?;
+    put_reg(out, r)?;
     put(out, ")")
 }
 
@@ -291,9 +291,9 @@ impl Operand for Indexed {
     fn put(&self, out: &mut String) -> Result<(), AllocError> {
         put_integer(out, i64::from(self.offset.value()))?;
         put(out, "(")?;
-        put_reg(out, self.index)?;
+        put_reg(out, &self.index)?;
         put(out, ",")?;
-        put_reg(out, self.base)?;
+        put_reg(out, &self.base)?;
         put(out, ")")
     }
 }

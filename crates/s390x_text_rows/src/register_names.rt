@@ -1,44 +1,41 @@
 //! Registers of a text, whose numbers have at most two digits.
-ghost use Rattle.std.specs.Prelude.{◌≡◌, ◌++◌, ◌<◌, OnOk, string_bytes};
-ghost use Rattle.std.specs.Fmt.{decimal};
+ghost use Rattle.std.specs.Prelude.{◌≡◌, ◌++◌, OnOk, string_bytes};
 ghost use Rattle.s390x_job_fields.specs.Atoms.{real_text, reg_text};
 
+use crate::piece::{put, put_natural, put_small};
 use s390x_base::{PReg, Reg, RegClass};
-use s390x_job_fields::atoms;
-use s390x_job_fields::number::put_char;
 use std::alloc::AllocError;
-
-// Appends a number below 100 in decimal.
-#[inline(always)]
-fn put_small(out: &mut String, n: u8) -> Result<(), AllocError>
-    requires { n < 100 }
-    ensures { OnOk result (string_bytes out.new ≡ string_bytes out.old ++ decimal n) }
-{
-    if n < 10 {
-        return put_char(out, char::from(b'0' + n));
-    }
-    put_char(out, char::from(b'0' + n / 10))?;
-    put_char(out, char::from(b'0' + n % 10))
-}
 
 /// Appends a real register.
 pub fn put_real(out: &mut String, r: PReg) -> Result<(), AllocError>
     ensures { OnOk result (string_bytes out.new ≡ string_bytes out.old ++ real_text r) }
 {
-    put_char(out, '%')?;
     match r.class() {
-        RegClass::Int => put_char(out, 'r')?,
-        RegClass::Float => put_char(out, 'v')?,
+        RegClass::Int => put(out, "%r")?,
+        RegClass::Float => put(out, "%v")?,
     }
     put_small(out, r.hw_enc())
 }
 
-/// Appends a register.
-pub fn put_reg(out: &mut String, r: Reg) -> Result<(), AllocError>
-    ensures { OnOk result (string_bytes out.new ≡ string_bytes out.old ++ reg_text r) }
+// Appends a virtual register.
+fn put_virtual(out: &mut String, num: u32, class: RegClass) -> Result<(), AllocError>
+    ensures { OnOk result
+        (string_bytes out.new ≡ string_bytes out.old ++ reg_text (Reg.Virtual num class)) }
+{
+    match class {
+        RegClass::Int => put(out, "%i")?,
+        RegClass::Float => put(out, "%x")?,
+    }
+    put_natural(out, u64::from(num))
+}
+
+/// Appends a register, which is read where it stands.
+#[inline(always)]
+pub fn put_reg(out: &mut String, r: &Reg) -> Result<(), AllocError>
+    ensures { OnOk result (string_bytes out.new ≡ string_bytes out.old ++ reg_text r.now) }
 {
     match r {
-        Reg::Real(real) => put_real(out, real),
-        Reg::Virtual { .. } => atoms::put_reg(out, r),
+        Reg::Real(real) => put_real(out, *real),
+        Reg::Virtual { num, class } => put_virtual(out, *num, *class),
     }
 }

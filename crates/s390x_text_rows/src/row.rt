@@ -9,10 +9,10 @@ ghost use Rattle.s390x_text_rows.specs.VectorMnemonics.{mnemonic_text};
 
 use crate::error::TextError;
 use crate::operand::{Operand, cond_name};
+use crate::piece::put;
 use crate::vector_mnemonics::Mnemonic;
-use s390x_base::{Cond, Reg};
+use s390x_base::{Cond, Reg, Writable};
 use s390x_format::stem;
-use s390x_job_fields::number::put;
 use std::alloc::AllocError;
 
 /// A writer's answer as that of a text.
@@ -225,21 +225,22 @@ pub fn three<T: Operand>(
     out: &mut String,
     three: Option<u16>,
     two: Option<u16>,
-    rd: Reg,
-    rn: Reg,
+    rd: &Writable<Reg>,
+    rn: &Reg,
     last: &T,
 ) -> Result<(), TextError>
     ensures { Prints result (string_bytes out.old) (string_bytes out.new)
-        (three_text (option_map stem_of three) (option_map stem_of two) rd rn (T.shown last.now)) }
+        (three_text (option_map stem_of three) (option_map stem_of two) rd.now rn.now
+        (T.shown last.now)) }
 {
     match (three, two) {
         (None, _) => Err(TextError::NoRow),
-        (Some(opcode), None) => fixed3(out, stem(opcode), &rd, &rn, last),
+        (Some(opcode), None) => fixed3(out, stem(opcode), rd, rn, last),
         (Some(opcode), Some(short)) => {
-            if rd == rn {
-                fixed2(out, stem(short), &rd, last)
+            if rd.to_reg() == *rn {
+                fixed2(out, stem(short), rd, last)
             } else {
-                fixed3(out, stem(opcode), &rd, &rn, last)
+                fixed3(out, stem(opcode), rd, rn, last)
             }
         }
     }

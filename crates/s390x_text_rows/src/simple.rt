@@ -3,12 +3,15 @@ ghost use Rattle.std.specs.Prelude.{string_bytes};
 ghost use Rattle.s390x_text_rows.specs.Texts.{Prints};
 ghost use Rattle.s390x_text_rows.specs.Simple.{other_text, register_text, simple_text};
 
-use crate::arithmetic::{put_arithmetic, put_pair_instruction};
+use crate::arithmetic::{put_alu_three, put_arithmetic, put_pair_instruction};
 use crate::compare::put_compare;
-use crate::control::put_control;
+use crate::control::{
+    put_conditional_branch, put_conditional_trap, put_control, put_symbol_address,
+};
 use crate::error::TextError;
-use crate::memory::{put_load, put_storage_operator, put_store};
+use crate::memory::{put_address, put_load, put_storage_operator, put_store};
 use crate::moves::put_move;
+use crate::row::fixed1;
 use crate::vector_memory::put_vector;
 use s390x_inst::{EmitState, Inst};
 use std::alloc::Global;
@@ -94,8 +97,17 @@ pub fn put_simple(
 {
     match inst {
         Inst::Vector(vector) => put_vector(alloc, out, state, vector),
-        Inst::AluRRR { .. }
-        | Inst::AluRRSImm16 { .. }
+        Inst::AluRRR { alu_op, rd, rn, rm } => put_alu_three(out, *alu_op, rd, rn, rm),
+        Inst::LoadAddr { rd, mem } => put_address(alloc, out, has_relative, state, rd, mem),
+        Inst::Jump { dest } => fixed1(out, "jg", dest),
+        Inst::CondBr {
+            taken,
+            not_taken,
+            cond,
+        } => put_conditional_branch(out, *cond, *taken, *not_taken),
+        Inst::TrapIf { cond, trap_code } => put_conditional_trap(out, *cond, *trap_code),
+        Inst::LoadSymbolReloc { rd, symbol_reloc } => put_symbol_address(out, *rd, *symbol_reloc),
+        Inst::AluRRSImm16 { .. }
         | Inst::AluRR { .. }
         | Inst::AluRSImm16 { .. }
         | Inst::AluRSImm32 { .. }
@@ -114,15 +126,11 @@ pub fn put_simple(
         | Inst::Nop2
         | Inst::Debugtrap
         | Inst::Trap { .. }
-        | Inst::TrapIf { .. }
-        | Inst::Jump { .. }
-        | Inst::CondBr { .. }
         | Inst::IndirectBr { .. }
         | Inst::Ret { .. }
         | Inst::JTSequence { .. }
         | Inst::CondBreak { .. }
         | Inst::AllocateArgs { .. }
-        | Inst::LoadSymbolReloc { .. }
         | Inst::LabelAddress { .. }
         | Inst::Args { .. }
         | Inst::Rets { .. }

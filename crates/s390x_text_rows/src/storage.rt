@@ -10,6 +10,7 @@ ghost use Rattle.s390x_text_rows.specs.Storage.{sum_text, memory_text, is_virtua
 
 use crate::error::TextError;
 use crate::operand::{Operand, is_zero};
+use crate::piece::{put, put_integer, put_natural};
 use crate::register_names::put_reg;
 use crate::row::{lettered2, spelled2, spelled3};
 use crate::vector_mnemonics::Mnemonic;
@@ -18,7 +19,7 @@ use s390x_base::{MachMemFlags, Reg, SImm20, UImm12, zero_reg};
 use s390x_format::stem;
 use s390x_inst::{EmitState, Inst, MemArg};
 use s390x_job_fields::atoms::put_name;
-use s390x_job_fields::number::{put, put_char, put_integer, put_natural};
+use s390x_job_fields::number::put_char;
 use s390x_rows::opcodes;
 use s390x_typed_steps::{MemInstType, RegisterRows};
 use std::alloc::{AllocError, Global};
@@ -73,17 +74,17 @@ fn put_sum(out: &mut String, base: &Reg, index: &Reg) -> Result<(), AllocError>
             return Ok(());
         }
         put_char(out, '(')?;
-        put_reg(out, *index)?;
+        put_reg(out, index)?;
         return put(out, ",)");
     }
     put_char(out, '(')?;
     if is_zero(index) {
-        put_reg(out, *base)?;
+        put_reg(out, base)?;
         return put_char(out, ')');
     }
-    put_reg(out, *index)?;
+    put_reg(out, index)?;
     put_char(out, ',')?;
-    put_reg(out, *base)?;
+    put_reg(out, base)?;
     put_char(out, ')')
 }
 
@@ -408,8 +409,8 @@ fn put_lettered<A: Operand>(
     }
 }
 
-// Appends the text of an access by a row of format VRX whose mnemonic has two parts.
-fn access_lettered<A: Operand>(
+/// Appends the text of an access by a row of format VRX whose mnemonic has two parts, with one operand before that in memory.
+pub fn access_lettered<A: Operand>(
     out: &mut String,
     place: Place,
     mnemonic: Mnemonic,

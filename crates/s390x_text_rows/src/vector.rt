@@ -4,7 +4,7 @@ ghost use Rattle.std.specs.Fmt.{decimal};
 ghost use Rattle.std.specs.Option.{option_map};
 ghost use Rattle.s390x_format.specs.Stems.{stem_of};
 ghost use Rattle.s390x_job_fields.specs.Atoms.{reg_text};
-ghost use Rattle.s390x_text_rows.specs.Texts.{Prints, PrintsWhere, instruction_text};
+ghost use Rattle.s390x_text_rows.specs.Texts.{Prints, PrintsWhere, instruction_text, fixed_text};
 ghost use Rattle.s390x_text_rows.specs.Operands.{reused_text};
 ghost use Rattle.s390x_text_rows.specs.VectorMnemonics.{vec_binary_name, vec_compare_set_name};
 ghost use Rattle.s390x_text_rows.specs.Vector.{lane_name, reversed_name, mask_name, vec_binary_operands, doublewords_text, wide_compare_text, are_floats, float_move_text, unless_text, float_cmov_text, is_float_lane, reverse2_text, reverse4_text, reverse8_text, reverse16_text, reverse_text, insert_lane_text, extract_lane_text, vec_operator_text, vec_move_text, vec_lane_text};
@@ -12,6 +12,7 @@ ghost use Rattle.s390x_text_rows.specs.Vector.{lane_name, reversed_name, mask_na
 use crate::arithmetic::reused_operand;
 use crate::error::TextError;
 use crate::operand::{Amount, Float, Operand, Reused, cond_name, is_zero};
+use crate::piece::put;
 use crate::regs::is_float;
 use crate::row::{
     fixed2, fixed3, lettered2, lettered3, lettered4, row2, row3, spelled2, spelled3, spelled4,
@@ -20,10 +21,9 @@ use crate::row::{
 use crate::vector_mnemonics::{
     vec_binary_name, vec_compare_name, vec_element_compare_name, vec_shift_name, vec_unary_name,
 };
-use s390x_base::{Cond, Reg};
+use s390x_base::{Cond, Reg, Writable};
 use s390x_format::stem;
 use s390x_inst::{VecBinaryOp, VecInst, VecIntCmpOp};
-use s390x_job_fields::number::put;
 use std::alloc::AllocError;
 
 /// By the width of a lane in bits: 8, 16, 32 or 64; None for another width, or where the lane's number isn't below the count of lanes.
@@ -106,14 +106,14 @@ fn mask_name(size: u32, start: u8, end: u8) -> Option<&'static str>
 fn put_binary(
     out: &mut String,
     op: VecBinaryOp,
-    rd: Reg,
-    rn: Reg,
-    rm: Reg,
+    rd: &Writable<Reg>,
+    rn: &Reg,
+    rm: &Reg,
 ) -> Result<(), AllocError>
     ensures { OnOk result
         (string_bytes out.new
         ≡ string_bytes out.old
-        ++ instruction_text (vec_binary_name op) (vec_binary_operands op rd rn rm)) }
+        ++ instruction_text (vec_binary_name op) (vec_binary_operands op rd.now rn.now rm.now)) }
 {
     match op {
         VecBinaryOp::UDiv32x4
@@ -127,9 +127,25 @@ fn put_binary(
         | VecBinaryOp::URem128
         | VecBinaryOp::SRem32x4
         | VecBinaryOp::SRem64x2
-        | VecBinaryOp::SRem128 => lettered4(out, vec_binary_name(op), &rd, &rn, &rm, &0u8),
-        _ => lettered3(out, vec_binary_name(op), &rd, &rn, &rm),
+        | VecBinaryOp::SRem128 => lettered4(out, vec_binary_name(op), rd, rn, rm, &0u8),
+        _ => lettered3(out, vec_binary_name(op), rd, rn, rm),
     }
+}
+
+/// Appends the text of an operator on two vectors.
+pub fn put_vec_binary(
+    out: &mut String,
+    op: VecBinaryOp,
+    rd: &Writable<Reg>,
+    rn: &Reg,
+    rm: &Reg,
+) -> Result<(), TextError>
+    ensures { Prints result (string_bytes out.old) (string_bytes out.new)
+        (fixed_text
+        (instruction_text (vec_binary_name op)
+        (vec_binary_operands op rd.now rn.now rm.now))) }
+{
+    Ok(put_binary(out, op, rd, rn, rm)?)
 }
 
 // Doublewords are chosen by 0 or 1.
@@ -213,9 +229,7 @@ pub fn put_vec_operator(out: &mut String, inst: &VecInst) -> Option<Result<(), T
         (vec_operator_text inst.now) }
 {
     match inst {
-        VecInst::VecRRR { op, rd, rn, rm } => {
-            Some(text_result(put_binary(out, *op, rd.to_reg(), *rn, *rm)))
-        }
+        VecInst::VecRRR { op, rd, rn, rm } => { Some(put_vec_binary(out, *op, rd, rn, rm)) }
         VecInst::VecRR { op, rd, rn } => {
             Some(text_result(lettered2(out, vec_unary_name(*op), rd, rn)))
         }

@@ -1,19 +1,23 @@
 //! The texts of loads and stores of vector and float registers.
-ghost use Rattle.std.specs.Prelude.{◌≡◌, string_bytes};
+ghost use Rattle.std.specs.Prelude.{◌≡◌, ◌∷◌, [], None, Some, string_bytes};
 ghost use Rattle.std.specs.Option.{option_map};
 ghost use Rattle.s390x_format.specs.Stems.{stem_of};
-ghost use Rattle.s390x_text_rows.specs.VectorMnemonics.{mnemonic_text};
+ghost use Rattle.s390x_inst.specs.declared.whole.WholeLayout.TheVariants.{Straight};
+ghost use Rattle.s390x_text_rows.specs.VectorMnemonics.{mnemonic_text, whole_name};
+ghost use Rattle.s390x_text_rows.specs.Storage.{rx, access};
 ghost use Rattle.s390x_text_rows.specs.Texts.{Prints, PrintsWhere};
 ghost use Rattle.s390x_text_rows.specs.Vector.{replicated_name, reversed_replicated_name, load_lane_text, store_lane_text, vec_whole_text, vec_part_text, vector_text};
 
 use crate::error::TextError;
-use crate::operand::Float;
+use crate::operand::{Float, Operand};
 use crate::regs::is_float;
-use crate::storage::{Place, lettered_access, rx_access, vrx_access};
-use crate::vector::{lane_row, put_vec_lane, put_vec_move, put_vec_operator, reversed_row};
+use crate::storage::{Place, access_lettered, lettered_access, rx_access, vrx_access};
+use crate::vector::{
+    lane_row, put_vec_binary, put_vec_lane, put_vec_move, put_vec_operator, reversed_row,
+};
 use crate::vector_mnemonics::{Mnemonic, whole_name};
 use s390x_base::Reg;
-use s390x_inst::{EmitState, VecInst};
+use s390x_inst::{Direction, EmitState, MemArg, VecInst, WholeLayout};
 use s390x_rows::opcodes;
 use s390x_typed_steps::RegisterRows;
 use std::alloc::Global;
@@ -123,6 +127,28 @@ fn put_store_lane(
     vrx_access(out, place, row, &rd, &lane)
 }
 
+// Appends the text of a load or a store of a whole register as it stands in memory.
+fn put_straight<A: Operand>(
+    alloc: Global,
+    out: &mut String,
+    state: &EmitState,
+    direction: Direction,
+    rd: &A,
+    mem: &MemArg,
+) -> Result<(), TextError>
+    ensures { Prints result (string_bytes out.old) (string_bytes out.new)
+        (access (rx (Some (whole_name direction Straight)) None None) state.now
+        (A.shown rd.now ∷ []) mem.now []) }
+{
+    let place = Place {
+        alloc,
+        has_relative: true,
+        state,
+        mem,
+    };
+    access_lettered(out, place, whole_name(direction, WholeLayout::Straight), rd)
+}
+
 /// Appends the text of a load or a store of a whole register; None for another instruction.
 pub fn put_vec_whole(
     alloc: Global,
@@ -211,12 +237,9 @@ pub fn put_vector(
         (vector_text state.now inst.now) }
 {
     match inst {
-        VecInst::VecLoad { .. } | VecInst::VecStore { .. } => match put_vec_whole(
-            alloc, out, state, inst,
-        ) {
-            Some(answer) => answer,
-            None => Err(TextError::NoRow),
-        },
+        VecInst::VecLoad { rd, mem } => put_straight(alloc, out, state, Direction::Load, rd, mem),
+        VecInst::VecStore { rd, mem } => put_straight(alloc, out, state, Direction::Store, rd, mem),
+        VecInst::VecRRR { op, rd, rn, rm } => put_vec_binary(out, *op, rd, rn, rm),
         _ => put_any(alloc, out, state, inst),
     }
 }

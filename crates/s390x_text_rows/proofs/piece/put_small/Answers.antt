@@ -1,7 +1,7 @@
-use Rattle.std.proofs.Common.{arith, append_assoc, ◌<◌, ◌≤◌}
+use Rattle.std.proofs.Common.{arith, ap, ◌++◌, ◌∙◌, ◌<◌, ◌≤◌}
 use Rattle.std.proofs.lemmas.Fmt.{decimal_digit}
 use Rattle.s390x_text_rows.proofs.Digits.{two_digits}
-use Rattle.s390x_text_rows.proofs.register_names.put_small.Goals as goal
+use Rattle.s390x_text_rows.proofs.piece.put_small.Goals as goal
 
 pub returns-then-n-lt10 : goal.returns-then-n-lt10
 returns-then-n-lt10 c =
@@ -13,4 +13,4 @@ returns c =
     let a : 10 ≤ c.args.n = omega arith in
     let b : c.args.n < 100 = omega arith in
     let e = two_digits c.args.n a b in
-    grind (arith, e, append_assoc)
+    grind (arith, e)
