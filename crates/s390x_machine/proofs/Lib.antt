@@ -75,6 +75,8 @@ pub mod VectorLanes
 pub mod VectorRows
 pub mod VectorSteps
 pub mod VectorStorage
+pub mod VectorSums
 pub mod VectorValues
 pub mod Vectors
 pub mod WideComparing
+pub mod Writing

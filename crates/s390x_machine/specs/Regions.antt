@@ -1,5 +1,5 @@
 -- A memory of regions, the last one added first, and of bytes of older ones.
-use Rattle.std.specs.Prelude.{◌≡◌, ℕ, ◌+◌, ◌-◌, ◌^◌, ◌<◌, Bool, true, false, ◌&&◌, ◌||◌, nat_le, nat_lt, if◌then◌else◌, List, [], ◌∷◌, length, get_or, slice_index, Option, Some, None}
+use Rattle.std.specs.Prelude.{◌≡◌, ℕ, zero, suc, ◌+◌, ◌-◌, ◌/◌, ◌%◌, ◌^◌, ◌<◌, Bool, true, false, ◌&&◌, ◌||◌, nat_le, nat_lt, if◌then◌else◌, List, [], ◌∷◌, length, get_or, slice_index, slice_set, Option, Some, None}
 use Rattle.std.specs.Option.{is_some, unwrap_or}
 use Rattle.std.specs.BTreeMap.{BTreeMap, get}
 use Rattle.std.specs.Ordering.{nat_cmp}
@@ -14,6 +14,11 @@ covers start bytes a = nat_le start a && nat_lt (a - start) (length bytes)
 -- it is, and there is such an address
 abbrev pub has_address : ℕ → List ℕ → ℕ → Bool
 has_address start bytes a = covers start bytes a && nat_lt a (2 ^ 64)
+
+-- the bytes from a start on, where n of them from an address on are the low bytes of a number, the most significant first
+abbrev pub with_number : ℕ → List ℕ → ℕ → ℕ → ℕ → List ℕ
+with_number start bytes a zero v = bytes
+with_number start bytes a (suc n) v = with_number start (slice_set bytes (wrapping_add64 a n - start) (v % 256)) a n (v / 256)
 
 -- the address is one of the region's
 abbrev pub contains : Region → ℕ → Bool

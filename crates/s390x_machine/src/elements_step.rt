@@ -1,6 +1,8 @@
 //! The step at a row on vector registers whose result is computed. It is frequent, and builds no operation.
 
-ghost use Rattle.std.specs.Prelude.{◌≡◌, ℕ, Bool, Some, IfSome};
+ghost use Rattle.std.specs.Prelude.{◌≡◌, ℕ, Bool, Some, IfSome, IsTrue};
+ghost use Rattle.s390x_lanes.specs.Results.{vector_result};
+ghost use Rattle.s390x_lanes.specs.Rows.{is_computed, is_operation};
 ghost use Rattle.s390x_machine.specs.Fetch.{IsFound};
 ghost use Rattle.s390x_machine.specs.Semantics.{semantics_of};
 ghost use Rattle.s390x_machine.specs.State.{memory_of, registers_of, state_of};
@@ -12,8 +14,8 @@ use crate::perform::vector_code;
 use crate::step::StepEnd;
 use s390x_format::{Decoded, Fields, RowSemantics, length};
 use s390x_lanes::{
-    VectorOperation, VectorRow, code, computes, divides_by_zero, division_overflows, operation,
-    result,
+    BinaryOperator, ElementSize, VectorOperation, VectorRow, code, computes, divides_by_zero,
+    division_overflows, operation, result,
 };
 
 /// The operation of a row on vector registers, where its result is computed and it doesn't stop.
@@ -37,6 +39,115 @@ pub fn plain_operation(
     Some(operation)
 }
 
+/// The sums of the doublewords of two registers.
+fn sum_of_doublewords(x: u128, y: u128) -> u128
+    ensures { (first fourth : ℕ)
+        → result
+        ≡ vector_result (VectorOperation.Binary BinaryOperator.Add ElementSize.Doubleword) first x
+        y fourth }
+{
+    let high = ((x / 18446744073709551616) as u64).wrapping_add((y / 18446744073709551616) as u64);
+    let low = ((x % 18446744073709551616) as u64).wrapping_add((y % 18446744073709551616) as u64);
+    high as u128 * 18446744073709551616 + low as u128
+}
+
+/// The result of an operator on doublewords. The most frequent one is made without lanes.
+fn doublewords_value(
+    operator: BinaryOperator,
+    first: u128,
+    second: u128,
+    third: u128,
+    fourth: u128,
+) -> u128
+    ensures { result
+        ≡ vector_result (VectorOperation.Binary operator ElementSize.Doubleword) first second third
+        fourth }
+{
+    let size = ElementSize::Doubleword;
+    match operator {
+        BinaryOperator::Add => sum_of_doublewords(second, third),
+        _ => result(
+            VectorOperation::Binary { operator, size },
+            first,
+            second,
+            third,
+            fourth,
+        ),
+    }
+}
+
+/// The result of an operator on all bits. The most frequent ones are made without lanes.
+fn whole_value(
+    operator: BinaryOperator,
+    first: u128,
+    second: u128,
+    third: u128,
+    fourth: u128,
+) -> u128
+    ensures { result
+        ≡ vector_result (VectorOperation.Binary operator ElementSize.Quadword) first second third
+        fourth }
+{
+    let size = ElementSize::Quadword;
+    match operator {
+        BinaryOperator::And => second & third,
+        BinaryOperator::Or => second | third,
+        BinaryOperator::Xor => second ^ third,
+        _ => result(
+            VectorOperation::Binary { operator, size },
+            first,
+            second,
+            third,
+            fourth,
+        ),
+    }
+}
+
+/// The result of an operator on two registers.
+fn binary_value(
+    operator: BinaryOperator,
+    size: ElementSize,
+    first: u128,
+    second: u128,
+    third: u128,
+    fourth: u128,
+) -> u128
+    ensures { result
+        ≡ vector_result (VectorOperation.Binary operator size) first second third fourth }
+{
+    match size {
+        ElementSize::Doubleword => doublewords_value(operator, first, second, third, fourth),
+        ElementSize::Quadword => whole_value(operator, first, second, third, fourth),
+        _ => result(
+            VectorOperation::Binary { operator, size },
+            first,
+            second,
+            third,
+            fourth,
+        ),
+    }
+}
+
+/// The result of an operation.
+fn value_of(
+    operation: VectorOperation,
+    first: u128,
+    second: u128,
+    third: u128,
+    fourth: u128,
+) -> u128
+    requires is_operation { IsTrue (is_operation operation) }
+    requires is_computed { IsTrue (is_computed operation) }
+    ensures { result ≡ vector_result operation first second third fourth }
+{
+    match operation {
+        VectorOperation::Binary { operator, size } => {
+            binary_value(operator, size, first, second, third, fourth)
+        }
+        _ => result(operation, first, second, third, fourth),
+    }
+}
+
 /// The step at a row that was fetched, which makes an operation's value of the vector registers that it names.
 pub fn elements_step(
     machine: &mut Machine,
@@ -58,7 +169,7 @@ pub fn elements_step(
     let fourth = machine.vector(regs[3]);
     let number = code(operation, first, second, third);
     let code = vector_code(machine.condition_code(), number);
-    let value = result(operation, first, second, third, fourth);
+    let value = value_of(operation, first, second, third, fourth);
     machine.put_vector(regs[0], value);
     machine.set_condition_code(code);
     machine.place = machine

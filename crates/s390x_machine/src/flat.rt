@@ -3,9 +3,9 @@
 ghost use Rattle.std.specs.Prelude.{◌≡◌, ℕ, ◌+◌, ◌-◌, ◌<◌, ◌≤◌, ◌^◌, ◌||◌, ◌∷◌, ◌==◌, Some, IsSome, IsTrue, if◌then◌else◌, true, false, length, get_or, slice_index, IfOk, IfErr, OnOk, MatchResult, MatchOption};
 ghost use Rattle.std.specs.BTreeMap.{get};
 ghost use Rattle.std.specs.Ordering.{nat_cmp};
-ghost use Rattle.s390x_machine.specs.Regions.{contains, held_in, covers, has_address, is_held, byte_of, ContainsAll, ContainsNone, Holds, HoldsAll, IsFolded, IsHolder, IsInFirst};
+ghost use Rattle.s390x_machine.specs.Regions.{contains, held_in, covers, has_address, is_held, byte_of, with_number, ContainsAll, ContainsNone, Holds, HoldsAll, IsFolded, IsHolder, IsInFirst};
 ghost use Rattle.s390x_machine.specs.State.{AreBytes};
-ghost use Rattle.s390x_operations.specs.State.{bytes_to, number_at, reaches, update, write_get};
+ghost use Rattle.s390x_operations.specs.State.{bytes_to, number_at, reaches, update, wrapping_add64, write_get};
 
 use crate::memory::Memory;
 use s390x_base::NoMemory;
@@ -37,8 +37,8 @@ impl Region {
     {
         let length = self.bytes.len() as u64;
         address >= self.start
-            && n <= length
-            && address - self.start <= length - n
+            && address - self.start < length
+            && n <= length - (address - self.start)
             && address <= u64::MAX - n
     }
 
@@ -120,6 +120,19 @@ fn put_bytes(older: &mut BTreeMap<u64, u8>, start: u64, bytes: &[u8]) -> Result<
         }
     }
     Ok(())
+}
+
+/// Eight bytes of those from a start on, at an address, become the low bytes of a number, the most significant first.
+fn put_eight(bytes: &mut [u8], start: u64, address: u64, value: u64)
+    requires { (k : ℕ) → k < 8
+        → has_address start bytes.old (wrapping_add64 address k) ≡ true }
+    ensures { bytes.new ≡ with_number start bytes.old address 8 value }
+{
+    let mut rest = value;
+    for k in (0..8).rev() {
+        bytes[(address.wrapping_add(k) - start) as usize] = (rest % 256) as u8;
+        rest = rest / 256;
+    }
 }
 
 /// The byte that an address has becomes this one.
@@ -310,6 +323,8 @@ impl FlatMemory {
     }
 
     /// Whether so many bytes from an address on are accessible, each looked for by itself.
+    #[cold]
+    #[inline(never)]
     #[tactic(auto, using(crate::proofs::Reaching::reaches_none, crate::proofs::Reaching::reaches_more))]
     fn has_one_by_one(&self, address: u64, n: u64) -> bool
         ensures { result ≡ reaches (is_held self.now) address n }
@@ -385,6 +400,17 @@ impl FlatMemory {
         total
     }
 
+    /// The number in so many bytes from an address on, each looked for by itself.
+    #[cold]
+    #[inline(never)]
+    fn number_one_by_one(&self, address: u64, n: u64) -> u128
+        requires { n ≤ 16 }
+        ensures value { result ≡ number_at (byte_of self.now) address n }
+        ensures below { result < 256 ^ n }
+    {
+        self.number_from(None, address, n)
+    }
+
     /// The number in so many bytes from an address on, all of one region. Those of whole registers are read at once.
     fn region_number(&self, i: usize, address: u64, n: u64) -> u128
         requires few { n ≤ 16 }
@@ -410,11 +436,10 @@ impl FlatMemory {
         ensures stays { (a : ℕ) → (k : ℕ) → IsHolder self.old.regions.items a k
             → IsHolder self.new.regions.items a k }
     {
-        let mut rest = value;
-        for k in (0..8).rev() {
-            self.put_in(i, address.wrapping_add(k), (rest % 256) as u8);
-            rest = rest / 256;
-        }
+        let region = &mut self.regions[i];
+        let start = region.start;
+        let low = (value % 18446744073709551616) as u64;
+        put_eight(&mut region.bytes, start, address, low);
     }
 
     /// Sixteen bytes from an address on, all of one region, become those of a number.
@@ -441,6 +466,18 @@ impl FlatMemory {
             self.put_from(region, address.wrapping_add(i), (rest % 256) as u8);
             rest = rest / 256;
         }
+    }
+
+    /// So many accessible bytes from an address on become the low bytes of a number, each looked for by itself.
+    #[cold]
+    #[inline(never)]
+    fn put_one_by_one(&mut self, address: u64, n: u64, value: u128)
+        requires { IsTrue (reaches (is_held self.old) address n) }
+        ensures same { is_held self.new ≡ is_held self.old }
+        ensures written { byte_of self.new
+            ≡ write_get (bytes_to address n value) (byte_of self.old) }
+    {
+        self.put_number_from(None, address, n, value);
     }
 
     /// So many bytes from an address on, all of one region, become the low bytes of a number. Those of whole registers are written at once.
@@ -494,10 +531,9 @@ impl Memory for FlatMemory {
     }
 
     fn number(&self, address: u64, n: u64) -> u128 {
-        let region = self.holder_of_all(address, n);
-        match region {
+        match self.holder_of_all(address, n) {
             Some(i) => self.region_number(i, address, n),
-            None => self.number_from(region, address, n),
+            None => self.number_one_by_one(address, n),
         }
     }
 
@@ -506,10 +542,9 @@ impl Memory for FlatMemory {
     }
 
     fn put_number(&mut self, address: u64, n: u64, value: u128) {
-        let region = self.holder_of_all(address, n);
-        match region {
+        match self.holder_of_all(address, n) {
             Some(i) => self.put_region_number(i, address, n, value),
-            None => self.put_number_from(region, address, n, value),
+            None => self.put_one_by_one(address, n, value),
         }
     }
 }

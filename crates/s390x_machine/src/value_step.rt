@@ -68,6 +68,13 @@ fn compute(machine: &mut Machine, computation: Computation, target: u8, first: u
         (value computation.operator computation.size first second)) }
     ensures place { machine.new.place ≡ machine.old.place }
 {
+    // Loads are frequent.
+    if let Operator::Move = computation.operator {
+        if let CodeRule::Kept = computation.rule {
+            machine.put_sized(computation.size, target, second);
+            return;
+        }
+    }
     let (value, code) = operate(computation.operator, computation.size, first, second);
     machine.put_sized(computation.size, target, value);
     if let CodeRule::Set = computation.rule {

@@ -1,32 +1,48 @@
-use Rattle.std.proofs.Common.{◌≡◌, ℕ, ◌-◌, ◌/◌, refl, sym, ap, ◌∙◌, arith}
-use Rattle.s390x_operations.specs.State.{bytes_to, wrapping_add64, write_get}
-use Rattle.s390x_machine.specs.Regions.{byte_of}
-use Rattle.s390x_machine.proofs.Numbers.{store_more, store_none}
+use Rattle.std.proofs.Common.{ℕ, Bool, ◌||◌, List, ap, ◌∙◌, get_or, arith}
+use Rattle.std.specs.BTreeMap.{get}
+use Rattle.std.specs.Option.{is_some}
+use Rattle.std.specs.Ordering.{nat_cmp}
+use Rattle.std.specs.Prelude.{slice_set}
+use Rattle.std.specs.Vec.{with_items}
+use Rattle.s390x_operations.specs.State.{wrapping_add64}
+use Rattle.s390x_machine.specs.Regions.{contains, has_address}
+use Rattle.s390x_machine.specs.declared.flat.Region.{Region}
+use Rattle.s390x_machine.proofs.Writing.{are_written, is_written, AreWritten, IsWritten}
 use Rattle.s390x_machine.proofs.flat.FlatMemory.put_doubleword.Goals as goal
 
-pub loop-k-init : goal.loop-k-init
-loop-k-init c = record { same = refl; stays = λ a k h. h; left = refl }
-
-pub put_in-requires : goal.put_in-requires
-put_in-requires c = c.loop-k.invariant.stays (wrapping_add64 c.args.address (c.loop-k.k - 1)) c.args.i (c.requires (c.loop-k.k - 1) (omega arith))
-
-pub loop-k-preserved : goal.loop-k-preserved
-loop-k-preserved c =
-    let k = c.loop-k.k in
-    let write = write_get (bytes_to c.args.address (k - 1) (c.loop-k.rest / 256)) in
-    record {
-      same = c.put_in.ensures.same ∙ c.loop-k.invariant.same;
-      stays = λ a j h. c.put_in.ensures.stays a j (c.loop-k.invariant.stays a j h);
-      left = ap write c.put_in.ensures.written ∙ sym (store_more (byte_of c.loop-k.self) c.args.address k c.loop-k.rest (omega arith)) ∙ c.loop-k.invariant.left;
-    }
+pub put_eight-requires : goal.put_eight-requires
+put_eight-requires c =
+    let z = c.index_mut-region.result.now in
+    λ k lt. ap (λ (bs : List ℕ). has_address z.start bs (wrapping_add64 c.args.address k)) c.deref_mut.ensures.value
+    ∙ ap (λ (r : Region). contains r (wrapping_add64 c.args.address k)) c.index_mut-region.ensures.value
+    ∙ (c.requires k lt).1 z
 
 pub returns-clause-same : goal.returns-clause-same
-returns-clause-same c = c.loop-k.invariant.same
-
-pub returns-clause-stays : goal.returns-clause-stays
-returns-clause-stays c = c.loop-k.invariant.stays
+returns-clause-same c =
+    let rs = c.args.self.now.regions.items in
+    let z = c.index_mut-region.result.now in
+    let e = c.index_mut-region.ensures.value in
+    let new : Region = record { start = z.start; bytes = with_items z.bytes c.put_eight.new.bytes } in
+    let written : IsWritten (get_or rs c.args.i z) new c.args.address 8 c.args.value = is_written (get_or rs c.args.i z) z c.deref_mut.result.now c.put_eight.new.bytes c.args.address c.args.value e c.deref_mut.ensures.value c.put_eight.ensures in
+    let after : AreWritten rs (slice_set rs c.args.i new) c.args.self.now.older c.args.address 8 c.args.value = are_written 8 rs c.args.self.now.older c.args.i c.args.address c.args.value z new (c.requires 0 (omega arith)).0 c.requires written in
+    λ j b. ap (λ (h : Bool). h || is_some (get nat_cmp c.args.self.now.older b)) (after.held b) j
 
 pub returns-clause-written : goal.returns-clause-written
 returns-clause-written c =
-    let z : 0 ≡ c.loop-k.k = omega arith in
-    sym (store_none (byte_of c.loop-k.self) c.args.address c.loop-k.rest) ∙ ap (λ k. write_get (bytes_to c.args.address k c.loop-k.rest) (byte_of c.loop-k.self)) z ∙ c.loop-k.invariant.left
+    let rs = c.args.self.now.regions.items in
+    let z = c.index_mut-region.result.now in
+    let e = c.index_mut-region.ensures.value in
+    let new : Region = record { start = z.start; bytes = with_items z.bytes c.put_eight.new.bytes } in
+    let written : IsWritten (get_or rs c.args.i z) new c.args.address 8 c.args.value = is_written (get_or rs c.args.i z) z c.deref_mut.result.now c.put_eight.new.bytes c.args.address c.args.value e c.deref_mut.ensures.value c.put_eight.ensures in
+    let after : AreWritten rs (slice_set rs c.args.i new) c.args.self.now.older c.args.address 8 c.args.value = are_written 8 rs c.args.self.now.older c.args.i c.args.address c.args.value z new (c.requires 0 (omega arith)).0 c.requires written in
+    λ j b. after.byte b j
+
+pub returns-clause-stays : goal.returns-clause-stays
+returns-clause-stays c =
+    let rs = c.args.self.now.regions.items in
+    let z = c.index_mut-region.result.now in
+    let e = c.index_mut-region.ensures.value in
+    let new : Region = record { start = z.start; bytes = with_items z.bytes c.put_eight.new.bytes } in
+    let written : IsWritten (get_or rs c.args.i z) new c.args.address 8 c.args.value = is_written (get_or rs c.args.i z) z c.deref_mut.result.now c.put_eight.new.bytes c.args.address c.args.value e c.deref_mut.ensures.value c.put_eight.ensures in
+    let after : AreWritten rs (slice_set rs c.args.i new) c.args.self.now.older c.args.address 8 c.args.value = are_written 8 rs c.args.self.now.older c.args.i c.args.address c.args.value z new (c.requires 0 (omega arith)).0 c.requires written in
+    λ a k h. after.stays a k h
