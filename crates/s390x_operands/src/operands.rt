@@ -4,7 +4,10 @@ ghost use Rattle.s390x_operands.specs.Requests.{Reports};
 ghost use Rattle.s390x_operands.specs.Operands.{is_loop, requests, members_requests};
 
 use crate::arithmetic::report_arithmetic;
+use crate::calls::report_call;
 use crate::constraint::OperandError;
+use crate::report::{report_input_from, report_output_from};
+use crate::vectors::report_vector;
 use crate::visitor::OperandVisitor;
 use s390x_inst::Inst;
 
@@ -32,6 +35,15 @@ pub fn report_inst<V: OperandVisitor>(
 {
     match inst {
         Inst::Loop { body, .. } => report_members(v, body),
+        // asked first, since they are many and the groups are long
+        Inst::Load32 { rd, mem } | Inst::Load64 { rd, mem } => {
+            report_output_from(v, denied, rd, &[], mem)
+        }
+        Inst::Store32 { rd, mem } | Inst::Store64 { rd, mem } => {
+            report_input_from(v, denied, rd, mem)
+        }
+        Inst::Call { link, info } => report_call(v, denied, &link.to_reg(), info),
+        Inst::Vector(vector) => report_vector(v, denied, vector),
         _ => report_arithmetic(v, denied, inst),
     }
 }

@@ -146,7 +146,7 @@ pub fn report_memory<V: OperandVisitor>(
         MemArg::BXD12 { base, index, .. } | MemArg::BXD20 { base, index, .. } => {
             report_address(v, denied, &[*base, *index])
         }
-        MemArg::RegOffset { reg, .. } => report_address(v, denied, &[*reg]),
+        MemArg::RegOffset { reg, .. } => report_use_scratch(v, denied, reg),
         _ => report_scratch(v, denied),
     }
 }
@@ -162,6 +162,20 @@ pub fn report_inputs<V: OperandVisitor>(
         (V.items v.new) (V.denies v.old) (V.denies v.new) result }
 {
     report_uses(v, denied, uses)?;
+    report_memory(v, denied, mem)
+}
+
+/// Reports a register that is read, and a memory operand.
+pub fn report_input_from<V: OperandVisitor>(
+    v: &mut V,
+    denied: bool,
+    reg: &Reg,
+    mem: &MemArg,
+) -> Result<(), OperandError>
+    ensures { Reports denied (reported_use reg.now ∷ memory_requests mem.now) (V.items v.old)
+        (V.items v.new) (V.denies v.old) (V.denies v.new) result }
+{
+    report_use(v, denied, reg)?;
     report_memory(v, denied, mem)
 }
 

@@ -4,8 +4,8 @@ ghost use Rattle.s390x_operands.specs.Operands.{register_vector_requests, vector
 
 use crate::constraint::OperandError;
 use crate::report::{
-    report_inputs, report_nothing, report_output, report_output_from, report_reused,
-    report_reused_from, report_uses,
+    report_input_from, report_inputs, report_nothing, report_output, report_output_from,
+    report_reused, report_reused_from, report_uses,
 };
 use crate::visitor::OperandVisitor;
 use s390x_base::Writable;
@@ -31,6 +31,23 @@ fn report_whole<V: OperandVisitor>(
 
 /// Reports the operands of a vector instruction.
 pub fn report_vector<V: OperandVisitor>(
+    v: &mut V,
+    denied: bool,
+    inst: &VecInst,
+) -> Result<(), OperandError>
+    ensures { Reports denied (vector_requests inst.now) (V.items v.old) (V.items v.new)
+        (V.denies v.old) (V.denies v.new) result }
+{
+    match inst {
+        // asked first, since they are many
+        VecInst::VecLoad { rd, mem } => report_output_from(v, denied, rd, &[], mem),
+        VecInst::VecStore { rd, mem } => report_input_from(v, denied, rd, mem),
+        _ => report_other(v, denied, inst),
+    }
+}
+
+// Reports the operands of any vector instruction.
+fn report_other<V: OperandVisitor>(
     v: &mut V,
     denied: bool,
     inst: &VecInst,
