@@ -128,7 +128,8 @@ fn binary_value(
     }
 }
 
-/// The result of an operation.
+/// The result of an operation. Inlined, it would make every other step longer.
+#[inline(never)]
 fn value_of(
     operation: VectorOperation,
     first: u128,
