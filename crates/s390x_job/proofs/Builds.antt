@@ -65,15 +65,16 @@ abbrev pub loop_of : ℕ → Vec Inst Global → OpenLoop
 loop_of c v = record { cond = c; before = v }
 
 -- a block ends before a line
-pub shut_lines : (s : List Line) (bs ns : List Block) (fs : List OpenLoop) (h v : Vec Inst Global) (l : Line) → fs ≡ [] → v ≡ h → ns ≡ bs ++ block_of v ∷ [] → s ++ (blocks_lines ns ++ l ∷ []) ≡ (s ++ (blocks_lines bs ++ (block_line ∷ (open_lines fs ++ insts_lines h.items)))) ++ l ∷ []
+pub shut_lines : (s : List Line) (bs ns : List Block) (fs : List OpenLoop) (h v : Vec Inst Global) (l : Line) → fs ≡ [] → v.items ≡ h.items → ns ≡ bs ++ block_of v ∷ [] → s ++ (blocks_lines ns ++ l ∷ []) ≡ (s ++ (blocks_lines bs ++ (block_line ∷ (open_lines fs ++ insts_lines h.items)))) ++ l ∷ []
 shut_lines s bs ns fs h v l f e k =
-    ap (λ t. s ++ (blocks_lines t ++ l ∷ [])) (k ∙ ap (λ (t : Vec Inst Global). bs ++ block_of t ∷ []) e)
-    ∙ ap (λ t. s ++ (t ++ l ∷ [])) (one_block bs (block_of h))
-    ∙ at_block s (blocks_lines bs) [] (insts_lines h.items) l
+    ap (λ t. s ++ (blocks_lines t ++ l ∷ [])) k
+    ∙ ap (λ t. s ++ (t ++ l ∷ [])) (one_block bs (block_of v))
+    ∙ at_block s (blocks_lines bs) [] (insts_lines v.items) l
+    ∙ ap (λ t. (s ++ (blocks_lines bs ++ (block_line ∷ insts_lines t))) ++ l ∷ []) e
     ∙ ap (λ t. (s ++ (blocks_lines bs ++ (block_line ∷ (open_lines t ++ insts_lines h.items)))) ++ l ∷ []) (sym f)
 
-pub none_open : (fs : List OpenLoop) (v n : Vec Inst Global) → fs ≡ [] → v ≡ n → n.items ≡ [] → open_lines fs ++ insts_lines v.items ≡ []
-none_open fs v n f e g = ap (λ t. open_lines t ++ insts_lines v.items) f ∙ ap (λ (t : Vec Inst Global). insts_lines t.items) e ∙ ap insts_lines g
+pub none_open : (fs : List OpenLoop) (v : Vec Inst Global) → fs ≡ [] → v.items ≡ [] → open_lines fs ++ insts_lines v.items ≡ []
+none_open fs v f e = ap (λ t. open_lines t ++ insts_lines v.items) f ∙ ap insts_lines e
 
 -- where a line leads within a block
 pub to_block : (fs : List OpenLoop) → fs ≡ [] → next_place (Within (length fs)) OpenBlock ≡ Some (Within (length fs))

@@ -311,6 +311,23 @@ fn head(
     }
 }
 
+/// More instructions are moved with their list, which costs no copy.
+const MOST_COPIED: usize = 64;
+
+/// Takes all instructions, in a list without spare room. The list that they stood in keeps its room for the next ones, where they are few.
+fn take_insts(alloc: Global, insts: &mut Vec<Inst>) -> Result<Vec<Inst>, AllocError>
+    ensures taken { IfOk result (λ v. v.items ≡ insts.old.items) }
+    ensures left { OnOk result (insts.new.items ≡ []) }
+{
+    if insts.len() > MOST_COPIED {
+        insts.shrink_to_fit();
+        return Ok(mem::replace(insts, Vec::new(alloc)));
+    }
+    let mut taken = Vec::with_capacity(alloc, insts.len())?;
+    taken.append(insts)?;
+    Ok(taken)
+}
+
 /// The block ends.
 fn close_block(alloc: Global, b: &mut Body) -> Result<(), AllocError>
     requires none { b.old.loops.items ≡ [] }
@@ -322,7 +339,7 @@ fn close_block(alloc: Global, b: &mut Body) -> Result<(), AllocError>
         (IsNext (body_lines b.old) (Within (length b.old.loops.items)) end_line Progress.Done
         b.new) }
 {
-    let insts = mem::replace(&mut b.here, Vec::new(alloc));
+    let insts = take_insts(alloc, &mut b.here)?;
     b.blocks.push(Block { insts })?;
     Ok(())
 }
@@ -349,6 +366,7 @@ fn close(b: &mut Body) -> Result<(), AllocError>
     match b.loops.pop() {
         Some(top) => {
             let OpenLoop { cond, before } = top;
+            b.here.shrink_to_fit();
             let body = mem::replace(&mut b.here, before);
             b.here.push(Inst::Loop { cond, body })?;
             Ok(())

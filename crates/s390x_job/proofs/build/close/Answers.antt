@@ -17,14 +17,16 @@ returns c =
     let ls = c.pop.new.self.items in
     let fs = open_lines ls in
     let hs = insts_lines b.here.items in
+    let body = c.replace-body.result in
     let here = c.in_ok-push-in-Some.ensures.items
-    ∙ ap (λ (v : Vec Inst Global). v.items ++ V.Loop f.cond c.replace-body.result ∷ []) c.replace-body.ensures.after
-    ∙ ap (λ (v : Vec Inst Global). f.before.items ++ V.Loop f.cond v ∷ []) c.replace-body.ensures.value in
+    ∙ ap (λ (v : Vec Inst Global). v.items ++ V.Loop f.cond body ∷ []) c.replace-body.ensures.after in
+    let bodied = ap (λ (v : Vec Inst Global). v.items) c.replace-body.ensures.value ∙ c.shrink_to_fit.ensures.items in
     let n : length b.loops.items ≡ suc (length ls) = omega (arith, ap length e, length-append ls (f ∷ [])) in
     record {
       state = c.requires.full;
       lines = ap (λ t. ss ++ (bs ++ (block_line ∷ (fs ++ insts_lines t)))) here
-          ∙ ap (λ t. ss ++ (bs ++ (block_line ∷ (fs ++ t)))) (one_loop f.before.items f.cond b.here)
+          ∙ ap (λ t. ss ++ (bs ++ (block_line ∷ (fs ++ t)))) (one_loop f.before.items f.cond body)
+          ∙ ap (λ t. ss ++ (bs ++ (block_line ∷ (fs ++ (insts_lines f.before.items ++ (loop_line f.cond ∷ (insts_lines t ++ close_line ∷ []))))))) bodied
           ∙ at_close ss bs fs hs (insts_lines f.before.items) (loop_line f.cond) close_line
           ∙ ap (λ t. (ss ++ (bs ++ (block_line ∷ (t ++ hs)))) ++ close_line ∷ []) (sym (one_frame ls f))
           ∙ ap (λ t. (ss ++ (bs ++ (block_line ∷ (open_lines t ++ hs)))) ++ close_line ∷ []) (sym e);
