@@ -19,6 +19,7 @@ use s390x_enc::{enc_rx, enc_rxy};
 use s390x_typed_steps::{low_12, low_displacement};
 
 // The code of the row of format RX at a base and a displacement, where its registers may stand there.
+#[inline(always)]
 fn short_code(opcode: u8, register: Reg, base: Reg, disp: UImm12) -> Option<Code>
     ensures { IfSome result
         (λ code. code
@@ -30,6 +31,7 @@ fn short_code(opcode: u8, register: Reg, base: Reg, disp: UImm12) -> Option<Code
 }
 
 // The code of the row of format RXY at a base and a displacement, where its registers may stand there.
+#[inline(always)]
 fn long_code(opcode: u16, register: Reg, base: Reg, disp: SImm20) -> Option<Code>
     ensures { IfSome result
         (λ code. code
@@ -41,6 +43,7 @@ fn long_code(opcode: u16, register: Reg, base: Reg, disp: SImm20) -> Option<Code
 }
 
 // The code of the row of format RXY at an offset, where there is a row and its displacement holds the offset.
+#[inline(always)]
 fn long_offset_code(opcode: Option<u16>, register: Reg, base: Reg, off: i128) -> Option<Code>
     ensures { IfSome result
         (λ code. (fits_20 off ≡ true)
@@ -55,6 +58,7 @@ fn long_offset_code(opcode: Option<u16>, register: Reg, base: Reg, off: i128) ->
 }
 
 // The code at a base and an offset of an instruction by one general register, where a displacement of its rows holds the offset.
+#[inline(always)]
 fn register_code(rows: &StorageRows, base: Reg, off: i128) -> Option<Code>
     ensures { (accesses operands_valid reads_scratch : Bool) (flags : AccessFlags)
         → IfSome result
@@ -86,6 +90,7 @@ fn register_code(rows: &StorageRows, base: Reg, off: i128) -> Option<Code>
 }
 
 // The code of the row of format VRX at a base and a displacement, where its registers and its mask may stand there.
+#[inline(always)]
 fn vector_code(opcode: u16, register: Reg, base: Reg, disp: UImm12, mask: u8) -> Option<Code>
     ensures { IfSome result
         (λ code. code
@@ -97,6 +102,7 @@ fn vector_code(opcode: u16, register: Reg, base: Reg, disp: UImm12, mask: u8) ->
 }
 
 // The code at a base and an offset of an instruction by one vector register, where the displacement of its row holds the offset.
+#[inline(always)]
 fn vector_offset_code(rows: &StorageRows, base: Reg, off: i128) -> Option<Code>
     ensures { (accesses operands_valid reads_scratch : Bool) (flags : AccessFlags)
         → IfSome result
@@ -124,6 +130,7 @@ fn vector_offset_code(rows: &StorageRows, base: Reg, off: i128) -> Option<Code>
 }
 
 /// The code at a base and an offset of an instruction by one general or vector register, where a displacement of its rows holds the offset.
+#[inline(always)]
 pub fn offset_code(rows: &StorageRows, base: Reg, off: i128) -> Option<Code>
     ensures { (accesses operands_valid reads_scratch : Bool) (flags : AccessFlags)
         → IfSome result

@@ -67,6 +67,7 @@ pub fn vector(r: &Reg) -> bool
 }
 
 // Whether the operand's registers are real Int ones.
+#[inline(always)]
 fn is_general_operand(mem: &MemArg) -> bool
     ensures { result ≡ operand_general mem.now }
 {
@@ -97,6 +98,7 @@ fn put_trapping(sink: &mut MachBuffer, code: &Code, trap_code: TrapCode) -> Resu
 }
 
 // The code of a row, with the trap of its faults.
+#[inline(always)]
 fn put_row(sink: &mut MachBuffer, code: &Code, trap_code: Option<TrapCode>) -> Result<(), EmitError>
     ensures answer { (m : MachineInstruction) → code.now ≡ bytes_of m
         → OnOk result (sink.new ≡ with_parts sink.old (access_parts (Some m) trap_code)) }
@@ -379,6 +381,7 @@ impl MemoryInst {
     }
 
     // The code of its access's faults, where they have one.
+    #[inline(always)]
     fn fault_code(&self) -> Option<TrapCode>
         ensures { result ≡ fault_code (memory_instruction_of self.now) }
     {
@@ -532,6 +535,7 @@ impl MemoryInst {
     }
 
     // Whether its registers may stand there, and those of its operand.
+    #[inline(always)]
     fn has_valid_registers(&self) -> bool
         ensures { result ≡ self.now.operands_valid && operand_general self.now.operand }
     {
@@ -581,6 +585,7 @@ impl MemoryInst {
     }
 
     // Its code, where it is behind no helper and a displacement holds its offset.
+    #[inline(always)]
     fn plain_code(&self, state: &EmitState) -> Option<Code>
         ensures { IfSome result
             (λ code. IsPlain (in_state state.now (memory_instruction_of self.now)) code) }
@@ -631,6 +636,7 @@ impl MemoryInst {
     }
 
     // The helpers and the access of an instruction with valid registers, where no other cause refuses it.
+    #[inline(always)]
     fn emit_valid(&self, sink: &mut MachBuffer, state: &EmitState) -> Result<(), EmitError>
         requires encodes { may_encode self.now ≡ true }
         requires valid { (self.now.operands_valid && operand_general self.now.operand) ≡ true }
@@ -649,12 +655,17 @@ impl MemoryInst {
     {
         match self.plain_code(state) {
             Some(code) => put_row(sink, &code, self.fault_code()),
-            None => self.emit_helped(sink, state),
+            // by a copy: what a call borrows is made whole in memory before the code is looked for
+            None => {
+                let rest = *self;
+                rest.emit_helped(sink, state)
+            }
         }
     }
 
     /// Appends the helpers, and then the access with the trap of its faults, where no cause refuses it. An error may be another one than the first
     /// cause, which `cause` names.
+    #[inline(always)]
     pub fn emit_unless_refused(
         &self,
         sink: &mut MachBuffer,
