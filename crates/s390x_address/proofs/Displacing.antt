@@ -1,5 +1,5 @@
 -- An instruction whose offset a displacement of its rows holds is behind no helper, and only its registers may refuse it.
-use Rattle.std.proofs.Common.{◌≡◌, ℕ, ℤ, pos, negsuc, unsigned_abs, List, [], ◌∷◌, ◌++◌, length, Bool, true, false, cond, not, ◌&&◌, ◌||◌, Option, None, Some, option_map, IfSome, refl, sym, ap, subst, ◌∙◌, arith}
+use Rattle.std.proofs.Common.{◌≡◌, ℕ, ◌+◌, ℤ, pos, negsuc, unsigned_abs, List, [], ◌∷◌, ◌++◌, length, Bool, true, false, cond, not, ◌&&◌, ◌||◌, Option, None, Some, option_map, is_some, IfSome, refl, sym, ap, subst, ◌∙◌, arith}
 use Rattle.s390x_base.specs.Regs.{number_of}
 use Rattle.s390x_base.specs.declared.error.EmitError.{EmitError}
 use Rattle.s390x_base.specs.declared.error.EmitError.TheVariants.{BadOperator, BadRegister, ScratchConflict, OffsetOutOfRange}
@@ -7,14 +7,16 @@ use Rattle.s390x_base.specs.AccessFlags.{AccessFlags}
 use Rattle.s390x_base.specs.declared.regs.Reg.{Reg}
 use Rattle.s390x_base.specs.declared.trap.TrapKind.{TrapKind}
 use Rattle.s390x_inst.specs.declared.args.MemArg.TheVariants.{BXD12, BXD20, RegOffset}
-use Rattle.s390x_inst.specs.declared.inst.Inst.TheVariants.{Mov64SImm32}
+use Rattle.s390x_inst.specs.declared.inst.Inst.{Inst}
+use Rattle.s390x_inst.specs.declared.inst.Inst.TheVariants.{Mov64SImm32, LoadAddr}
+use Rattle.s390x_format.specs.Formats.{length_of}
 use Rattle.s390x_typed_steps.specs.Causes.{Declared, first_emit_cause, unless, is_helped, memory_cause}
 use Rattle.s390x_typed_steps.specs.General.{is_general, low_displacement, low_12}
 use Rattle.s390x_typed_steps.specs.MachineInstruction.{MachineInstruction, bytes_of, rx, rxy, vrx}
 use Rattle.s390x_typed_steps.specs.Memory.{StorageForm, RxForm, VrxForm, type_of, storage_row, of_opcode}
-use Rattle.s390x_typed_steps.specs.Operands.{Finalized, scratch, no_register, is_numbered, is_relative, is_far, fits_12, fits_20, fits_32, with_address_loaded, with_widened, finalized_operand, has_form}
+use Rattle.s390x_typed_steps.specs.Operands.{Finalized, scratch, no_register, is_numbered, is_relative, is_far, fits_12, fits_20, fits_32, with_displacement, with_address_loaded, with_widened, finalized_operand, has_form}
 use Rattle.s390x_typed_steps.specs.Parts.{helpers_parts, relative_parts, access_parts, operand_parts, finalized_parts, parts_size}
-use Rattle.s390x_address.specs.Lowerings.{IsPlain}
+use Rattle.s390x_address.specs.Lowerings.{IsPlain, IsBehind, IsIndexed}
 use Rattle.s390x_address.specs.Rows.{storage_form_of}
 use Rattle.s390x_address.specs.declared.rows.StorageRows.{StorageRows}
 use Rattle.s390x_address.specs.declared.rows.StorageRows.TheVariants.{OneRegister, Vector}
@@ -183,10 +185,71 @@ pub unfit : (t : Bool) (d : ℕ) (o : Option ℕ) → None ≡ cond t (Some d) N
 unfit true d o h e = absurd (cc)
 unfit false d o h e = absurd (cc)
 
--- what holds anyway
-pub some_always : {A : Type 0} {P : Type 0} (o : Option A) → P → IfSome o (λ _. P)
-some_always None p = tt
-some_always (Some a) p = p
+-- ---- an offset that a helper loads
+
+far_tests : (a b c : Bool) → (a && not b && not c) ≡ true → (a ≡ true) × (b ≡ false) × (c ≡ false)
+far_tests true true c h = absurd (cc)
+far_tests true false true h = absurd (cc)
+far_tests true false false h = (refl, refl, refl)
+far_tests false b c h = absurd (cc)
+
+far_behind : (form : StorageForm) (base : Reg) (off : ℤ) (flags : AccessFlags) (accesses operands_valid : Bool) (code : List ℕ) → is_far off ≡ true → is_numbered 1 base ≡ false → IsIndexed form accesses base flags code →
+    IsBehind (record { form = form; operand = RegOffset base off flags; accesses = accesses; operands_valid = operands_valid; reads_scratch = false }) (Mov64SImm32 scratch off ∷ []) code
+far_behind form base off flags accesses operands_valid code far other indexed =
+    let mi = type_of form accesses in
+    let helpers = Mov64SImm32 scratch off ∷ [] in
+    let short : Finalized = record { helpers = []; operand = BXD12 base no_register (unsigned_abs off) flags } in
+    let long : Finalized = record { helpers = []; operand = BXD20 base no_register off flags } in
+    let helped : Finalized = record { helpers = helpers; operand = BXD12 base scratch 0 flags } in
+    let stays : Finalized = record { helpers = []; operand = RegOffset base off flags } in
+    let loaded : Finalized = record { helpers = helpers ++ LoadAddr scratch (BXD12 base scratch 0 flags) ∷ []; operand = BXD12 scratch no_register 0 flags } in
+    let tests = far_tests (fits_32 off) (fits_12 off) (fits_20 off) far in
+    let displaced : with_displacement (RegOffset base off flags) ≡ helped =
+    ap (λ t. cond t short (cond (fits_20 off) long (cond (fits_32 off) helped stays))) tests.1
+    ∙ ap (λ t. cond t long (cond (fits_32 off) helped stays)) tests.2
+    ∙ ap (λ t. cond t helped stays) tests.0 in
+    let lowered : finalized_operand mi (RegOffset base off flags) ≡ with_widened mi helped =
+    ap (λ f. with_widened mi (with_address_loaded mi f)) displaced
+    ∙ ap (λ t. with_widened mi (cond t loaded helped)) indexed.1 in
+    let registers = unless (operands_valid && is_general base) BadRegister in
+    let late : Bool → Bool → Option EmitError = λ lost holds. first_emit_cause (first_emit_cause (unless (not lost) ScratchConflict) (unless (holds && true) OffsetOutOfRange)) None in (
+      ap (λ (f : Finalized). f.helpers) lowered,
+      ap (λ (f : Finalized). is_relative f.operand) lowered ∙ indexed.2,
+      ap (λ (f : Finalized). option_map bytes_of (storage_row form f.operand)) lowered ∙ indexed.3,
+      λ D. ap (λ t. first_emit_cause (unless t BadOperator) (first_emit_cause registers (late ((is_numbered 1 base && is_far off) || false) (fits_32 off)))) indexed.0
+          ∙ ap (λ t. first_emit_cause registers (late ((t && is_far off) || false) (fits_32 off))) other
+          ∙ ap (λ t. first_emit_cause registers (late false t)) tests.0
+          ∙ first_alone registers,
+    )
+
+pub far_found : (form : StorageForm) (base : Reg) (imm off : ℤ) (flags : AccessFlags) (accesses operands_valid : Bool) (code : List ℕ) → Some imm ≡ cond (is_far off) (Some off) None → is_numbered 1 base ≡ false → IsIndexed form accesses base flags code →
+    IsBehind (record { form = form; operand = RegOffset base off flags; accesses = accesses; operands_valid = operands_valid; reads_scratch = false }) (Mov64SImm32 scratch imm ∷ []) code
+far_found form base imm off flags accesses operands_valid code far other indexed =
+    let p = held (is_far off) imm off far in
+    subst (λ z. IsBehind (record { form = form; operand = RegOffset base off flags; accesses = accesses; operands_valid = operands_valid; reads_scratch = false }) (Mov64SImm32 scratch z ∷ []) code) (sym p.1)
+    (far_behind form base off flags accesses operands_valid code p.0 other indexed)
+
+-- an offset that no displacement holds and an immediate does
+pub far_of : (off imm : ℤ) (d : ℕ) (a b c : Bool) → is_some (cond a (Some d) None) ≡ false → is_some (cond b (Some off) None) ≡ false → cond c (Some imm) None ≡ cond (c && not a && not b) (Some imm) None
+far_of off imm d true b c h k = absurd (cc)
+far_of off imm d false true c h k = absurd (cc)
+far_of off imm d false false true h k = refl
+far_of off imm d false false false h k = refl
+
+pub short_indexed : (found : Option (List ℕ)) (register base : Reg) (rx_opcode rxy_opcode ril_opcode : Option ℕ) (opcode : ℕ) (flags : AccessFlags) (accesses : Bool) → rx_opcode ≡ Some opcode →
+    IfSome found (λ code. code ≡ bytes_of (rx opcode (number_of register) (number_of base) (number_of scratch) (low_12 0))) →
+    IfSome found (λ code. IsIndexed (RxForm (number_of register) rx_opcode rxy_opcode ril_opcode) accesses base flags code)
+short_indexed None register base rx_opcode rxy_opcode ril_opcode opcode flags accesses some same = tt
+short_indexed (Some code) register base rx_opcode rxy_opcode ril_opcode opcode flags accesses some same =
+    subst (λ o. IsIndexed (RxForm (number_of register) o rxy_opcode ril_opcode) accesses base flags code) (sym some) (refl, refl, refl, ap Some (sym same))
+
+pub long_indexed : (found : Option (List ℕ)) (register base : Reg) (rx_opcode rxy_opcode ril_opcode : Option ℕ) (opcode : ℕ) (flags : AccessFlags) (accesses : Bool) → rx_opcode ≡ None → rxy_opcode ≡ Some opcode →
+    IfSome found (λ code. code ≡ bytes_of (rxy opcode (number_of register) (number_of base) (number_of scratch) (low_displacement (pos 0)))) →
+    IfSome found (λ code. IsIndexed (RxForm (number_of register) rx_opcode rxy_opcode ril_opcode) accesses base flags code)
+long_indexed None register base rx_opcode rxy_opcode ril_opcode opcode flags accesses none some same = tt
+long_indexed (Some code) register base rx_opcode rxy_opcode ril_opcode opcode flags accesses none some same =
+    subst (λ o. IsIndexed (RxForm (number_of register) o rxy_opcode ril_opcode) accesses base flags code) (sym none)
+    (subst (λ o. IsIndexed (RxForm (number_of register) None o ril_opcode) accesses base flags code) (sym some) (refl, refl, refl, ap Some (sym same)))
 
 -- ---- what it puts
 
@@ -195,12 +258,21 @@ pub row_found : {P : Type 0} (o : Option MachineInstruction) (code : List ℕ) �
 row_found None code h f = absurd (cc)
 row_found (Some m) code h f = f m refl (cc)
 
-pub plain_parts : (form : StorageForm) (trap : Option TrapKind) (f : Finalized) (m : MachineInstruction) → f.helpers ≡ [] → is_relative f.operand ≡ false → storage_row form f.operand ≡ Some m → finalized_parts form trap f ≡ access_parts (Some m) trap
-plain_parts form trap f m alone absolute row =
+pub behind_parts : (form : StorageForm) (trap : Option TrapKind) (f : Finalized) (helpers : List Inst) (m : MachineInstruction) → f.helpers ≡ helpers → is_relative f.operand ≡ false → storage_row form f.operand ≡ Some m →
+    finalized_parts form trap f ≡ helpers_parts helpers ++ access_parts (Some m) trap
+behind_parts form trap f helpers m alone absolute row =
     ap (λ hs. helpers_parts hs ++ operand_parts form trap f.operand) alone
-    ∙ ap (λ t. cond t (relative_parts form trap f.operand) (access_parts (storage_row form f.operand) trap)) absolute
-    ∙ ap (λ o. access_parts o trap) row
+    ∙ ap (λ t. helpers_parts helpers ++ cond t (relative_parts form trap f.operand) (access_parts (storage_row form f.operand) trap)) absolute
+    ∙ ap (λ o. helpers_parts helpers ++ access_parts o trap) row
+
+pub plain_parts : (form : StorageForm) (trap : Option TrapKind) (f : Finalized) (m : MachineInstruction) → f.helpers ≡ [] → is_relative f.operand ≡ false → storage_row form f.operand ≡ Some m → finalized_parts form trap f ≡ access_parts (Some m) trap
+plain_parts form trap f m = behind_parts form trap f [] m
 
 pub plain_size : (trap : Option TrapKind) (m : MachineInstruction) → parts_size (access_parts (Some m) trap) ≡ length (bytes_of m)
 plain_size None m = omega (arith, length-bytes m)
 plain_size (Some code) m = omega (arith, length-bytes m)
+
+-- how many bytes an access has behind the load of an offset
+pub far_row_size : (off : ℤ) (trap : Option TrapKind) (m : MachineInstruction) → parts_size (helpers_parts (Mov64SImm32 scratch off ∷ []) ++ access_parts (Some m) trap) ≡ 6 + length (bytes_of m)
+unfolding length_of
+far_row_size off trap m = ap (λ n. 6 + n) (plain_size trap m)

@@ -1,15 +1,17 @@
 -- How the code's lowering of an operand stands for its helpers and the operand of the access.
 use Rattle.std.specs.Prelude.{◌≡◌, ℕ, ℤ, List, [], ◌∷◌, ◌++◌, length, Bool, true, false, not, ◌&&◌, nat_lt, Option, Some, None, option_map}
+use Rattle.s390x_base.specs.AccessFlags.{AccessFlags}
 use Rattle.s390x_base.specs.declared.error.EmitError.{EmitError}
 use Rattle.s390x_base.specs.declared.error.EmitError.TheVariants.{BadRegister, ScratchConflict, OffsetOutOfRange}
+use Rattle.s390x_base.specs.declared.regs.Reg.{Reg}
 use Rattle.s390x_inst.specs.declared.args.MemArg.{MemArg}
-use Rattle.s390x_inst.specs.declared.args.MemArg.TheVariants.{Label, Constant}
+use Rattle.s390x_inst.specs.declared.args.MemArg.TheVariants.{BXD12, Label, Constant}
 use Rattle.s390x_inst.specs.declared.inst.Inst.{Inst}
 use Rattle.s390x_inst.specs.declared.inst.Inst.TheVariants.{Mov64SImm32, LoadAddr}
 use Rattle.s390x_typed_steps.specs.MachineInstruction.{bytes_of}
-use Rattle.s390x_typed_steps.specs.Operands.{Finalized, finalized_operand, is_relative, scratch, loses_base, offset_fits, operand_general}
+use Rattle.s390x_typed_steps.specs.Operands.{Finalized, finalized_operand, with_long_displacement, has_form, needs_address, is_relative, scratch, loses_base, offset_fits, operand_general}
 use Rattle.s390x_typed_steps.specs.Causes.{Declared, first_emit_cause, unless, is_helped, addend_fits, target_cause, memory_cause}
-use Rattle.s390x_typed_steps.specs.Memory.{MemoryInstruction, type_of, storage_row}
+use Rattle.s390x_typed_steps.specs.Memory.{StorageForm, MemoryInstruction, type_of, storage_row}
 use Rattle.s390x_address.specs.declared.lowering.Lowering.{Lowering}
 
 -- the helper that loads an offset, where there is one
@@ -54,9 +56,23 @@ abbrev pub lowered_cause : Declared → MemoryInstruction → Finalized → Opti
 lowered_cause D x f =
     first_emit_cause (first_emit_cause (unless (not (x.reads_scratch && is_helped f.helpers)) ScratchConflict) (unless (addend_fits x.operand) OffsetOutOfRange)) (target_cause D x)
 
--- an instruction whose access is behind no helper, by the row that has this code; only its registers may refuse it
-abbrev pub IsPlain : MemoryInstruction → List ℕ → Type 0
-IsPlain x code =
+-- an instruction whose access is behind these helpers, by the row that has this code; only its registers may refuse it
+abbrev pub IsBehind : MemoryInstruction → List Inst → List ℕ → Type 0
+IsBehind x helpers code =
     let f = finalized_operand (type_of x.form x.accesses) x.operand in
-    (f.helpers ≡ []) × (is_relative f.operand ≡ false) × (option_map bytes_of (storage_row x.form f.operand) ≡ Some code)
+    (f.helpers ≡ helpers) × (is_relative f.operand ≡ false) × (option_map bytes_of (storage_row x.form f.operand) ≡ Some code)
     × ((D : Declared) → memory_cause D x ≡ unless (x.operands_valid && operand_general x.operand) BadRegister)
+
+-- behind none
+abbrev pub IsPlain : MemoryInstruction → List ℕ → Type 0
+IsPlain x code = IsBehind x [] code
+
+-- the operand at a base and the index %r1, with the displacement of the rows
+abbrev pub indexed_operand : StorageForm → (accesses : Bool) → Reg → AccessFlags → MemArg
+indexed_operand form accesses base flags = with_long_displacement (type_of form accesses) (BXD12 base scratch 0 flags)
+
+-- the rows have a form for it, and this code there
+abbrev pub IsIndexed : StorageForm → (accesses : Bool) → Reg → AccessFlags → List ℕ → Type 0
+IsIndexed form accesses base flags code =
+    (has_form (type_of form accesses) (BXD12 base scratch 0 flags) ≡ true) × (needs_address (type_of form accesses) (BXD12 base scratch 0 flags) ≡ false)
+    × (is_relative (indexed_operand form accesses base flags) ≡ false) × (option_map bytes_of (storage_row form (indexed_operand form accesses base flags)) ≡ Some code)

@@ -92,8 +92,8 @@ pub fn long_displacement(off: i128) -> Option<SImm20>
     }
 }
 
-// The offset as a signed immediate of 32 bits.
-fn immediate(off: i128) -> Option<i32>
+/// The offset as a signed immediate of 32 bits.
+pub fn immediate(off: i128) -> Option<i32>
     ensures { result ≡ (if fits_32 off then Some off else None) }
 {
     if -2147483648 <= off && off <= 2147483647 {

@@ -10,19 +10,19 @@ ghost use Rattle.std.specs.Option.{option_map};
 ghost use Rattle.s390x_typed_steps.specs.Causes.{Declared, first_emit_cause, unless, declared_in, memory_cause, late_cause, target_cause, boundary};
 ghost use Rattle.s390x_inst.specs.Memory.{flags_of};
 ghost use Rattle.s390x_inst.specs.declared.args.MemArg.TheVariants.{RegOffset};
+ghost use Rattle.s390x_inst.specs.declared.inst.Inst.TheVariants.{Mov64SImm32};
 ghost use Rattle.s390x_typed_steps.specs.General.{is_general};
 ghost use Rattle.s390x_typed_steps.specs.MachineInstruction.{MachineInstruction, bytes_of, size_of};
 ghost use Rattle.s390x_typed_steps.specs.Memory.{type_of, storage_row, fault_code, address_form, accesses_relative, without_relative};
 ghost use Rattle.s390x_typed_steps.specs.Operands.{has_form, operand_general, resolved_operand, scratch};
-ghost use Rattle.s390x_typed_steps.specs.Ranges.{OperandInRange};
 ghost use Rattle.s390x_typed_steps.specs.VectorInstruction.{is_vector};
 ghost use Rattle.s390x_typed_steps.specs.Parts.{access_parts, operand_parts, helpers_parts, finalized_parts, memory_parts, parts_size};
 ghost use Rattle.s390x_address.specs.Appended.{with_parts};
-ghost use Rattle.s390x_address.specs.Lowerings.{IsPlain, far_helper, address_helper, finalized_of, may_stand, address_stands, lowering_stands, lowered_cause};
+ghost use Rattle.s390x_address.specs.Lowerings.{IsPlain, IsBehind, far_helper, address_helper, finalized_of, may_stand, address_stands, lowering_stands, lowered_cause};
 ghost use Rattle.s390x_address.specs.Rows.{row_of, row_encodes, storage_form_of, relative_encodes, rows_encode, may_encode, memory_instruction_of, in_state};
 
 use crate::addressing_modes::{has_form, is_relative, needs_address};
-use crate::direct_offset::offset_code;
+use crate::direct_offset::{FarAccess, far_access, offset_code};
 use crate::lowering::{Lowering, frame_offset, lower_operand};
 use crate::relative::{addend_fits, put_relative, relative_bytes, relative_size, target_cause};
 use crate::rows::{StorageRow, StorageRows};
@@ -67,6 +67,7 @@ pub fn vector(r: &Reg) -> bool
 }
 
 // Whether the operand's registers are real Int ones.
+#[inline(always)]
 fn is_general_operand(mem: &MemArg) -> bool
     ensures { result ≡ operand_general mem.now }
 {
@@ -97,6 +98,7 @@ fn put_trapping(sink: &mut MachBuffer, code: &Code, trap_code: TrapCode) -> Resu
 }
 
 // The code of a row, with the trap of its faults.
+#[inline(always)]
 fn put_row(sink: &mut MachBuffer, code: &Code, trap_code: Option<TrapCode>) -> Result<(), EmitError>
     ensures answer { (m : MachineInstruction) → code.now ≡ bytes_of m
         → OnOk result (sink.new ≡ with_parts sink.old (access_parts (Some m) trap_code)) }
@@ -131,6 +133,26 @@ fn put_offset(sink: &mut MachBuffer, off: i32) -> Result<(), EmitError>
 {
     let code = enc_ril_a(opcodes::LGFI, spilltmp_reg(), bits_of_word(off))?;
     sink.put_code(&code)
+}
+
+// The load of an offset into `%r1`, and then the code of a row with the trap of its faults.
+fn put_far_row(
+    sink: &mut MachBuffer,
+    far: &FarAccess,
+    trap_code: Option<TrapCode>,
+) -> Result<(), EmitError>
+    ensures answer { (m : MachineInstruction) → far.now.code ≡ bytes_of m
+        → OnOk result
+        (sink.new
+        ≡ with_parts sink.old
+        (helpers_parts (Mov64SImm32 scratch far.now.off ∷ [])
+        ++ access_parts (Some m) trap_code)) }
+    ensures only_memory { put_cause sink.old (6 + length far.now.code) ≡ None
+        → IfErr result (λ e. e ≡ NoMemory) }
+    ensures kept { Extends sink.old sink.new }
+{
+    put_offset(sink, far.off)?;
+    put_row(sink, &far.code, trap_code)
 }
 
 // The access, where there is a row for it.
@@ -359,6 +381,7 @@ impl MemoryInst {
     }
 
     // The code of its access's faults, where they have one.
+    #[inline(always)]
     fn fault_code(&self) -> Option<TrapCode>
         ensures { result ≡ fault_code (memory_instruction_of self.now) }
     {
@@ -512,6 +535,7 @@ impl MemoryInst {
     }
 
     // Whether its registers may stand there, and those of its operand.
+    #[inline(always)]
     fn has_valid_registers(&self) -> bool
         ensures { result ≡ self.now.operands_valid && operand_general self.now.operand }
     {
@@ -542,6 +566,7 @@ impl MemoryInst {
     }
 
     // The register and the offset of its operand, where it is no more than that in this state.
+    #[inline(always)]
     fn base_and_offset(&self, state: &EmitState) -> Option<(Reg, i128)>
         ensures { IfSome result
             (λ p. resolved_operand state.now self.now.operand
@@ -560,11 +585,10 @@ impl MemoryInst {
     }
 
     // Its code, where it is behind no helper and a displacement holds its offset.
+    #[inline(always)]
     fn plain_code(&self, state: &EmitState) -> Option<Code>
-        ensures plain { IfSome result
+        ensures { IfSome result
             (λ code. IsPlain (in_state state.now (memory_instruction_of self.now)) code) }
-        ensures range { IfSome result
-            (λ _. OperandInRange (resolved_operand state.now self.now.operand)) }
     {
         match self.base_and_offset(state) {
             Some((base, off)) => offset_code(&self.rows, base, off),
@@ -572,7 +596,47 @@ impl MemoryInst {
         }
     }
 
+    // Its access behind the load of its offset, where that is its one helper, and neither its base nor a register that it reads is `%r1`.
+    fn far_access(&self, state: &EmitState) -> Option<FarAccess>
+        ensures { IfSome result
+            (λ far. IsBehind (in_state state.now (memory_instruction_of self.now))
+            (Mov64SImm32 scratch far.off ∷ []) far.code) }
+    {
+        if self.reads_scratch {
+            return None;
+        }
+        match self.base_and_offset(state) {
+            Some((base, off)) => far_access(&self.rows, base, off),
+            None => None,
+        }
+    }
+
+    // The helpers and the access of an instruction with valid registers and some helper, where no other cause refuses it.
+    #[inline(never)]
+    fn emit_helped(&self, sink: &mut MachBuffer, state: &EmitState) -> Result<(), EmitError>
+        requires encodes { may_encode self.now ≡ true }
+        requires valid { (self.now.operands_valid && operand_general self.now.operand) ≡ true }
+        ensures answer { OnOk result
+            ((memory_cause (declared_in sink.old)
+            (in_state state.now (memory_instruction_of self.now)) ≡ None)
+            × (sink.new
+            ≡ with_parts sink.old
+            (memory_parts (in_state state.now (memory_instruction_of self.now))))) }
+        ensures only_memory { put_cause sink.old
+            (parts_size (memory_parts (in_state state.now (memory_instruction_of self.now)))) ≡ None
+            → memory_cause (declared_in sink.old)
+            (in_state state.now (memory_instruction_of self.now)) ≡ None
+            → IfErr result (λ e. e ≡ NoMemory) }
+        ensures kept { Extends sink.old sink.new }
+    {
+        match self.far_access(state) {
+            Some(far) => put_far_row(sink, &far, self.fault_code()),
+            None => self.emit_lowered(sink, state),
+        }
+    }
+
     // The helpers and the access of an instruction with valid registers, where no other cause refuses it.
+    #[inline(always)]
     fn emit_valid(&self, sink: &mut MachBuffer, state: &EmitState) -> Result<(), EmitError>
         requires encodes { may_encode self.now ≡ true }
         requires valid { (self.now.operands_valid && operand_general self.now.operand) ≡ true }
@@ -591,12 +655,17 @@ impl MemoryInst {
     {
         match self.plain_code(state) {
             Some(code) => put_row(sink, &code, self.fault_code()),
-            None => self.emit_lowered(sink, state),
+            // by a copy: what a call borrows is made whole in memory before the code is looked for
+            None => {
+                let rest = *self;
+                rest.emit_helped(sink, state)
+            }
         }
     }
 
     /// Appends the helpers, and then the access with the trap of its faults, where no cause refuses it. An error may be another one than the first
     /// cause, which `cause` names.
+    #[inline(always)]
     pub fn emit_unless_refused(
         &self,
         sink: &mut MachBuffer,

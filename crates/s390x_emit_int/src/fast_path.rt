@@ -18,7 +18,8 @@ pub enum FastPath {
     Load,
     /// A store of a general register.
     Store,
-    /// A store of an immediate, the load of an address, or a load or a store of a vector register as it stands.
+    /// A store of an immediate, the load of an address, an operator or a comparison with an operand in memory, or a load or a store of a vector
+    /// register as it stands.
     Access,
     /// A branch to labels or to the address in a register.
     Branch,
@@ -141,7 +142,9 @@ pub fn fast_path_of(inst: &Inst) -> FastPath
         | Inst::StoreImm8 { .. }
         | Inst::StoreImm16 { .. }
         | Inst::StoreImm32SExt16 { .. }
-        | Inst::StoreImm64SExt16 { .. } => FastPath::Access,
+        | Inst::StoreImm64SExt16 { .. }
+        | Inst::AluRX { .. }
+        | Inst::CmpRX { .. } => FastPath::Access,
         Inst::AluRRR { alu_op, .. } => {
             if is_base(*alu_op) {
                 FastPath::Register

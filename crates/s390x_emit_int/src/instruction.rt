@@ -355,6 +355,7 @@ fn emit_found(
 }
 
 /// Its helpers and its access, where no cause refuses it.
+#[inline(always)]
 pub fn emit_access(
     sink: &mut MachBuffer,
     state: &EmitState,

@@ -96,6 +96,7 @@ fn reversed_code(size: u32) -> Option<u8>
 }
 
 // An access by a row, where its register may stand there.
+#[inline(always)]
 fn access_by_rows(valid: bool, rows: StorageRows, operand: &MemArg) -> Option<MemoryInst>
     requires { (relative_encodes rows && (not valid || rows_encode rows)) ≡ true }
     ensures row { option_map memory_instruction_of result
@@ -111,6 +112,7 @@ fn access_by_rows(valid: bool, rows: StorageRows, operand: &MemArg) -> Option<Me
     })
 }
 
+#[inline(always)]
 #[tactic(auto, using(crate::proofs::Accessing::masked_encodes))]
 fn masked_access(
     valid: bool,
@@ -137,6 +139,7 @@ fn masked_access(
 }
 
 // A register and its elements, by the code of their size.
+#[inline(always)]
 fn elements(opcode: u16, register: Reg, code: Option<u8>, operand: &MemArg) -> Option<MemoryInst>
     requires { IfSome code (λ c. c < 16) }
     ensures row { option_map memory_instruction_of result

@@ -8,6 +8,7 @@ use s390x_base::{EmitError, Reg, RegClass};
 use s390x_rows::opcodes;
 
 /// The number of a general register. `BadRegister` comes where a register is not one of the operand's class.
+#[inline(always)]
 pub fn general(r: Reg) -> Result<u8, EmitError>
     ensures { MatchResult result
         (λ n. (is_general_class r ≡ true) × (n ≡ number_of r) × (n < 2 ^ 4))
@@ -26,6 +27,7 @@ pub fn general(r: Reg) -> Result<u8, EmitError>
 }
 
 /// The number of a vector register. `BadRegister` comes where a register is not one of the operand's class.
+#[inline(always)]
 pub fn vector(r: Reg) -> Result<u8, EmitError>
     ensures { MatchResult result (λ n. (is_vector r ≡ true) × (n ≡ number_of r) × (n < 2 ^ 5))
         (λ e. (e ≡ EmitError.BadRegister) × (is_vector r ≡ false)) }
@@ -92,6 +94,7 @@ fn second_is_float(opcode: u16) -> bool
 
 /// The number of the first operand of an instruction on general and float registers. `BadRegister` comes where a
 /// register is not one of the operand's class.
+#[inline(always)]
 pub fn first(opcode: u16, r: Reg) -> Result<u8, EmitError>
     ensures { MatchResult result
         (λ n. (may_stand_first opcode r ≡ true) × (n ≡ number_of r) × (n < 2 ^ 4))

@@ -79,6 +79,7 @@ pub fn enc_rsy(opcode: u16, r1: Reg, r3: Reg, b2: Reg, d2: u32) -> Result<Code, 
 /// 0       8   12  16  20    32
 /// opcode  r1  x2  b2  d2
 /// ```
+#[inline(always)]
 pub fn enc_rx(opcode: u16, r1: Reg, b2: Reg, x2: Reg, d2: u32) -> Result<Code, EmitError>
     requires opcode { opcode < 2 ^ 8 }
     requires d2 { d2 < 4096 }
@@ -106,6 +107,7 @@ pub fn enc_rx(opcode: u16, r1: Reg, b2: Reg, x2: Reg, d2: u32) -> Result<Code, E
 /// 0       8   12  16  20    32   40      48
 /// opcode  r1  x2  b2  dl2   dh2  opcode
 /// ```
+#[inline(always)]
 pub fn enc_rxy(opcode: u16, r1: Reg, b2: Reg, x2: Reg, d2: u32) -> Result<Code, EmitError>
     requires { d2 < 1048576 }
     ensures { let ok = may_stand_first opcode r1 && is_general_class b2 && is_general_class x2 in

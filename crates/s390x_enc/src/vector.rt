@@ -426,6 +426,7 @@ pub fn enc_vrs_c(opcode: u16, r1: Reg, b2: Reg, d2: u32, v3: Reg, m4: u8) -> Res
 /// 0       8   12  16  20    32  36   40      48
 /// opcode  v1  x2  b2  d2    m3  rxb  opcode
 /// ```
+#[inline(always)]
 pub fn enc_vrx(opcode: u16, v1: Reg, b2: Reg, x2: Reg, d2: u32, m3: u8) -> Result<Code, EmitError>
     requires d2 { d2 < 4096 }
     requires m3 { m3 < 16 }

@@ -18,7 +18,7 @@ returns-in-Some-clause-answer c =
     let x = memory_instruction_of c.args.self.now in
     let y = in_state e x in
     let f = finalized_operand (type_of y.form y.accesses) y.operand in
-    let plain = c.in-Some.ensures.plain in
+    let plain = c.in-Some.ensures in
     let code : c.fault_code.result ≡ fault_code y = c.fault_code.ensures ∙ ap (λ g. cond x.accesses g.trap None) (sym (resolved_flags e x.operand)) in
     let valid = ap (λ t. unless (x.operands_valid && t) BadRegister) (resolved_general e x.operand) ∙ ap (λ t. unless t BadRegister) c.requires.valid in
     row_found (storage_row y.form f.operand) c.in-Some.code plain.2 (λ m row same.
@@ -32,6 +32,6 @@ returns-in-Some-clause-only_memory c = λ put none.
     let s = c.args.sink.now in
     let y = in_state c.args.state.now (memory_instruction_of c.args.self.now) in
     let f = finalized_operand (type_of y.form y.accesses) y.operand in
-    let plain = c.in-Some.ensures.plain in
+    let plain = c.in-Some.ensures in
     row_found (storage_row y.form f.operand) c.in-Some.code plain.2 (λ m row same.
     c.put_row.ensures.only_memory (ap (λ n. put_cause s n) (ap length same ∙ sym (plain_size (fault_code y) m) ∙ ap parts_size (sym (plain_parts y.form (fault_code y) f m plain.0 plain.1 row))) ∙ put))
