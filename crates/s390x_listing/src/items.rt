@@ -1,5 +1,7 @@
 //! The line of an instruction's items.
 ghost use Rattle.std.specs.Prelude.{◌≡◌, ◌++◌, ◌∷◌, [], OnOk, map, string_bytes};
+ghost use Rattle.s390x_operands.specs.declared.constraint.OperandConstraint.TheVariants.{Reuse};
+ghost use Rattle.s390x_operands.specs.declared.constraint.OperandKind.TheVariants.{Def};
 ghost use Rattle.s390x_operands.specs.declared.constraint.Reported.TheVariants.{Fixed};
 ghost use Rattle.s390x_job_fields.specs.Atoms.{reg_text, real_text};
 ghost use Rattle.s390x_listing.specs.Lists.{items_in};
@@ -181,7 +183,7 @@ fn put_placed(out: &mut String, reg: Reg, preg: PReg, kind: OperandKind) -> Resu
 fn put_reuse(out: &mut String, reg: Reg, index: usize) -> Result<(), AllocError>
     ensures { OnOk result
         (string_bytes out.new
-        ≡ string_bytes out.old ++ operand_text (OperandConstraint.Reuse index) OperandKind.Def reg) }
+        ≡ string_bytes out.old ++ operand_text (Reuse index) Def reg) }
 {
     put(out, "reuse(")?;
     put_natural(out, index as u64)?;
