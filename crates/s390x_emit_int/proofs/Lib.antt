@@ -35,7 +35,6 @@ pub mod Bodies
 pub mod Lengths
 pub mod Filling
 pub mod Finishing
-pub mod FirstCauses
 pub mod Short
 pub mod Shortening
 pub mod Single
