@@ -11,8 +11,7 @@ use s390x_inst::{
     CallInfo, CallInstDest, CallRetPair, EmitState, Inst, MachInstEmitState, MemArg, RetLocation,
     ReturnCallInfo, TryCallHandler, TryCallInfo, gen_tail_epilogue,
 };
-use s390x_job_fields::number::{put, put_natural};
-use s390x_text_rows::{Operand, TextError, put_simple, spelled1, spelled2};
+use s390x_text_rows::{Operand, TextError, put, put_natural, put_simple, spelled1, spelled2};
 use std::alloc::{AllocError, Global};
 
 // The branch of a call.
