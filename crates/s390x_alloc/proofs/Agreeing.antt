@@ -1,7 +1,7 @@
 -- Where what is held agrees with the values of registers and places, it does so behind each edit.
-use Rattle.std.proofs.Common.{◌≡◌, ℕ, ◌+◌, Bool, true, false, cond, List, [], ◌∷◌, ◌++◌, Option, Some, None, ◌⊎◌, inl, inr, refl, sym, ap, subst, ◌∙◌}
+use Rattle.std.proofs.Common.{◌≡◌, ℕ, ◌+◌, Bool, true, false, List, [], ◌∷◌, ◌++◌, None, ◌⊎◌, inl, inr, refl, sym, ap, subst, ◌∙◌}
 use Rattle.std.specs.Prelude.{◌||◌, not, filter}
-use Rattle.std.proofs.lemmas.Bool.{and_parts, and_from, cases_Bool, cond-true, cond-false, false≢true, or_cases, or_from, or_left, or_parts, or_right}
+use Rattle.std.proofs.lemmas.Bool.{and_parts, and_from, cases_Bool, cond-true, cond-false, false≢true, or_cases, or_from, or_left, or_parts, or_right, not-true}
 use Rattle.s390x_base.specs.Registers.{RealRegister}
 use Rattle.s390x_base.specs.declared.regs.Reg.{Reg}
 use Rattle.s390x_base.specs.declared.regs.Reg.TheVariants.{Real, Virtual}
@@ -17,15 +17,11 @@ use Rattle.s390x_alloc.specs.Contents.{carried_pairs, holds, is_in_set, contents
 use Rattle.s390x_alloc.specs.Same.{same_pair, same_place, same_register}
 use Rattle.s390x_alloc.specs.Steps.{first_unheld, is_held}
 use Rattle.s390x_alloc.specs.Walks.{AllReadAlike, Fresh, ReadsAlike, Values, after_inst, values_after_copy, is_lost, is_lost_by, with_output_value, with_outputs, without}
-use Rattle.s390x_alloc.proofs.Sameness.{pair-same, place-same, place-self, register-self}
+use Rattle.s390x_alloc.proofs.Sameness.{pair-same, place-same, place-self, register-self, passed_first}
 
 -- each pair that is held has the same value by its register and in its place
 abbrev pub Agrees : List EntryPair → Values → Type 0
 Agrees held v = (x : EntryPair) → holds held x ≡ true → v.of_register x.vreg ≡ v.of_place x.place
-
-flipped : (b : Bool) → not b ≡ true → b ≡ false
-flipped true h = absurd cc
-flipped false h = refl
 
 -- ---- what is held, pair by pair
 
@@ -75,7 +71,7 @@ pub agrees_moved : (to from : Place) (held : List EntryPair) (v : Values) → Ag
 agrees_moved to from held v a x h = elim (holds_append (without_place to held) (carried_pairs to from held) x h) [
   | inl k ↦
       let r = holds_filter (λ (y : EntryPair). not (same_place y.place to)) held x k in
-      a x r.0 ∙ sym (cond-false (same_place x.place to) (v.of_place from) (v.of_place x.place) (flipped _ r.1))
+      a x r.0 ∙ sym (cond-false (same_place x.place to) (v.of_place from) (v.of_place x.place) (not-true _ r.1))
   | inr k ↦
       let r = holds_carried to from held x k in
       let here : same_place x.place to ≡ true = ap (λ p. same_place p to) (sym r.0) ∙ place-self to in
@@ -86,8 +82,8 @@ agrees_moved to from held v a x h = elim (holds_append (without_place to held) (
 
 holds_item : (i : Reported) (held : List EntryPair) (x : EntryPair) → holds (without_item i held) x ≡ true → (holds held x ≡ true) × (is_lost_by i x.place ≡ false)
 holds_item (Operand reg constraint kind pos) held x h = (h, refl)
-holds_item (Fixed p) held x h = let r = holds_filter (λ (y : EntryPair). not (same_place y.place (InReg p))) held x h in (r.0, flipped _ r.1)
-holds_item (Clobbers s) held x h = let r = holds_filter (λ (y : EntryPair). not (is_in_set s y.place)) held x h in (r.0, flipped _ r.1)
+holds_item (Fixed p) held x h = let r = holds_filter (λ (y : EntryPair). not (same_place y.place (InReg p))) held x h in (r.0, not-true _ r.1)
+holds_item (Clobbers s) held x h = let r = holds_filter (λ (y : EntryPair). not (is_in_set s y.place)) held x h in (r.0, not-true _ r.1)
 
 holds_items : (is : List Reported) (held : List EntryPair) (x : EntryPair) → holds (without_items is held) x ≡ true → (holds held x ≡ true) × (is_lost is x.place ≡ false)
 holds_items [] held x h = (h, refl)
@@ -105,7 +101,7 @@ agrees_output : (p : RealRegister) (r : Reg) (n : ℕ) (held : List EntryPair) (
 agrees_output p r n held v a x h = elim (holds_append (filter (λ (y : EntryPair). not (same_place y.place (InReg p) || same_register y.vreg r)) held) (pair_at (InReg p) r ∷ []) x h) [
   | inl k ↦
       let s = holds_filter (λ (y : EntryPair). not (same_place y.place (InReg p) || same_register y.vreg r)) held x k in
-      let apart = or_parts (same_place x.place (InReg p)) (same_register x.vreg r) (flipped _ s.1) in
+      let apart = or_parts (same_place x.place (InReg p)) (same_register x.vreg r) (not-true _ s.1) in
       cond-false (same_register x.vreg r) n (v.of_register x.vreg) apart.1 ∙ a x s.0 ∙ sym (cond-false (same_place x.place (InReg p)) n (v.of_place x.place) apart.0)
   | inr k ↦ elim (or_cases (same_pair (pair_at (InReg p) r) x) false k) [
     | inl s ↦
@@ -137,12 +133,8 @@ reads_one Use (Virtual n c) (Real p) held v a h = a (pair_at (InReg p) (Virtual 
 reads_one Use (Virtual n c) (Virtual m d) held v a h = absurd (false≢true h)
 
 -- no operand reads what isn't held
-unheld_none : (b : Bool) (number : ℕ) (later : Option ℕ) → cond b later (Some number) ≡ None → (b ≡ true) × (later ≡ None)
-unheld_none true number later h = (refl, h)
-unheld_none false number later h = absurd cc
-
 pub reads_all : (number : ℕ) (xs : List GivenOperand) (held : List EntryPair) (v : Values) → Agrees held v → first_unheld held number xs ≡ None → AllReadAlike xs v
 reads_all number [] held v a h = tt
 reads_all number (x ∷ xs) held v a h =
-    let r = unheld_none (is_held x.kind x.reg x.given held) number (first_unheld held (number + 1) xs) h in
+    let r = passed_first (is_held x.kind x.reg x.given held) number (first_unheld held (number + 1) xs) h in
     (reads_one x.kind x.reg x.given held v a r.0, reads_all (number + 1) xs held v a r.1)

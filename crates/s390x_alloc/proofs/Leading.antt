@@ -14,7 +14,7 @@ use Rattle.s390x_alloc.specs.Entries.{ends_with, entry_fault, entry_or, first_un
 use Rattle.s390x_alloc.specs.Faults.{IsTold}
 use Rattle.s390x_alloc.specs.Shape.{is_label_in, precedes}
 use Rattle.s390x_alloc.proofs.Sameness.{number-self}
-use Rattle.s390x_alloc.proofs.Turning.{cons_of}
+use Rattle.s390x_operands.proofs.Looping.{cons_of}
 
 last_of : (xs : List ℕ) (n : ℕ) → slice_get (xs ++ n ∷ []) (length (xs ++ n ∷ []) - 1) ≡ Some n
 last_of [] n = refl

@@ -1,5 +1,4 @@
 pub mod Agreeing
-pub mod Answering
 pub mod Deciding
 pub mod Example
 pub mod Following

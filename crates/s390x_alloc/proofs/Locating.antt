@@ -25,10 +25,6 @@ use Rattle.s390x_alloc.proofs.Sameness.{class-same, number-self, pair-same, plac
 
 -- ---- truth values
 
-or_none : (a : Bool) → (a || false) ≡ a
-or_none true = refl
-or_none false = refl
-
 or_assoc : (a b c : Bool) → ((a || b) || c) ≡ (a || (b || c))
 or_assoc true b c = refl
 or_assoc false b c = refl
@@ -100,12 +96,9 @@ holds_filter keep (y ∷ xs) x =
 
     kept : (k s h j : Bool) → (s ≡ true → k ≡ j) → cond k (s || (h && j)) (h && j) ≡ ((s || h) && j)
     kept true true h j e = e refl
-    kept true false h j e = refl
     kept false true true true e = refl
-    kept false true true false e = refl
     kept false true false true e = e refl
-    kept false true false false e = refl
-    kept false false h j e = refl
+    kept k s h j e = refl
 
 holds_carried : (to from : Place) (xs : List EntryPair) (q : Place) (n : ℕ) (c : RegClass) → holds (carried_pairs to from xs) (pair_of q n c) ≡ (same_place to q && holds xs (pair_of from n c))
 holds_carried to from [] q n c = never (same_place to q)
@@ -231,12 +224,10 @@ module _ (m : LocationMap) (held : List EntryPair) (k : ℕ) (d : RegClass) (val
           taken v ∙ ap (λ x. is_home m.homes x d v) (sym e.0) ∙ ap (λ x. is_home m.homes n x v) (sym e.1) ∙ is.homes v n c has
 
       sorted : (s t a : Bool) → (s ≡ true → t ≡ true → a ≡ true) → (not (a && s) && t) ≡ (not s && t)
-      sorted true true true e = refl
       sorted true true false e = absurd (false≢true (e refl refl))
       sorted true false true e = refl
-      sorted true false false e = refl
       sorted false t true e = refl
-      sorted false t false e = refl
+      sorted s t a e = refl
 
   pub map_forgotten_all : (new : LocationMap) → new.values ≡ m.values → length new.sets.items ≡ length m.sets.items →
       ((v n : ℕ) (c : RegClass) → is_value_of new.sets.items v n c ≡ (not (list_any (nat_eq v) values && same_virtual n c k d) && is_value_of m.sets.items v n c)) →
@@ -387,10 +378,6 @@ map_added m new held p w k d is alone values count sets homes = record {
         ∙ ap (λ b. (b && same_virtual n c k d) || is_value_of m.sets.items v n c) (here q v e)
         ∙ ap (λ b. (same_place p q && b) || is_value_of m.sets.items v n c) (virtual_turned n c k d)
 
-pub apart_added : (m new : LocationMap) → new.values ≡ m.values → IsApart m → IsApart new
-apart_added m new values apart a b v ha hb =
-    apart a b v (sym (ap (λ (z : PlaceValues). value_of z a) values) ∙ ha) (sym (ap (λ (z : PlaceValues). value_of z b) values) ∙ hb)
-
 -- ---- lists that hold the same
 
 pub map_again : (m : LocationMap) (xs ys : List EntryPair) → ((q : Place) (n : ℕ) (c : RegClass) → holds xs (pair_of q n c) ≡ holds ys (pair_of q n c)) → IsMapOf m xs → IsMapOf m ys
@@ -524,21 +511,3 @@ other_class m held p c v s false is at set some none =
 
 pub no_class : (m : LocationMap) (held : List EntryPair) (p : Place) (c : RegClass) → IsMapOf m held → ((n : ℕ) (d : RegClass) → is_located m p n d ≡ false) → false ≡ holds_other_class p c held
 no_class m held p c is nothing = sym (none_held p c held (λ n d other. sym (is.same p n d) ∙ nothing n d))
-
--- ---- nothing is held
-
-pub map_empty : (m : LocationMap) → ((q : Place) → value_of m.values q ≡ None) → m.sets.items ≡ [] → IsMapOf m []
-map_empty m none empty = record {
-  same = λ q n c. ap (λ o. at_value m.sets.items o n c) (none q);
-  homes = λ v n c h. absurd (false≢true (sym (ap (λ (l : List RegisterSet). is_value_of l v n c) empty) ∙ h));
-  below = λ q v h. absurd (none_some v (sym (none q) ∙ h));
-}
-  where
-    none_some : (v : ℕ) → ◌≡◌ {A = Option ℕ} None (Some v) → ⊥
-    none_some v x = cc
-
-pub apart_empty : (m : LocationMap) → ((q : Place) → value_of m.values q ≡ None) → IsApart m
-apart_empty m none a b v ha hb = absurd (none_some (sym (none a) ∙ ha))
-  where
-    none_some : ◌≡◌ {A = Option ℕ} None (Some v) → ⊥
-    none_some x = cc

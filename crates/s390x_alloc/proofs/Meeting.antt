@@ -1,5 +1,5 @@
 -- Where a plan's registers do for an instruction, they meet what it reports.
-use Rattle.std.proofs.Common.{◌≡◌, ℕ, suc, ◌+◌, Bool, true, false, cond, List, [], ◌∷◌, ◌++◌, length, Option, Some, None, slice_get, refl, sym, ap, subst, ◌∙◌, append_assoc, arith, count_by}
+use Rattle.std.proofs.Common.{◌≡◌, ℕ, suc, ◌+◌, Bool, true, false, List, [], ◌∷◌, ◌++◌, length, Option, Some, None, slice_get, refl, sym, ap, subst, ◌∙◌, append_assoc, arith, count_by, add-zero}
 use Rattle.std.specs.Prelude.{nat_eq, not, ◌&&◌, filter}
 use Rattle.std.proofs.lemmas.Bool.{and_parts, eqb-true, false≢true}
 use Rattle.std.proofs.lemmas.List.{length_push}
@@ -18,7 +18,7 @@ use Rattle.s390x_alloc.specs.declared.plan.EntryPair.{EntryPair}
 use Rattle.s390x_alloc.specs.Assigned.{given_behind, given_operand, given_operands, is_operand}
 use Rattle.s390x_alloc.specs.Same.{is_reserved, same_class}
 use Rattle.s390x_alloc.specs.Steps.{cause_or, first_unheld, first_unsuited, is_given, count_cause, operands_fault, step_cause, suits_constraint, suits_operand, unheld, unreported_cause, constraint_cause}
-use Rattle.s390x_alloc.proofs.Sameness.{class-same, register-same}
+use Rattle.s390x_alloc.proofs.Sameness.{class-same, register-same, passed_first}
 
 operand-suits : (r q : Reg) → suits_operand r q ≡ true → SuitsOperand r q
 operand-suits (Real p) q h = register-same q (Real p) h
@@ -35,16 +35,9 @@ constraint-suits InRegister all q h = tt
 constraint-suits (FixedReg p) all q h = register-same q (Real p) h
 constraint-suits (Reuse k) all q h = given-is (slice_get all k) q h
 
-unsuited_none : (b : Bool) (number : ℕ) (later : Option ℕ) → cond b later (Some number) ≡ None → (b ≡ true) × (later ≡ None)
-unsuited_none true number later h = (refl, h)
-unsuited_none false number later h = absurd cc
-
 get_behind : (before : List Reg) (q : Reg) (s : List Reg) → slice_get (before ++ q ∷ s) (length before) ≡ Some q
 get_behind [] q s = refl
 get_behind (x ∷ before) q s = get_behind before q s
-
-plus_zero : (n : ℕ) → n + 0 ≡ n
-plus_zero n = omega arith
 
 -- the operands among these items are given registers that suit them, one each in order
 abbrev pub SuitsEach : (all : List Reg) → List Reported → List Reg → Type 0
@@ -64,7 +57,7 @@ suits_each number before (q ∷ s) (Operand r c k p ∷ xs) h n =
     let all = before ++ q ∷ s in
     let one = λ (o : Option Reg). given_operand (Operand r c k p) o in
     let told = subst (λ (o : Option Reg). first_unsuited all number (one o ++ given_behind (length before + length (one o)) xs all) ≡ None) (get_behind before q s) h in
-    let u = unsuited_none (suits_operand r q && suits_constraint c all q) number (first_unsuited all (number + 1) (given_behind (length before + 1) xs all)) told in
+    let u = passed_first (suits_operand r q && suits_constraint c all q) number (first_unsuited all (number + 1) (given_behind (length before + 1) xs all)) told in
     let a = and_parts (suits_operand r q) (suits_constraint c all q) u.0 in
     let whole = (before ++ q ∷ []) ++ s in
     let same : all ≡ whole = sym (append_assoc before (q ∷ []) s) in
@@ -73,8 +66,8 @@ suits_each number before (q ∷ s) (Operand r c k p ∷ xs) h n =
     let counted : suc (length (filter is_operand xs)) ≡ suc (length s) = n in
     let rest = suits_each (number + 1) (before ++ q ∷ []) s xs next (omega (arith, counted)) in
     (a.0, (a.1, subst (λ (l : List Reg). SuitsEach l xs s) (sym same) rest))
-suits_each number before s (Fixed p ∷ xs) h n = suits_each number before s xs (subst (λ (m : ℕ). first_unsuited (before ++ s) number (given_behind m xs (before ++ s)) ≡ None) (plus_zero (length before)) h) n
-suits_each number before s (Clobbers c ∷ xs) h n = suits_each number before s xs (subst (λ (m : ℕ). first_unsuited (before ++ s) number (given_behind m xs (before ++ s)) ≡ None) (plus_zero (length before)) h) n
+suits_each number before s (Fixed p ∷ xs) h n = suits_each number before s xs (subst (λ (m : ℕ). first_unsuited (before ++ s) number (given_behind m xs (before ++ s)) ≡ None) (add-zero (length before)) h) n
+suits_each number before s (Clobbers c ∷ xs) h n = suits_each number before s xs (subst (λ (m : ℕ). first_unsuited (before ++ s) number (given_behind m xs (before ++ s)) ≡ None) (add-zero (length before)) h) n
 
 meets_each : (all : List Reg) (xs : List Reported) (s : List Reg) → SuitsEach all xs s → MeetsEach all xs s
 meets_each all [] [] h = tt
@@ -92,7 +85,7 @@ none_miscounted : (b : Bool) → count_cause b ≡ None → b ≡ true
 none_miscounted true h = refl
 none_miscounted false h = absurd cc
 
-none_unsuited : (o : Option ℕ) → constraint_cause o ≡ None → o ≡ None
+pub none_unsuited : (o : Option ℕ) → constraint_cause o ≡ None → o ≡ None
 none_unsuited None h = refl
 none_unsuited (Some n) h = absurd cc
 

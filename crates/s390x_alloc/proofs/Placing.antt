@@ -1,6 +1,6 @@
 -- What stands in places behind each change of the values in places, and what a set of registers has.
 use Rattle.std.proofs.Common.{◌≡◌, ℕ, ◌+◌, Bool, true, false, cond, List, [], ◌∷◌, ◌++◌, length, Option, Some, None, Result, Ok, Err, refl, sym, ap, ◌∙◌}
-use Rattle.std.specs.Prelude.{◌&&◌, ◌||◌, not, filter, nat_eq, IfOk}
+use Rattle.std.specs.Prelude.{◌||◌, not, filter, IfOk}
 use Rattle.std.specs.BTreeMap.{BTreeMap, get, is_at}
 use Rattle.std.specs.Cmp.{nat_cmp_is}
 use Rattle.std.specs.List.{list_any}
@@ -45,14 +45,11 @@ cleared_in test (x ∷ xs) q =
     pushed false = refl
 
     sorted : (b s t : Bool) (o : Option ℕ) → (s ≡ true → b ≡ t) → cond b (cond t None o) (cond s (Some x.value) (cond t None o)) ≡ cond t None (cond s (Some x.value) o)
-    sorted true true true o e = refl
     sorted true true false o e = absurd (false≢true (sym (e refl)))
     sorted true false true o e = refl
-    sorted true false false o e = refl
     sorted false true true o e = absurd (false≢true (e refl))
-    sorted false true false o e = refl
     sorted false false true o e = refl
-    sorted false false false o e = refl
+    sorted b s t o e = refl
 
 abbrev or_else : Option ℕ → Option ℕ → Option ℕ
 or_else None o = o
@@ -98,29 +95,3 @@ put values new p v registers slots (Slot s) = ap (λ (m : BTreeMap ℕ ℕ). get
 pub member : (ks : List ℕ) → (length ks ≡ 0 → ⊥) → (n : ℕ) × (list_any (is_at (nat_cmp n)) ks ≡ true)
 member [] some = absurd (some refl)
 member (k ∷ ks) some = (k, sym (ap (λ o. is_eq o || list_any (is_at (nat_cmp k)) ks) (nat_cmp_is k k Equal refl)))
-
--- one more number of those whose sets a register is taken out of
-pub removed_turn : (before : List ℕ) (w v : ℕ) (s old : Bool) → (not (nat_eq v w && s) && (not (list_any (nat_eq v) before && s) && old)) ≡ (not (list_any (nat_eq v) (before ++ w ∷ []) && s) && old)
-removed_turn before w v s old = joined (nat_eq v w) (list_any (nat_eq v) before) s ∙ sym (ap (λ b. not (b && s) && old) (any_more before))
-  where
-    later : (a b c : Bool) → (a || (b || c)) ≡ ((a || b) || c)
-    later true b c = refl
-    later false b c = refl
-
-    any_more : (xs : List ℕ) → list_any (nat_eq v) (xs ++ w ∷ []) ≡ (list_any (nat_eq v) xs || nat_eq v w)
-    any_more [] = last (nat_eq v w)
-      where
-        last : (b : Bool) → (b || false) ≡ b
-        last true = refl
-        last false = refl
-    any_more (x ∷ xs) = ap (λ b. nat_eq v x || b) (any_more xs) ∙ later (nat_eq v x) (list_any (nat_eq v) xs) (nat_eq v w)
-
-    joined : (a b t : Bool) → (not (a && t) && (not (b && t) && old)) ≡ (not ((b || a) && t) && old)
-    joined true true true = refl
-    joined true true false = refl
-    joined true false true = refl
-    joined true false false = refl
-    joined false true true = refl
-    joined false true false = refl
-    joined false false true = refl
-    joined false false false = refl

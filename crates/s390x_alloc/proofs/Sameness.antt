@@ -1,5 +1,5 @@
 -- What is told to be the same is equal, and each thing is the same as itself.
-use Rattle.std.proofs.Common.{◌≡◌, ℕ, true, refl, ap, ◌∙◌, arith}
+use Rattle.std.proofs.Common.{◌≡◌, ℕ, true, refl, ap, ◌∙◌, arith, Bool, false, cond, Option, Some, None}
 use Rattle.std.specs.Prelude.{nat_eq}
 use Rattle.std.proofs.lemmas.Bool.{and_parts, and_from, eqb-true}
 use Rattle.std.proofs.lemmas.Bool.Decides.{nat_tests}
@@ -68,3 +68,8 @@ unfolding paired
 pair-same x y h =
     let a = and_parts (same_place x.place y.place) (same_register x.vreg y.vreg) h in
     ap (λ p. paired p x.vreg) (place-same x.place y.place a.0) ∙ ap (paired y.place) (register-same x.vreg y.vreg a.1)
+
+-- where no item of a list is the first that fails, this one passes and so do the later ones
+pub passed_first : (b : Bool) (number : ℕ) (later : Option ℕ) → cond b later (Some number) ≡ None → (b ≡ true) × (later ≡ None)
+passed_first true number later h = (refl, h)
+passed_first false number later h = absurd cc

@@ -26,11 +26,11 @@ use Rattle.s390x_alloc.specs.Shape.{block_ending, first_misshapen, first_unsuppo
 use Rattle.s390x_alloc.specs.Steps.{cause_or, first_unheld, first_unsuited, count_cause, step_cause, unheld, unless_cause, unreported_cause, constraint_cause}
 use Rattle.s390x_alloc.specs.Walks.{EditsReadAlike, EveryWalkReadsAlike, Fresh, GoesOn, Values, Visit, VisitsReadAlike, after_edits_of, after_inst, values_after_copy, edits_of, insts_of, is_successor}
 use Rattle.s390x_alloc.proofs.Agreeing.{Agrees, agrees_moved, agrees_stepped, reads_all}
-use Rattle.s390x_alloc.proofs.Sameness.{pair-same}
+use Rattle.s390x_alloc.proofs.Sameness.{pair-same, passed_first}
 
 -- ---- an instruction that is given its registers
 
-later_none : (a b : Option EditCause) → cause_or a b ≡ None → b ≡ None
+pub later_none : (a b : Option EditCause) → cause_or a b ≡ None → b ≡ None
 later_none None b h = h
 later_none (Some c) b h = absurd cc
 
@@ -152,15 +152,11 @@ entry_none : (block : ℕ) (o : Option ℕ) (later : Option PlanFault) → entry
 entry_none block None later h = (refl, h)
 entry_none block (Some pair) later h = absurd cc
 
-founded_none : (b : Bool) (number : ℕ) (later : Option ℕ) → cond b later (Some number) ≡ None → (b ≡ true) × (later ≡ None)
-founded_none true number later h = (refl, h)
-founded_none false number later h = absurd cc
-
 -- each pair of an entry is founded
 each_founded : (ends : List (List EntryPair)) (before : List ℕ) (block number : ℕ) (xs : List EntryPair) → first_unfounded ends before block number xs ≡ None → (x : EntryPair) → holds xs x ≡ true → is_founded ends before block x ≡ true
 each_founded ends before block number [] h x k = absurd (false≢true k)
 each_founded ends before block number (y ∷ xs) h x k =
-    let r = founded_none (is_founded ends before block y) number (first_unfounded ends before block (number + 1) xs) h in
+    let r = passed_first (is_founded ends before block y) number (first_unfounded ends before block (number + 1) xs) h in
     elim (or_cases (same_pair y x) (holds xs x) k) [
       | inl s ↦ ap (λ (z : EntryPair). is_founded ends before block z) (sym (pair-same y x s)) ∙ r.0
       | inr s ↦ each_founded ends before block (number + 1) xs r.1 x s

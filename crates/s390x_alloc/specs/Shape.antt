@@ -4,14 +4,12 @@ use Rattle.s390x_base.specs.declared.ir.MachLabel.{MachLabel}
 use Rattle.s390x_inst.specs.declared.args.MemArg.{MemArg}
 use Rattle.s390x_inst.specs.declared.args.MemArg.TheVariants.{Label}
 use Rattle.s390x_inst.specs.declared.inst.Inst.{Inst}
-use Rattle.s390x_inst.specs.declared.inst.Inst.TheVariants.{Jump, CondBr, IndirectBr, JTSequence, Ret, ReturnCall, Trap, Call, LabelAddress, Vector}
-use Rattle.s390x_inst.specs.declared.inst.Inst.TheVariants.{AluRX, CmpRX}
-use Rattle.s390x_inst.specs.declared.inst.Inst.TheVariants.{StoreImm8, StoreImm16, StoreImm32SExt16, StoreImm64SExt16, LoadMultiple64, StoreMultiple64, LoadAddr, AtomicRmw, AtomicCas32, AtomicCas64}
+use Rattle.s390x_inst.specs.declared.inst.Inst.TheVariants as I
 use Rattle.s390x_inst.specs.Loads.{as_load, by_load}
 use Rattle.s390x_inst.specs.Stores.{as_store, by_store}
 use Rattle.s390x_inst.specs.Wholes.{as_whole, by_whole}
 use Rattle.s390x_inst.specs.declared.vec_inst.VecInst.{VecInst}
-use Rattle.s390x_inst.specs.declared.vec_inst.VecInst.TheVariants.{VecLoadReplicate, VecLoadReplicateRev, VecLoadLane, VecLoadLaneRev, VecLoadLaneUndef, VecLoadLaneRevUndef, VecStoreLane, VecStoreLaneRev}
+use Rattle.s390x_inst.specs.declared.vec_inst.VecInst.TheVariants as V
 use Rattle.s390x_operands.specs.Operands.{is_loop}
 
 -- ---- where a block leads
@@ -26,13 +24,13 @@ pub data Ending : Type 0 where
   falls : Ending
 
 abbrev pub ending : Inst → Ending
-ending (Jump dest) = leads_to (dest ∷ [])
-ending (CondBr taken not_taken mask) = leads_to (taken ∷ not_taken ∷ [])
-ending (IndirectBr rn targets) = leads_to targets.items
-ending (JTSequence ridx default mask targets) = leads_to (default ∷ targets.items)
-ending (Ret link) = leaves
-ending (ReturnCall info) = leaves
-ending (Trap code) = leaves
+ending (I.Jump dest) = leads_to (dest ∷ [])
+ending (I.CondBr taken not_taken mask) = leads_to (taken ∷ not_taken ∷ [])
+ending (I.IndirectBr rn targets) = leads_to targets.items
+ending (I.JTSequence ridx default mask targets) = leads_to (default ∷ targets.items)
+ending (I.Ret link) = leaves
+ending (I.ReturnCall info) = leaves
+ending (I.Trap code) = leaves
 ending i = falls
 
 -- where a last instruction leads; an empty block goes on to the next one
@@ -75,14 +73,14 @@ precedes count here is n = ends_before count here (block_ending is) n
 
 -- the operand in memory of a load or a store of elements
 abbrev pub part_operand : VecInst → Option MemArg
-part_operand (VecLoadReplicate size rd mem) = Some mem
-part_operand (VecLoadReplicateRev size rd mem) = Some mem
-part_operand (VecLoadLane size rd ri mem lane_imm) = Some mem
-part_operand (VecLoadLaneRev size rd ri mem lane_imm) = Some mem
-part_operand (VecLoadLaneUndef size rd mem lane_imm) = Some mem
-part_operand (VecLoadLaneRevUndef size rd mem lane_imm) = Some mem
-part_operand (VecStoreLane size rd mem lane_imm) = Some mem
-part_operand (VecStoreLaneRev size rd mem lane_imm) = Some mem
+part_operand (V.VecLoadReplicate size rd mem) = Some mem
+part_operand (V.VecLoadReplicateRev size rd mem) = Some mem
+part_operand (V.VecLoadLane size rd ri mem lane_imm) = Some mem
+part_operand (V.VecLoadLaneRev size rd ri mem lane_imm) = Some mem
+part_operand (V.VecLoadLaneUndef size rd mem lane_imm) = Some mem
+part_operand (V.VecLoadLaneRevUndef size rd mem lane_imm) = Some mem
+part_operand (V.VecStoreLane size rd mem lane_imm) = Some mem
+part_operand (V.VecStoreLaneRev size rd mem lane_imm) = Some mem
 part_operand v = None
 
 -- the operand in memory of a vector instruction
@@ -91,19 +89,19 @@ vector_memory v = by_whole (λ w. Some w.mem) (part_operand v) (as_whole v)
 
 -- the operand in memory of an instruction that is neither a load nor a store of one register
 abbrev pub rest_operand : Inst → Option MemArg
-rest_operand (AluRX alu_op rd ri mem) = Some mem
-rest_operand (CmpRX op rn mem) = Some mem
-rest_operand (StoreImm8 imm mem) = Some mem
-rest_operand (StoreImm16 imm mem) = Some mem
-rest_operand (StoreImm32SExt16 imm mem) = Some mem
-rest_operand (StoreImm64SExt16 imm mem) = Some mem
-rest_operand (LoadMultiple64 rt rt2 mem) = Some mem
-rest_operand (StoreMultiple64 rt rt2 mem) = Some mem
-rest_operand (LoadAddr rd mem) = Some mem
-rest_operand (AtomicRmw alu_op rd rn mem) = Some mem
-rest_operand (AtomicCas32 rd ri rn mem) = Some mem
-rest_operand (AtomicCas64 rd ri rn mem) = Some mem
-rest_operand (Vector v) = vector_memory v
+rest_operand (I.AluRX alu_op rd ri mem) = Some mem
+rest_operand (I.CmpRX op rn mem) = Some mem
+rest_operand (I.StoreImm8 imm mem) = Some mem
+rest_operand (I.StoreImm16 imm mem) = Some mem
+rest_operand (I.StoreImm32SExt16 imm mem) = Some mem
+rest_operand (I.StoreImm64SExt16 imm mem) = Some mem
+rest_operand (I.LoadMultiple64 rt rt2 mem) = Some mem
+rest_operand (I.StoreMultiple64 rt rt2 mem) = Some mem
+rest_operand (I.LoadAddr rd mem) = Some mem
+rest_operand (I.AtomicRmw alu_op rd rn mem) = Some mem
+rest_operand (I.AtomicCas32 rd ri rn mem) = Some mem
+rest_operand (I.AtomicCas64 rd ri rn mem) = Some mem
+rest_operand (I.Vector v) = vector_memory v
 rest_operand i = None
 
 -- the operand in memory of an instruction that is no load of one register
@@ -122,18 +120,18 @@ memory_labels (Some mem) = []
 
 -- all labels that an instruction names, but for the handlers of a call
 abbrev pub named_labels : Inst → List MachLabel
-named_labels (Jump dest) = dest ∷ []
-named_labels (CondBr taken not_taken mask) = taken ∷ not_taken ∷ []
-named_labels (IndirectBr rn targets) = targets.items
-named_labels (JTSequence ridx default mask targets) = default ∷ targets.items
-named_labels (LabelAddress dst label) = label ∷ []
+named_labels (I.Jump dest) = dest ∷ []
+named_labels (I.CondBr taken not_taken mask) = taken ∷ not_taken ∷ []
+named_labels (I.IndirectBr rn targets) = targets.items
+named_labels (I.JTSequence ridx default mask targets) = default ∷ targets.items
+named_labels (I.LabelAddress dst label) = label ∷ []
 named_labels i = memory_labels (memory_operand i)
 
 -- ---- what a plan can't be made for
 
 -- it is a call with handlers of exceptions
 abbrev pub is_try_call : Inst → Bool
-is_try_call (Call link info) = is_some info.try_call_info
+is_try_call (I.Call link info) = is_some info.try_call_info
 is_try_call i = false
 
 -- a loop, or a call with handlers

@@ -21,9 +21,9 @@ use Rattle.s390x_typed_steps.specs.Operands.{resolved_operand, is_numbered, is_f
 use Rattle.s390x_typed_steps.specs.Memory.{MemoryInstruction, type_of, operate, compare_and_swap, memory, with_rows, other_rows, without_relative, loaded_memory, StorageForm, multiple, holds_scratch, load_and_operate}
 use Rattle.s390x_typed_steps.specs.General.{is_general, reuses}
 use Rattle.s390x_alloc_laws.specs.Allocatable.{IsVirtual, MemoryMayStand, IsNotBlamed, Place, refusal, own_refusal, lacks_row, IsFreeRange}
-use Rattle.std.proofs.lemmas.Bool.{lt-leb}
+use Rattle.std.proofs.lemmas.Bool.{lt-leb, and_right}
 use Rattle.s390x_inst.specs.declared.inst.Inst.TheVariants.{LoadMultiple64, StoreMultiple64}
-use Rattle.s390x_alloc_laws.proofs.Given.{clear, operator_clear, unless_clear, first_clear, facility_clear, and_false, Passes, and_passes, Gives, Next, used_given, defined_given, Reused, reused_given}
+use Rattle.s390x_alloc_laws.proofs.Given.{clear, operator_clear, unless_clear, first_clear, facility_clear, Passes, and_passes, Gives, Next, used_given, defined_given, Reused, reused_given}
 use Rattle.s390x_alloc_laws.proofs.Given.{IsGiven, virtual_addresses}
 
 -- ---- instructions with a memory operand
@@ -193,7 +193,7 @@ access_before P mk o follow is m xs s s' may g h =
 
 range_spares : (first last : Reg) → IsFreeRange first last → holds_scratch first last ≡ false
 range_spares (Real p) (Real q) (inl h) = ap (λ b. b && nat_le 1 q.number) (lt-leb p.number 1 h)
-range_spares (Real p) (Real q) (inr h) = and_false (nat_le p.number 1) (nat_le 1 q.number) (lt-leb 1 q.number h)
+range_spares (Real p) (Real q) (inr h) = and_right (nat_le p.number 1) (nat_le 1 q.number) (lt-leb 1 q.number h)
 range_spares (Real p) (Virtual n c) f = absurd f
 range_spares (Virtual n c) last f = absurd f
 

@@ -1,7 +1,7 @@
 -- Branches, tables, and addresses of places.
 use Rattle.std.proofs.Common.{◌≡◌, ℕ, nat_eq, nat_lt, Bool, true, false, not, ◌&&◌, List, [], ◌∷◌, Option, Some}
 use Rattle.std.proofs.Common.{None, refl, sym, ap, subst}
-use Rattle.std.proofs.lemmas.Bool.{eqb-true}
+use Rattle.std.proofs.lemmas.Bool.{eqb-true, and_from}
 use Rattle.s390x_base.specs.Registers.{RealRegister, general}
 use Rattle.s390x_base.specs.Regs.{is_int}
 use Rattle.s390x_base.specs.declared.error.EmitError.{EmitError}
@@ -21,7 +21,7 @@ use Rattle.s390x_alloc_laws.specs.Allocatable.{IsVirtual, IsOrdinary, IsNotBlame
 use Rattle.s390x_base.specs.declared.ir.MachLabel.{MachLabel}
 use Rattle.s390x_inst.specs.Portions.{Portion, plain, indirect_branch, jump_table, arguments, results, first_portion}
 use Rattle.s390x_inst.specs.declared.inst.Inst.TheVariants.{Loop', LabelAddress}
-use Rattle.s390x_alloc_laws.proofs.Given.{clear, unless_clear, first_clear, and_left, and_both, Passes, Gives, Next, used_given, defined_given}
+use Rattle.s390x_alloc_laws.proofs.Given.{clear, unless_clear, first_clear, and_left, Passes, Gives, Next, used_given, defined_given}
 
 -- ---- instructions that keep a vector, as portions
 
@@ -78,7 +78,7 @@ ordinary_given (Virtual n c) xs all all' (q ∷ s) s' v g = g.spare.0
 addresses : (q q' : Reg) → IsOrdinary q → Passes (is_general q') (is_general q) → Passes (is_general q' && is_nonzero q') (is_general q && is_nonzero q)
 addresses q q' o f h =
     let g : is_general q ≡ true = f (and_left (is_general q') (is_nonzero q') h) in
-    and_both (is_general q) (is_nonzero q) g (ordinary_nonzero q o g)
+    and_from (is_general q) (is_nonzero q) g (ordinary_nonzero q o g)
 
 pub branch : (P : Place) (rn : Reg) (targets : List MachLabel) (s s' : List Reg) → IsVirtual rn → Gives s s' s s' (items_of (reported_use rn ∷ [])) → portion_refusal P (indirect_branch (register_at rn s') targets) ≡ None → IsNotBlamed (portion_refusal P (indirect_branch (register_at rn s) targets))
 branch P rn targets s s' v g h =

@@ -1,7 +1,7 @@
 -- What registers that meet the constraints have of others that do so, register by register; and the causes that blame none.
 use Rattle.std.proofs.Common.{◌≡◌, ℕ, ◌+◌, ◌<◌, nat_eq, nat_lt, inl, inr, Bool, true, false, not, ◌&&◌, List}
 use Rattle.std.proofs.Common.{[], ◌∷◌, Option, Some, None, refl, sym, ap, subst, ◌∙◌, eq-eqb}
-use Rattle.std.proofs.lemmas.Bool.{lt-ltb, eqb-true}
+use Rattle.std.proofs.lemmas.Bool.{lt-ltb, eqb-true, and_from}
 use Rattle.s390x_base.specs.Registers.{RealRegister, register_count, general}
 use Rattle.s390x_base.specs.Regs.{IsReal, is_int, number_of}
 use Rattle.s390x_base.specs.declared.error.EmitError.{EmitError}
@@ -58,20 +58,12 @@ pub and_right : (a b : Bool) → (a && b) ≡ true → b ≡ true
 and_right true b h = h
 and_right false b h = absurd (cc)
 
-pub and_both : (a b : Bool) → a ≡ true → b ≡ true → (a && b) ≡ true
-and_both true b p q = q
-and_both false b p q = p
-
-pub and_false : (a b : Bool) → b ≡ false → (a && b) ≡ false
-and_false true b h = h
-and_false false b h = refl
-
 -- where one test holds, so does another
 abbrev pub Passes : Bool → Bool → Type 0
 Passes a' a = a' ≡ true → a ≡ true
 
 pub and_passes : (a a' b b' : Bool) → Passes a' a → Passes b' b → Passes (a' && b') (a && b)
-and_passes a a' b b' f g h = and_both a b (f (and_left a' b' h)) (g (and_right a' b' h))
+and_passes a a' b b' f g h = and_from a b (f (and_left a' b' h)) (g (and_right a' b' h))
 
 -- ---- registers of one class
 
@@ -164,7 +156,7 @@ pass_alike t q p = t q && t p && nat_eq (number_of q) (number_of p)
 reuses_itself : (t : Reg → Bool) (q p q' p' : Reg) → p ≡ q → Passes (t q') (t q) → Passes (pass_alike t q' p') (pass_alike t q p)
 reuses_itself t q p q' p' same f h =
     let g : t q ≡ true = f (and_left (t q') (t p') (and_left (t q' && t p') (nat_eq (number_of q') (number_of p')) h)) in
-    subst (λ z. pass_alike t q z ≡ true) (sym same) (and_both (t q && t q) (nat_eq (number_of q) (number_of q)) (and_both (t q) (t q) g g) (eq-eqb (number_of q) (number_of q) refl))
+    subst (λ z. pass_alike t q z ≡ true) (sym same) (and_from (t q && t q) (nat_eq (number_of q) (number_of q)) (and_from (t q) (t q) g g) (eq-eqb (number_of q) (number_of q) refl))
 
 pub reused_given : (rd ri : Reg) (xs : List (Option Reported)) (s s' : List Reg) → IsVirtual rd → IsVirtual ri → Gives s s' s s' (items_of (reported_reuse rd ∷ reported_use ri ∷ xs)) → Reused rd ri s s' (items_of xs)
 reused_given (Real p) ri xs s s' v w g = absurd v

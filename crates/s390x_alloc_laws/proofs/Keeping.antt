@@ -1,7 +1,7 @@
 -- An edit without a fault leaves in each register only values of its class.
 use Rattle.std.proofs.Common.{◌≡◌, ℕ, ◌+◌, Bool, true, false, cond, List, [], ◌∷◌, ◌++◌, length, Option, Some, None, Ok, slice_get, refl, sym, ap, subst, ◌∙◌}
 use Rattle.std.specs.Prelude.{nat_eq, not, ◌&&◌, ◌||◌, count_by, filter, ⊤}
-use Rattle.std.proofs.lemmas.Bool.{and_parts, false≢true, or_parts}
+use Rattle.std.proofs.lemmas.Bool.{and_parts, or_parts, not-false}
 use Rattle.s390x_base.specs.Registers.{RealRegister}
 use Rattle.s390x_base.specs.declared.regs.Reg.{Reg}
 use Rattle.s390x_base.specs.declared.regs.Reg.TheVariants.{Real, Virtual}
@@ -25,12 +25,10 @@ use Rattle.s390x_alloc.specs.Moves.{holds_other_class, is_no_move, is_of_other_c
 use Rattle.s390x_alloc.specs.Same.{is_reserved, same_class, same_place, same_register}
 use Rattle.s390x_alloc.specs.Shape.{is_empty}
 use Rattle.s390x_alloc.specs.Steps.{cause_or, first_unheld, first_unsuited, count_cause, step_cause, suits_constraint, suits_operand, unheld, unless_cause, unreported_cause, constraint_cause}
-use Rattle.s390x_alloc.proofs.Sameness.{class-same, place-same}
+use Rattle.s390x_alloc.proofs.Sameness.{class-same, place-same, passed_first}
+use Rattle.s390x_alloc.proofs.Walking.{later_none}
+use Rattle.s390x_alloc.proofs.Meeting.{none_unsuited}
 use Rattle.s390x_alloc_laws.specs.Classes.{AreInTheirClass, EditsKeepClasses, IsInItsClass}
-
-true_of : (b : Bool) → not b ≡ false → b ≡ true
-true_of true h = refl
-true_of false h = absurd (false≢true (sym h))
 
 -- ---- lists
 
@@ -67,7 +65,7 @@ from_register p q (x ∷ xs) h a = ((λ e. same_kept p q x.vreg h (subst (λ y. 
 
 of_class : (p : RealRegister) (r : Reg) → is_of_other_class p.class r ≡ false → IsInItsClass (InReg p) r
 of_class p (Real z) h = tt
-of_class p (Virtual n c) h = class-same c p.class (true_of (same_class c p.class) h)
+of_class p (Virtual n c) h = class-same c p.class (not-false (same_class c p.class) h)
 
 from_slot : (p : RealRegister) (s : ℕ) (xs : List EntryPair) → holds_other_class (Slot s) p.class xs ≡ false → MayCarry (InReg p) (Slot s) xs
 from_slot p s [] h = tt
@@ -80,7 +78,7 @@ to_slot s from [] = tt
 to_slot s from (x ∷ xs) = ((λ e. tt), to_slot s from xs)
 
 may_carry : (to from : Place) (held : List EntryPair) → is_unlike to from held ≡ false → AreInTheirClass held → MayCarry to from held
-may_carry (InReg p) (InReg q) held h a = from_register p q held (class-same p.class q.class (true_of (same_class p.class q.class) h)) a
+may_carry (InReg p) (InReg q) held h a = from_register p q held (class-same p.class q.class (not-false (same_class p.class q.class) h)) a
 may_carry (InReg p) (Slot s) held h a = from_slot p s held h
 may_carry (Slot s) from held h a = to_slot s from held
 
@@ -118,28 +116,16 @@ operand_kept Def r (Real p) held h a =
 operand_kept Def r (Virtual n c) held h a = a
 operand_kept Use r q held h a = a
 
-suited_first : (b : Bool) (number : ℕ) (later : Option ℕ) → cond b later (Some number) ≡ None → (b ≡ true) × (later ≡ None)
-suited_first true number later h = (refl, h)
-suited_first false number later h = absurd cc
-
 operands_kept : (all : List Reg) (number : ℕ) (xs : List GivenOperand) (held : List EntryPair) → first_unsuited all number xs ≡ None → AreInTheirClass held → AreInTheirClass (with_operands xs held)
 operands_kept all number [] held h a = a
 operands_kept all number (x ∷ xs) held h a =
-    let apart = suited_first (suits_operand x.reg x.given && suits_constraint x.constraint all x.given) number (first_unsuited all (number + 1) xs) h in
+    let apart = passed_first (suits_operand x.reg x.given && suits_constraint x.constraint all x.given) number (first_unsuited all (number + 1) xs) h in
     let suits = (and_parts (suits_operand x.reg x.given) (suits_constraint x.constraint all x.given) apart.0).0 in
     operands_kept all (number + 1) xs (with_operand x.kind x.reg x.given held) apart.1 (operand_kept x.kind x.reg x.given held suits a)
 
 earlier_none : (a b : Option EditCause) → cause_or a b ≡ None → a ≡ None
 earlier_none None b h = refl
 earlier_none (Some c) b h = absurd cc
-
-later_none : (a b : Option EditCause) → cause_or a b ≡ None → b ≡ None
-later_none None b h = h
-later_none (Some c) b h = absurd cc
-
-none_unsuited : (o : Option ℕ) → constraint_cause o ≡ None → o ≡ None
-none_unsuited None h = refl
-none_unsuited (Some n) h = absurd cc
 
 all_suited : (i : Inst) (regs : List Reg) (held : List EntryPair) → step_cause i regs held ≡ None → first_unsuited regs 0 (given_operands (operands i) regs) ≡ None
 all_suited i regs held h =

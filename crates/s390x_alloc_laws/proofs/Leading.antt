@@ -1,14 +1,14 @@
 -- Where typed steps lead, by the instructions that they are of.
 use Rattle.std.proofs.Common.{◌≡◌, ℕ, zero, suc, ◌+◌, ◌-◌, ◌%◌, ◌/◌, Bool, true, false, List, [], ◌∷◌, ◌++◌, length, Option, Some, None, inl, inr, slice_get, refl, sym, ap, subst, ◌∙◌, arith}
 use Rattle.std.specs.Prelude.{nat_eq, nat_lt, ◌==◌, if◌then◌else◌, is_some, option_map}
-use Rattle.std.proofs.lemmas.Bool.{and_from, lt-ltb, or_left, or_right}
+use Rattle.std.proofs.lemmas.Bool.{and_from, lt-ltb, or_left, or_right, eq-eqb}
 use Rattle.std.proofs.lemmas.Bool.Decides.{nat_tests}
 use Rattle.s390x_base.specs.Regs.{number_of}
 use Rattle.s390x_base.specs.declared.ir.MachLabel.{MachLabel}
 use Rattle.s390x_base.specs.declared.regs.Reg.{Reg}
 use Rattle.s390x_base.specs.declared.trap.TrapKind.{TrapKind}
 use Rattle.s390x_inst.specs.Emission.{Emission}
-use Rattle.s390x_inst.specs.Portions.{Portion, closing, first_portion, portions}
+use Rattle.s390x_inst.specs.Portions.{closing, first_portion, portions}
 use Rattle.s390x_inst.specs.declared.calls.CallInstDest.{CallInstDest}
 use Rattle.s390x_inst.specs.declared.calls.TryCallInfo.{TryCallInfo}
 use Rattle.s390x_inst.specs.declared.inst.Inst.{Inst}
@@ -17,6 +17,7 @@ use Rattle.s390x_inst.specs.declared.state.FrameLayout.{FrameLayout}
 use Rattle.s390x_inst.specs.declared.vec_inst.VecInst.{VecInst}
 use Rattle.s390x_inst.specs.declared.vec_inst.VecInst.TheVariants.{VecInt128SCmpHi, VecInt128UCmpHi}
 use Rattle.s390x_assign.specs.Assignments.{assigned_portions, assigned_operator, assigned_vector, portion_at, register_at}
+use Rattle.s390x_assign.proofs.Described.{head_or, head_portion}
 use Rattle.s390x_alloc_laws.specs.Allocatable.{IsAssigned}
 use Rattle.s390x_lanes.specs.declared.operators.Signedness.{Signedness}
 use Rattle.s390x_lanes.specs.declared.operators.Signedness.TheVariants.{Signed, Unsigned}
@@ -49,11 +50,8 @@ Led L e kind = (k : ℕ) (c t : Core) (j : ℕ) → KindStep L (Some kind) k c (
 
 -- ---- labels
 
-number_self : (n : ℕ) → nat_eq n n ≡ true
-number_self n = grind (arith, nat_tests)
-
 label_here : (l : MachLabel) (ls : List MachLabel) → is_label_in (l ∷ ls) l.0 ≡ true
-label_here l ls = or_left (nat_eq l.0 l.0) (is_label_in ls l.0) (number_self l.0)
+label_here l ls = or_left (nat_eq l.0 l.0) (is_label_in ls l.0) (eq-eqb l.0 l.0 refl)
 
 label_behind : (l m : MachLabel) (ls : List MachLabel) → is_label_in ls m.0 ≡ true → is_label_in (l ∷ ls) m.0 ≡ true
 label_behind l m ls h = or_right (nat_eq l.0 m.0) (is_label_in ls m.0) h
@@ -62,7 +60,7 @@ listed : (ls : List MachLabel) (index : ℕ) (l : MachLabel) → slice_get ls in
 listed [] index l h = absurd cc
 listed (x ∷ ls) zero l h =
     let same : x ≡ l = cc in
-    or_left (nat_eq x.0 l.0) (is_label_in ls l.0) (ap (λ (y : MachLabel). nat_eq y.0 l.0) same ∙ number_self l.0)
+    or_left (nat_eq x.0 l.0) (is_label_in ls l.0) (ap (λ (y : MachLabel). nat_eq y.0 l.0) same ∙ eq-eqb l.0 l.0 refl)
 listed (x ∷ ls) (suc index) l h = label_behind x l ls (listed ls index l h)
 
 listed_where : (b : Bool) (index : ℕ) (ls : List MachLabel) (l : MachLabel) → (if b then slice_get ls index else None) ≡ Some l → is_label_in ls l.0 ≡ true
@@ -201,20 +199,12 @@ loaded_goes L e i s = loads_first L (resolved_instruction e (assigned_operator i
 
 -- ---- what an instruction becomes
 
-abbrev head_or : Portion → List Portion → Portion
-head_or p [] = p
-head_or p (q ∷ qs) = q
-
-head_is : (j : Inst) → head_or closing (portions j) ≡ first_portion j
-head_is (I.Loop' mask body all) = refl
-head_is j = refl
-
 head_given : (i : Inst) (s : List Reg) → head_or closing (assigned_portions (portions i) s).0 ≡ (portion_at (first_portion i) s).0
 head_given (I.Loop' mask body all) s = refl
 head_given i s = refl
 
 becomes : (i j : Inst) (s : List Reg) → IsAssigned i s j → first_portion j ≡ (portion_at (first_portion i) s).0
-becomes i j s h = sym (head_is j) ∙ ap (head_or closing) h ∙ head_given i s
+becomes i j s h = sym (head_portion j) ∙ ap (head_or closing) h ∙ head_given i s
 
 kind_led : (L : Layout) (e : Emission) (i j : Inst) (s : List Reg) → IsAssigned i s j → Led L (ending i) (instruction_kind L (resolved_instruction e j))
 kind_led L e i j s h = subst (λ z. Led L (ending i) z) (sym (kind_as_portion L e j)) (subst (λ p. Led L (ending i) (portion_kind L e p)) (sym (becomes i j s h)) (kind_goes L e i s))

@@ -1,6 +1,6 @@
 -- A move that there is has registers that can be encoded, and loses no value in %r1.
 use Rattle.std.proofs.Common.{◌≡◌, ℕ, ◌<◌, nat_eq, nat_lt, Bool, true, false, not, ◌&&◌, ◌||◌, Some, None, refl, sym, ap, subst, ◌∙◌}
-use Rattle.std.proofs.lemmas.Bool.{and_from, false≢true, lt-ltb, or_parts}
+use Rattle.std.proofs.lemmas.Bool.{and_from, false≢true, lt-ltb, or_parts, not-false, and_left}
 use Rattle.s390x_base.specs.Registers.{IsRegister, RealRegister, general, register_count}
 use Rattle.s390x_base.specs.Regs.{is_int, number_of}
 use Rattle.s390x_base.specs.declared.error.EmitError.TheVariants.{BadRegister, OffsetOutOfRange, ScratchConflict}
@@ -73,10 +73,6 @@ access_clear valid lost fits v l =
     first_clear (unless valid BadRegister) _ (valid_clear valid v)
     (first_clear (first_emit_cause (unless (not lost) ScratchConflict) (unless fits OffsetOutOfRange)) None (first_clear (unless (not lost) ScratchConflict) (unless fits OffsetOutOfRange) (kept_clear lost l) (range_clear fits)) clear)
 
-nothing_lost : (b c : Bool) → b ≡ false → (b && c) ≡ false
-nothing_lost false c h = refl
-nothing_lost true c h = absurd (false≢true (sym h))
-
 -- ---- moves
 
 copy_clear : (P : Emitted.Place) (c : RegClass) (p q : RealRegister) → p.class ≡ c → q.class ≡ c → IsRegister p → IsRegister q → IsNotBlamed (refusal P (copy_of c p q))
@@ -110,20 +106,16 @@ store_clear : (P : Emitted.Place) (c : RegClass) (p : RealRegister) (s : ℕ) �
 store_clear P Int p s h e r =
     let i = resolved_instruction P.state (store_of Int p s) in
     let m = operand P s in
-    let kept : loses_scratch (stored p m) ≡ false = nothing_lost (is_numbered 1 (Real p)) (is_helped (finalized_operand (type_of (stored p m).form true) m).helpers) (not_scratch p r) in
+    let kept : loses_scratch (stored p m) ≡ false = and_left (is_numbered 1 (Real p)) (is_helped (finalized_operand (type_of (stored p m).form true) m).helpers) (not_scratch p r) in
     first_clear (facility_cause P.flags i) _ (facility_clear P.flags i) (access_clear (is_general (Real p) && true) (loses_scratch (stored p m)) (fits m) (and_from (is_general (Real p)) true (general_real p h e) refl) kept)
 store_clear P Float p s h e r =
     let i = resolved_instruction P.state (store_of Float p s) in
     first_clear (facility_cause P.flags i) _ (facility_clear P.flags i) (access_clear (is_vector (Real p) && true) false (fits (operand P s)) (and_from (is_vector (Real p)) true (vector_real p h e) refl) refl)
 
-alike : (b : Bool) → not b ≡ false → b ≡ true
-alike true h = refl
-alike false h = absurd (false≢true (sym h))
-
 pub moves_clear : MovesAreNotBlamed
 moves_clear P layout (InReg p) (InReg q) held j ep eq h is =
     let a = or_parts (is_reserved p || is_reserved q) (is_unlike (InReg p) (InReg q) held) h in
-    let same : p.class ≡ q.class = class-same p.class q.class (alike (same_class p.class q.class) a.1) in
+    let same : p.class ≡ q.class = class-same p.class q.class (not-false (same_class p.class q.class) a.1) in
     let which : copy_of p.class p q ≡ j = cc in
     subst (λ (i : Inst). IsNotBlamed (refusal P i)) which (copy_clear P p.class p q refl (sym same) ep eq)
 moves_clear P layout (InReg p) (Slot s) held j ep eq h is =

@@ -1,6 +1,7 @@
 -- Instructions on a pair of registers.
 use Rattle.std.proofs.Common.{◌≡◌, ℕ, true, ◌&&◌, List, [], ◌∷◌, drop, Option, Some, None, refl, sym, ap}
 use Rattle.std.proofs.Common.{◌∙◌}
+use Rattle.std.proofs.lemmas.Bool.{and_from}
 use Rattle.s390x_base.specs.Registers.{general}
 use Rattle.s390x_base.specs.Regs.{number_of}
 use Rattle.s390x_base.specs.declared.regs.Reg.{Reg}
@@ -16,7 +17,7 @@ use Rattle.s390x_typed_steps.specs.General.{is_general, is_even_pair, reuses, re
 use Rattle.s390x_typed_steps.specs.MachineInstruction.{MachineInstruction, rrf_ab}
 use Rattle.s390x_alloc_laws.specs.Allocatable.{IsNotBlamed, Place, refusal}
 use Rattle.s390x_inst.specs.declared.inst.Inst.TheVariants.{SMulWide}
-use Rattle.s390x_alloc_laws.proofs.Given.{and_both, and_passes, Gives, Next, used_given}
+use Rattle.s390x_alloc_laws.proofs.Given.{and_passes, Gives, Next, used_given}
 use Rattle.s390x_alloc_laws.proofs.Single.{IsSingle, single}
 
 -- ---- pairs are fixed to %r2 and %r3
@@ -99,7 +100,7 @@ by_low P mk row is d i a s s' g h =
     let third : y ≡ Real (general 3) = ap (operand_at i) (sym (drop_two t)) ∙ l.placed in
     let same : reuses e.lo y ≡ true = ap (λ q. reuses q y) p.low ∙ ap (reuses (Real (general 3))) third in
     single P (mk e y x) (mk e' y' x') (is_even_pair e.hi e.lo && reuses e.lo y && is_general x) (is_even_pair e'.hi e'.lo && reuses e'.lo y' && is_general x') (row e y x) (row e' y' x') (is e y x) (is e' y' x') h
-    (and_passes (is_even_pair e.hi e.lo && reuses e.lo y) (is_even_pair e'.hi e'.lo && reuses e'.lo y') (is_general x) (is_general x') (λ z. and_both (is_even_pair e.hi e.lo) (reuses e.lo y) p.even same) n.given.passes)
+    (and_passes (is_even_pair e.hi e.lo && reuses e.lo y) (is_even_pair e'.hi e'.lo && reuses e'.lo y') (is_general x) (is_general x') (λ z. and_from (is_even_pair e.hi e.lo) (reuses e.lo y) p.even same) n.given.passes)
 
 -- from a pair and another register
 pub by_pair : (P : Place) (mk : WritableRegPair → RegPair → Reg → Inst) (row : WritableRegPair → RegPair → Reg → Option MachineInstruction) → ((d : WritableRegPair) (i : RegPair) (a : Reg) → IsSingle P (mk d i a) (is_even_pair d.hi d.lo && reuses_pair d i && is_general a) (row d i a)) →
@@ -120,4 +121,4 @@ by_pair P mk row is d i a s s' g h =
     let one : reuses e.hi y.hi ≡ true = ap (λ q. reuses q y.hi) p.high ∙ ap (reuses (Real (general 2))) high in
     let two : reuses e.lo y.lo ≡ true = ap (λ q. reuses q y.lo) p.low ∙ ap (reuses (Real (general 3))) low in
     single P (mk e y x) (mk e' y' x') (is_even_pair e.hi e.lo && reuses_pair e y && is_general x) (is_even_pair e'.hi e'.lo && reuses_pair e' y' && is_general x') (row e y x) (row e' y' x') (is e y x) (is e' y' x') h
-    (and_passes (is_even_pair e.hi e.lo && reuses_pair e y) (is_even_pair e'.hi e'.lo && reuses_pair e' y') (is_general x) (is_general x') (λ z. and_both (is_even_pair e.hi e.lo) (reuses_pair e y) p.even (and_both (reuses e.hi y.hi) (reuses e.lo y.lo) one two)) n.given.passes)
+    (and_passes (is_even_pair e.hi e.lo && reuses_pair e y) (is_even_pair e'.hi e'.lo && reuses_pair e' y') (is_general x) (is_general x') (λ z. and_from (is_even_pair e.hi e.lo) (reuses_pair e y) p.even (and_from (reuses e.hi y.hi) (reuses e.lo y.lo) one two)) n.given.passes)

@@ -1,5 +1,5 @@
 -- What an instruction with its registers reports: the operands before, each replaced by its register.
-use Rattle.std.proofs.Common.{◌≡◌, ℕ, ◌+◌, ◌-◌, min, map, List, [], ◌∷◌, ◌++◌, drop, Option, Some, None, Result, Ok, Err, IfOk, refl, sym, ap, ◌∙◌, arith}
+use Rattle.std.proofs.Common.{◌≡◌, ℕ, ◌+◌, ◌-◌, min, map, List, [], ◌∷◌, ◌++◌, drop, Option, Some, None, refl, sym, ap, ◌∙◌, arith}
 use Rattle.std.specs.List.{range_with_len}
 use Rattle.std.proofs.lemmas.List.{append_assoc, append-nil, drop-drop}
 use Rattle.s390x_base.specs.Registers.{RealRegister}
@@ -20,7 +20,7 @@ use Rattle.s390x_inst.specs.declared.calls.RetLocation.{RetLocation}
 use Rattle.s390x_inst.specs.declared.calls.RetLocation.TheVariants.{Reg as InReg, Stack}
 use Rattle.s390x_inst.specs.declared.calls.RetPair.{RetPair}
 use Rattle.s390x_inst.specs.declared.inst.Inst.{Inst, Row_of-Inst, end_of-Inst, more_of-Inst}
-use Rattle.s390x_inst.specs.declared.inst.Inst.TheVariants.{Loop', IndirectBr, JTSequence, Call, ReturnCall, LoadSymbolReloc, Args, Rets, Vector, LoadMultiple64, StoreMultiple64, MovPReg}
+use Rattle.s390x_inst.specs.declared.inst.Inst.TheVariants as I
 use Rattle.s390x_inst.specs.declared.vec_inst.VecInst.{VecInst}
 use Rattle.s390x_inst.specs.declared.vec_inst.VecInst.TheVariants.{VecMov}
 use Rattle.s390x_inst.specs.Portions.{Portion, plain, indirect_branch, jump_table, calling, tail_calling, arguments, results, opening, closing, first_portion, portions, row_portions}
@@ -31,17 +31,13 @@ use Rattle.s390x_operands.specs.declared.constraint.Reported.TheVariants.{Operan
 use Rattle.s390x_operands.specs.Calls.{placed_use, placed_def, destination_requests, argument, result_in, call_result, reported_argument, reported_result, reported_clobbers}
 use Rattle.s390x_operands.specs.Operands.{leaf_requests, vector_requests, requests, row_requests, operands}
 use Rattle.s390x_operands.specs.Requests.{items_of, reported_use, reported_def, reported_reuse, fixed_use, fixed_def, scratch_request, memory_requests, fixed_general, range_requests}
+use Rattle.s390x_operands.proofs.Reporting.{items-append}
 use Rattle.s390x_assign.specs.Assignments.{operand_at, register_at, after, placed_at, after_placed, pair_at, dividend_at, memory_at, assigned_role, each_at, assigned_vector, destination_at, argument_at, result_at, call_result_at, incoming_at, outgoing_at, portion_at, assigned_portions, reported_again, replaced_operands, operand_count}
 
 -- requests become others, whose operands are replaced by the next registers of a list; so much is left of it
 record Follows (xs ys : List (Option Reported)) (s t : List Reg) : Type 0 where
   items : items_of ys ≡ replaced_operands (items_of xs) s
   left : t ≡ drop (operand_count (items_of xs)) s
-
-items_append : (xs ys : List (Option Reported)) → items_of (xs ++ ys) ≡ items_of xs ++ items_of ys
-items_append [] ys = refl
-items_append (None ∷ xs) ys = items_append xs ys
-items_append (Some x ∷ xs) ys = ap (λ zs. x ∷ zs) (items_append xs ys)
 
 count_append : (xs ys : List Reported) → operand_count (xs ++ ys) ≡ operand_count xs + operand_count ys
 count_append [] ys = omega arith
@@ -64,15 +60,15 @@ replaced_append (Clobbers regs ∷ xs) ys s = ap (λ zs. Clobbers regs ∷ zs) (
 -- requests one behind the other
 both : {xs ys xs' ys' : List (Option Reported)} {s t u : List Reg} → Follows xs ys s t → Follows xs' ys' t u → Follows (xs ++ xs') (ys ++ ys') s u
 both {xs = xs} {ys = ys} {xs' = xs'} {ys' = ys'} {s = s} {t = t} {u = u} p q =
-    let n : operand_count (items_of (xs ++ xs')) ≡ operand_count (items_of xs) + operand_count (items_of xs') = ap operand_count (items_append xs xs') ∙ count_append (items_of xs) (items_of xs') in
+    let n : operand_count (items_of (xs ++ xs')) ≡ operand_count (items_of xs) + operand_count (items_of xs') = ap operand_count (items-append xs xs') ∙ count_append (items_of xs) (items_of xs') in
     record {
       items =
-          items_append ys ys'
+          items-append ys ys'
           ∙ ap (λ zs. zs ++ items_of ys') p.items
           ∙ ap (λ zs. replaced_operands (items_of xs) s ++ zs) q.items
           ∙ ap (λ r. replaced_operands (items_of xs) s ++ replaced_operands (items_of xs') r) p.left
           ∙ sym (replaced_append (items_of xs) (items_of xs') s)
-          ∙ ap (λ zs. replaced_operands zs s) (sym (items_append xs xs'));
+          ∙ ap (λ zs. replaced_operands zs s) (sym (items-append xs xs'));
       left =
           q.left
           ∙ ap (λ r. drop (operand_count (items_of xs')) r) p.left
@@ -184,7 +180,7 @@ portion_requests (results xs) = map reported_result xs
 portion_requests (opening mask) = []
 portion_requests closing = []
 
-called : (link : Reg) (info : CallInfo) (s : List Reg) → Follows (portion_requests (first_portion (Call link info))) (portion_requests (portion_at (first_portion (Call link info)) s).0) s (portion_at (first_portion (Call link info)) s).1
+called : (link : Reg) (info : CallInfo) (s : List Reg) → Follows (portion_requests (first_portion (I.Call link info))) (portion_requests (portion_at (first_portion (I.Call link info)) s).0) s (portion_at (first_portion (I.Call link info)) s).1
 called link info s =
     let s₁ : List Reg = (destination_at info.dest s).1 in
     let s₂ : List Reg = (each_at argument_at info.uses.items s₁).1 in
@@ -244,18 +240,18 @@ IsGood p = (s : List Reg) → Follows (portion_requests p) (portion_requests (po
 
 -- the last clause is a copy for each instruction that reports its roles, or nothing
 portion_follows : (i : Inst) → IsGood (first_portion i)
-portion_follows (Loop' mask body all) s = none s
-portion_follows (IndirectBr rn targets) s = used_one rn s
-portion_follows (JTSequence ridx default default_cond targets) s = next (used_one ridx s) (scratch (after ridx s))
-portion_follows (Call link info) s = called link info s
-portion_follows (ReturnCall info) s = both (target info.dest s) (each argument argument_at argument_one info.uses.items (destination_at info.dest s).1)
-portion_follows (LoadSymbolReloc rd symbol_reloc) s = next (defined_one rd s) (scratch (after rd s))
-portion_follows (Args args) s = each reported_argument incoming_at incoming_one args.items s
-portion_follows (Rets rets) s = each reported_result outgoing_at outgoing_one rets.items s
-portion_follows (LoadMultiple64 rt rt2 mem) s = both (with_memory mem s) (range rt rt2 (memory_at mem s).1)
-portion_follows (StoreMultiple64 rt rt2 mem) s = both (with_memory mem s) (range rt rt2 (memory_at mem s).1)
-portion_follows (MovPReg rd rm) s = next (defined_one rd s) (fixed rm (after rd s))
-portion_follows (Vector v) s = vector_follows v s
+portion_follows (I.Loop' mask body all) s = none s
+portion_follows (I.IndirectBr rn targets) s = used_one rn s
+portion_follows (I.JTSequence ridx default default_cond targets) s = next (used_one ridx s) (scratch (after ridx s))
+portion_follows (I.Call link info) s = called link info s
+portion_follows (I.ReturnCall info) s = both (target info.dest s) (each argument argument_at argument_one info.uses.items (destination_at info.dest s).1)
+portion_follows (I.LoadSymbolReloc rd symbol_reloc) s = next (defined_one rd s) (scratch (after rd s))
+portion_follows (I.Args args) s = each reported_argument incoming_at incoming_one args.items s
+portion_follows (I.Rets rets) s = each reported_result outgoing_at outgoing_one rets.items s
+portion_follows (I.LoadMultiple64 rt rt2 mem) s = both (with_memory mem s) (range rt rt2 (memory_at mem s).1)
+portion_follows (I.StoreMultiple64 rt rt2 mem) s = both (with_memory mem s) (range rt rt2 (memory_at mem s).1)
+portion_follows (I.MovPReg rd rm) s = next (defined_one rd s) (fixed rm (after rd s))
+portion_follows (I.Vector v) s = vector_follows v s
 portion_follows i s = roles_follow (roles_of (description_of i)) s
 
 closing_follows : IsGood closing
@@ -272,7 +268,7 @@ good_append (p ∷ ps) qs g h = (g.0, good_append ps qs g.1 h)
 
 mutual
   instruction_good : (i : Inst) → AreGood (portions i)
-  instruction_good (Loop' mask body all) = (portion_follows (Loop' mask body all), good_append (row_portions all) (closing ∷ []) (row_good all) (closing_follows, tt))
+  instruction_good (I.Loop' mask body all) = (portion_follows (I.Loop' mask body all), good_append (row_portions all) (closing ∷ []) (row_good all) (closing_follows, tt))
   instruction_good i = (portion_follows i, tt)
 
   row_good : {m : _} (r : Row_of-Inst m) → AreGood (row_portions r)
@@ -293,12 +289,12 @@ requests_append [] qs = refl
 requests_append (p ∷ ps) qs = ap (λ xs. portion_requests p ++ xs) (requests_append ps qs) ∙ sym (append_assoc (portion_requests p) (portions_requests ps) (portions_requests qs))
 
 leaf_portion : (i : Inst) → leaf_requests i ≡ portion_requests (first_portion i)
-leaf_portion (Loop' mask body all) = refl
+leaf_portion (I.Loop' mask body all) = refl
 leaf_portion i = refl
 
 mutual
   portions_report : (i : Inst) → requests i ≡ portions_requests (portions i)
-  portions_report (Loop' mask body all) = row_report all ∙ sym (requests_append (row_portions all) (closing ∷ []) ∙ append-nil (portions_requests (row_portions all)))
+  portions_report (I.Loop' mask body all) = row_report all ∙ sym (requests_append (row_portions all) (closing ∷ []) ∙ append-nil (portions_requests (row_portions all)))
   portions_report i = leaf_portion i ∙ sym (append-nil (portion_requests (first_portion i)))
 
   row_report : {m : _} (r : Row_of-Inst m) → row_requests r ≡ portions_requests (row_portions r)
@@ -311,7 +307,3 @@ operands_replaced i j s h =
     ap items_of (portions_report j ∙ ap portions_requests h)
     ∙ (portions_follow (portions i) (instruction_good i) s).items
     ∙ ap (λ xs. replaced_operands (items_of xs) s) (sym (portions_report i))
-
-pub answer_replaced : {E : Type 0} (i : Inst) (r : Result Inst E) (s : List Reg) → IfOk r (λ j. portions j ≡ (assigned_portions (portions i) s).0) → IfOk r (λ j. operands j ≡ replaced_operands (operands i) s)
-answer_replaced i (Ok j) s h = operands_replaced i j s h
-answer_replaced i (Err e) s h = tt

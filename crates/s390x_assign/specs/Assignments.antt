@@ -160,10 +160,6 @@ portion_at p s = portion_by assigned_operator p s
 abbrev pub assigned_portions : List Portion → List Reg → List Portion × List Reg
 assigned_portions ps s = each_at portion_at ps s
 
--- this has become of something, and so much is left of the list
-abbrev pub IsGiven : {T : Type 0} → T × List Reg → T → List Reg → Type 0
-IsGiven {T = T} p x s = ◌≡◌ {A = T × List Reg} p (x, s)
-
 -- an instruction has become this part, and so much is left of the list
 abbrev pub IsPortion : Portion × List Reg → Inst → List Reg → Type 0
 IsPortion p j s = ◌≡◌ {A = Portion × List Reg} p (first_portion j, s)

@@ -1,20 +1,15 @@
 -- From the replies of the parts to the answers.
-use Rattle.std.proofs.Common.{◌≡◌, ℕ, ◌+◌, inl, inr, List, [], ◌++◌, Some, None, length, take, drop, sym, ap, ap₂, ◌∙◌, subst}
+use Rattle.std.proofs.Common.{◌≡◌, ℕ, ◌+◌, inl, inr, List, ◌++◌, Some, length, take, drop, sym, ap, ◌∙◌, subst}
 use Rattle.std.specs.Prelude.{codes, ◌⊎◌}
 use Rattle.std.specs.Fmt.{decimal}
-use Rattle.s390x_base.specs.declared.error.EmitError.{EmitError}
-use Rattle.s390x_base.specs.declared.error.EmitError.TheVariants as emit
 use Rattle.s390x_buffer.specs.declared.entries.MachBufferFinalized.{MachBufferFinalized}
 use Rattle.s390x_binary_tool.specs.CodeListing.{IsCodeListing}
 use Rattle.s390x_image.specs.Causes.{link_cause}
-use Rattle.s390x_image.specs.Fields.{with_fields_filled}
 use Rattle.s390x_image.specs.declared.error.LinkError.{LinkError}
 use Rattle.s390x_image.specs.declared.error.LinkError.TheVariants as linking
-use Rattle.hex.specs.Hex.{encode_lower}
-use Rattle.s390x_disassembler.specs.Assembly.{IsNoSource, IsOnlySource, IsSource, IsWrongSource}
+use Rattle.s390x_disassembler.specs.Assembly.{IsNoSource, IsWrongSource}
 use Rattle.s390x_disassembler.specs.Disassembly.{IsDisassembly, IsOnlyCode}
-use Rattle.s390x_emit_int.specs.FunctionImage.{HasNoImage}
-use Rattle.s390x_emit_int.specs.declared.image.ImageError.TheVariants.{Refused, Link}
+use Rattle.s390x_emit_int.specs.declared.image.ImageError.TheVariants.{Refused}
 use Rattle.s390x_job_bundle.specs.Cut.{IsCutAt}
 use Rattle.s390x_job.specs.Completions.{pieces}
 use Rattle.s390x_job.specs.Errors.{IsError}
@@ -24,25 +19,22 @@ use Rattle.s390x_job.specs.declared.job.Job.{Job}
 use Rattle.s390x_job.specs.declared.job.LineError.TheVariants.{Syntax}
 use Rattle.s390x_refusal.specs.Refusal.{IsFirstRefusal}
 use Rattle.s390x_refusal.specs.declared.position.Refusal.{Refusal}
-use Rattle.s390x_tool.specs.Answers.{IsCodeOfJob, IsLinked, job_cause, symbols_of}
-use Rattle.s390x_tool.specs.Lines.{IsLinkRefusal, IsMade, IsRefusal, line}
+use Rattle.s390x_tool.specs.Answers.{IsCodeOfJob, IsLinked, symbols_of}
+use Rattle.s390x_tool.specs.Lines.{IsLinkRefusal, IsMade, line}
 use Rattle.s390x_tool.specs.declared.status.Status.{Status}
 use Rattle.s390x_tool.specs.declared.status.Status.TheVariants as status
 use Rattle.s390x_binary_tool.specs.Assemble.{IsAssembleAnswer}
 use Rattle.s390x_binary_tool.specs.Disassemble.{IsDisassembleAnswer, IsDisassembleReply, IsDisassemblyOf}
-use Rattle.s390x_binary_tool.specs.ImageText.{IsFirstDifference, IsImageText, IsWrongLine}
+use Rattle.s390x_binary_tool.specs.ImageText.{IsImageText, IsWrongLine}
 use Rattle.s390x_binary_tool.specs.Listing.{IsListAnswer, IsListReply}
 use Rattle.s390x_binary_tool.specs.Made.{IsMadeReply}
 use Rattle.s390x_binary_tool.specs.Refusal.{IsRefusalAnswer, IsRefusalReply, refusal_line}
-use Rattle.s390x_binary_tool.specs.Verify.{IsCutJob, IsJobImage, IsVerified, IsVerifyAnswer, IsVerifyReply}
+use Rattle.s390x_binary_tool.specs.Verify.{IsCutJob, IsVerified, IsVerifyAnswer, IsVerifyReply}
 use Rattle.s390x_binary_tool.specs.declared.status.BinaryStatus.{BinaryStatus}
 use Rattle.s390x_binary_tool.specs.declared.status.BinaryStatus.TheVariants.{Shared, Differs, ObjectRefused}
 use Rattle.s390x_binary_tool.proofs.Verifying.{verified, wrong_behind, wrong_job}
 
 -- ---- `refusal`
-
-pub refusal_none : (j : Job) (s : BinaryStatus) (text : List ℕ) → s ≡ Shared status.Ok → text ≡ line (codes "none") → job_cause j ≡ None → IsRefusalReply j s text
-refusal_none j s text is spelled none = subst (λ t. IsRefusalReply j t text) (sym is) (none, spelled)
 
 pub refusal_memory : (j : Job) (s : BinaryStatus) (text : List ℕ) → s ≡ Shared status.NoMemory → text ≡ line (codes "no memory") → IsRefusalReply j s text
 refusal_memory j s text is spelled = subst (λ t. IsRefusalReply j t text) (sym is) spelled
@@ -61,35 +53,6 @@ refusal_answer input j s text is spelled one reply = absurd reply
 
 -- ---- `verify`
 
--- a job has one image at a base
-same_image : (base : ℕ) (j : Job) (a b : List ℕ) → IsJobImage base j a → IsJobImage base j b → a ≡ b
-same_image base j a b x y = x.is ∙ ap₂ (with_fields_filled base (symbols_of j)) (x.finished.relocs ∙ sym y.finished.relocs) (x.finished.bytes ∙ sym y.finished.bytes) ∙ sym y.is
-
-pub verify_memory : (base : ℕ) (j : Job) (given : List ℕ) (s : BinaryStatus) (text : List ℕ) → s ≡ Shared status.NoMemory → text ≡ line (codes "no memory") → IsVerifyReply base j given s text
-verify_memory base j given s text is spelled = subst (λ t. IsVerifyReply base j given t text) (sym is) spelled
-
-pub verify_same : (base : ℕ) (j : Job) (bytes given : List ℕ) (s : BinaryStatus) (text : List ℕ) → IsJobImage base j bytes → bytes ≡ given → s ≡ Shared status.Ok → text ≡ [] → IsVerifyReply base j given s text
-verify_same base j bytes given s text image same is spelled =
-    subst (λ t. IsVerifyReply base j given t text) (sym is) (subst (IsJobImage base j) same image, spelled)
-
-pub verify_differs : (base : ℕ) (j : Job) (bytes given : List ℕ) (n : ℕ) (s : BinaryStatus) (text : List ℕ) → IsJobImage base j bytes → IsFirstDifference bytes given n → IsMadeReply Differs (line (codes "differs " ++ decimal n)) s text → IsVerifyReply base j given s text
-verify_differs base j bytes given n s text image difference (inl made) =
-    subst (λ t. IsVerifyReply base j given t text) (sym made.0)
-    (record { bytes = bytes; image = image; other = λ own. difference.0 (same_image base j bytes given image own); spelled = made.1 ∙ ap (λ k. line (codes "differs " ++ decimal k)) difference.1 })
-verify_differs base j bytes given n s text image difference (inr memory) = verify_memory base j given s text memory.0 memory.1
-
-pub verify_refused : (base : ℕ) (j : Job) (given : List ℕ) (e : EmitError) (first : Status) (s : BinaryStatus) (text : List ℕ) → HasNoImage j.info.isa_flags j.state j.function base (symbols_of j) (Refused e) → IsRefusal e first text → s ≡ Shared first → IsVerifyReply base j given s text
-verify_refused base j given e first s text (inl memory) (inl named) is = absurd (named.0 memory)
-verify_refused base j given e first s text (inr cause) (inl named) is =
-    subst (λ t. IsVerifyReply base j given t text) (sym (is ∙ ap Shared named.1)) (record { error = e; cause = cause; spelled = named.2 })
-verify_refused base j given e first s text why (inr memory) is = verify_memory base j given s text (is ∙ ap Shared memory.1) memory.2
-
-pub verify_unlinked : (base : ℕ) (j : Job) (given : List ℕ) (e : LinkError) (first : Status) (s : BinaryStatus) (text : List ℕ) → HasNoImage j.info.isa_flags j.state j.function base (symbols_of j) (Link e) → IsLinkRefusal e first text → s ≡ Shared first → IsVerifyReply base j given s text
-verify_unlinked base j given e first s text (inl memory) (inl named) is = absurd (named.0 memory)
-verify_unlinked base j given e first s text (inr cause) (inl named) is =
-    subst (λ t. IsVerifyReply base j given t text) (sym (is ∙ ap Shared named.1)) (record { error = e; cause = cause; spelled = named.2 })
-verify_unlinked base j given e first s text why (inr memory) is = verify_memory base j given s text (is ∙ ap Shared memory.1) memory.2
-
 -- the reply to the only job and bytes that the input tells
 pub verify_answer : (base : ℕ) (input : List ℕ) (s : BinaryStatus) (text : List ℕ) (v : IsVerified base input s text) → IsVerifyAnswer base input s text
 verify_answer base input Differs text v = v
@@ -100,16 +63,8 @@ verify_answer base input (Shared s) text v = v
 
 -- ---- texts that are none
 
-pub refusal_no_memory : (input : List ℕ) (s : BinaryStatus) (text : List ℕ) → s ≡ Shared status.NoMemory → text ≡ line (codes "no memory") → IsRefusalAnswer input s text
-refusal_no_memory input s text is spelled = subst (λ t. IsRefusalAnswer input t text) (sym is) spelled
-
 pub verify_no_memory : (base : ℕ) (input : List ℕ) (s : BinaryStatus) (text : List ℕ) → s ≡ Shared status.NoMemory → text ≡ line (codes "no memory") → IsVerifyAnswer base input s text
 verify_no_memory base input s text is spelled = subst (λ t. IsVerifyAnswer base input t text) (sym is) spelled
-
-pub refusal_syntax : (input : List ℕ) (n : ℕ) (first : Status) (s : BinaryStatus) (text : List ℕ) → IsError input (Syntax n) → IsMade status.Syntax (line (codes "syntax " ++ decimal n)) first text → s ≡ Shared first → IsRefusalAnswer input s text
-refusal_syntax input n first s text e (inl made) is =
-    subst (λ t. IsRefusalAnswer input t text) (sym (is ∙ ap Shared made.0)) (record { no_job = e.0; number = n; first = e.1; spelled = made.1 })
-refusal_syntax input n first s text e (inr memory) is = refusal_no_memory input s text (is ∙ ap Shared memory.0) memory.1
 
 -- the job's part is no job's text
 pub verify_job_syntax : (base : ℕ) (input : List ℕ) (size n : ℕ) (first : Status) (s : BinaryStatus) (text : List ℕ) → IsCutAt input size → IsError (take size input) (Syntax n) → IsMade status.Syntax (line (codes "syntax " ++ decimal n)) first text → s ≡ Shared first → IsVerifyAnswer base input s text
@@ -130,20 +85,9 @@ verify_reply_answer base input size j given s text c hex reply = verify_answer b
 
 -- ---- `disassemble`
 
-pub disassemble_no_memory : (base : ℕ) (input : List ℕ) (s : BinaryStatus) (text : List ℕ) → s ≡ Shared status.NoMemory → text ≡ line (codes "no memory") → IsDisassembleAnswer base input s text
-disassemble_no_memory base input s text is spelled = subst (λ t. IsDisassembleAnswer base input t text) (sym is) spelled
-
-pub disassemble_syntax : (base : ℕ) (input : List ℕ) (n : ℕ) (s : BinaryStatus) (text : List ℕ) → IsWrongLine input n → IsMadeReply (Shared status.Syntax) (line (codes "syntax " ++ decimal n)) s text → IsDisassembleAnswer base input s text
-disassemble_syntax base input n s text wrong (inl made) =
-    subst (λ t. IsDisassembleAnswer base input t text) (sym made.0) (record { number = n; wrong = wrong; spelled = made.1 })
-disassemble_syntax base input n s text wrong (inr memory) = disassemble_no_memory base input s text memory.0 memory.1
-
 pub disassemble_text : (base : ℕ) (code : List ℕ) (told : List ℕ) (s : BinaryStatus) (text : List ℕ) → IsDisassembly base code told → IsOnlyCode base code told → s ≡ Shared status.Ok → text ≡ told → IsDisassembleReply base code s text
 disassemble_text base code told s text is only ok spelled =
     subst (λ t. IsDisassembleReply base code t text) (sym ok) (subst (IsDisassemblyOf base code) (sym spelled) (is, only))
-
-pub disassemble_memory : (base : ℕ) (code : List ℕ) (s : BinaryStatus) (text : List ℕ) → s ≡ Shared status.NoMemory → text ≡ line (codes "no memory") → IsDisassembleReply base code s text
-disassemble_memory base code s text is spelled = subst (λ t. IsDisassembleReply base code t text) (sym is) spelled
 
 -- the reply to the code that the input writes
 pub disassemble_answer : (base : ℕ) (input code : List ℕ) (s : BinaryStatus) (text : List ℕ) → IsImageText input code → IsDisassembleReply base code s text → IsDisassembleAnswer base input s text
@@ -163,27 +107,12 @@ list_text base j code bytes made s text is image listing ok spelled =
     subst (λ t. IsListReply base j t text) (sym ok)
     (record { code = code; is = is; bytes = bytes; image = image; listing = subst (IsCodeListing j.info.isa_flags j.state j.function.blocks.items code base bytes) (sym spelled) listing })
 
-pub list_refused : (base : ℕ) (j : Job) (e : EmitError) (first : Status) (s : BinaryStatus) (text : List ℕ) → (e ≡ emit.NoMemory) ⊎ (job_cause j ≡ Some e) → IsRefusal e first text → s ≡ Shared first → IsListReply base j s text
-list_refused base j e first s text (inl memory) (inl named) is = absurd (named.0 memory)
-list_refused base j e first s text (inr cause) (inl named) is =
-    subst (λ t. IsListReply base j t text) (sym (is ∙ ap Shared named.1)) (record { error = e; cause = cause; spelled = named.2 })
-list_refused base j e first s text why (inr memory) is = list_memory base j s text (is ∙ ap Shared memory.1) memory.2
-
 pub list_unlinked : (base : ℕ) (j : Job) (code : MachBufferFinalized) (e : LinkError) (first : Status) (s : BinaryStatus) (text : List ℕ)
     → IsCodeOfJob j code → (e ≡ linking.NoMemory) ⊎ (link_cause code base (symbols_of j) ≡ Some e) → IsLinkRefusal e first text → s ≡ Shared first → IsListReply base j s text
 list_unlinked base j code e first s text of (inl memory) (inl named) is = absurd (named.0 memory)
 list_unlinked base j code e first s text of (inr cause) (inl named) is =
     subst (λ t. IsListReply base j t text) (sym (is ∙ ap Shared named.1)) (record { code = code; is = of; error = e; cause = cause; spelled = named.2 })
 list_unlinked base j code e first s text of why (inr memory) is = list_memory base j s text (is ∙ ap Shared memory.1) memory.2
-
--- texts that are none
-pub list_no_memory : (base : ℕ) (input : List ℕ) (s : BinaryStatus) (text : List ℕ) → s ≡ Shared status.NoMemory → text ≡ line (codes "no memory") → IsListAnswer base input s text
-list_no_memory base input s text is spelled = subst (λ t. IsListAnswer base input t text) (sym is) spelled
-
-pub list_syntax : (base : ℕ) (input : List ℕ) (n : ℕ) (first : Status) (s : BinaryStatus) (text : List ℕ) → IsError input (Syntax n) → IsMade status.Syntax (line (codes "syntax " ++ decimal n)) first text → s ≡ Shared first → IsListAnswer base input s text
-list_syntax base input n first s text e (inl made) is =
-    subst (λ t. IsListAnswer base input t text) (sym (is ∙ ap Shared made.0)) (record { no_job = e.0; number = n; first = e.1; spelled = made.1 })
-list_syntax base input n first s text e (inr memory) is = list_no_memory base input s text (is ∙ ap Shared memory.0) memory.1
 
 -- the reply to the only job whose text the input is
 pub list_answer : (base : ℕ) (input : List ℕ) (j : Job) (s : BinaryStatus) (text : List ℕ) → IsJob j → text_of_job j ≡ input → ((k : Job) → IsJob k → text_of_job k ≡ input → SameJob j k) → IsListReply base j s text → IsListAnswer base input s text
@@ -202,8 +131,3 @@ pub assemble_syntax : (base : ℕ) (input : List ℕ) (n : ℕ) (s : BinaryStatu
 assemble_syntax base input n s text none wrong (inl made) =
     subst (λ t. IsAssembleAnswer base input t text) (sym made.0) (record { number = n; none = none; wrong = wrong; spelled = made.1 })
 assemble_syntax base input n s text none wrong (inr memory) = assemble_no_memory base input s text memory.0 memory.1
-
-pub assemble_code : (base : ℕ) (input code : List ℕ) (first : Status) (s : BinaryStatus) (text : List ℕ) → IsSource base code input → IsOnlySource base code input → IsMade status.Ok (line (encode_lower code)) first text → s ≡ Shared first → IsAssembleAnswer base input s text
-assemble_code base input code first s text source only (inl made) is =
-    subst (λ t. IsAssembleAnswer base input t text) (sym (is ∙ ap Shared made.0)) (record { code = code; source = source; only = only; spelled = made.1 })
-assemble_code base input code first s text source only (inr memory) is = assemble_no_memory base input s text (is ∙ ap Shared memory.0) memory.1

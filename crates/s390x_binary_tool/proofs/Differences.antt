@@ -1,5 +1,5 @@
 -- The first difference of two texts, byte by byte.
-use Rattle.std.proofs.Common.{◌≡◌, ◌≢◌, ℕ, suc, ◌+◌, ◌<◌, ◌≤◌, List, [], ◌∷◌, inl, inr, length, get_or, drop, drop-cons, refl, sym, ap, ap₂, ◌∙◌, arith}
+use Rattle.std.proofs.Common.{◌≡◌, ◌≢◌, ℕ, suc, ◌+◌, ◌<◌, ◌≤◌, List, [], ◌∷◌, inl, inr, length, get_or, drop, drop-cons, refl, ap, ◌∙◌, arith}
 use Rattle.std.specs.Prelude.{min, nat_le}
 use Rattle.std.proofs.lemmas.List.{drop_all}
 use Rattle.s390x_job.proofs.Whole.{either}
@@ -9,31 +9,9 @@ use Rattle.s390x_binary_tool.specs.ImageText.{IsFirstDifference, common_length}
 pub record SameTo (xs ys : List ℕ) (n : ℕ) : Type 0 where
   pub common : common_length xs ys ≡ n + common_length (drop n xs) (drop n ys)
 
-pub same_start : (xs ys : List ℕ) → SameTo xs ys 0
-same_start xs ys = record { common = sym (zero_plus (common_length xs ys)) }
-  where
-    zero_plus : (n : ℕ) → 0 + n ≡ n
-    zero_plus n = omega arith
-
 -- the byte there, and those behind it
 front : (xs : List ℕ) (n : ℕ) → n < length xs → drop n xs ≡ get_or xs n 0 ∷ drop (n + 1) xs
 front xs n lt = let k : suc n ≡ n + 1 = omega arith in drop-cons xs n 0 lt ∙ ap (λ m. get_or xs n 0 ∷ drop m xs) k
-
-equal_heads : (x y : ℕ) (xs ys : List ℕ) → x ≡ y → common_length (x ∷ xs) (y ∷ ys) ≡ 1 + common_length xs ys
-equal_heads x y xs ys same = grind (arith, same)
-
-other_heads : (x y : ℕ) (xs ys : List ℕ) → x ≢ y → common_length (x ∷ xs) (y ∷ ys) ≡ 0
-other_heads x y xs ys other = grind (arith, other)
-
-pub same_more : (xs ys : List ℕ) (n : ℕ) → SameTo xs ys n → n < length xs → n < length ys → get_or xs n 0 ≡ get_or ys n 0 → SameTo xs ys (n + 1)
-same_more xs ys n s more others same =
-    let here : common_length (drop n xs) (drop n ys) ≡ 1 + common_length (drop (n + 1) xs) (drop (n + 1) ys) = ap₂ common_length (front xs n more) (front ys n others) ∙ equal_heads (get_or xs n 0) (get_or ys n 0) (drop (n + 1) xs) (drop (n + 1) ys) same in
-    record { common = omega (arith, s.common, here) }
-
-pub differ_here : (xs ys : List ℕ) (n : ℕ) → SameTo xs ys n → n < length xs → n < length ys → get_or xs n 0 ≢ get_or ys n 0 → IsFirstDifference xs ys n
-differ_here xs ys n s more others other =
-    let here : common_length (drop n xs) (drop n ys) ≡ 0 = ap₂ common_length (front xs n more) (front ys n others) ∙ other_heads (get_or xs n 0) (get_or ys n 0) (drop (n + 1) xs) (drop (n + 1) ys) other in
-    (λ same. other (ap (λ zs. get_or zs n 0) same), omega (arith, s.common, here))
 
 none_left : (xs : List ℕ) → common_length xs [] ≡ 0
 none_left [] = refl
@@ -58,9 +36,8 @@ differ_end xs ys n s is other = (λ same. other (ap length same), omega (arith, 
 -- as many as there are
 all_common : (xs ys : List ℕ) → length xs ≡ length ys → common_length xs ys ≡ length xs → xs ≡ ys
 all_common [] [] l c = refl
-all_common [] (y ∷ ys) l c = absurd (omega (arith, l))
-all_common (x ∷ xs) [] l c = absurd (omega (arith, l))
 all_common (x ∷ xs) (y ∷ ys) l c = grind (arith, all_common xs ys)
+all_common xs ys l c = absurd (omega (arith, l))
 
 pub same_all : (xs ys : List ℕ) (n : ℕ) → SameTo xs ys n → n ≡ min (length xs) (length ys) → length xs ≡ length ys → xs ≡ ys
 same_all xs ys n s is l = all_common xs ys l (omega (arith, s.common, ended xs ys n is, l))

@@ -9,6 +9,7 @@ use Rattle.s390x_job.specs.Completions.{text_of_lines, pieces}
 use Rattle.s390x_job.proofs.Above.{pieces_none}
 use Rattle.s390x_job_bundle.proofs.Lines.{AllFree, first_line, free_append, joined_append, pieces_free, pieces_joined, text_cut}
 use Rattle.s390x_binary_tool.specs.ImageText.{IsImageText, IsWrongLine, bytes_before, bytes_of_lines}
+use Rattle.s390x_job.proofs.Whole.{nil}
 
 -- bytes of lines and of those behind them, where both are there
 abbrev both : Option (List ℕ) → Option (List ℕ) → Option (List ℕ)
@@ -25,9 +26,7 @@ both_none (Some a) = refl
 
 before_both : (d : Result (List ℕ) FromHexError) (x y : Option (List ℕ)) → bytes_before d (both x y) ≡ both (bytes_before d x) y
 before_both (Ok f) (Some a) (Some b) = ap Some (sym (append_assoc f a b))
-before_both (Ok f) (Some a) None = refl
-before_both (Ok f) None y = refl
-before_both (Err e) x y = refl
+before_both d x y = refl
 
 lines_append : (ws vs : List (List ℕ)) → bytes_of_lines (ws ++ vs) ≡ both (bytes_of_lines ws) (bytes_of_lines vs)
 lines_append [] vs = both_empty (bytes_of_lines vs)
@@ -56,9 +55,6 @@ pub record Read (text rest image : List ℕ) (number : ℕ) : Type 0 where
   pub bytes : bytes_of_lines lines ≡ Some image
   pub count : number ≡ length lines + 1
 
-pub read_start : (text : List ℕ) → Read text text [] 1
-read_start text = record { lines = []; free = tt; whole = refl; bytes = refl; count = refl }
-
 first_free : (rest : List ℕ) → (length (upto 10 rest) ≡ length rest → ⊥) → AllFree (upto 10 rest ∷ [])
 first_free rest n = let h : AllFree (upto 10 rest ∷ pieces (past 10 rest)) = subst AllFree (first_line rest n) (pieces_free rest) in (h.0, tt)
 
@@ -80,13 +76,9 @@ read_more text rest image bytes number r n decoded =
 all_lines : (text rest image : List ℕ) (number : ℕ) (r : Read text rest image number) → pieces text ≡ r.lines ++ pieces rest
 all_lines text rest image number r = ap pieces r.whole ∙ pieces_joined r.lines rest r.free
 
-nothing : (rest : List ℕ) → length rest ≡ 0 → rest ≡ []
-nothing [] h = refl
-nothing (x ∷ rest) h = absurd (omega (arith, h))
-
 pub read_end : (text rest image : List ℕ) (number : ℕ) → Read text rest image number → length rest ≡ 0 → IsImageText text image
 read_end text rest image number r empty =
-    let none = nothing rest empty in
+    let none = nil rest empty in
     let all : pieces text ≡ r.lines = all_lines text rest image number r ∙ ap (λ t. r.lines ++ pieces t) none ∙ append-nil r.lines in
     record {
       lines = r.whole ∙ ap (λ t. text_of_lines r.lines ++ t) none ∙ append-nil (text_of_lines r.lines) ∙ ap text_of_lines (sym all);

@@ -30,9 +30,8 @@ use Rattle.s390x_binary_tool.specs.declared.status.BinaryStatus.TheVariants.{Sha
 members_suc : (ms : List Member) (i : ℕ) (m : Member) (os : List ObjectMember) (o : ObjectMember) → i < length ms → m ≡ get_or ms i m → AreObjectMembers (take i ms) os → IsObjectMember m o → AreObjectMembers (take (suc i) ms) (os ++ o ∷ [])
 members_suc [] i m os o lt e are is = absurd (omega (arith, lt))
 members_suc (x ∷ ms) zero m [] o lt e are is = (subst (λ y. IsObjectMember y o) e is, tt)
-members_suc (x ∷ ms) zero m (p ∷ os) o lt e are is = absurd are
-members_suc (x ∷ ms) (suc i) m [] o lt e are is = absurd are
 members_suc (x ∷ ms) (suc i) m (p ∷ os) o lt e are is = (are.0, members_suc ms i m os o (omega (arith, lt)) e are.1 is)
+members_suc ms i m os o lt e are is = absurd are
 
 -- one member more has its code
 pub members_more : (ms : List Member) (i : ℕ) (m : Member) (os : List ObjectMember) (o : ObjectMember) → i < length ms → m ≡ get_or ms i m → AreObjectMembers (take i ms) os → IsObjectMember m o → AreObjectMembers (take (i + 1) ms) (os ++ o ∷ [])
@@ -81,18 +80,14 @@ same_object f g o code name h = record { named = h.named ∙ ap symbol_name name
 -- the codes of one are those of the other
 pub same_objects : (fs gs : List NamedJob) (os : List ObjectMember) → AreFunctions fs → AreFunctions gs → SameFunctions fs gs → AreObjectMembers (members fs) os → AreObjectMembers (members gs) os
 same_objects [] [] os a b same h = h
-same_objects [] (g ∷ gs) os a b same h = absurd same
-same_objects (f ∷ fs) [] os a b same h = absurd same
 same_objects (f ∷ fs) (g ∷ gs) [] a b same h = absurd h
 same_objects (f ∷ fs) (g ∷ gs) (o ∷ os) a b same h =
     (same_object f g o (λ is. member_emitted g o.code (same_code f.job g.job o.code a.1 b.1 same.1 (code_of_job f o.code is))) same.0 h.0, same_objects fs gs os a.2 b.2 same.2 h.1)
+same_objects fs gs os a b same h = absurd same
 
 -- members without a name that comes twice, none of which emission refuses, have codes
 pub coded : (ms : List Member) (e : BundleError) → duplicate_of ms ≡ None → first_refused ms ≡ None → e ≢ cause.NoMemory → HasNoCodes ms e → ⊥
 coded ms (cause.DuplicateName name) names valid named none = let clash = sym names ∙ none in cc
 coded ms (cause.Emit name error) names valid named none = let clash = sym valid ∙ none.1 in cc
 coded ms cause.NoMemory names valid named none = named refl
-coded ms (cause.EmptyMember name) names valid named none = none
-coded ms (cause.TooLong name) names valid named none = none
-coded ms (cause.AddressTooHigh name) names valid named none = none
-coded ms (cause.Link name error) names valid named none = none
+coded ms e names valid named none = none

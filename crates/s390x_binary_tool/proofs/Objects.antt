@@ -1,8 +1,6 @@
 -- From the object of a job's code to the answer to `object`.
-use Rattle.std.proofs.Common.{◌≡◌, ◌⊎◌, inl, inr, ℕ, List, Some, None, sym, ap, ◌∙◌, subst}
+use Rattle.std.proofs.Common.{◌≡◌, ◌⊎◌, inl, inr, ℕ, List, Some, None, sym, subst}
 use Rattle.std.specs.Prelude.{codes}
-use Rattle.s390x_base.specs.declared.error.EmitError.{EmitError}
-use Rattle.s390x_base.specs.declared.error.EmitError.TheVariants as emit
 use Rattle.s390x_buffer.specs.declared.entries.MachBufferFinalized.{MachBufferFinalized}
 use Rattle.s390x_elf.specs.Causes.{object_cause}
 use Rattle.s390x_elf.specs.Object.{IsLinkedAsImage, IsObject}
@@ -12,13 +10,12 @@ use Rattle.s390x_emit_int.proofs.FunctionImage.{image_of}
 use Rattle.s390x_job.specs.Jobs.{IsJob, text_of_job}
 use Rattle.s390x_job.specs.Same.{SameJob}
 use Rattle.s390x_job.specs.declared.job.Job.{Job}
-use Rattle.s390x_tool.specs.Answers.{IsCodeOfJob, job_cause}
-use Rattle.s390x_tool.specs.Lines.{IsRefusal, line}
-use Rattle.s390x_tool.specs.declared.status.Status.{Status}
+use Rattle.s390x_tool.specs.Answers.{IsCodeOfJob}
+use Rattle.s390x_tool.specs.Lines.{line}
 use Rattle.s390x_tool.specs.declared.status.Status.TheVariants as status
 use Rattle.s390x_binary_tool.specs.Object.{IsObjectAnswer, IsObjectRefusal, IsObjectReply, RunsWhereLinked}
 use Rattle.s390x_binary_tool.specs.declared.status.BinaryStatus.{BinaryStatus}
-use Rattle.s390x_binary_tool.specs.declared.status.BinaryStatus.TheVariants.{Shared, Differs, ObjectRefused}
+use Rattle.s390x_binary_tool.specs.declared.status.BinaryStatus.TheVariants.{Shared, ObjectRefused}
 
 -- linked at any address, the object runs as typed
 runs_where_linked : (name : List ℕ) (j : Job) (code : MachBufferFinalized) (file : List ℕ) → IsCodeOfJob j code → IsLinkedAsImage name code file → RunsWhereLinked name j code file
@@ -41,12 +38,6 @@ object_none name j code e s text is (inl memory) (inl named) = absurd (named.0 m
 object_none name j code e s text is (inr cause) (inl named) =
     subst (λ t. IsObjectReply name j t text) (sym named.1) (record { code = code; is = is; error = e; cause = cause; spelled = named.2 })
 object_none name j code e s text is why (inr memory) = object_memory name j s text memory.1 memory.2
-
-pub object_unemitted : (name : List ℕ) (j : Job) (e : EmitError) (first : Status) (s : BinaryStatus) (text : List ℕ) → (e ≡ emit.NoMemory) ⊎ (job_cause j ≡ Some e) → IsRefusal e first text → s ≡ Shared first → IsObjectReply name j s text
-object_unemitted name j e first s text (inl memory) (inl named) is = absurd (named.0 memory)
-object_unemitted name j e first s text (inr cause) (inl named) is =
-    subst (λ t. IsObjectReply name j t text) (sym (is ∙ ap Shared named.1)) (record { error = e; cause = cause; spelled = named.2 })
-object_unemitted name j e first s text why (inr memory) is = object_memory name j s text (is ∙ ap Shared memory.1) memory.2
 
 -- the reply to the only job whose text the input is
 pub object_answer : (name input : List ℕ) (j : Job) (s : BinaryStatus) (text : List ℕ) → IsJob j → text_of_job j ≡ input → ((k : Job) → IsJob k → text_of_job k ≡ input → SameJob j k) → IsObjectReply name j s text → IsObjectAnswer name input s text

@@ -1,84 +1,14 @@
 -- From an answer to the reply, and what follows from it and how it was written.
 use Rattle.std.proofs.Common.{◌≡◌, ℕ, ◌<◌, ◌⊎◌, inl, inr, List, refl, sym, ◌∙◌, subst, arith}
-use Rattle.std.specs.Prelude.{Option, codes}
-use Rattle.s390x_tool.proofs.Parts.{whole_part}
+use Rattle.std.specs.Prelude.{Option}
 use Rattle.s390x_tool.specs.Causes.{FaultCountRose}
-use Rattle.s390x_tool.specs.Ends.{IsPartRead, IsRead, IsTooLong, most_bytes, too_many}
-use Rattle.s390x_tool.specs.Lines.{IsUnread, line}
+use Rattle.s390x_tool.specs.Ends.{IsTooLong}
 use Rattle.s390x_tool.specs.Replies.{CallContext}
-use Rattle.s390x_tool.specs.declared.input.InputError.{InputError}
-use Rattle.s390x_tool.specs.declared.input.InputError.TheVariants as input
-use Rattle.s390x_tool.specs.declared.status.Status.{Status}
 use Rattle.s390x_tool.specs.declared.status.Status.TheVariants as status
-use Rattle.s390x_binary_tool.specs.Words.{IsForm, IsNoForm}
-use Rattle.s390x_binary_tool.specs.declared.words.Command.{Command}
-use Rattle.s390x_binary_tool.specs.declared.words.Command.TheVariants.{Refusal, Verify, Listing, Disassemble, Assemble, Object, Objects}
-use Rattle.s390x_binary_tool.specs.Replies.{IsAnswered, IsDelivered, IsDone, IsInputAnswer, IsReply}
+use Rattle.s390x_binary_tool.specs.Words.{IsNoForm}
+use Rattle.s390x_binary_tool.specs.Replies.{IsDelivered, IsDone, IsReply}
 use Rattle.s390x_binary_tool.specs.declared.status.BinaryStatus.{BinaryStatus}
-use Rattle.s390x_binary_tool.specs.declared.status.BinaryStatus.TheVariants.{Shared, Differs, ObjectRefused}
-
--- ---- the reply
-
--- the statuses of answers
-abbrev IsOfAnswer : BinaryStatus → Type 0
-IsOfAnswer (Shared status.Usage) = ⊥
-IsOfAnswer (Shared status.ReadFault) = ⊥
-IsOfAnswer (Shared status.WriteFault) = ⊥
-IsOfAnswer (Shared status.InputTooLong) = ⊥
-IsOfAnswer s = Unit {0}
-
-of_answer : (c : Command) (words : List (List ℕ)) (given : List ℕ) (s : BinaryStatus) (text : List ℕ) → IsInputAnswer c words given s text → IsOfAnswer s
-of_answer c words given Differs text a = tt
-of_answer c words given ObjectRefused text a = tt
-of_answer c words given (Shared status.NoMemory) text a = tt
-of_answer c words given (Shared status.Ok) text a = tt
-of_answer c words given (Shared status.Syntax) text a = tt
-of_answer c words given (Shared status.Refused) text a = tt
-of_answer c words given (Shared status.LinkRefused) text a = tt
-of_answer c words given (Shared status.BadWord) text a = tt
-of_answer c words given (Shared status.PlanRefused) text a = tt
-of_answer c words given (Shared status.BundleRefused) text a = tt
-of_answer Refusal words given (Shared s) text a = absurd a.reply
-of_answer (Verify base) words given (Shared s) text a = absurd a.reply
-of_answer (Listing base) words given (Shared s) text a = absurd a.reply
-of_answer (Disassemble base) words given (Shared s) text a = absurd a
-of_answer (Assemble base) words given (Shared s) text a = absurd a
-of_answer Object words given (Shared s) text a = absurd a.reply
-of_answer Objects words given (Shared s) text a = absurd a.reply
-
-memory_line : (c : Command) (words : List (List ℕ)) (given text : List ℕ) → IsInputAnswer c words given (Shared status.NoMemory) text → text ≡ line (codes "no memory")
-memory_line Refusal words given text a = a
-memory_line (Verify base) words given text a = a
-memory_line (Listing base) words given text a = a
-memory_line (Disassemble base) words given text a = a
-memory_line (Assemble base) words given text a = a
-memory_line Object words given text a = a
-memory_line Objects words given text a = a
-
-reply_of_answer : (f : CallContext) (s : BinaryStatus) (text : List ℕ) → IsAnswered f s text → IsReply f s text
-reply_of_answer f (Shared status.Usage) text a = absurd (of_answer a.command f.words a.input (Shared status.Usage) text a.answer)
-reply_of_answer f (Shared status.ReadFault) text a = absurd (of_answer a.command f.words a.input (Shared status.ReadFault) text a.answer)
-reply_of_answer f (Shared status.InputTooLong) text a = absurd (of_answer a.command f.words a.input (Shared status.InputTooLong) text a.answer)
-reply_of_answer f (Shared status.WriteFault) text a = absurd (of_answer a.command f.words a.input (Shared status.WriteFault) text a.answer)
-reply_of_answer f (Shared status.NoMemory) text a =
-    (record { command = a.command; form = a.form; part = whole_part f.left f.left' a.input a.read; same = a.same }, memory_line a.command f.words a.input text a.answer)
-reply_of_answer f s text a = a
-
--- the answer to a command and its whole input is the reply
-pub reply_answered : (f : CallContext) (c : Command) (given : List ℕ) (s : BinaryStatus) (text : List ℕ) → IsForm f.words c → IsRead f.left f.left' given → f.faults' ≡ f.faults → IsInputAnswer c f.words given s text → IsReply f s text
-reply_answered f c given s text form read same answer = reply_of_answer f s text (record { command = c; form = form; input = given; read = read; same = same; answer = answer })
-
--- so is that the input isn't read to its end
-pub reply_unread : (f : CallContext) (c : Command) (e : InputError) (s : Status) (text : List ℕ) → IsForm f.words c
-    → (e ≡ input.TooLong → IsTooLong f.left f.left') → (e ≡ input.Fault → FaultCountRose f.faults f.faults')
-    → (e ≡ input.Fault → IsPartRead f.left f.left' most_bytes) → (e ≡ input.NoMemory → IsPartRead f.left f.left' too_many)
-    → (e ≡ input.Fault) ⊎ (f.faults' ≡ f.faults) → IsUnread e s text → IsReply f (Shared s) text
-reply_unread f c input.Fault s text form long rose failed stopped same told = rw told.0 (record { command = c; form = form; part = failed refl; rose = rose refl }, told.1)
-reply_unread f c input.TooLong s text form long rose failed stopped (inl clash) told = absurd cc
-reply_unread f c input.TooLong s text form long rose failed stopped (inr same) told = rw told.0 (record { command = c; form = form; long = long refl; same = same }, told.1)
-reply_unread f c input.NoMemory s text form long rose failed stopped (inl clash) told = absurd cc
-reply_unread f c input.NoMemory s text form long rose failed stopped (inr same) told =
-    rw told.0 (record { command = c; form = form; part = stopped refl; same = same }, told.1)
+use Rattle.s390x_binary_tool.specs.declared.status.BinaryStatus.TheVariants.{Shared}
 
 -- ---- what follows from it
 

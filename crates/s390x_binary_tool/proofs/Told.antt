@@ -1,7 +1,6 @@
 -- Words tell their command.
-use Rattle.std.proofs.Common.{◌≡◌, ℕ, inl, inr, ◌^◌, ◌<◌, List, [], ◌∷◌, Some, None, sym, ap, ◌∙◌, arith, get_or, length, cond}
+use Rattle.std.proofs.Common.{◌≡◌, ℕ, inl, inr, List, [], ◌∷◌, Some, None, sym, ap, ◌∙◌, arith, get_or, length, cond}
 use Rattle.std.specs.Prelude.{Option, codes, ◌≢◌}
-use Rattle.std.specs.Fmt.{decimal}
 use Rattle.std.specs.Str.{bytes_eq}
 use Rattle.std.specs.Str.Parse.{digits_value}
 use Rattle.std.proofs.lemmas.Fmt.{decimal_is_IsNumeral}
@@ -48,30 +47,6 @@ none_alone w no_refusal no_object no_objects Object form = elim form.spelled [
 ]
 none_alone w no_refusal no_object no_objects Objects form = no_objects (ap (λ ws. get_or ws 0 []) form.spelled)
 none_alone w no_refusal no_object no_objects c form = absurd (omega (arith, ap length form.spelled))
-
-no_object_pair : (w x : List ℕ) → w ≢ codes "object" → IsSpelled Object (w ∷ x ∷ []) → ⊥
-no_object_pair w x no_object (inl is) = absurd (omega (arith, ap length is))
-no_object_pair w x no_object (inr is) = no_object (ap (λ ws. get_or ws 0 []) is)
-
--- a word with one behind it
-pub none_with_base : (w x : List ℕ) → w ≢ codes "object" → w ≢ codes "verify" → w ≢ codes "disassemble" → w ≢ codes "assemble" → w ≢ codes "list" → IsNoForm (w ∷ x ∷ [])
-none_with_base w x no_object no_verify no_disassemble no_assemble no_list Refusal form = absurd (omega (arith, ap length form.spelled))
-none_with_base w x no_object no_verify no_disassemble no_assemble no_list (Verify base) form = no_verify (ap (λ ws. get_or ws 0 []) form.spelled)
-none_with_base w x no_object no_verify no_disassemble no_assemble no_list (Disassemble base) form = no_disassemble (ap (λ ws. get_or ws 0 []) form.spelled)
-none_with_base w x no_object no_verify no_disassemble no_assemble no_list (Assemble base) form = no_assemble (ap (λ ws. get_or ws 0 []) form.spelled)
-none_with_base w x no_object no_verify no_disassemble no_assemble no_list (Listing base) form = no_list (ap (λ ws. get_or ws 0 []) form.spelled)
-none_with_base w x no_object no_verify no_disassemble no_assemble no_list Object form = no_object_pair w x no_object form.spelled
-none_with_base w x no_object no_verify no_disassemble no_assemble no_list Objects form = absurd (omega (arith, ap length form.spelled))
-
--- a word with one behind it that is no number
-pub none_of_number : (w x : List ℕ) → w ≢ codes "object" → ((n : ℕ) → n < 2 ^ 64 → x ≢ decimal n) → IsNoForm (w ∷ x ∷ [])
-none_of_number w x no_object none Refusal form = absurd (omega (arith, ap length form.spelled))
-none_of_number w x no_object none (Verify base) form = none base form.range (ap (λ ws. get_or ws 1 []) form.spelled)
-none_of_number w x no_object none (Disassemble base) form = none base form.range (ap (λ ws. get_or ws 1 []) form.spelled)
-none_of_number w x no_object none (Assemble base) form = none base form.range (ap (λ ws. get_or ws 1 []) form.spelled)
-none_of_number w x no_object none (Listing base) form = none base form.range (ap (λ ws. get_or ws 1 []) form.spelled)
-none_of_number w x no_object none Object form = no_object_pair w x no_object form.spelled
-none_of_number w x no_object none Objects form = absurd (omega (arith, ap length form.spelled))
 
 -- as many words as no command has
 pub none_of_length : (words : List (List ℕ)) → length words ≢ 1 → length words ≢ 2 → IsNoForm words

@@ -16,9 +16,8 @@ use Rattle.s390x_bundle.specs.Joined.{IsFinished}
 emitted_suc : (ms : List Member) (i : ℕ) (m : Member) (fs : List MachBufferFinalized) (f : MachBufferFinalized) → i < length ms → m ≡ get_or ms i m → AreEmitted (take i ms) fs → IsEmitted m f → AreEmitted (take (suc i) ms) (fs ++ f ∷ [])
 emitted_suc [] i m fs f lt e are is = absurd (omega (arith, lt))
 emitted_suc (x ∷ ms) zero m [] f lt e are is = (subst (λ y. IsEmitted y f) e is, tt)
-emitted_suc (x ∷ ms) zero m (g ∷ fs) f lt e are is = absurd are
-emitted_suc (x ∷ ms) (suc i) m [] f lt e are is = absurd are
 emitted_suc (x ∷ ms) (suc i) m (g ∷ fs) f lt e are is = (are.0, emitted_suc ms i m fs f (omega (arith, lt)) e are.1 is)
+emitted_suc ms i m fs f lt e are is = absurd are
 
 -- one member more has its code
 pub emitted_more : (ms : List Member) (i : ℕ) (m : Member) (fs : List MachBufferFinalized) (f : MachBufferFinalized) → i < length ms → m ≡ get_or ms i m → AreEmitted (take i ms) fs → IsEmitted m f → AreEmitted (take (i + 1) ms) (fs ++ f ∷ [])
@@ -43,12 +42,8 @@ refused_first name (Some error) later r h = h
 -- it is refused, so it is the first one
 pub refused_now : (ms : List Member) (i : ℕ) (m : Member) (e : BundleError) → i < length ms → m ≡ get_or ms i m → first_refused (drop i ms) ≡ first_refused ms → HasNoCode (refused_or m.name (emit_cause m) None) e → HasNoCode (first_refused ms) e
 refused_now ms i m (Emit name error) lt is first h = sym first ∙ refused_here ms i m lt is ∙ refused_first m.name (emit_cause m) (first_refused (drop (i + 1) ms)) (record { name = name; error = error }) h
-refused_now ms i m (DuplicateName name) lt is first h = absurd h
-refused_now ms i m (EmptyMember name) lt is first h = absurd h
-refused_now ms i m (TooLong name) lt is first h = absurd h
-refused_now ms i m (AddressTooHigh name) lt is first h = absurd h
-refused_now ms i m (Link name error) lt is first h = absurd h
 refused_now ms i m NoMemory lt is first h = tt
+refused_now ms i m e lt is first h = absurd h
 
 -- an error that is handed on
 pub again : {T : Type 0} (P : T → Type 0) (Q : BundleError → Type 0) (r : Result T BundleError) (e : BundleError) → IsErrAnd r (λ y. y ≡ e) → Q e → MatchResult r P Q
@@ -57,9 +52,8 @@ again P Q (Err y) e a q = subst Q (sym a) q
 
 pub emitted_count : (ms : List Member) (fs : List MachBufferFinalized) → AreEmitted ms fs → length fs ≡ length ms
 emitted_count [] [] are = refl
-emitted_count [] (f ∷ fs) are = absurd are
-emitted_count (m ∷ ms) [] are = absurd are
 emitted_count (m ∷ ms) (f ∷ fs) are = ap suc (emitted_count ms fs are.1)
+emitted_count ms fs are = absurd are
 
 greatest_above : (a : ℕ) (cs : List Constant) → a ≤ greatest_align a cs
 greatest_above a [] = omega arith
@@ -75,7 +69,6 @@ finished_one m f e = record {
 -- what emission gives is finished code
 pub emitted_finished : (ms : List Member) (fs : List MachBufferFinalized) → AreEmitted ms fs → All IsFinished fs
 emitted_finished [] [] are k d lt = absurd (omega (arith, lt))
-emitted_finished [] (f ∷ fs) are k d lt = absurd are
-emitted_finished (m ∷ ms) [] are k d lt = absurd are
 emitted_finished (m ∷ ms) (f ∷ fs) are zero d lt = finished_one m f are.0
 emitted_finished (m ∷ ms) (f ∷ fs) are (suc k) d lt = emitted_finished ms fs are.1 k d (omega (arith, lt))
+emitted_finished ms fs are k d lt = absurd are

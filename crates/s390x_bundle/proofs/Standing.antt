@@ -13,9 +13,8 @@ zeros_long zero = refl
 zeros_long (suc n) = ap suc (zeros_long n)
 
 zeros_read : (n i : ℕ) → get_or (zeros n) i 0 ≡ 0
-zeros_read zero i = refl
-zeros_read (suc n) zero = refl
 zeros_read (suc n) (suc i) = zeros_read n i
+zeros_read n i = refl
 
 -- a part among those behind so many bytes
 record StandsBehind (end : ℕ) (all : List ℕ) (p : Part) : Type 0 where
@@ -76,8 +75,6 @@ start_above (Some end) a some = omega (arith, round_up-ge (end + 2) a some)
 
 -- the members stand one behind the other
 pub starts_rise : (xs : List Extent) (bss : List (List ℕ)) → AreOfExtents xs bss → All (λ (x : Extent). 0 < x.alignment) xs → (end : Option ℕ) → Rise (end_or_zero end) (parts_at (starts_behind end xs) bss)
-starts_rise [] bss are aligned end = tt
-starts_rise (x ∷ xs) [] are aligned end = tt
 starts_rise (x ∷ xs) (bs ∷ bss) are aligned end =
     let first : length bs ≡ x.size = cc in
     let rest : AreOfExtents xs bss = cc in
@@ -85,3 +82,4 @@ starts_rise (x ∷ xs) (bs ∷ bss) are aligned end =
       start_above end x.alignment (aligned 0 x (omega arith)),
       subst (λ n. Rise (start + n) (parts_at (starts_behind (Some (start + x.size)) xs) bss)) (sym first) (starts_rise xs bss rest (λ k d lt. aligned (suc k) d (omega (arith, lt))) (Some (start + x.size))),
     )
+starts_rise xs bss are aligned end = tt

@@ -46,8 +46,6 @@ starts_fit base fs h = fits_behind base None 0 (map extent_of fs) h
 
 rise_behind : (base : ℕ) (all : List Member) (all_starts : List ℕ) (end : Option ℕ) (ms : List Member) (fs : List MachBufferFinalized) → All IsFinished fs →
     Rise (end_or_zero end) (linked_parts base all all_starts ms (starts_behind end (map extent_of fs)) fs)
-rise_behind base all all_starts end [] fs finished = tt
-rise_behind base all all_starts end (m ∷ ms) [] finished = tt
 rise_behind base all all_starts end (m ∷ ms) (f ∷ fs) finished =
     let here : IsFinished f = finished 0 f (omega arith) in
     let start = start_behind end f.alignment in
@@ -55,6 +53,7 @@ rise_behind base all all_starts end (m ∷ ms) (f ∷ fs) finished =
       start_above end f.alignment here.alignment,
       subst (λ n. Rise (start + n) (linked_parts base all all_starts ms (starts_behind (Some (start + length f.bytes.items)) (map extent_of fs)) fs)) (sym same) (rise_behind base all all_starts (Some (start + length f.bytes.items)) ms fs (λ k d lt. finished (suc k) d (omega (arith, lt)))),
     )
+rise_behind base all all_starts end ms fs finished = tt
 
 pub parts_rise : (base : ℕ) (members : List Member) (fs : List MachBufferFinalized) → All IsFinished fs → Rise 0 (member_parts base members fs)
 parts_rise base members fs finished = rise_behind base members (starts_of_codes fs) None members fs finished

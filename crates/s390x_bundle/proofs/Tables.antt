@@ -2,8 +2,7 @@
 use Rattle.std.proofs.Common.{◌≡◌, ℕ, zero, suc, ◌+◌, ◌<◌, List, [], ◌∷◌, length, get_or, Bool, true, false, cond, Option, Some, None, ◌⊎◌, inl, inr, Result, Ok, Err, MatchResult, refl, sym, ap, ◌∙◌, arith}
 use Rattle.std.specs.Prelude.{◌||◌, nat_eq}
 use Rattle.std.specs.FinMap.{get}
-use Rattle.std.proofs.lemmas.Bool.{eqb-true}
-use Rattle.std.proofs.lemmas.Bool.Decides.{nat_tests}
+use Rattle.std.proofs.lemmas.Bool.{eqb-true, eq-eqb, or_left, or_right}
 use Rattle.s390x_base.specs.declared.ir.ExternalName.{ExternalName}
 use Rattle.s390x_buffer.specs.declared.entries.MachBufferFinalized.{MachBufferFinalized}
 use Rattle.s390x_buffer.specs.declared.entries.RelocEntry.{RelocEntry}
@@ -87,19 +86,8 @@ named_address joint (r ∷ rs) t q =
 
 named_each : (rs : List RelocEntry) (k : ℕ) (d : RelocEntry) → k < length rs → is_named rs (get_or rs k d).name ≡ true
 named_each [] k d lt = absurd (omega (arith, lt))
-named_each (r ∷ rs) zero d lt = or_here (nat_eq r.name.0 r.name.0) (is_named rs r.name) (number_self r.name.0)
-  where
-    number_self : (n : ℕ) → nat_eq n n ≡ true
-    number_self n = grind (arith, nat_tests)
-
-    or_here : (a b : Bool) → a ≡ true → (a || b) ≡ true
-    or_here true b h = refl
-    or_here false b h = absurd cc
-named_each (r ∷ rs) (suc k) d lt = or_later (nat_eq (get_or rs k d).name.0 r.name.0) (is_named rs (get_or rs k d).name) (named_each rs k d (omega (arith, lt)))
-  where
-    or_later : (a b : Bool) → b ≡ true → (a || b) ≡ true
-    or_later true b h = refl
-    or_later false b h = h
+named_each (r ∷ rs) zero d lt = or_left (nat_eq r.name.0 r.name.0) (is_named rs r.name) (eq-eqb r.name.0 r.name.0 refl)
+named_each (r ∷ rs) (suc k) d lt = or_right (nat_eq (get_or rs k d).name.0 r.name.0) (is_named rs (get_or rs k d).name) (named_each rs k d (omega (arith, lt)))
 
 -- the table of a member's lines with the joint addresses of its relocations' names does for these relocations
 pub named_alike : (joint : Symbols) (lines : List SymbolLine) (rs : List RelocEntry) (table symbols : Symbols) → table ≡ with_named joint rs (with_lines no_symbols lines) → AreJoined joint lines symbols → AnswersAlike rs table symbols

@@ -60,14 +60,12 @@ module _ (base : ℕ) (all : List Member) (all_starts : List ℕ) (whole : CodeI
 
   members_lie : (n : ℕ) (ms : List Member) (starts : List ℕ) (fs : List MachBufferFinalized) → AreEmitted ms fs → first_unlinked base all all_starts n ms starts fs ≡ None → All (λ (x : Extent). 0 < x.size) (map extent_of fs) →
       ((i : ℕ) (p : Part) → slice_get (linked_parts base all all_starts ms starts fs) i ≡ Some p → PartStands whole.bytes p) → AreMembers whole (member_layouts base all all_starts ms starts fs)
-  members_lie n [] starts fs are links some stand i L e = absurd (cc)
-  members_lie n (m ∷ ms) [] fs are links some stand i L e = absurd (cc)
-  members_lie n (m ∷ ms) (start ∷ starts) [] are links some stand i L e = absurd (cc)
   members_lie n (m ∷ ms) (start ∷ starts) (f ∷ fs) are links some stand zero L e =
       let same : member_layout base all all_starts m start f ≡ L = cc in
       subst (λ l. IsMember whole l) same (lies m start f are.0 (none_of_both n _ _ links).0 (some 0 (extent_of f) (omega arith)) (stand 0 (part_of m start f) refl))
   members_lie n (m ∷ ms) (start ∷ starts) (f ∷ fs) are links some stand (suc i) L e =
       members_lie (n + 1) ms starts fs are.1 (none_of_both n _ _ links).1 (λ k d lt. some (suc k) d (omega (arith, lt))) (λ k p h. stand (suc k) p h) i L e
+  members_lie n ms starts fs are links some stand i L e = absurd (cc)
 
 -- ---- the theorem
 

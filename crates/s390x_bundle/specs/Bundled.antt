@@ -35,10 +35,8 @@ member_layout base all all_starts m start f =
 
 -- those of these members, by their starts and their finished code
 abbrev pub member_layouts : (base : ℕ) → (all : List Member) → (all_starts : List ℕ) → List Member → (starts : List ℕ) → List MachBufferFinalized → List Layout
-member_layouts base all all_starts [] starts codes = []
-member_layouts base all all_starts (m ∷ ms) [] codes = []
-member_layouts base all all_starts (m ∷ ms) (start ∷ starts) [] = []
 member_layouts base all all_starts (m ∷ ms) (start ∷ starts) (f ∷ fs) = member_layout base all all_starts m start f ∷ member_layouts base all all_starts ms starts fs
+member_layouts base all all_starts _ _ _ = []
 
 -- those of all members
 abbrev pub layouts_of : (base : ℕ) → List Member → List MachBufferFinalized → List Layout

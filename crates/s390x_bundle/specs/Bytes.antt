@@ -42,9 +42,8 @@ IsBetween ps o = (i : ℕ) (p : Part) → slice_get ps i ≡ Some p → p.start 
 
 -- bytes at their starts
 abbrev pub parts_at : List ℕ → List (List ℕ) → List Part
-parts_at [] bss = []
-parts_at (s ∷ ss) [] = []
 parts_at (s ∷ ss) (bs ∷ bss) = record { start = s; bytes = bs } ∷ parts_at ss bss
+parts_at _ _ = []
 
 -- these are the bytes of members of these extents
 abbrev pub AreOfExtents : List Extent → List (List ℕ) → Type 0

@@ -35,9 +35,8 @@ pub record IsEmitted (m : Member) (f : MachBufferFinalized) : Type 0 where
 -- each member has its finished code, in order
 abbrev pub AreEmitted : List Member → List MachBufferFinalized → Type 0
 AreEmitted [] [] = Unit {0}
-AreEmitted [] (f ∷ fs) = ⊥
-AreEmitted (m ∷ ms) [] = ⊥
 AreEmitted (m ∷ ms) (f ∷ fs) = IsEmitted m f × AreEmitted ms fs
+AreEmitted _ _ = ⊥
 
 -- a member whose function emission refuses, by its name, and why
 pub record Refused : Type 0 where

@@ -37,19 +37,15 @@ unlinked_or member (Some error) later = Some (record { member = member; error = 
 -- The first one of these members that can't be linked, by their starts and their finished code; they have the numbers from this one on. Of all members there are
 -- names and starts
 abbrev pub first_unlinked : (base : ℕ) → (all : List Member) → (all_starts : List ℕ) → (member : ℕ) → List Member → (starts : List ℕ) → List MachBufferFinalized → Option Unlinked
-first_unlinked base all all_starts member [] starts codes = None
-first_unlinked base all all_starts member (m ∷ ms) [] codes = None
-first_unlinked base all all_starts member (m ∷ ms) (start ∷ starts) [] = None
 first_unlinked base all all_starts member (m ∷ ms) (start ∷ starts) (f ∷ fs) =
     unlinked_or member (link_cause f (base + start) (symbols_of base all all_starts m.symbols.items)) (first_unlinked base all all_starts (member + 1) ms starts fs)
+first_unlinked base all all_starts member _ _ _ = None
 
 -- these members' linked code at their starts
 abbrev pub linked_parts : (base : ℕ) → (all : List Member) → (all_starts : List ℕ) → List Member → (starts : List ℕ) → List MachBufferFinalized → List Part
-linked_parts base all all_starts [] starts codes = []
-linked_parts base all all_starts (m ∷ ms) [] codes = []
-linked_parts base all all_starts (m ∷ ms) (start ∷ starts) [] = []
 linked_parts base all all_starts (m ∷ ms) (start ∷ starts) (f ∷ fs) =
     record { start = start; bytes = with_fields_filled (base + start) (symbols_of base all all_starts m.symbols.items) f.relocs.items f.bytes.items } ∷ linked_parts base all all_starts ms starts fs
+linked_parts base all all_starts _ _ _ = []
 
 -- the refusal is want of memory, or tells this cause
 abbrev pub IsUnlinked : Option Unlinked → LinkRefusal → Type 0

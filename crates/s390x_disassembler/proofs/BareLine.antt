@@ -25,6 +25,7 @@ use Rattle.s390x_disassembler.proofs.Pieces.{one_pair, one_byte}
 use Rattle.s390x_disassembler.proofs.Distinct.{first_blank}
 use Rattle.s390x_disassembler.proofs.Names.{is_plain, named}
 use Rattle.s390x_disassembler.proofs.Written.{located_row, plain_mnemonic, first_operand, unit_some}
+use Rattle.s390x_disassembler.proofs.Numbers.{if_yes, if_no}
 
 -- the word before the first blank of a text
 abbrev pub IsWord : List ℕ → List ℕ → Type 0
@@ -101,14 +102,6 @@ pairs_begin (b ∷ c ∷ u) more some even = refl
 bytes_begin : (u more : List ℕ) → 0 < length u → bytes_text 32 u ++ more ≡ 32 ∷ drop 1 (bytes_text 32 u ++ more)
 bytes_begin [] more some = absurd (omega (arith, some))
 bytes_begin (b ∷ u) more some = refl
-
-if_yes : {A : Type 0} (b : Bool) (x y : A) → b ≡ true → (if b then x else y) ≡ x
-if_yes true x y e = refl
-if_yes false x y e = cc
-
-if_no : {A : Type 0} (b : Bool) (x y : A) → b ≡ false → (if b then x else y) ≡ y
-if_no true x y e = cc
-if_no false x y e = refl
 
 even_worded : (u text more : List ℕ) → 0 < length u → (length u % 2 == 0) ≡ true → text ≡ data_text u ++ (10 ∷ more) → Worded text (codes ".short") (pairs_text 32 u ++ (10 ∷ more))
 unfolding data_text

@@ -1,7 +1,7 @@
 -- A mnemonic is one row's alone.
 use Rattle.std.proofs.Common.{◌≡◌, ℕ, zero, suc, ◌<◌, ◌+◌, Bool, true, false, ◌&&◌, ◌==◌, nat_lt, if◌then◌else◌, List, [], ◌∷◌, ◌++◌, length, take, drop, get_or, refl, sym, ap, ap₂, subst, ◌∙◌, eqb-true, arith}
 use Rattle.std.specs.Str.{bytes_eq}
-use Rattle.std.proofs.lemmas.Bool.{and_parts}
+use Rattle.std.proofs.lemmas.Bool.{and_parts, and_from}
 use Rattle.s390x_format.specs.declared.spelling.Form.{Form}
 use Rattle.s390x_format.specs.declared.spelling.Suffix.{Suffix}
 use Rattle.s390x_format.specs.declared.spelling.Suffix.TheVariants.{Plain}
@@ -9,18 +9,7 @@ use Rattle.s390x_disassembler.specs.Spelling.{letters_for, name_in}
 use Rattle.s390x_disassembler.specs.Bare.{no_spelling}
 use Rattle.s390x_disassembler.specs.Text.{spellings}
 use Rattle.s390x_disassembler.specs.Names.{place_in, is_ending, may_name, row_named}
-
-if_yes : {A : Type 0} (b : Bool) (x y : A) → b ≡ true → (if b then x else y) ≡ x
-if_yes true x y e = refl
-if_yes false x y e = cc
-
-if_no : {A : Type 0} (b : Bool) (x y : A) → b ≡ false → (if b then x else y) ≡ y
-if_no true x y e = cc
-if_no false x y e = refl
-
-both_true : (a b : Bool) → a ≡ true → b ≡ true → (a && b) ≡ true
-both_true true b x y = y
-both_true false b x y = cc
+use Rattle.s390x_disassembler.proofs.Numbers.{if_yes, if_no}
 
 -- the same as `may_name`, by the first letter first
 abbrev pub may_quickly : List ℕ → Bool → List ℕ → Bool
@@ -68,7 +57,7 @@ finds_split i (suc k) [] table h g = refl
 finds_split i (suc k) (row ∷ rows) table h g =
     let p = and_parts (finds_names i row.0 ([] ∷ letters_for row.1) table) (finds_all (i + 1) (take k rows) table) h in
     let e : i + suc k ≡ i + 1 + k = omega arith in
-    both_true _ _ p.0 (finds_split (i + 1) k rows table p.1 (subst (λ (n : ℕ). finds_all n (drop k rows) table ≡ true) e g))
+    and_from _ _ p.0 (finds_split (i + 1) k rows table p.1 (subst (λ (n : ℕ). finds_all n (drop k rows) table ≡ true) e g))
 
 -- fifty rows at a time
 found_0 : finds_all 0 (take 50 (drop 0 spellings)) spellings ≡ true
@@ -191,7 +180,7 @@ stem_at (row ∷ rows) (suc j) h = stem_at rows j (and_parts (is_plain row.0) (s
 
 plain_both : (a b : List ℕ) → is_plain a ≡ true → is_plain b ≡ true → is_plain (a ++ b) ≡ true
 plain_both [] b x y = y
-plain_both (c ∷ a) b x y = let p = and_parts (nat_lt 58 c) (is_plain a) x in both_true (nat_lt 58 c) (is_plain (a ++ b)) p.0 (plain_both a b p.1 y)
+plain_both (c ∷ a) b x y = let p = and_parts (nat_lt 58 c) (is_plain a) x in and_from (nat_lt 58 c) (is_plain (a ++ b)) p.0 (plain_both a b p.1 y)
 
 pub plain_name : (j v : ℕ) → is_plain ((get_or spellings j no_spelling).0 ++ name_in (letters_for (get_or spellings j no_spelling).1) v) ≡ true
 unfolding name_in

@@ -1,7 +1,7 @@
 -- What isn't told by a row and the letters of its mnemonic, an operand tells.
 use Rattle.std.proofs.Common.{◌≡◌, ℕ, ◌-◌, ◌*◌, ◌/◌, ◌%◌, ◌^◌, ◌<◌, Bool, true, false, not, ◌&&◌, ◌||◌, ◌==◌, nat_lt, nat_le, ltb-true, leb-true, eqb-true, eq-eqb, List, [], ◌∷◌, length, get_or, refl, sym, ap, subst, ◌∙◌, arith, inl, inr}
 use Rattle.std.specs.Prelude.{slice_index, ◌⊎◌}
-use Rattle.std.proofs.lemmas.Bool.{and_parts, or_cases, or_parts}
+use Rattle.std.proofs.lemmas.Bool.{and_parts, or_cases, or_left, or_parts, or_right, not-true}
 use Rattle.s390x_format.specs.declared.kind.FormatKind.{FormatKind}
 use Rattle.s390x_format.specs.declared.fields.Fields.{Fields}
 use Rattle.s390x_format.specs.declared.row.MachineRow.{MachineRow}
@@ -14,7 +14,7 @@ use Rattle.s390x_format.specs.View.{fields_of}
 use Rattle.s390x_format.specs.Widths.{widths_of}
 use Rattle.s390x_format.specs.Fits.{slot_fits}
 use Rattle.s390x_disassembler.specs.declared.forms.Operand.{Operand}
-use Rattle.s390x_disassembler.specs.declared.forms.Operand.TheVariants.{General, Float, Vector, Access, Mask, NonzeroMask, UnnamedMask, Unsigned, Signed16, Signed32, Target, Storage, Indexed}
+use Rattle.s390x_disassembler.specs.declared.forms.Operand.TheVariants.{NonzeroMask, UnnamedMask}
 use Rattle.s390x_format.specs.declared.spelling.Suffix.{Suffix}
 use Rattle.s390x_format.specs.declared.spelling.Suffix.TheVariants.{Plain, Size, ThirdSize, HalfwordSize, SizeAndCode, Condition, Trap, Jump, Return}
 use Rattle.s390x_disassembler.specs.Spelling.{letters_for, letters_of}
@@ -25,78 +25,34 @@ use Rattle.s390x_disassembler.specs.Start.{least_of, row_value, told_value, star
 use Rattle.s390x_disassembler.proofs.Numbers.{if_no}
 use Rattle.s390x_disassembler.proofs.Letters.{size_placed, half_placed, code_placed, jump_placed, return_placed, condition_placed, trap_placed}
 
-or_right : (b x : Bool) → x ≡ true → (b || x) ≡ true
-or_right true x e = refl
-or_right false x e = e
-
-or_left : (b x : Bool) → b ≡ true → (b || x) ≡ true
-or_left true x e = refl
-or_left false x e = cc
-
 or_more : (b x y : Bool) → (x ≡ true → y ≡ true) → (b || x) ≡ true → (b || y) ≡ true
 or_more true x y h e = refl
 or_more false x y h e = h e
-
-not_true : (b : Bool) → not b ≡ true → b ≡ false
-not_true true e = cc
-not_true false e = refl
 
 -- ---- operands that tell a value
 always_known : (letters : List ℕ) (f : Fields) (os : List Operand) (k : ℕ) → always_tells os k ≡ true → tells letters f os k ≡ true
 always_known letters f [] k e = cc
 always_known letters f (NonzeroMask ∷ os) k e = or_right (is_written letters f NonzeroMask && reads NonzeroMask k) (tells letters f os k) (always_known letters f os k e)
 always_known letters f (UnnamedMask ∷ os) k e = or_right (is_written letters f UnnamedMask && reads UnnamedMask k) (tells letters f os k) (always_known letters f os k e)
-always_known letters f (General j ∷ os) k e = or_more (reads (General j) k) _ _ (always_known letters f os k) e
-always_known letters f (Float j ∷ os) k e = or_more (reads (Float j) k) _ _ (always_known letters f os k) e
-always_known letters f (Vector j ∷ os) k e = or_more (reads (Vector j) k) _ _ (always_known letters f os k) e
-always_known letters f (Access j ∷ os) k e = or_more (reads (Access j) k) _ _ (always_known letters f os k) e
-always_known letters f (Mask j ∷ os) k e = or_more (reads (Mask j) k) _ _ (always_known letters f os k) e
-always_known letters f (Unsigned ∷ os) k e = or_more (reads Unsigned k) _ _ (always_known letters f os k) e
-always_known letters f (Signed16 ∷ os) k e = or_more (reads Signed16 k) _ _ (always_known letters f os k) e
-always_known letters f (Signed32 ∷ os) k e = or_more (reads Signed32 k) _ _ (always_known letters f os k) e
-always_known letters f (Target ∷ os) k e = or_more (reads Target k) _ _ (always_known letters f os k) e
-always_known letters f (Storage b ∷ os) k e = or_more (reads (Storage b) k) _ _ (always_known letters f os k) e
-always_known letters f (Indexed i b ∷ os) k e = or_more (reads (Indexed i b) k) _ _ (always_known letters f os k) e
+always_known letters f (o ∷ os) k e = or_more (reads o k) _ _ (always_known letters f os k) e
 
 unnamed_known : (letters : List ℕ) (f : Fields) (os : List Operand) → has_unnamed os ≡ true → length letters ≡ 0 → tells letters f os 5 ≡ true
 unnamed_known letters f [] e none = cc
 unnamed_known letters f (UnnamedMask ∷ os) e none = or_left (is_written letters f UnnamedMask && reads UnnamedMask 5) (tells letters f os 5) (ap (λ (b : Bool). b && true) (eq-eqb (length letters) 0 none))
-unnamed_known letters f (NonzeroMask ∷ os) e none = or_right (is_written letters f NonzeroMask && reads NonzeroMask 5) (tells letters f os 5) (unnamed_known letters f os e none)
-unnamed_known letters f (General j ∷ os) e none = or_right (is_written letters f (General j) && reads (General j) 5) (tells letters f os 5) (unnamed_known letters f os e none)
-unnamed_known letters f (Float j ∷ os) e none = or_right (is_written letters f (Float j) && reads (Float j) 5) (tells letters f os 5) (unnamed_known letters f os e none)
-unnamed_known letters f (Vector j ∷ os) e none = or_right (is_written letters f (Vector j) && reads (Vector j) 5) (tells letters f os 5) (unnamed_known letters f os e none)
-unnamed_known letters f (Access j ∷ os) e none = or_right (is_written letters f (Access j) && reads (Access j) 5) (tells letters f os 5) (unnamed_known letters f os e none)
-unnamed_known letters f (Mask j ∷ os) e none = or_right (is_written letters f (Mask j) && reads (Mask j) 5) (tells letters f os 5) (unnamed_known letters f os e none)
-unnamed_known letters f (Unsigned ∷ os) e none = or_right (is_written letters f Unsigned && reads Unsigned 5) (tells letters f os 5) (unnamed_known letters f os e none)
-unnamed_known letters f (Signed16 ∷ os) e none = or_right (is_written letters f Signed16 && reads Signed16 5) (tells letters f os 5) (unnamed_known letters f os e none)
-unnamed_known letters f (Signed32 ∷ os) e none = or_right (is_written letters f Signed32 && reads Signed32 5) (tells letters f os 5) (unnamed_known letters f os e none)
-unnamed_known letters f (Target ∷ os) e none = or_right (is_written letters f Target && reads Target 5) (tells letters f os 5) (unnamed_known letters f os e none)
-unnamed_known letters f (Storage b ∷ os) e none = or_right (is_written letters f (Storage b) && reads (Storage b) 5) (tells letters f os 5) (unnamed_known letters f os e none)
-unnamed_known letters f (Indexed i b ∷ os) e none = or_right (is_written letters f (Indexed i b) && reads (Indexed i b) 5) (tells letters f os 5) (unnamed_known letters f os e none)
+unnamed_known letters f (o ∷ os) e none = or_right (is_written letters f o && reads o 5) (tells letters f os 5) (unnamed_known letters f os e none)
 
 nonzero_known : (letters : List ℕ) (f : Fields) (os : List Operand) → has_nonzero os ≡ true → (slice_index f.masks 0 == 0) ≡ false → tells letters f os 5 ≡ true
 nonzero_known letters f [] e some = cc
 nonzero_known letters f (NonzeroMask ∷ os) e some = or_left (is_written letters f NonzeroMask && reads NonzeroMask 5) (tells letters f os 5) (ap (λ (b : Bool). not b && true) some)
-nonzero_known letters f (UnnamedMask ∷ os) e some = or_right (is_written letters f UnnamedMask && reads UnnamedMask 5) (tells letters f os 5) (nonzero_known letters f os e some)
-nonzero_known letters f (General j ∷ os) e some = or_right (is_written letters f (General j) && reads (General j) 5) (tells letters f os 5) (nonzero_known letters f os e some)
-nonzero_known letters f (Float j ∷ os) e some = or_right (is_written letters f (Float j) && reads (Float j) 5) (tells letters f os 5) (nonzero_known letters f os e some)
-nonzero_known letters f (Vector j ∷ os) e some = or_right (is_written letters f (Vector j) && reads (Vector j) 5) (tells letters f os 5) (nonzero_known letters f os e some)
-nonzero_known letters f (Access j ∷ os) e some = or_right (is_written letters f (Access j) && reads (Access j) 5) (tells letters f os 5) (nonzero_known letters f os e some)
-nonzero_known letters f (Mask j ∷ os) e some = or_right (is_written letters f (Mask j) && reads (Mask j) 5) (tells letters f os 5) (nonzero_known letters f os e some)
-nonzero_known letters f (Unsigned ∷ os) e some = or_right (is_written letters f Unsigned && reads Unsigned 5) (tells letters f os 5) (nonzero_known letters f os e some)
-nonzero_known letters f (Signed16 ∷ os) e some = or_right (is_written letters f Signed16 && reads Signed16 5) (tells letters f os 5) (nonzero_known letters f os e some)
-nonzero_known letters f (Signed32 ∷ os) e some = or_right (is_written letters f Signed32 && reads Signed32 5) (tells letters f os 5) (nonzero_known letters f os e some)
-nonzero_known letters f (Target ∷ os) e some = or_right (is_written letters f Target && reads Target 5) (tells letters f os 5) (nonzero_known letters f os e some)
-nonzero_known letters f (Storage b ∷ os) e some = or_right (is_written letters f (Storage b) && reads (Storage b) 5) (tells letters f os 5) (nonzero_known letters f os e some)
-nonzero_known letters f (Indexed i b ∷ os) e some = or_right (is_written letters f (Indexed i b) && reads (Indexed i b) 5) (tells letters f os 5) (nonzero_known letters f os e some)
+nonzero_known letters f (o ∷ os) e some = or_right (is_written letters f o && reads o 5) (tells letters f os 5) (nonzero_known letters f os e some)
 
 -- ---- values that a row tells
 told_plain : (s : Suffix) (p k v : ℕ) → not (is_lettered s k) ≡ true → told_value s p k v ≡ v
 told_plain Plain p k v e = refl
-told_plain ThirdSize p k v e = if_no (k == 7) p v (not_true (k == 7) e)
-told_plain Return p k v e = if_no (k == 1) p v (not_true (k == 1) e)
-told_plain SizeAndCode p k v e = let n = or_parts (k == 5) (k == 6) (not_true ((k == 5) || (k == 6)) e) in if_no (k == 5) (p % 8) _ n.0 ∙ if_no (k == 6) (p / 8) v n.1
-told_plain s p k v e = if_no (k == 5) p v (not_true (k == 5) e)
+told_plain ThirdSize p k v e = if_no (k == 7) p v (not-true (k == 7) e)
+told_plain Return p k v e = if_no (k == 1) p v (not-true (k == 1) e)
+told_plain SizeAndCode p k v e = let n = or_parts (k == 5) (k == 6) (not-true ((k == 5) || (k == 6)) e) in if_no (k == 5) (p % 8) _ n.0 ∙ if_no (k == 6) (p / 8) v n.1
+told_plain s p k v e = if_no (k == 5) p v (not-true (k == 5) e)
 
 -- the values of the masks where a row allows one
 abbrev IsPinnedAt : MachineRow → List ℕ → ℕ → Type 0

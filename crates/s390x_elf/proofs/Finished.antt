@@ -1,5 +1,5 @@
 -- The object of functions in a text, and how it is linked.
-use Rattle.std.proofs.Common.{◌≡◌, ℕ, ◌+◌, ◌^◌, ◌<◌, ◌≤◌, Bool, true, false, cond, nat_eq, nat_le, is_some, Option, Some, None, List, [], ◌∷◌, ◌++◌, length, map, codes, refl, sym, ap, subst, ◌∙◌, arith, append_assoc, All, string_bytes}
+use Rattle.std.proofs.Common.{◌≡◌, ℕ, ◌+◌, ◌^◌, ◌<◌, Bool, true, false, cond, nat_eq, nat_le, is_some, Option, Some, None, List, [], ◌∷◌, ◌++◌, length, map, codes, refl, sym, ap, subst, ◌∙◌, arith, append_assoc, All, string_bytes}
 use Rattle.std.specs.List.{list_any}
 use Rattle.std.proofs.lemmas.List.Elements.{All-nil, All-cons, All-head, All-tail}
 use Rattle.s390x_buffer.specs.declared.entries.RelocEntry.{RelocEntry}
@@ -95,10 +95,6 @@ pub filled_is_image : (names : List GivenName) (name : List ℕ) (code : MachBuf
 filled_is_image names name code file linked = λ base others table agree none.
     linked base others table agree (no_link_cause (base_cause code.alignment (length code.bytes.items) base) (relocs_cause base table code.relocs.items) none)
 
--- the names' cause, by their length
-test_true : (n : ℕ) → 4294967296 ≤ n → nat_le 4294967296 n ≡ true
-test_true n h = grind arith
-
 test_false : (n : ℕ) → n < 4294967296 → nat_le 4294967296 n ≡ false
 test_false n h = grind arith
 
@@ -110,10 +106,6 @@ names_by_length given fs rs ss names b none fine e n h =
     ∙ ap (λ (o : Option ObjectError). first_cause o (names_cause (global_symbols (name_in given) fs rs))) fine
     ∙ ap (λ (k : ℕ). cond (nat_le 4294967296 k) (Some TooLong) None) (sym size)
     ∙ ap (λ (t : Bool). cond t (Some TooLong) None) h
-
-pub too_long : (given : List GivenName) (fs : List Function) (rs : List RelocEntry) (ss : List Symbol) (names : List ℕ) → functions_cause [] fs ≡ None → given_cause given ≡ None → ss ≡ global_symbols (name_in given) fs rs → names ≡ 0 ∷ string_table ss →
-    4294967296 ≤ length names → text_cause given fs rs ≡ Some TooLong
-too_long given fs rs ss names none fine e n h = names_by_length given fs rs ss names true none fine e n (test_true (length names) h)
 
 pub short_enough : (given : List GivenName) (fs : List Function) (rs : List RelocEntry) (ss : List Symbol) (names : List ℕ) → functions_cause [] fs ≡ None → given_cause given ≡ None → ss ≡ global_symbols (name_in given) fs rs → names ≡ 0 ∷ string_table ss →
     length names < 4294967296 → text_cause given fs rs ≡ None
@@ -145,7 +137,3 @@ cause_on ss ss' f left before all h e k none =
     ap (λ (s : List Symbol). functions_cause s left) k
     ∙ sym (ap (λ (o : Option ObjectError). first_cause o (functions_cause (ss ++ function_symbol f ∷ []) left)) none)
     ∙ ap (λ (fs : List Function). functions_cause ss fs) (sym e) ∙ h
-
-pub cause_here : (ss : List Symbol) (f : Function) (left before : List Function) (all : Option ObjectError) (e : ObjectError) → functions_cause ss before ≡ all → before ≡ f ∷ left → function_cause ss f ≡ Some e → all ≡ Some e
-cause_here ss f left before all e h b k =
-    sym h ∙ ap (λ (fs : List Function). functions_cause ss fs) b ∙ ap (λ (o : Option ObjectError). first_cause o (functions_cause (ss ++ function_symbol f ∷ []) left)) k

@@ -1,15 +1,14 @@
 -- The text of several members, linked: each member's code as `link` fills it.
-use Rattle.std.proofs.Common.{◌≡◌, ℕ, ℤ, pos, ◌+◌, ◌-◌, ◌≤◌, max, true, Option, Some, None, List, [], ◌∷◌, ◌++◌, length, take, drop, map, codes, refl, sym, ap, subst, ◌∙◌, arith, append_assoc, length-append, All}
+use Rattle.std.proofs.Common.{◌≡◌, ℕ, pos, ◌+◌, ◌-◌, ◌≤◌, max, true, Option, Some, None, List, [], ◌∷◌, ◌++◌, length, take, drop, map, codes, refl, sym, ap, subst, ◌∙◌, arith, append_assoc, length-append, All}
 use Rattle.std.proofs.Math.Seq.{take-append-add, drop-append-add}
 use Rattle.std.proofs.lemmas.List.{take-append-le, drop-append-le, length-take-le, length-drop, length-replicate, map-append}
 use Rattle.std.proofs.lemmas.List.Elements.{All-head, All-tail, All-cons, All-nil, All-append}
 use Rattle.s390x_buffer.proofs.Placing.{round_up-ge}
-use Rattle.s390x_base.specs.declared.ir.Reloc.{Reloc}
-use Rattle.s390x_base.specs.declared.ir.Reloc.TheVariants.{S390xPCRel32Dbl, S390xPLTRel32Dbl, Abs8}
 use Rattle.s390x_buffer.specs.declared.entries.RelocEntry.{RelocEntry}
 use Rattle.s390x_image.specs.Symbols.{Symbols, address_of}
 use Rattle.s390x_image.specs.Fields.{LiesIn, address_or_zero, field_length, field_of, field_distance, target_of, with_bytes_at, with_fields_filled}
 use Rattle.s390x_image.specs.Causes.{base_cause, reloc_cause, relocs_cause}
+use Rattle.s390x_image.proofs.Filled.{length-field}
 use Rattle.s390x_elf.specs.declared.members.ObjectMember.{ObjectMember}
 use Rattle.s390x_elf.specs.File.{Section, sections}
 use Rattle.s390x_elf.specs.Symbols.{Symbol, Relocation, named_section}
@@ -51,11 +50,6 @@ same_value base start others address there r e =
     ∙ ap (λ (p : ℕ). relocation_field (type_of r.kind) (pos address) r.addend (pos p)) place
     ∙ same_field r.kind (pos address) r.addend (pos (base + start + r.offset))
 
-field_long : (k : Reloc) (target distance : ℤ) → length (field_of k target distance) ≡ field_length k
-field_long S390xPCRel32Dbl target distance = refl
-field_long S390xPLTRel32Dbl target distance = refl
-field_long Abs8 target distance = refl
-
 -- a relocation's field fits where its bytes lie in the code
 field_inside : (r : RelocEntry) (bytes new : List ℕ) → LiesIn (length bytes) r → length new ≡ field_length r.kind → r.offset + length new ≤ length bytes
 field_inside r bytes new h e = omega (arith, h, e)
@@ -73,7 +67,7 @@ applied_inside named base start others table ss (r ∷ rs) before bytes behind e
     let all : List ℕ = before ++ (bytes ++ behind) in
     let known : here ≡ there = All-head (HasAddress named base others table ss) r rs h in
     let value : relocation_field (type_of r.kind) (pos there) r.addend (pos (base + (start + r.offset))) ≡ new = same_value base start others here there r known in
-    let inside : r.offset + length new ≤ length bytes = field_inside r bytes new (All-head (LiesIn (length bytes)) r rs k) (field_long r.kind (target_of here r) (field_distance (base + start) here r)) in
+    let inside : r.offset + length new ≤ length bytes = field_inside r bytes new (All-head (LiesIn (length bytes)) r rs k) (length-field r.kind (target_of here r) (field_distance (base + start) here r)) in
     let one : with_bytes_at all (start + r.offset) (relocation_field (type_of r.kind) (pos there) r.addend (pos (base + (start + r.offset)))) ≡ before ++ (with_bytes_at bytes r.offset new ++ behind) =
     ap (λ (b : List ℕ). with_bytes_at all (start + r.offset) b) value
     ∙ ap (λ (n : ℕ). with_bytes_at all (n + r.offset) new) (sym e)
@@ -88,7 +82,7 @@ filled_long base table [] bytes k = refl
 filled_long base table (r ∷ rs) bytes k =
     let here : ℕ = address_or_zero (address_of table r.name) in
     let new : List ℕ = field_of r.kind (target_of here r) (field_distance base here r) in
-    let inside : r.offset + length new ≤ length bytes = field_inside r bytes new (All-head (LiesIn (length bytes)) r rs k) (field_long r.kind (target_of here r) (field_distance base here r)) in
+    let inside : r.offset + length new ≤ length bytes = field_inside r bytes new (All-head (LiesIn (length bytes)) r rs k) (length-field r.kind (target_of here r) (field_distance base here r)) in
     let same : length (with_bytes_at bytes r.offset new) ≡ length bytes = stored_long bytes new r.offset inside in
     filled_long base table rs (with_bytes_at bytes r.offset new) (subst (λ (n : ℕ). All (LiesIn n) rs) (sym same) (All-tail (LiesIn (length bytes)) r rs k)) ∙ same
 

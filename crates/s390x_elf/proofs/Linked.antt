@@ -19,8 +19,7 @@ use Rattle.s390x_elf.proofs.Places.{place_behind}
 
 pub same_field : (k : Reloc) (s a p : ℤ) → relocation_field (type_of k) s a p ≡ field_of k (s +ℤ a) ((s +ℤ a) -ℤ p)
 same_field S390xPCRel32Dbl s a p = refl
-same_field S390xPLTRel32Dbl s a p = refl
-same_field Abs8 s a p = refl
+same_field k s a p = refl
 
 -- a relocation's symbol has the address that a table gives its name
 abbrev pub HasAddress : (named : Naming) → (base : ℕ) (others : List ℕ → ℕ) → Symbols → List Symbol → RelocEntry → Type 0

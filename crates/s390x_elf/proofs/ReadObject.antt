@@ -1,9 +1,10 @@
 -- A file that was written as an object is read as that object.
-use Rattle.std.proofs.Common.{◌≡◌, ℕ, zero, suc, ◌+◌, ◌*◌, ◌/◌, ◌%◌, ◌^◌, ◌<◌, ◌≤◌, Bool, true, false, cond, nat_eq, is_some, ◌||◌, List, [], ◌∷◌, ◌++◌, length, map, codes, refl, sym, ap, ◌∙◌, arith, length-append, append-nil, All}
+use Rattle.std.proofs.Common.{◌≡◌, ℕ, zero, suc, ◌+◌, ◌*◌, ◌/◌, ◌%◌, ◌^◌, ◌<◌, ◌≤◌, Bool, true, false, cond, nat_eq, is_some, List, [], ◌∷◌, ◌++◌, length, map, codes, refl, sym, ap, ◌∙◌, arith, length-append, append-nil, All}
 use Rattle.std.specs.List.{list_any}
 use Rattle.std.specs.Fmt.{decimal}
 use Rattle.std.proofs.lemmas.Fmt.{decimal_by_steps}
 use Rattle.std.proofs.lemmas.List.Elements.{All-nil, All-cons, All-head, All-tail, All-append}
+use Rattle.std.proofs.lemmas.Bool.{or_parts}
 use Rattle.s390x_base.specs.declared.ir.ExternalName.{ExternalName}
 use Rattle.s390x_buffer.specs.declared.entries.RelocEntry.{RelocEntry}
 use Rattle.s390x_elf.specs.Reading.{IsText, text, pieces}
@@ -36,14 +37,10 @@ decimal_text n h =
 pub name_text : (name : ExternalName) → name.0 < 2 ^ 32 → IsText (symbol_name name)
 name_text name h = let small : name.0 < 2 ^ 64 = omega arith in decimal_text name.0 small
 
-both_false : (a b : Bool) → (a || b) ≡ false → (a ≡ false) × (b ≡ false)
-both_false true b h = cc
-both_false false b h = (refl, h)
-
 pub text_from_test : (bytes : List ℕ) → list_any (λ (b : ℕ). nat_eq b 0) bytes ≡ false → IsText bytes
 text_from_test [] h = tt
-text_from_test (zero ∷ bytes) h = let no : true ≡ false = (both_false true (list_any (λ (b : ℕ). nat_eq b 0) bytes) h).0 in cc
-text_from_test (suc b ∷ bytes) h = text_from_test bytes (both_false (nat_eq (suc b) 0) (list_any (λ (x : ℕ). nat_eq x 0) bytes) h).1
+text_from_test (zero ∷ bytes) h = let no : true ≡ false = (or_parts true (list_any (λ (b : ℕ). nat_eq b 0) bytes) h).0 in cc
+text_from_test (suc b ∷ bytes) h = text_from_test bytes (or_parts (nat_eq (suc b) 0) (list_any (λ (x : ℕ). nat_eq x 0) bytes) h).1
 
 -- symbols fit their entries
 undefined_fits : (name : List ℕ) → IsText name → SymbolFits (undefined_symbol name)

@@ -15,9 +15,6 @@ use Rattle.s390x_elf.specs.Tables.{symbol_entry, symbol_entries, SymbolFits, sym
 use Rattle.s390x_elf.proofs.Parts.{text_read}
 use Rattle.s390x_elf.proofs.Places.{numbered_is_named, number_within}
 
-info_fits : (b k o : ℕ) → b < 16 → k < 16 → o < 256 → 256 * (16 * b + k) + o < 2 ^ 16
-info_fits b k o hb hk ho = omega arith
-
 binding_read : (b k o : ℕ) → b < 16 → k < 16 → o < 256 → ((256 * (16 * b + k) + o) / 256 % 256) / 16 ≡ b
 binding_read b k o hb hk ho = omega arith
 
@@ -64,8 +61,7 @@ symbol_entries_length name_at (s ∷ ss) =
 
 type_small : (k : Reloc) → type_of k < 256
 type_small S390xPCRel32Dbl = omega arith
-type_small S390xPLTRel32Dbl = omega arith
-type_small Abs8 = omega arith
+type_small k = omega arith
 
 pub info_small : (n t : ℕ) → n < 2 ^ 32 → t < 256 → n * 4294967296 + t < 2 ^ 64
 info_small n t h k = omega arith

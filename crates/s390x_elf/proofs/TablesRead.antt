@@ -97,43 +97,23 @@ part_entries_long kind at n (code ∷ all) =
 
 name_is_text : (kind : TableKind) → IsText (table_name kind)
 name_is_text Traps = tt
-name_is_text Calls = tt
-name_is_text Tries = tt
-name_is_text Handlers = tt
-name_is_text Patches = tt
-name_is_text StackMaps = tt
+name_is_text kind = tt
 
 relocations_name_is_text : (kind : TableKind) → IsText (table_relocations_name kind)
 relocations_name_is_text Traps = tt
-relocations_name_is_text Calls = tt
-relocations_name_is_text Tries = tt
-relocations_name_is_text Handlers = tt
-relocations_name_is_text Patches = tt
-relocations_name_is_text StackMaps = tt
+relocations_name_is_text kind = tt
 
 number_small : (kind : TableKind) → table_number kind < 2 ^ 32
 number_small Traps = omega arith
-number_small Calls = omega arith
-number_small Tries = omega arith
-number_small Handlers = omega arith
-number_small Patches = omega arith
-number_small StackMaps = omega arith
+number_small kind = omega arith
 
 name_short : (kind : TableKind) → length (table_name kind) < 256
 name_short Traps = omega arith
-name_short Calls = omega arith
-name_short Tries = omega arith
-name_short Handlers = omega arith
-name_short Patches = omega arith
-name_short StackMaps = omega arith
+name_short kind = omega arith
 
 relocations_name_short : (kind : TableKind) → length (table_relocations_name kind) < 256
 relocations_name_short Traps = omega arith
-relocations_name_short Calls = omega arith
-relocations_name_short Tries = omega arith
-relocations_name_short Handlers = omega arith
-relocations_name_short Patches = omega arith
-relocations_name_short StackMaps = omega arith
+relocations_name_short kind = omega arith
 
 kind_fits : (all : List MachBufferFinalized) (kind : TableKind) → All FieldsFit (table_sections all kind)
 kind_fits all kind =
@@ -219,30 +199,18 @@ used_behind named ss (r ∷ rs) =
 
 section_found : (kind : TableKind) (alignment : ℕ) (entries relas text names : List ℕ) (all : List MachBufferFinalized) → named_section (all_sections alignment entries relas text names (flat_map (table_sections all) all_kinds)) (table_name kind) ≡ table_section kind (wides (parts kind all))
 section_found Traps alignment entries relas text names all = refl
-section_found Calls alignment entries relas text names all = refl
-section_found Tries alignment entries relas text names all = refl
-section_found Handlers alignment entries relas text names all = refl
-section_found Patches alignment entries relas text names all = refl
-section_found StackMaps alignment entries relas text names all = refl
+section_found kind alignment entries relas text names all = refl
 
 none_found : (kind : TableKind) (alignment : ℕ) (entries relas text names : List ℕ) (all : List MachBufferFinalized) → named_section (all_sections alignment entries relas text names []) (table_name kind) ≡ null_section
 none_found Traps alignment entries relas text names all = refl
-none_found Calls alignment entries relas text names all = refl
-none_found Tries alignment entries relas text names all = refl
-none_found Handlers alignment entries relas text names all = refl
-none_found Patches alignment entries relas text names all = refl
-none_found StackMaps alignment entries relas text names all = refl
+none_found kind alignment entries relas text names all = refl
 
 relocations_found : (kind : TableKind) (alignment : ℕ) (entries relas text names : List ℕ) (all : List MachBufferFinalized) →
     relocations_for (all_sections alignment entries relas text names (flat_map (table_sections all) all_kinds)) (table_name kind) ≡
     map (relocation (map (symbol names) (pieces 24 (length entries / 24) entries))) (pieces 24 (length (part_entries kind 0 1 all) / 24) (part_entries kind 0 1 all))
 unfolding relocations_for
 relocations_found Traps alignment entries relas text names all = refl
-relocations_found Calls alignment entries relas text names all = refl
-relocations_found Tries alignment entries relas text names all = refl
-relocations_found Handlers alignment entries relas text names all = refl
-relocations_found Patches alignment entries relas text names all = refl
-relocations_found StackMaps alignment entries relas text names all = refl
+relocations_found kind alignment entries relas text names all = refl
 
 kind_of_all : (P : TableKind → Type 0) → All P all_kinds → (kind : TableKind) → P kind
 kind_of_all P h Traps = h 0 Traps (omega arith)

@@ -9,7 +9,7 @@ use Rattle.s390x_buffer.specs.Extends.{Extends}
 use Rattle.s390x_buffer.specs.State.{BufferState, put_cause}
 use Rattle.s390x_inst.specs.Emission.{Emission}
 use Rattle.s390x_inst.specs.declared.inst.Inst.{Inst}
-use Rattle.s390x_inst.specs.declared.inst.Inst.TheVariants.{AllocateArgs, CondBr, CondBreak, JTSequence, TrapIf}
+use Rattle.s390x_inst.specs.declared.inst.Inst.TheVariants as I
 use Rattle.s390x_inst.specs.declared.state.IsaFlags.{IsaFlags}
 use Rattle.s390x_typed_steps.proofs.Causes.{first_left, first_right}
 use Rattle.s390x_typed_steps.specs.Baseline.{whole_or_loaded, body_for}
@@ -110,18 +110,18 @@ without_flag false f o e = refl
 
 -- it changes no stack size, draws no label and has no mask
 loaded_stack : (nominal depth : ℕ) (i : Inst) (x : MemoryInstruction) → Some x ≡ loaded_memory i → stack_cause nominal depth i ≡ None
-loaded_stack nominal depth (AllocateArgs size) x h = absurd (cc)
+loaded_stack nominal depth (I.AllocateArgs size) x h = absurd (cc)
 loaded_stack nominal depth i x h = refl
 
 loaded_labels : (i : Inst) (x : MemoryInstruction) → Some x ≡ loaded_memory i → instruction_fresh_labels i ≡ 0
-loaded_labels (JTSequence ridx other mask targets) x h = absurd (cc)
+loaded_labels (I.JTSequence ridx other mask targets) x h = absurd (cc)
 loaded_labels i x h = refl
 
 loaded_mask : (i : Inst) (x : MemoryInstruction) → Some x ≡ loaded_memory i → MaskInRange i
-loaded_mask (CondBr taken not_taken mask) x h = absurd (cc)
-loaded_mask (JTSequence ridx other mask targets) x h = absurd (cc)
-loaded_mask (CondBreak mask) x h = absurd (cc)
-loaded_mask (TrapIf mask code) x h = absurd (cc)
+loaded_mask (I.CondBr taken not_taken mask) x h = absurd (cc)
+loaded_mask (I.JTSequence ridx other mask targets) x h = absurd (cc)
+loaded_mask (I.CondBreak mask) x h = absurd (cc)
+loaded_mask (I.TrapIf mask code) x h = absurd (cc)
 loaded_mask i x h = tt
 
 pub own_of : (e : Emission) (D : Declared) (i : Inst) (x : MemoryInstruction) → Some x ≡ loaded_memory i → memory_cause_or D (loaded_memory (resolved_instruction e i)) (Some BadOperator) ≡ memory_cause D (in_state e x)

@@ -1,5 +1,5 @@
 -- What the check let pass stays passed from block to block.
-use Rattle.std.proofs.Common.{◌≡◌, ℕ, suc, ◌+◌, ◌-◌, ◌<◌, ◌≤◌, List, [], ◌∷◌, cond, Some, nat_lt, length, map, get_or, drop, None, false, nat_eq, refl, sym, ap, ◌∙◌, subst, arith, drop-cons}
+use Rattle.std.proofs.Common.{◌≡◌, ℕ, suc, ◌+◌, ◌-◌, ◌<◌, List, [], ◌∷◌, cond, Some, nat_lt, length, map, get_or, drop, None, false, nat_eq, refl, sym, ap, ◌∙◌, subst, arith, drop-cons}
 use Rattle.s390x_inst.specs.Emission.{Emission}
 use Rattle.s390x_inst.specs.declared.state.IsaFlags.{IsaFlags}
 use Rattle.s390x_buffer.specs.State.{BufferState, limit}
@@ -8,7 +8,7 @@ use Rattle.s390x_typed_steps.specs.Tree.{Tree}
 use Rattle.s390x_base.specs.declared.error.EmitError.TheVariants.{BadStackState}
 use Rattle.std.specs.Prelude.{max}
 use Rattle.std.proofs.Math.Nat.{le-max_left, le-max_right, max-le}
-use Rattle.std.proofs.lemmas.Bool.{lt-ltb}
+use Rattle.std.proofs.lemmas.Bool.{lt-ltb, le-ltb}
 use Rattle.std.proofs.lemmas.List.{length-drop}
 use Rattle.s390x_typed_steps.specs.Folding.{folded_before, next_block, peak_from}
 use Rattle.s390x_typed_steps.proofs.Folding.{before_labels}
@@ -29,15 +29,9 @@ pub record BlocksPassed (flags : IsaFlags) (s : BufferState) (D : Declared) (k :
   pub short : peak_from k (length s.bytes) ts < limit
   pub passed : blocks_cause flags D (length s.labels) ts ≡ None
 
-pub all_passed : (flags : IsaFlags) (s : BufferState) (ts : List Tree) → s.is_poisoned ≡ false → peak_from 0 (length s.bytes) ts < limit → blocks_cause flags (declared_in s) (length s.labels) ts ≡ None → BlocksPassed flags s (declared_in s) 0 ts
-all_passed flags s ts unpoisoned short cause = record { unpoisoned = unpoisoned; declared = refl; short = short; passed = cause }
-
 -- the blocks that are left are no longer than all were
 both_below : (a b n : ℕ) → a < n → b < n → max a b < n
 both_below a b n p q = let lower = max-le {a = a} {b = b} {k = n - 1} (omega arith) (omega arith) in omega (arith, lower, p)
-
-not_below : (a b : ℕ) → b ≤ a → nat_lt a b ≡ false
-not_below a b le = grind (arith, le)
 
 pub peak_left : (k before : ℕ) (t : Tree) (ts : List Tree) → peak_from k before (t ∷ ts) < limit → (before + tree_size t < limit) × (peak_from (k + 1) (before + tree_size (folded_before (next_block k ts) t)) ts < limit)
 peak_left k before t ts below =
@@ -138,7 +132,7 @@ pub next_is : (flags : IsaFlags) (state : Emission) (bs : List Block) (k : ℕ) 
 next_is flags state bs k = go (drop (k + 1) bs) (length-drop (k + 1) bs)
   where
     go : (ds : List Block) → length ds ≡ length bs - (k + 1) → next_block k (map (tree_of flags state) ds) ≡ cond (nat_lt (k + 1) (length bs)) (Some (k + 1)) None
-    go [] few = ap (λ t. cond t (Some (k + 1)) None) (sym (not_below (k + 1) (length bs) (omega (arith, few))))
+    go [] few = ap (λ t. cond t (Some (k + 1)) None) (sym (le-ltb (k + 1) (length bs) (omega (arith, few))))
     go (d ∷ ds) few = ap (λ t. cond t (Some (k + 1)) None) (sym (lt-ltb (k + 1) (length bs) (omega (arith, few))))
 
 -- the longest of all blocks is that of one, or of those behind it

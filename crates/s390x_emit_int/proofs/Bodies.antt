@@ -10,9 +10,8 @@ use Rattle.s390x_typed_steps.specs.Calls.{wholes, load_before, load_bodies}
 use Rattle.s390x_typed_steps.specs.Causes.{Declared, first_emit_cause, declared_in, body_cause, body_fresh_labels, body_nominal_after, tree_cause}
 use Rattle.s390x_typed_steps.specs.Resolved.{resolved_instruction}
 use Rattle.s390x_typed_steps.specs.Sizes.{body_size, tree_size}
-use Rattle.s390x_typed_steps.specs.Tree.{StepBody, Tree, Whole, empty, leaf, leaves}
+use Rattle.s390x_typed_steps.specs.Tree.{StepBody, Tree, Whole, leaf, leaves}
 use Rattle.s390x_typed_steps.proofs.Causes.{first_left, first_right}
-use Rattle.s390x_typed_steps.proofs.Trees.{joined}
 use Rattle.s390x_emit_int.specs.Emission.{body_fragments, fragments, own_fragments}
 use Rattle.s390x_emit_int.specs.Fragments.{StartStep, apply, apply_all}
 use Rattle.s390x_emit_int.specs.Room.{HasRoom, MembersFit, TreeFits}
@@ -28,10 +27,6 @@ use Rattle.s390x_emit_int.proofs.Starts.{same_run}
 pub leaves_append : (a b : List StepBody) (rest : Tree) → leaves (a ++ b) rest ≡ leaves a (leaves b rest)
 leaves_append [] b rest = refl
 leaves_append (x ∷ a) b rest = ap (leaf x) (leaves_append a b rest)
-
-pub leaves_joined : (bs : List StepBody) (rest : Tree) → leaves bs rest ≡ joined (leaves bs empty) rest
-leaves_joined [] rest = refl
-leaves_joined (b ∷ bs) rest = ap (leaf b) (leaves_joined bs rest)
 
 -- the next of a call's results, and those behind it
 pub loads_behind : (e : Emission) (ds : List CallRetPair) (k : ℕ) (d : CallRetPair) → k < length ds → d ≡ get_or ds k d → load_bodies e (drop k ds) ≡ load_before e d.vreg d.location (load_bodies e (drop (k + 1) ds))

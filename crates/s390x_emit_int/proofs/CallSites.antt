@@ -1,6 +1,6 @@
 -- A call's sites, registers and room.
 use Rattle.std.proofs.Common.{◌≡◌, ℕ, ◌+◌, ◌<◌, ◌≤◌, ◌&&◌, List, [], ◌∷◌, ◌++◌, map, length, Option, None, Some, Bool, true, false, cond, refl, sym, ap, ap₂, ◌∙◌, arith, append-nil, nat_eq, nat_lt, ltb-true, ◌||◌}
-use Rattle.std.proofs.lemmas.Bool.{lt-ltb}
+use Rattle.std.proofs.lemmas.Bool.{lt-ltb, and_parts}
 use Rattle.s390x_base.specs.Registers.{general}
 use Rattle.s390x_base.specs.declared.error.EmitError.{EmitError}
 use Rattle.s390x_base.specs.declared.error.EmitError.TheVariants.{BadRegister, BadStackState, UnboundLabel}
@@ -29,11 +29,10 @@ use Rattle.s390x_typed_steps.specs.Calls.{is_target, call_size, handler_of, map_
 use Rattle.s390x_typed_steps.specs.Causes.{unless, call_cause, labels_cause, body_nominal_after}
 use Rattle.s390x_typed_steps.specs.General.{is_general}
 use Rattle.s390x_typed_steps.specs.Parts.{call_part, tail_part, site_parts, parts_size, part_size, step_size}
-use Rattle.s390x_typed_steps.specs.StepBody.{Site, AtCall, AtTry, AtPatchable, AtStackMap}
+use Rattle.s390x_typed_steps.specs.StepBody.{Site, AtCall}
 use Rattle.s390x_typed_steps.specs.Steps.{CallingStep}
 use Rattle.s390x_typed_steps.proofs.Causes.{first_left, first_right, unless_true}
-use Rattle.s390x_emit_int.specs.Emission.{part_fragments}
-use Rattle.s390x_emit_int.specs.Fragments.{AddSite, apply, apply_all}
+use Rattle.s390x_emit_int.specs.Fragments.{AddSite, apply}
 use Rattle.s390x_emit_int.specs.Sequence.{AllKeepNominal}
 use Rattle.s390x_emit_int.specs.Room.{MembersFit}
 use Rattle.s390x_emit_int.proofs.OnlyMemory.{put_none}
@@ -67,9 +66,6 @@ return_names layout (Some t) rest none =
 pub site_names : (e : Emission) (info : CallInfo) → site_labels (sites_of e info) ≡ try_labels info.try_call_info
 site_names e info = map_names_none e.stack_map (return_site e.layout info.try_call_info ∷ patchable_site info.patchable info.dest) ∙ return_names e.layout info.try_call_info (patchable_site info.patchable info.dest) (patchable_names_none info.patchable info.dest)
 
-pub return_names_alone : (layout : FrameLayout) (t : Option TryCallInfo) → site_labels (return_site layout t ∷ []) ≡ try_labels t
-return_names_alone layout t = return_names layout t [] refl
-
 -- labels of blocks are labels of the buffer
 below_more : (blocks n : ℕ) (hs : List TryHandler) → blocks ≤ n → labels_cause blocks (map (λ (h : TryHandler). h.label) hs) ≡ None → labels_below n hs ≡ true
 below_more blocks n [] le none = refl
@@ -90,47 +86,6 @@ at_call s t e =
     e ∙ ap (λ l. record s { call_sites = s.call_sites ++ length s.bytes ∷ []; try_call_sites = l }) (sym (append-nil s.try_call_sites))
     ∙ ap (λ l. record s { call_sites = s.call_sites ++ length s.bytes ∷ []; try_call_sites = s.try_call_sites ++ []; patchable_sites = l }) (sym (append-nil s.patchable_sites))
     ∙ ap (λ l. record s { call_sites = s.call_sites ++ length s.bytes ∷ []; try_call_sites = s.try_call_sites ++ []; patchable_sites = s.patchable_sites ++ []; stack_maps = l }) (sym (append-nil s.stack_maps))
-
-pub at_try : (s t : BufferState) (hs : List TryHandler) (frame : ℕ) → t ≡ record s { try_call_sites = s.try_call_sites ++ record { offset = length s.bytes; frame = frame; handlers = hs } ∷ [] } → t ≡ apply s (AddSite (AtTry hs frame))
-at_try s t hs frame e =
-    let tries = s.try_call_sites ++ record { offset = length s.bytes; frame = frame; handlers = hs } ∷ [] in
-    e ∙ ap (λ l. record s { call_sites = l; try_call_sites = tries }) (sym (append-nil s.call_sites))
-    ∙ ap (λ l. record s { call_sites = s.call_sites ++ []; try_call_sites = tries; patchable_sites = l }) (sym (append-nil s.patchable_sites))
-    ∙ ap (λ l. record s { call_sites = s.call_sites ++ []; try_call_sites = tries; patchable_sites = s.patchable_sites ++ []; stack_maps = l }) (sym (append-nil s.stack_maps))
-
-pub at_patchable : (s t : BufferState) (n : ℕ) → t ≡ record s { patchable_sites = s.patchable_sites ++ record { offset = length s.bytes; len = n } ∷ [] } → t ≡ apply s (AddSite (AtPatchable n))
-at_patchable s t n e =
-    let patched = s.patchable_sites ++ record { offset = length s.bytes; len = n } ∷ [] in
-    e ∙ ap (λ l. record s { call_sites = l; patchable_sites = patched }) (sym (append-nil s.call_sites))
-    ∙ ap (λ l. record s { call_sites = s.call_sites ++ []; try_call_sites = l; patchable_sites = patched }) (sym (append-nil s.try_call_sites))
-    ∙ ap (λ l. record s { call_sites = s.call_sites ++ []; try_call_sites = s.try_call_sites ++ []; patchable_sites = patched; stack_maps = l }) (sym (append-nil s.stack_maps))
-
-pub at_map : (s t : BufferState) (n : ℕ) → t ≡ record s { stack_maps = s.stack_maps ++ record { offset = length s.bytes; map = n } ∷ [] } → t ≡ apply s (AddSite (AtStackMap n))
-at_map s t n e =
-    let maps = s.stack_maps ++ record { offset = length s.bytes; map = n } ∷ [] in
-    e ∙ ap (λ l. record s { call_sites = l; stack_maps = maps }) (sym (append-nil s.call_sites))
-    ∙ ap (λ l. record s { call_sites = s.call_sites ++ []; try_call_sites = l; stack_maps = maps }) (sym (append-nil s.try_call_sites))
-    ∙ ap (λ l. record s { call_sites = s.call_sites ++ []; try_call_sites = s.try_call_sites ++ []; patchable_sites = l; stack_maps = maps }) (sym (append-nil s.patchable_sites))
-
--- sites one behind the other
-pub sites_run : (a b : List Site) (s : BufferState) → apply_all s (part_fragments (site_parts (a ++ b))) ≡ apply_all (apply_all s (part_fragments (site_parts a))) (part_fragments (site_parts b))
-sites_run [] b s = refl
-sites_run (x ∷ a) b s = sites_run a b (apply s (AddSite x))
-
--- sites poison nothing, and change neither the bytes nor the labels and the constants
-pub record SameSpace (s t : BufferState) : Type 0 where
-  pub is_poisoned : t.is_poisoned ≡ s.is_poisoned
-  pub labels : t.labels ≡ s.labels
-  pub blocks : t.block_count ≡ s.block_count
-
-pub sites_keep : (ss : List Site) (s t : BufferState) → t ≡ apply_all s (part_fragments (site_parts ss)) → SameSpace s t
-sites_keep ss s t e =
-    let k = go ss s in
-    record { is_poisoned = ap (λ x. x.is_poisoned) e ∙ k.is_poisoned; labels = ap (λ x. x.labels) e ∙ k.labels; blocks = ap (λ x. x.block_count) e ∙ k.blocks }
-  where
-    go : (ss : List Site) (s : BufferState) → SameSpace s (apply_all s (part_fragments (site_parts ss)))
-    go [] s = record { is_poisoned = refl; labels = refl; blocks = refl }
-    go (x ∷ ss) s = let k = go ss (apply s (AddSite x)) in record { is_poisoned = k.is_poisoned; labels = k.labels; blocks = k.blocks }
 
 -- ---- what a call's results and a tail call's epilogue do to the nominal size
 
@@ -202,10 +157,6 @@ tail_part_size (Direct name) = refl
 tail_part_size (Indirect reg) = refl
 
 -- what the check let pass of a call
-pub and_both : (a b : Bool) → (a && b) ≡ true → (a ≡ true) × (b ≡ true)
-and_both true b h = (refl, h)
-and_both false b h = absurd (cc)
-
 pub record CallPassed (s : BufferState) (link : Reg) (info : CallInfo) (e : Emission) : Type 0 where
   pub put : put_cause s (call_size info.dest) ≡ None
   pub blocks : s.block_count ≤ length s.labels
@@ -216,7 +167,7 @@ pub record CallPassed (s : BufferState) (link : Reg) (info : CallInfo) (e : Emis
 pub call_passed : (s : BufferState) (after depth : ℕ) (e : Emission) (link : Reg) (info : CallInfo) → MembersFit s after depth (step_size (CallingStep (calling e link info))) (call_cause s.block_count e.nominal depth (calling e link info)) → CallPassed s link info e
 call_passed s after depth e link info p =
     let registers = unless (is_general link && is_target info.dest) BadRegister in
-    let both = and_both (is_general link) (is_target info.dest) (unless_true (is_general link && is_target info.dest) BadRegister (first_left registers _ p.passed)) in
+    let both = and_parts (is_general link) (is_target info.dest) (unless_true (is_general link && is_target info.dest) BadRegister (first_left registers _ p.passed)) in
     let later = first_right registers _ p.passed in
     record {
       put = put_none s (call_size info.dest) p.unpoisoned (omega (arith, p.short, call_step_size e link info));

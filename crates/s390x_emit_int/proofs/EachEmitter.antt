@@ -6,8 +6,7 @@ use Rattle.s390x_base.specs.declared.regs.Reg.{Reg}
 use Rattle.s390x_base.specs.declared.regs.Reg.TheVariants.{Real, Virtual}
 use Rattle.s390x_inst.specs.declared.args.MemArg.{MemArg}
 use Rattle.s390x_inst.specs.declared.inst.Inst.{Inst}
-use Rattle.s390x_inst.specs.declared.inst.Inst.TheVariants.{AluRX, CmpRX}
-use Rattle.s390x_inst.specs.declared.inst.Inst.TheVariants.{StoreImm8, StoreImm16, StoreImm32SExt16, StoreImm64SExt16, LoadMultiple64, StoreMultiple64, LoadAddr, AtomicRmw, AtomicCas32, AtomicCas64, Vector}
+use Rattle.s390x_inst.specs.declared.inst.Inst.TheVariants as I
 use Rattle.s390x_inst.specs.declared.load.LoadOp.{LoadOp}
 use Rattle.s390x_inst.specs.declared.load.LoadOp.TheVariants as LoadOps
 use Rattle.s390x_inst.specs.declared.store.StoreOp.{StoreOp}
@@ -16,7 +15,7 @@ use Rattle.s390x_inst.specs.declared.whole.WholeAccess.{WholeAccess}
 use Rattle.s390x_inst.specs.Wholes.{as_whole, by_whole}
 use Rattle.s390x_inst.proofs.Transfers.{Transfer, LoadOf, StoreOf, as_transfer, by_transfer}
 use Rattle.s390x_inst.specs.declared.vec_inst.VecInst.{VecInst}
-use Rattle.s390x_inst.specs.declared.vec_inst.VecInst.TheVariants.{VecLoadReplicate, VecLoadReplicateRev, VecLoadLane, VecLoadLaneRev, VecLoadLaneUndef, VecLoadLaneRevUndef, VecStoreLane, VecStoreLaneRev}
+use Rattle.s390x_inst.specs.declared.vec_inst.VecInst.TheVariants as V
 use Rattle.s390x_inst.specs.declared.ops.ALUOp.{ALUOp}
 use Rattle.s390x_inst.specs.declared.ops.ALUOp.TheVariants.{Add32}
 use Rattle.s390x_inst.specs.declared.ops.CmpOp.{CmpOp}
@@ -29,6 +28,7 @@ use Rattle.s390x_typed_steps.specs.Operands.{is_numbered}
 use Rattle.s390x_typed_steps.specs.Storage.{alu_rx, alu_rxy, atomic_rsy, cmp_rx, cmp_rxy, cmp_ril}
 use Rattle.s390x_address.specs.Emitters.{reads_register, reads_registers, is_multiple, one_register, two_registers}
 use Rattle.s390x_emit_int.specs.Emitters.{IsEmitted}
+use Rattle.s390x_emit_vec.proofs.Encoding.{reused_real}
 
 -- what is built is what was found
 told : (y x : MemoryInstruction) → Some y ≡ Some x → y ≡ x
@@ -166,23 +166,20 @@ left_as size lane rd rows a b c d opcode mem x is e v = go (is_left_lane size la
     go true h e = chosen (and_parts ((nat_eq size 32 || nat_eq size 64) && nat_eq lane 0) (nat_lt (number_of rd) 16) h).1 (nat_eq size 32) (sym (ap (λ f. access_vector (is_vector rd) f mem) (is size (number_of rd))) ∙ e)
     go false h e = lane_as (is_vector rd) opcode rd (element_code size) size lane mem x (λ k. k) e v
 
-reused_vector : (rd ri : Reg) → reuses_vector rd ri ≡ true → is_vector rd ≡ true
-reused_vector rd ri h = (and_parts (is_vector rd) (is_vector ri) (and_parts (is_vector rd && is_vector ri) (nat_eq (number_of rd) (number_of ri)) h).0).0
-
 -- a whole register, or no access
 whole_emitter_or : (o : Option WholeAccess) (x : MemoryInstruction) → by_whole whole_memory None o ≡ Some x → IsEmitted x
 whole_emitter_or None x e = absurd (cc)
 whole_emitter_or (Some w) x e = as_found _ x (w.rd, refl, refl) e
 
 vector_emitter : (w : VecInst) (x : MemoryInstruction) → vector_memory w ≡ Some x → x.operands_valid ≡ true → IsEmitted x
-vector_emitter (VecLoadReplicate size rd mem) x e v = elements_as opcodes.VLREP rd (element_code size) mem x e
-vector_emitter (VecLoadReplicateRev size rd mem) x e v = elements_as opcodes.VLBRREP rd (reversed_code size) mem x e
-vector_emitter (VecLoadLane size rd ri mem lane) x e v = lane_as (reuses_vector rd ri) load_lane_opcode rd (element_code size) size lane mem x (reused_vector rd ri) e v
-vector_emitter (VecLoadLaneRev size rd ri mem lane) x e v = lane_as (reuses_vector rd ri) load_reversed_opcode rd (reversed_code size) size lane mem x (reused_vector rd ri) e v
-vector_emitter (VecLoadLaneUndef size rd mem lane) x e v = left_as size lane rd load_left opcodes.LE opcodes.LEY opcodes.LD opcodes.LDY load_lane_opcode mem x (λ n r. refl) e v
-vector_emitter (VecLoadLaneRevUndef size rd mem lane) x e v = lane_as (is_vector rd) load_reversed_opcode rd (reversed_code size) size lane mem x (λ k. k) e v
-vector_emitter (VecStoreLane size rd mem lane) x e v = left_as size lane rd store_left opcodes.STE opcodes.STEY opcodes.STD opcodes.STDY store_lane_opcode mem x (λ n r. refl) e v
-vector_emitter (VecStoreLaneRev size rd mem lane) x e v = lane_as (is_vector rd) store_reversed_opcode rd (reversed_code size) size lane mem x (λ k. k) e v
+vector_emitter (V.VecLoadReplicate size rd mem) x e v = elements_as opcodes.VLREP rd (element_code size) mem x e
+vector_emitter (V.VecLoadReplicateRev size rd mem) x e v = elements_as opcodes.VLBRREP rd (reversed_code size) mem x e
+vector_emitter (V.VecLoadLane size rd ri mem lane) x e v = lane_as (reuses_vector rd ri) load_lane_opcode rd (element_code size) size lane mem x (reused_real rd ri) e v
+vector_emitter (V.VecLoadLaneRev size rd ri mem lane) x e v = lane_as (reuses_vector rd ri) load_reversed_opcode rd (reversed_code size) size lane mem x (reused_real rd ri) e v
+vector_emitter (V.VecLoadLaneUndef size rd mem lane) x e v = left_as size lane rd load_left opcodes.LE opcodes.LEY opcodes.LD opcodes.LDY load_lane_opcode mem x (λ n r. refl) e v
+vector_emitter (V.VecLoadLaneRevUndef size rd mem lane) x e v = lane_as (is_vector rd) load_reversed_opcode rd (reversed_code size) size lane mem x (λ k. k) e v
+vector_emitter (V.VecStoreLane size rd mem lane) x e v = left_as size lane rd store_left opcodes.STE opcodes.STEY opcodes.STD opcodes.STDY store_lane_opcode mem x (λ n r. refl) e v
+vector_emitter (V.VecStoreLaneRev size rd mem lane) x e v = lane_as (is_vector rd) store_reversed_opcode rd (reversed_code size) size lane mem x (λ k. k) e v
 vector_emitter w x e v = whole_emitter_or (as_whole w) x e
 
 abbrev Emits : Option MemoryInstruction → Type 0
@@ -204,17 +201,17 @@ transfer_emitter_or (Some (LoadOf l)) x e = subst Emits e (load_is_emitted l.op 
 transfer_emitter_or (Some (StoreOf s)) x e = subst Emits e (store_is_emitted s.op s.rd s.mem)
 
 pub each_emitter : (i : Inst) (x : MemoryInstruction) → memory i ≡ Some x → x.operands_valid ≡ true → IsEmitted x
-each_emitter (AluRX op rd ri mem) x e v = operator_as (is_some (alu_rx op) || is_some (alu_rxy op)) (alu_rx op) (alu_rxy op) rd ri mem x (alu_reads op) e v
-each_emitter (CmpRX op rn mem) x e v = as_found _ x (rn, refl, one_as rn (cmp_rx op) (cmp_rxy op) (Some (cmp_ril op)) true (is_general rn) (is_numbered 1 rn) mem refl (ap (λ t. t && is_numbered 1 rn) (sym (cmp_reads op)))) e
-each_emitter (StoreImm8 imm mem) x e v = as_found _ x refl e
-each_emitter (StoreImm16 imm mem) x e v = as_found _ x (imm, refl) e
-each_emitter (StoreImm32SExt16 imm mem) x e v = as_found _ x (imm, refl) e
-each_emitter (StoreImm64SExt16 imm mem) x e v = as_found _ x (imm, refl) e
-each_emitter (LoadMultiple64 rt rt2 mem) x e v = as_found _ x (rt, rt2, refl) e
-each_emitter (StoreMultiple64 rt rt2 mem) x e v = as_found _ x (rt, rt2, refl) e
-each_emitter (LoadAddr rd mem) x e v = as_found _ x (rd, refl, refl) e
-each_emitter (AtomicRmw op rd rn mem) x e v = atomic_from (atomic_rsy op) rd rn mem x (atomic_reads op) e v
-each_emitter (AtomicCas32 rd ri rn mem) x e v = swap_as (Some opcodes.CS) opcodes.CSY rd ri rn mem x refl refl e v
-each_emitter (AtomicCas64 rd ri rn mem) x e v = swap_as None opcodes.CSG rd ri rn mem x refl refl e v
-each_emitter (Vector w) x e v = vector_emitter w x e v
+each_emitter (I.AluRX op rd ri mem) x e v = operator_as (is_some (alu_rx op) || is_some (alu_rxy op)) (alu_rx op) (alu_rxy op) rd ri mem x (alu_reads op) e v
+each_emitter (I.CmpRX op rn mem) x e v = as_found _ x (rn, refl, one_as rn (cmp_rx op) (cmp_rxy op) (Some (cmp_ril op)) true (is_general rn) (is_numbered 1 rn) mem refl (ap (λ t. t && is_numbered 1 rn) (sym (cmp_reads op)))) e
+each_emitter (I.StoreImm8 imm mem) x e v = as_found _ x refl e
+each_emitter (I.StoreImm16 imm mem) x e v = as_found _ x (imm, refl) e
+each_emitter (I.StoreImm32SExt16 imm mem) x e v = as_found _ x (imm, refl) e
+each_emitter (I.StoreImm64SExt16 imm mem) x e v = as_found _ x (imm, refl) e
+each_emitter (I.LoadMultiple64 rt rt2 mem) x e v = as_found _ x (rt, rt2, refl) e
+each_emitter (I.StoreMultiple64 rt rt2 mem) x e v = as_found _ x (rt, rt2, refl) e
+each_emitter (I.LoadAddr rd mem) x e v = as_found _ x (rd, refl, refl) e
+each_emitter (I.AtomicRmw op rd rn mem) x e v = atomic_from (atomic_rsy op) rd rn mem x (atomic_reads op) e v
+each_emitter (I.AtomicCas32 rd ri rn mem) x e v = swap_as (Some opcodes.CS) opcodes.CSY rd ri rn mem x refl refl e v
+each_emitter (I.AtomicCas64 rd ri rn mem) x e v = swap_as None opcodes.CSG rd ri rn mem x refl refl e v
+each_emitter (I.Vector w) x e v = vector_emitter w x e v
 each_emitter i x e v = transfer_emitter_or (as_transfer i) x e

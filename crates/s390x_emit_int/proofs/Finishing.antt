@@ -10,13 +10,13 @@ use Rattle.s390x_base.specs.declared.error.EmitError.TheVariants.{LabelOutOfRang
 use Rattle.s390x_buffer.specs.State.{BufferState, Constant, fresh_buffer, limit, all_aligned, new_cause}
 use Rattle.s390x_buffer.specs.Patch.{first_use_cause as first_use, bound_offset, offset_of_label, is_bound, word_from, biased_word, sum_fits, is_in_reach, can_patch, use_cause, uses_cause, patch, patch_size, patch_use}
 use Rattle.s390x_buffer.specs.Branches.{field_end}
-use Rattle.s390x_buffer.proofs.Branching.{patch_other}
+use Rattle.s390x_buffer.proofs.Branching.{patch_other, length-patch}
 use Rattle.s390x_buffer.specs.Constants.{constant_starts, constant_bytes, constants_end}
 use Rattle.s390x_buffer.specs.Finish.{final_labels, finished_length, starts_of_constants, unpatched_bytes, length_cause as long_cause, patch_cause, FailsWithEither, finish_cause}
 use Rattle.s390x_buffer.specs.declared.entries.LabelFixup.{LabelFixup}
 use Rattle.s390x_buffer.specs.declared.label_use.LabelUse.{LabelUse}
 use Rattle.s390x_buffer.specs.declared.label_use.LabelUse.TheVariants.{BranchRI, BranchRIL, PCRel32, PCRel32Dbl}
-use Rattle.s390x_buffer.proofs.Placing.{length-constant_bytes}
+use Rattle.s390x_buffer.proofs.Placing.{length-constant_bytes, length-constant_starts}
 use Rattle.s390x_typed_steps.specs.Tree.{Tree}
 use Rattle.s390x_typed_steps.specs.Causes.{first_emit_cause, aligns_of, declared_of, fresh_labels, blocks_cause}
 use Rattle.s390x_typed_steps.specs.Folding.{folded_trees, peak}
@@ -30,10 +30,9 @@ use Rattle.s390x_emit_int.specs.Bound.{TreesName}
 use Rattle.s390x_emit_int.proofs.Constants.{aligned_constants, starts_of, middle_label}
 use Rattle.s390x_emit_int.proofs.Closing.{blocks_closed, drawn_closed}
 use Rattle.s390x_emit_int.proofs.Functions.{block_state, bound_state, block_labels, function_put}
-use Rattle.s390x_emit_int.proofs.Imaging.{bytes_run, low_label, high_label, length-starts}
+use Rattle.s390x_emit_int.proofs.Imaging.{bytes_run, low_label, high_label}
 use Rattle.s390x_emit_int.proofs.Names.{all_names}
 use Rattle.s390x_emit_int.proofs.Orderly.{AllSound, all_fresh_labels, function_sound, Stands, BearsUse, UsesStand, SameFrom, uses_still, same_append, Orderly, orderly_run}
-use Rattle.s390x_emit_int.proofs.Patching.{length-patch}
 use Rattle.s390x_emit_int.proofs.Runs.{run-append}
 use Rattle.s390x_emit_int.proofs.Starts.{Same, same_run}
 
@@ -189,7 +188,7 @@ can_finish flags ts cs u0 is passes =
     let far : length u.bytes ≤ length (unpatched_bytes u) = omega (arith, length-append u.bytes (constant_bytes (length u.bytes) u.constants)) in
     let short : length (unpatched_bytes u) < limit = omega (arith, full, ends, below) in
     let near : length u.bytes < limit = omega arith in
-    let starts : length (starts_of_constants u) ≡ length cs = length-starts (length u.bytes) u.constants ∙ ap length same.constants in
+    let starts : length (starts_of_constants u) ≡ length cs = length-constant_starts (length u.bytes) u.constants ∙ ap length same.constants in
     let held : u.block_count ≡ b = same.block_count in
     let enough : u.block_count ≤ length u.labels = omega (arith, held, count) in
     let stands : (l : ℕ) → l < length u.labels → Stands (length u.bytes) (get_or u.labels l None) = λ l lt. All-get_or (Stands (length u.bytes)) u.labels l None lt orderly.labels in

@@ -8,7 +8,7 @@ use Rattle.s390x_inst.specs.Emission.{Emission}
 use Rattle.s390x_inst.specs.declared.state.IsaFlags.{IsaFlags}
 use Rattle.s390x_buffer.specs.State.{BufferState, Constant, fresh_buffer, constant_label}
 use Rattle.s390x_buffer.specs.Patch.{offset_of_label, bound_offset}
-use Rattle.s390x_buffer.specs.Constants.{constant_start, constant_starts, constant_bytes, constants_end, greatest_align}
+use Rattle.s390x_buffer.specs.Constants.{constant_starts, constant_bytes, constants_end, greatest_align}
 use Rattle.s390x_buffer.specs.Finish.{Finished, bind_constants, final_labels, starts_of_constants, bound_site}
 use Rattle.s390x_buffer.specs.declared.entries.MachBufferFinalized.{MachBufferFinalized}
 use Rattle.s390x_inst.specs.declared.function.Block.{Block}
@@ -28,7 +28,7 @@ use Rattle.s390x_emit_int.specs.Resolve.{resolve, put_length, Wide, UsesWithin}
 use Rattle.s390x_emit_int.specs.Bound.{TreesName, AllBound}
 use Rattle.s390x_emit_int.specs.Function.{IsFinishedCode, tree_of}
 use Rattle.s390x_emit_int.proofs.Runs.{run-append}
-use Rattle.s390x_emit_int.proofs.Patching.{patched, patched_run, all_left, length-patch_all, within_more, within_append}
+use Rattle.s390x_emit_int.proofs.Patching.{patched, patched_run, all_left, within_more, within_append}
 use Rattle.s390x_emit_int.proofs.Names.{all_names}
 use Rattle.s390x_emit_int.proofs.Starts.{Same, same_run, starts_run, marks, function_marks}
 use Rattle.s390x_emit_int.proofs.Functions.{function_wide, TellsBlocks, all_bound, function_join, block_at, blocks_upto, places_upto, place_follows, place_zero, bound_state, block_state, block_labels, block_kept, longer, function_put}
@@ -37,7 +37,8 @@ use Rattle.s390x_emit_int.proofs.Relocating.{relocated, relocs_run, function_rel
 use Rattle.s390x_emit_int.proofs.Recording.{recorded, traps_run, function_recorded}
 use Rattle.s390x_buffer.specs.declared.entries.LabelFixup.{LabelFixup}
 use Rattle.s390x_buffer.specs.declared.label_use.LabelUse.TheVariants.{BranchRIL}
-use Rattle.s390x_buffer.proofs.Placing.{length-constant_bytes}
+use Rattle.s390x_buffer.proofs.Placing.{length-constant_bytes, length-constant_starts}
+use Rattle.s390x_buffer.proofs.Branching.{length-patch_all}
 
 -- how long the bytes become
 pub bytes_run : (ps : List Fragment) (s : BufferState) → length (apply_all s ps).bytes ≡ length s.bytes + put_length ps
@@ -101,10 +102,6 @@ high_label n starts labels l lo le =
     ∙ get_or-drop (n + m) labels j None
     ∙ ap (λ k. get_or labels k None) e3
 
-pub length-starts : (n : ℕ) (cs : List Constant) → length (constant_starts n cs) ≡ length cs
-length-starts n [] = refl
-length-starts n (c ∷ cs) = ap suc (length-starts (constant_start n c + length c.bytes) cs)
-
 code_is : (ts : List Tree) (cs : List Constant) (off : ℕ → ℕ) (n : ℕ) → ((l : ℕ) → l < length ts → off l ≡ (offsets (unlinked_environment ts cs) ts).block l) → ((c : ℕ) → c < length cs → off (length ts + c) ≡ constant_offset ts cs c) →
     TreesName (length ts) (length cs) ts → AllBound off n 0 (step_offset (function_steps ts) 0) ts → resolve (length ts) off 0 (function_fragments n 0 ts) ≡ function_code (unlinked_environment ts cs) ts
 code_is [] cs off n agree held names bound = refl
@@ -134,7 +131,7 @@ image_of flags ts cs u0 f emitted fin0 =
     let drawn : length s0.labels ≡ n = length-replicate n None in
     let long : n ≤ length u.labels = longer ts s0 n 0 (sym drawn) in
     let count : u.block_count ≡ b = same.block_count in
-    let starts : length (starts_of_constants u) ≡ length cs = length-starts (length u.bytes) u.constants ∙ ap length same.constants in
+    let starts : length (starts_of_constants u) ≡ length cs = length-constant_starts (length u.bytes) u.constants ∙ ap length same.constants in
     let enough : u.block_count ≤ length u.labels = omega arith in
     let blocks : TellsBlocks off 0 b u = λ l lo hi. let lt : l < u.block_count = omega arith in ap bound_offset (low_label u.block_count (starts_of_constants u) u.labels l lt enough) in
     let tells : (l : ℕ) → n ≤ l → l < length u.labels → off l ≡ offset_of_label u.labels l = λ l lo hi. let le : u.block_count + length (starts_of_constants u) ≤ l = omega arith in ap bound_offset (high_label u.block_count (starts_of_constants u) u.labels l le enough) in

@@ -17,10 +17,10 @@ use Rattle.s390x_format.proofs.Encoding.{encode-length}
 use Rattle.s390x_inst.specs.declared.inst.Inst.{Inst}
 use Rattle.s390x_inst.specs.declared.vec_inst.VecInst.{VecInst}
 use Rattle.s390x_typed_steps.specs.VectorComposite.{composite_cause, composite_rows}
-use Rattle.s390x_inst.specs.declared.inst.Inst.TheVariants.{IndirectBr, Ret, LabelAddress, Trap, TrapIf, Debugtrap, Vector}
+use Rattle.s390x_inst.specs.declared.inst.Inst.TheVariants as I
 use Rattle.s390x_typed_steps.specs.SingleInstruction.{SingleInstruction, single_instruction}
 use Rattle.s390x_typed_steps.specs.General.{is_general, is_nonzero}
-use Rattle.s390x_typed_steps.specs.MachineInstruction.{format_e, rr, size_of}
+use Rattle.s390x_typed_steps.specs.MachineInstruction.{format_e, size_of}
 use Rattle.s390x_typed_steps.specs.Sizes.{instruction_size}
 use Rattle.s390x_typed_steps.specs.Causes.{unless, first_emit_cause, target_label_cause, declared_in, branch_cause, memory_cause, memory_cause_or, instruction_cause, leaf_cause, numbers_cause, instruction_fresh_labels}
 use Rattle.s390x_typed_steps.proofs.Causes.{first_left, first_right, unless_true}
@@ -83,19 +83,15 @@ pub length-ril_c : (bs slots : List ℕ) → bs ≡ encode RilC slots → length
 unfolding length_of
 length-ril_c bs slots e = ap length e ∙ encode-length RilC slots
 
-size-rr : (opcode a b : ℕ) → size_of (rr opcode a b) ≡ 2
-unfolding length_of
-size-rr opcode a b = refl
-
 -- a branch to the address in a register
-pub indirect_passed : (s : BufferState) (after depth : ℕ) (i : Inst) (r : Reg) (ts : Vec MachLabel Global) → i ≡ IndirectBr r ts → MembersFit s after depth (branch_size i) (branch_cause s.block_count depth i) → (put_cause s 2 ≡ None) × ((is_general r && is_nonzero r) ≡ true)
+pub indirect_passed : (s : BufferState) (after depth : ℕ) (i : Inst) (r : Reg) (ts : Vec MachLabel Global) → i ≡ I.IndirectBr r ts → MembersFit s after depth (branch_size i) (branch_cause s.block_count depth i) → (put_cause s 2 ≡ None) × ((is_general r && is_nonzero r) ≡ true)
 unfolding length_of
 indirect_passed s after depth i r ts e p =
     let size : branch_size i ≡ 2 = ap branch_size e in
     let cause = sym (ap (branch_cause s.block_count depth) e) ∙ p.passed in
     (put_none s 2 p.unpoisoned (omega (arith, p.short)), unless_true (is_general r && is_nonzero r) BadRegister (first_left _ _ cause))
 
-pub return_passed : (s : BufferState) (after depth : ℕ) (i : Inst) (r : Reg) → i ≡ Ret r → MembersFit s after depth (branch_size i) (branch_cause s.block_count depth i) → (put_cause s 2 ≡ None) × ((is_general r && is_nonzero r) ≡ true)
+pub return_passed : (s : BufferState) (after depth : ℕ) (i : Inst) (r : Reg) → i ≡ I.Ret r → MembersFit s after depth (branch_size i) (branch_cause s.block_count depth i) → (put_cause s 2 ≡ None) × ((is_general r && is_nonzero r) ≡ true)
 unfolding length_of
 return_passed s after depth i r e p =
     let size : branch_size i ≡ 2 = ap branch_size e in
@@ -108,7 +104,7 @@ single_passed flags s after nominal depth i x e p =
     (put_none s (size_of x.row) p.unpoisoned (omega (arith, p.short, some_size i x e)), unless_true x.operands_valid BadRegister (some_cause flags (declared_in s) nominal depth i x e (first_left _ _ p.passed)))
 
 -- the address of a block
-pub address_passed : (s : BufferState) (after depth : ℕ) (i : Inst) (dst : Reg) (l : MachLabel) → i ≡ LabelAddress dst l → MembersFit s after depth (branch_size i) (branch_cause s.block_count depth i) → FitsWithoutCause s l.0 6 None × (is_general dst ≡ true)
+pub address_passed : (s : BufferState) (after depth : ℕ) (i : Inst) (dst : Reg) (l : MachLabel) → i ≡ I.LabelAddress dst l → MembersFit s after depth (branch_size i) (branch_cause s.block_count depth i) → FitsWithoutCause s l.0 6 None × (is_general dst ≡ true)
 unfolding length_of
 address_passed s after depth i dst l e p =
     let size : branch_size i ≡ 6 = ap branch_size e in
@@ -122,21 +118,21 @@ unfolding length_of
 last_of_e opcode = refl
 
 -- instructions that end the run
-pub trap_passed : (s : BufferState) (after depth : ℕ) (i : Inst) (code : TrapKind) → i ≡ Trap code → MembersFit s after depth (branch_size i) (branch_cause s.block_count depth i) → put_cause s 2 ≡ None
+pub trap_passed : (s : BufferState) (after depth : ℕ) (i : Inst) (code : TrapKind) → i ≡ I.Trap code → MembersFit s after depth (branch_size i) (branch_cause s.block_count depth i) → put_cause s 2 ≡ None
 unfolding length_of
 trap_passed s after depth i code e p = let size : branch_size i ≡ 2 = ap branch_size e in put_none s 2 p.unpoisoned (omega (arith, p.short, size))
 
-pub trap_if_passed : (s : BufferState) (after depth : ℕ) (i : Inst) (mask : ℕ) (code : TrapKind) → i ≡ TrapIf mask code → MembersFit s after depth (branch_size i) (branch_cause s.block_count depth i) → put_cause s 6 ≡ None
+pub trap_if_passed : (s : BufferState) (after depth : ℕ) (i : Inst) (mask : ℕ) (code : TrapKind) → i ≡ I.TrapIf mask code → MembersFit s after depth (branch_size i) (branch_cause s.block_count depth i) → put_cause s 6 ≡ None
 unfolding length_of
 trap_if_passed s after depth i mask code e p = let size : branch_size i ≡ 6 = ap branch_size e in put_none s 6 p.unpoisoned (omega (arith, p.short, size))
 
 -- a vector instruction of several machine instructions
-pub composite_passed : (s : BufferState) (after depth : ℕ) (i : Inst) (v : VecInst) → i ≡ Vector v → MembersFit s after depth (branch_size i) (branch_cause s.block_count depth i) → (put_cause s (parts_size (row_parts (composite_rows v))) ≡ None) × (composite_cause v ≡ None)
+pub composite_passed : (s : BufferState) (after depth : ℕ) (i : Inst) (v : VecInst) → i ≡ I.Vector v → MembersFit s after depth (branch_size i) (branch_cause s.block_count depth i) → (put_cause s (parts_size (row_parts (composite_rows v))) ≡ None) × (composite_cause v ≡ None)
 composite_passed s after depth i v e p =
     let size : branch_size i ≡ parts_size (row_parts (composite_rows v)) = ap branch_size e in
     (put_none s (parts_size (row_parts (composite_rows v))) p.unpoisoned (omega (arith, p.short, size)), sym (ap (branch_cause s.block_count depth) e) ∙ p.passed)
 
-pub debug_passed : (s : BufferState) (after depth : ℕ) (i : Inst) → i ≡ Debugtrap → MembersFit s after depth (branch_size i) (branch_cause s.block_count depth i) → put_cause s 2 ≡ None
+pub debug_passed : (s : BufferState) (after depth : ℕ) (i : Inst) → i ≡ I.Debugtrap → MembersFit s after depth (branch_size i) (branch_cause s.block_count depth i) → put_cause s 2 ≡ None
 unfolding length_of
 debug_passed s after depth i e p = let size : branch_size i ≡ 2 = ap branch_size e in put_none s 2 p.unpoisoned (omega (arith, p.short, size))
 

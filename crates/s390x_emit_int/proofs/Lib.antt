@@ -16,6 +16,7 @@ pub mod Binding
 pub mod Joining
 pub mod OnlyMemory
 pub mod Plain
+pub mod LastChoice
 pub mod Leaves
 pub mod Collecting
 pub mod Starts
@@ -35,7 +36,6 @@ pub mod Bodies
 pub mod Lengths
 pub mod Filling
 pub mod Finishing
-pub mod FirstCauses
 pub mod Short
 pub mod Shortening
 pub mod Single

@@ -1,8 +1,8 @@
 -- Linked code stands as the machine layer asks: its distances lead to the symbols, and its constants stand on their boundaries.
-use Rattle.std.proofs.Common.{◌≡◌, ℕ, zero, suc, ◌+◌, ◌%◌, ◌^◌, ◌<◌, ◌≤◌, List, [], ◌∷◌, ◌++◌, length, get_or, Bool, true, false, cond, ◌&&◌, max, Option, None, Some, refl, sym, ap, ◌∙◌, subst, arith, eqb-true, slice_get, length-append}
+use Rattle.std.proofs.Common.{◌≡◌, ℕ, zero, suc, ◌+◌, ◌%◌, ◌^◌, ◌<◌, ◌≤◌, List, [], ◌∷◌, ◌++◌, length, get_or, Bool, true, false, cond, max, Option, None, Some, refl, sym, ap, ◌∙◌, subst, arith, eqb-true, slice_get, length-append}
 use Rattle.std.specs.Prelude.{pos, ◌+ℤ◌, ◌*ℤ◌}
 use Rattle.std.specs.Int.{w32, cast_signed}
-use Rattle.std.proofs.lemmas.Bool.{leb-true}
+use Rattle.std.proofs.lemmas.Bool.{leb-true, and_parts}
 use Rattle.std.proofs.lemmas.List.{length-map}
 use Rattle.s390x_buffer.specs.State.{Constant, is_alignment, all_aligned, new_cause}
 use Rattle.s390x_buffer.specs.Constants.{constant_starts, constant_bytes, constants_end, greatest_align}
@@ -75,14 +75,10 @@ max_of a x (sixteen e) (four f) = sixteen (omega arith)
 max_of a x (sixteen e) (eight f) = sixteen (omega arith)
 max_of a x (sixteen e) (sixteen f) = sixteen (omega arith)
 
-both : (s t : Bool) → (s && t) ≡ true → (s ≡ true) × (t ≡ true)
-both true t h = (refl, h)
-both false t h = absurd (cc)
-
 greatest : (a : ℕ) (cs : List Constant) → IsCodeAlignment a → all_aligned cs ≡ true → IsCodeAlignment (greatest_align a cs)
 greatest a [] h all = h
 greatest a (c ∷ cs) h all =
-    let p = both (is_alignment c.align) (all_aligned cs) all in
+    let p = and_parts (is_alignment c.align) (all_aligned cs) all in
     greatest (max a c.align) cs (max_of a c.align h (max_four c.align p.0)) p.1
 
 even_base : (base a : ℕ) → IsCodeAlignment a → base % a ≡ 0 → base % 2 ≡ 0

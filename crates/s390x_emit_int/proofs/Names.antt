@@ -17,7 +17,7 @@ use Rattle.s390x_inst.specs.declared.inst.Inst.{Inst}
 use Rattle.s390x_inst.specs.Memory.{flags_of}
 use Rattle.s390x_inst.specs.declared.args.MemArg.{MemArg}
 use Rattle.s390x_inst.specs.declared.args.MemArg.TheVariants.{BXD12, BXD20, RegOffset, Label, Constant, Symbol}
-use Rattle.s390x_inst.specs.declared.inst.Inst.TheVariants.{Mov64SImm32, LoadAddr, Jump, CondBr, IndirectBr, Ret, JTSequence, LabelAddress, LoadSymbolReloc, Trap, TrapIf, Debugtrap, Vector}
+use Rattle.s390x_inst.specs.declared.inst.Inst.TheVariants as I
 use Rattle.s390x_typed_steps.specs.Tree.{Tree, empty, leaf, loop_node, NothingLeft, BranchLeft, Whole, Loaded, Folded, StepBody, CallStep, NoLoad, TailOpening, TailJump}
 use Rattle.s390x_typed_steps.specs.MachineInstruction.{MachineInstruction}
 use Rattle.s390x_typed_steps.specs.Operands.{Finalized, finalized_operand, with_displacement, with_address_loaded, with_long_displacement, needs_address, scratch, no_register, is_relative, has_form, operand_general, fits_12, fits_20, fits_32}
@@ -43,7 +43,7 @@ names_append blocks constants (part ∷ a) b h k = (h.0, names_append blocks con
 module _ (D : Declared) where
   -- so is what a helper's operand names
   abbrev HelperBound : Inst → Type 0
-  HelperBound (LoadAddr rd mem) = bound_cause D mem ≡ None
+  HelperBound (I.LoadAddr rd mem) = bound_cause D mem ≡ None
   HelperBound _ = Unit {0}
 
   abbrev HelpersBound : List Inst → Type 0
@@ -71,8 +71,8 @@ module _ (D : Declared) where
 
   addressed_bound : (mi : MemInstType) (f : Finalized) → FinalBound f → FinalBound (with_address_loaded mi f)
   addressed_bound mi f h =
-      either_bound (needs_address mi f.operand) (record { helpers = f.helpers ++ LoadAddr scratch f.operand ∷ []; operand = BXD12 scratch no_register 0 (flags_of f.operand) }) f
-      (record { helpers = one_more_bound f.helpers (LoadAddr scratch f.operand) h.helpers h.operand; operand = refl }) h
+      either_bound (needs_address mi f.operand) (record { helpers = f.helpers ++ I.LoadAddr scratch f.operand ∷ []; operand = BXD12 scratch no_register 0 (flags_of f.operand) }) f
+      (record { helpers = one_more_bound f.helpers (I.LoadAddr scratch f.operand) h.helpers h.operand; operand = refl }) h
 
   either_operand : (b : Bool) (x y : MemArg) → bound_cause D x ≡ None → bound_cause D y ≡ None → bound_cause D (cond b x y) ≡ None
   either_operand true x y h k = h
@@ -118,8 +118,8 @@ module _ (D : Declared) where
   operand_named form code m h = either_named (is_relative m) (relative_parts form code m) (access_parts (storage_row form m) code) (form_named form code m h) (access_named (storage_row form m) code)
 
   helper_named : (i : Inst) → HelperBound i → Named (helper_parts i)
-  helper_named (Mov64SImm32 rd imm) h = (tt, tt)
-  helper_named (LoadAddr rd mem) h = operand_named (address_form rd) None mem h
+  helper_named (I.Mov64SImm32 rd imm) h = (tt, tt)
+  helper_named (I.LoadAddr rd mem) h = operand_named (address_form rd) None mem h
   helper_named i h = tt
 
   helpers_named : (is : List Inst) → HelpersBound is → Named (helpers_parts is)
@@ -158,19 +158,19 @@ vector_names D (Some x) None m ms last h = (tt, tt)
 vector_names D (Some x) (Some code) m ms last h = (tt, tt)
 
 leaf_names : (flags : IsaFlags) (D : Declared) (nominal depth : ℕ) (i : Inst) → instruction_cause flags D nominal depth i ≡ None → PartsName D.blocks (length D.aligns) (instruction_parts i)
-leaf_names flags D nominal depth (Jump dest) h = (label_below D.blocks dest h, tt)
-leaf_names flags D nominal depth (CondBr taken not_taken mask) h = (label_below D.blocks taken (first_left _ _ h), (label_below D.blocks not_taken (first_right (target_label_cause D.blocks taken) _ h), tt))
-leaf_names flags D nominal depth (IndirectBr rn targets) h = (tt, tt)
-leaf_names flags D nominal depth (Ret link) h = (tt, tt)
-leaf_names flags D nominal depth (JTSequence ridx other mask targets) h =
+leaf_names flags D nominal depth (I.Jump dest) h = (label_below D.blocks dest h, tt)
+leaf_names flags D nominal depth (I.CondBr taken not_taken mask) h = (label_below D.blocks taken (first_left _ _ h), (label_below D.blocks not_taken (first_right (target_label_cause D.blocks taken) _ h), tt))
+leaf_names flags D nominal depth (I.IndirectBr rn targets) h = (tt, tt)
+leaf_names flags D nominal depth (I.Ret link) h = (tt, tt)
+leaf_names flags D nominal depth (I.JTSequence ridx other mask targets) h =
     let named = first_right (unless (not (is_scratch ridx)) ScratchConflict) _ (first_right (unless (is_general ridx && is_nonzero ridx) BadRegister) _ h) in
     (label_below D.blocks other (first_left _ _ named), (tt, (tt, (tt, words_name D.blocks (length D.aligns) 0 targets.items (first_right (target_label_cause D.blocks other) _ named)))))
-leaf_names flags D nominal depth (LabelAddress dst label) h = (label_below D.blocks label (first_right (unless (is_general dst) BadRegister) _ h), tt)
-leaf_names flags D nominal depth (LoadSymbolReloc rd reloc) h = (tt, (tt, (tt, tt)))
-leaf_names flags D nominal depth (Trap code) h = (tt, tt)
-leaf_names flags D nominal depth (TrapIf mask code) h = (tt, tt)
-leaf_names flags D nominal depth Debugtrap h = (tt, tt)
-leaf_names flags D nominal depth (Vector v) h = vector_names D (single_instruction (Vector v)) (stop_code (Vector v)) (memory (Vector v)) (composite_rows v) (branch_cause D.blocks depth (Vector v)) (first_right (facility_cause flags (Vector v)) _ h)
+leaf_names flags D nominal depth (I.LabelAddress dst label) h = (label_below D.blocks label (first_right (unless (is_general dst) BadRegister) _ h), tt)
+leaf_names flags D nominal depth (I.LoadSymbolReloc rd reloc) h = (tt, (tt, (tt, tt)))
+leaf_names flags D nominal depth (I.Trap code) h = (tt, tt)
+leaf_names flags D nominal depth (I.TrapIf mask code) h = (tt, tt)
+leaf_names flags D nominal depth I.Debugtrap h = (tt, tt)
+leaf_names flags D nominal depth (I.Vector v) h = vector_names D (single_instruction (I.Vector v)) (stop_code (I.Vector v)) (memory (I.Vector v)) (composite_rows v) (branch_cause D.blocks depth (I.Vector v)) (first_right (facility_cause flags (I.Vector v)) _ h)
 leaf_names flags D nominal depth i h = single_names D (single_instruction i) (stop_code i) (memory i) (branch_cause D.blocks depth i) (first_right (stack_cause nominal depth i) _ (first_right (facility_cause flags i) _ h))
 
 -- ---- the steps of calls

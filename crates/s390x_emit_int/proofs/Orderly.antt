@@ -19,13 +19,10 @@ use Rattle.s390x_buffer.specs.declared.entries.LabelFixup.{LabelFixup}
 use Rattle.s390x_buffer.specs.declared.label_use.LabelUse.{LabelUse}
 use Rattle.s390x_buffer.specs.declared.label_use.LabelUse.TheVariants.{BranchRI, BranchRIL, PCRel32, PCRel32Dbl}
 use Rattle.s390x_buffer.proofs.Sums.{same_word}
-use Rattle.s390x_format.specs.declared.kind.FormatKind.{FormatKind}
-use Rattle.s390x_format.specs.declared.kind.FormatKind.TheVariants.{E}
-use Rattle.s390x_format.specs.Formats.{length_of}
 use Rattle.s390x_inst.specs.declared.inst.Inst.{Inst}
 use Rattle.s390x_inst.specs.declared.args.MemArg.{MemArg}
 use Rattle.s390x_inst.specs.declared.args.MemArg.TheVariants.{Label, Constant, Symbol}
-use Rattle.s390x_inst.specs.declared.inst.Inst.TheVariants.{Mov64SImm32, LoadAddr, Jump, CondBr, IndirectBr, Ret, JTSequence, CondBreak, LabelAddress, LoadSymbolReloc, Trap, TrapIf, Debugtrap, Vector}
+use Rattle.s390x_inst.specs.declared.inst.Inst.TheVariants as I
 use Rattle.s390x_typed_steps.specs.Tree.{Tree, empty, leaf, loop_node, NothingLeft, BranchLeft, Whole, Loaded, Folded, StepBody, CallStep, NoLoad, TailOpening, TailJump}
 use Rattle.s390x_typed_steps.specs.Causes.{instruction_fresh_labels, fresh_labels, body_fresh_labels}
 use Rattle.s390x_typed_steps.specs.SingleInstruction.{SingleInstruction, single_instruction, stop_code}
@@ -42,14 +39,10 @@ use Rattle.s390x_emit_int.specs.Resolve.{put_length}
 use Rattle.s390x_emit_int.specs.Bound.{PartsName, TreeNames, TreesName, BodyNames}
 use Rattle.s390x_emit_int.proofs.Patching.{word_right}
 use Rattle.s390x_emit_int.proofs.Runs.{length-bytes, length-branch, length-relative, length-call}
-
-even_length : (kind : FormatKind) → length_of kind % 2 ≡ 0
-unfolding length_of
-even_length E = refl
-even_length _ = refl
+use Rattle.s390x_machine.proofs.Fetching.{size_even}
 
 even_bytes : (m : MachineInstruction) → length (bytes_of m) % 2 ≡ 0
-even_bytes m = ap (λ n. n % 2) (length-bytes m) ∙ even_length m.format
+even_bytes m = ap (λ n. n % 2) (length-bytes m) ∙ size_even m.format
 
 -- a use of a label has its bytes; a word of a table has at most the value of its place, so that the sum with a distance has a sign
 abbrev pub LinkSound : LabelUse → (place : ℕ) → List ℕ → Type 0
@@ -158,17 +151,8 @@ rows_begin [] p = tt
 rows_begin (m ∷ ms) p = rows_begin ms (p + size_of m)
 
 branch_begins : (i : Inst) → TablesBegin 0 (branch_parts i)
-branch_begins (Jump dest) = tt
-branch_begins (CondBr taken not_taken mask) = tt
-branch_begins (IndirectBr rn targets) = tt
-branch_begins (Ret link) = tt
-branch_begins (JTSequence ridx other mask targets) = words_begin targets.items 0 _ (omega arith)
-branch_begins (LabelAddress dst label) = tt
-branch_begins (LoadSymbolReloc rd reloc) = tt
-branch_begins (Trap code) = tt
-branch_begins (TrapIf mask code) = tt
-branch_begins Debugtrap = tt
-branch_begins (Vector v) = rows_begin (composite_rows v) 0
+branch_begins (I.JTSequence ridx other mask targets) = words_begin targets.items 0 _ (omega arith)
+branch_begins (I.Vector v) = rows_begin (composite_rows v) 0
 branch_begins i = tt
 
 -- ---- an instruction with a memory operand has no words of a table
@@ -217,8 +201,8 @@ operand_wordless form code m = either_wordless (is_relative m) _ _ (relative_wor
 
 helper_wordless : (i : Inst) → NoWords (helper_parts i)
 unfolding NoWords
-helper_wordless (Mov64SImm32 rd imm) = tt
-helper_wordless (LoadAddr rd mem) = operand_wordless (address_form rd) None mem
+helper_wordless (I.Mov64SImm32 rd imm) = tt
+helper_wordless (I.LoadAddr rd mem) = operand_wordless (address_form rd) None mem
 helper_wordless i = tt
 
 helpers_wordless : (is : List Inst) → NoWords (helpers_parts is)
@@ -251,11 +235,11 @@ memory_begins None others h = h
 memory_begins (Some x) others h = all_begin 0 (memory_parts x) (memory_wordless x)
 
 leaf_sound : (May : ℕ → Type 0) (i : Inst) (n after blocks constants : ℕ) → PartsName blocks constants (instruction_parts i) → ((l : ℕ) → l < blocks → May l) → ((c : ℕ) → c < constants → May (blocks + c)) → ((l : ℕ) → n ≤ l → l < n + instruction_fresh_labels i → May l) → May after → AllSound May blocks 0 (leaf_fragments n after i)
-leaf_sound May (Jump dest) n after blocks constants names may held drawn here = (tt, ((length-branch 15, may dest.0 names.0), tt))
-leaf_sound May (CondBr taken not_taken mask) n after blocks constants names may held drawn here =
+leaf_sound May (I.Jump dest) n after blocks constants names may held drawn here = (tt, ((length-branch 15, may dest.0 names.0), tt))
+leaf_sound May (I.CondBr taken not_taken mask) n after blocks constants names may held drawn here =
     (tt, ((length-branch mask, may taken.0 names.0), (tt, ((length-branch 15, may not_taken.0 names.1.0), tt))))
-leaf_sound May (CondBreak mask) n after blocks constants names may held drawn here = ((length-branch mask, here), tt)
-leaf_sound May (JTSequence ridx other mask targets) n after blocks constants names may held drawn here = (
+leaf_sound May (I.CondBreak mask) n after blocks constants names may held drawn here = ((length-branch mask, here), tt)
+leaf_sound May (I.JTSequence ridx other mask targets) n after blocks constants names may held drawn here = (
   tt,
   (
     (length-branch mask, may other.0 names.0),

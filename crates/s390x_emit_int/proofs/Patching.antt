@@ -6,6 +6,7 @@ use Rattle.s390x_buffer.specs.Patch.{patch, patch_size, set2, set4, word_from, h
 use Rattle.s390x_buffer.specs.declared.entries.LabelFixup.{LabelFixup}
 use Rattle.s390x_buffer.specs.declared.label_use.LabelUse.{LabelUse}
 use Rattle.s390x_buffer.specs.declared.label_use.LabelUse.TheVariants.{BranchRI, BranchRIL, PCRel32Dbl, PCRel32}
+use Rattle.s390x_buffer.proofs.Branching.{length-patch, length-patch_all}
 use Rattle.s390x_emit_int.specs.Fragments.{Fragment, apply, apply_all, Put, PutTrapping, PutReloc, Link, LinkConstant, StartStep, Draw, Bind, AddSite, RecordBranch}
 use Rattle.s390x_emit_int.specs.Resolve.{resolve, Wide, UsesWithin}
 
@@ -47,12 +48,6 @@ set2_right : (r bs : List ℕ) (o v : ℕ) → set2 (r ++ bs) (length r + o) v �
 set2_right r bs o v =
     ap (λ l. set l (length r + o + 1) (v % 256)) (set_right r bs (length r + o) o _ refl) ∙ set_right r _ (length r + o + 1) (o + 1) _ (omega arith)
 
-length-set2 : (bs : List ℕ) (o v : ℕ) → length (set2 bs o v) ≡ length bs
-length-set2 bs o v = simp (length-set)
-
-length-set4 : (bs : List ℕ) (o v : ℕ) → length (set4 bs o v) ≡ length bs
-length-set4 bs o v = simp (length-set)
-
 word_left : (bs x : List ℕ) (o : ℕ) → o + 4 ≤ length bs → word_from (bs ++ x) o ≡ word_from bs o
 word_left bs x o h =
     let e0 = get_or_append_left bs x 0 o (omega arith) in
@@ -69,12 +64,6 @@ word_right r bs =
     let e3 = get_or-append-add r bs 3 0 in
     cc
 
-pub length-patch : (k : LabelUse) (at place target : ℕ) (bs : List ℕ) → length (patch k at place target bs) ≡ length bs
-length-patch BranchRI at place target bs = length-set2 bs _ _
-length-patch BranchRIL at place target bs = length-set4 bs _ _
-length-patch PCRel32Dbl at place target bs = length-set4 bs _ _
-length-patch PCRel32 at place target bs = length-set4 bs _ _
-
 patch_left : (k : LabelUse) (at place target : ℕ) (bs x : List ℕ) → at + patch_size k ≤ length bs → patch k at place target (bs ++ x) ≡ patch k at place target bs ++ x
 patch_left BranchRI at place target bs x h = set2_left bs x (at + 2) _ (omega arith)
 patch_left BranchRIL at place target bs x h = set4_left bs x (at + 2) _ (omega arith)
@@ -90,10 +79,6 @@ patch_right PCRel32Dbl place target r bs =
 patch_right PCRel32 place target r bs =
     let z : length r ≡ length r + 0 = omega arith in
     ap (λ w. set4 (r ++ bs) (length r) ((w + distance_between place target) % 4294967296)) (word_right r bs) ∙ ap (λ o. set4 (r ++ bs) o ((word_from bs 0 + distance_between place target) % 4294967296)) z ∙ set4_right r bs 0 _
-
-pub length-patch_all : (off : ℕ → ℕ) (us : List LabelFixup) (bs : List ℕ) → length (patch_all off us bs) ≡ length bs
-length-patch_all off [] bs = refl
-length-patch_all off (u ∷ us) bs = length-patch_all off us (patch_use off u bs) ∙ length-patch u.kind u.offset u.offset (off u.label.0) bs
 
 pub all_left : (off : ℕ → ℕ) (us : List LabelFixup) (bs x : List ℕ) → UsesWithin (length bs) us → patch_all off us (bs ++ x) ≡ patch_all off us bs ++ x
 all_left off [] bs x w = refl

@@ -8,9 +8,9 @@ use Rattle.s390x_base.specs.declared.error.EmitError.{EmitError}
 use Rattle.s390x_inst.specs.declared.args.MemArg.{MemArg}
 use Rattle.s390x_inst.specs.declared.args.MemArg.TheVariants.{InitialSPOffset}
 use Rattle.s390x_inst.specs.declared.inst.Inst.{Inst}
-use Rattle.s390x_inst.specs.declared.inst.Inst.TheVariants.{AluRX, AtomicRmw, CondBr, JTSequence, CondBreak, TrapIf, AllocateArgs, Vector}
+use Rattle.s390x_inst.specs.declared.inst.Inst.TheVariants as I
 use Rattle.s390x_inst.specs.declared.vec_inst.VecInst.{VecInst}
-use Rattle.s390x_inst.specs.declared.vec_inst.VecInst.TheVariants.{VecLoadReplicate, VecLoadReplicateRev, VecLoadLane, VecLoadLaneRev, VecLoadLaneUndef, VecLoadLaneRevUndef, VecStoreLane, VecStoreLaneRev}
+use Rattle.s390x_inst.specs.declared.vec_inst.VecInst.TheVariants as V
 use Rattle.s390x_inst.specs.Facilities.{has_facility}
 use Rattle.s390x_inst.specs.declared.state.IsaFlags.{IsaFlags}
 use Rattle.s390x_typed_steps.specs.SingleInstruction.{SingleInstruction, single_instruction, stop_code}
@@ -31,37 +31,37 @@ use Rattle.s390x_emit_int.specs.Emission.{branch_fragments, branch_size, part_fr
 use Rattle.s390x_emit_int.proofs.VectorResolving.{vector_single, vector_stops, vector_facilities, composite_causes, composites, vector_memories}
 
 pub single_resolved : (e : Emission) (i : Inst) → single_instruction (resolved_instruction e i) ≡ single_instruction i
-single_resolved e (CondBreak mask) = refl
-single_resolved e (Vector v) = vector_single e v
+single_resolved e (I.CondBreak mask) = refl
+single_resolved e (I.Vector v) = vector_single e v
 single_resolved e i = refl
 
 pub stop_resolved : (e : Emission) (i : Inst) → stop_code (resolved_instruction e i) ≡ stop_code i
-stop_resolved e (CondBreak mask) = refl
-stop_resolved e (Vector v) = vector_stops e v
+stop_resolved e (I.CondBreak mask) = refl
+stop_resolved e (I.Vector v) = vector_stops e v
 stop_resolved e i = refl
 
 facility_resolved : (e : Emission) (i : Inst) → facility_of (resolved_instruction e i) ≡ facility_of i
-facility_resolved e (CondBreak mask) = refl
-facility_resolved e (Vector v) = vector_facilities e v
+facility_resolved e (I.CondBreak mask) = refl
+facility_resolved e (I.Vector v) = vector_facilities e v
 facility_resolved e i = refl
 
 pub branch_resolved : (e : Emission) (blocks depth : ℕ) (i : Inst) → branch_cause blocks depth (resolved_instruction e i) ≡ branch_cause blocks depth i
-branch_resolved e blocks depth (CondBreak mask) = refl
-branch_resolved e blocks depth (Vector v) = composite_causes e v
+branch_resolved e blocks depth (I.CondBreak mask) = refl
+branch_resolved e blocks depth (I.Vector v) = composite_causes e v
 branch_resolved e blocks depth i = refl
 
 pub fragments_resolved : (e : Emission) (n after : ℕ) (i : Inst) → branch_fragments n after (resolved_instruction e i) ≡ branch_fragments n after i
-fragments_resolved e n after (CondBreak mask) = refl
-fragments_resolved e n after (Vector v) = ap (λ (ms : List MachineInstruction). part_fragments (row_parts ms)) (composites e v)
+fragments_resolved e n after (I.CondBreak mask) = refl
+fragments_resolved e n after (I.Vector v) = ap (λ (ms : List MachineInstruction). part_fragments (row_parts ms)) (composites e v)
 fragments_resolved e n after i = refl
 
 pub fresh_labels_resolved : (e : Emission) (i : Inst) → instruction_fresh_labels (resolved_instruction e i) ≡ instruction_fresh_labels i
-fresh_labels_resolved e (CondBreak mask) = refl
+fresh_labels_resolved e (I.CondBreak mask) = refl
 fresh_labels_resolved e i = refl
 
 pub size_resolved : (e : Emission) (i : Inst) → branch_size (resolved_instruction e i) ≡ branch_size i
-size_resolved e (CondBreak mask) = refl
-size_resolved e (Vector v) = ap (λ (ms : List MachineInstruction). parts_size (row_parts ms)) (composites e v)
+size_resolved e (I.CondBreak mask) = refl
+size_resolved e (I.Vector v) = ap (λ (ms : List MachineInstruction). parts_size (row_parts ms)) (composites e v)
 size_resolved e i = refl
 
 operate_resolved : (e : Emission) (has : Bool) (rx rxy : Option ℕ) (rd ri : Reg) (mem : MemArg) → operate has rx rxy rd ri (resolved_operand e mem) ≡ option_map (in_state e) (operate has rx rxy rd ri mem)
@@ -73,9 +73,9 @@ atomic_resolved e None rd rn mem = refl
 atomic_resolved e (Some opcode) rd rn mem = refl
 
 pub memory_resolved : (e : Emission) (i : Inst) → memory (resolved_instruction e i) ≡ option_map (in_state e) (memory i)
-memory_resolved e (AluRX op rd ri mem) = operate_resolved e (is_some (alu_rx op) || is_some (alu_rxy op)) (alu_rx op) (alu_rxy op) rd ri mem
-memory_resolved e (AtomicRmw op rd rn mem) = atomic_resolved e (atomic_rsy op) rd rn mem
-memory_resolved e (Vector v) = vector_memories e v
+memory_resolved e (I.AluRX op rd ri mem) = operate_resolved e (is_some (alu_rx op) || is_some (alu_rxy op)) (alu_rx op) (alu_rxy op) rd ri mem
+memory_resolved e (I.AtomicRmw op rd rn mem) = atomic_resolved e (atomic_rsy op) rd rn mem
+memory_resolved e (I.Vector v) = vector_memories e v
 memory_resolved e i = refl
 
 -- the rows of an instruction with a memory operand are the same
@@ -99,10 +99,10 @@ lacks_resolved flags e i = ap (λ f. unless (has_facility flags f) MissingFacili
 
 rest_resolved : (flags : IsaFlags) (e : Emission) (D : Declared) (nominal depth : ℕ) (i : Inst) →
     first_emit_cause (facility_cause flags (resolved_instruction e i)) (first_emit_cause (stack_cause nominal depth i) (cause_or (single_instruction i) (memory_cause_or D (memory (resolved_instruction e i)) (branch_cause D.blocks depth i)))) ≡ instruction_cause flags D nominal depth (resolved_instruction e i)
-rest_resolved flags e D nominal depth (CondBreak mask) = refl
-rest_resolved flags e D nominal depth (Vector v) =
-    ap (λ o. first_emit_cause (facility_cause flags (resolved_instruction e (Vector v))) (cause_or o (memory_cause_or D (memory (resolved_instruction e (Vector v))) (branch_cause D.blocks depth (Vector v))))) (sym (single_resolved e (Vector v)))
-    ∙ ap (λ o. first_emit_cause (facility_cause flags (resolved_instruction e (Vector v))) (cause_or (single_instruction (resolved_instruction e (Vector v))) (memory_cause_or D (memory (resolved_instruction e (Vector v))) o))) (sym (branch_resolved e D.blocks depth (Vector v)))
+rest_resolved flags e D nominal depth (I.CondBreak mask) = refl
+rest_resolved flags e D nominal depth (I.Vector v) =
+    ap (λ o. first_emit_cause (facility_cause flags (resolved_instruction e (I.Vector v))) (cause_or o (memory_cause_or D (memory (resolved_instruction e (I.Vector v))) (branch_cause D.blocks depth (I.Vector v))))) (sym (single_resolved e (I.Vector v)))
+    ∙ ap (λ o. first_emit_cause (facility_cause flags (resolved_instruction e (I.Vector v))) (cause_or (single_instruction (resolved_instruction e (I.Vector v))) (memory_cause_or D (memory (resolved_instruction e (I.Vector v))) o))) (sym (branch_resolved e D.blocks depth (I.Vector v)))
 rest_resolved flags e D nominal depth i = refl
 
 -- the first cause by the parts that the code looks at
@@ -113,13 +113,13 @@ cause_resolved flags e D nominal depth i =
 
 -- a member without a cause has none by the stack sizes
 pub no_stack_cause : (flags : IsaFlags) (e : Emission) (D : Declared) (n nominal depth : ℕ) (i : Inst) → tree_cause flags D n nominal depth (member_of flags e i) ≡ None → stack_cause nominal depth i ≡ None
-no_stack_cause flags e D n nominal depth (AllocateArgs size) h = first_left _ _ (first_left _ _ (first_left _ _ h))
+no_stack_cause flags e D n nominal depth (I.AllocateArgs size) h = first_left _ _ (first_left _ _ (first_left _ _ h))
 no_stack_cause flags e D n nominal depth i h = refl
 
 -- ---- ranges
 
 pub mask_resolved : (e : Emission) (i : Inst) → MaskInRange i → MaskInRange (resolved_instruction e i)
-mask_resolved e (CondBreak mask) h = h
+mask_resolved e (I.CondBreak mask) h = h
 mask_resolved e i h = h
 
 -- whether there are both
@@ -133,23 +133,23 @@ unfolding have_both
 not_single None = refl
 not_single (Some x) = refl
 
-never_both_vector : (v : VecInst) → have_both (memory (Vector v)) (single_instruction (Vector v)) ≡ false
+never_both_vector : (v : VecInst) → have_both (memory (I.Vector v)) (single_instruction (I.Vector v)) ≡ false
 unfolding have_both
-never_both_vector (VecLoadReplicate size rd mem) = not_single (memory (Vector (VecLoadReplicate size rd mem)))
-never_both_vector (VecLoadReplicateRev size rd mem) = not_single (memory (Vector (VecLoadReplicateRev size rd mem)))
-never_both_vector (VecLoadLane size rd ri mem lane) = not_single (memory (Vector (VecLoadLane size rd ri mem lane)))
-never_both_vector (VecLoadLaneRev size rd ri mem lane) = not_single (memory (Vector (VecLoadLaneRev size rd ri mem lane)))
-never_both_vector (VecLoadLaneUndef size rd mem lane) = not_single (memory (Vector (VecLoadLaneUndef size rd mem lane)))
-never_both_vector (VecLoadLaneRevUndef size rd mem lane) = not_single (memory (Vector (VecLoadLaneRevUndef size rd mem lane)))
-never_both_vector (VecStoreLane size rd mem lane) = not_single (memory (Vector (VecStoreLane size rd mem lane)))
-never_both_vector (VecStoreLaneRev size rd mem lane) = not_single (memory (Vector (VecStoreLaneRev size rd mem lane)))
+never_both_vector (V.VecLoadReplicate size rd mem) = not_single (memory (I.Vector (V.VecLoadReplicate size rd mem)))
+never_both_vector (V.VecLoadReplicateRev size rd mem) = not_single (memory (I.Vector (V.VecLoadReplicateRev size rd mem)))
+never_both_vector (V.VecLoadLane size rd ri mem lane) = not_single (memory (I.Vector (V.VecLoadLane size rd ri mem lane)))
+never_both_vector (V.VecLoadLaneRev size rd ri mem lane) = not_single (memory (I.Vector (V.VecLoadLaneRev size rd ri mem lane)))
+never_both_vector (V.VecLoadLaneUndef size rd mem lane) = not_single (memory (I.Vector (V.VecLoadLaneUndef size rd mem lane)))
+never_both_vector (V.VecLoadLaneRevUndef size rd mem lane) = not_single (memory (I.Vector (V.VecLoadLaneRevUndef size rd mem lane)))
+never_both_vector (V.VecStoreLane size rd mem lane) = not_single (memory (I.Vector (V.VecStoreLane size rd mem lane)))
+never_both_vector (V.VecStoreLaneRev size rd mem lane) = not_single (memory (I.Vector (V.VecStoreLaneRev size rd mem lane)))
 never_both_vector v = refl
 
 never_both : (i : Inst) → have_both (memory i) (single_instruction i) ≡ false
 unfolding have_both
-never_both (AluRX op rd ri mem) = not_single (memory (AluRX op rd ri mem))
-never_both (AtomicRmw op rd rn mem) = not_single (memory (AtomicRmw op rd rn mem))
-never_both (Vector v) = never_both_vector v
+never_both (I.AluRX op rd ri mem) = not_single (memory (I.AluRX op rd ri mem))
+never_both (I.AtomicRmw op rd rn mem) = not_single (memory (I.AtomicRmw op rd rn mem))
+never_both (I.Vector v) = never_both_vector v
 never_both i = refl
 
 without_operand : (o : Option MemoryInstruction) (a : Option SingleInstruction) (x : SingleInstruction) → Some x ≡ a → have_both o a ≡ false → MemoryInRange o
@@ -162,10 +162,10 @@ single_memory : (i : Inst) (x : SingleInstruction) → Some x ≡ single_instruc
 single_memory i x e = without_operand (memory i) (single_instruction i) x e (never_both i)
 
 single_mask : (i : Inst) (x : SingleInstruction) → Some x ≡ single_instruction i → MaskInRange i
-single_mask (CondBr taken not_taken mask) x e = absurd (cc)
-single_mask (JTSequence ridx other mask targets) x e = absurd (cc)
-single_mask (CondBreak mask) x e = absurd (cc)
-single_mask (TrapIf mask code) x e = absurd (cc)
+single_mask (I.CondBr taken not_taken mask) x e = absurd (cc)
+single_mask (I.JTSequence ridx other mask targets) x e = absurd (cc)
+single_mask (I.CondBreak mask) x e = absurd (cc)
+single_mask (I.TrapIf mask code) x e = absurd (cc)
 single_mask i x e = tt
 
 -- an instruction that is one machine instruction on registers has no masks and no displacements
@@ -173,10 +173,10 @@ pub single_range : (i : Inst) (x : SingleInstruction) → Some x ≡ single_inst
 single_range i x e = (single_mask i x e, single_memory i x e)
 
 memory_mask : (i : Inst) (x : MemoryInstruction) → Some x ≡ memory i → MaskInRange i
-memory_mask (CondBr taken not_taken mask) x e = absurd (cc)
-memory_mask (JTSequence ridx other mask targets) x e = absurd (cc)
-memory_mask (CondBreak mask) x e = absurd (cc)
-memory_mask (TrapIf mask code) x e = absurd (cc)
+memory_mask (I.CondBr taken not_taken mask) x e = absurd (cc)
+memory_mask (I.JTSequence ridx other mask targets) x e = absurd (cc)
+memory_mask (I.CondBreak mask) x e = absurd (cc)
+memory_mask (I.TrapIf mask code) x e = absurd (cc)
 memory_mask i x e = tt
 
 of_memory : (o : Option MemoryInstruction) (x : MemoryInstruction) → o ≡ Some x → OperandInRange x.operand → MemoryInRange o

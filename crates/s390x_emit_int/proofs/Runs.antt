@@ -11,17 +11,14 @@ use Rattle.s390x_base.specs.declared.ir.MachLabel.{MachLabel}
 use Rattle.s390x_typed_steps.specs.Tree.{Tree, empty, leaf, loop_node, Whole, StepBody}
 use Rattle.s390x_typed_steps.specs.Sizes.{instruction_size, tree_size, body_size}
 use Rattle.s390x_typed_steps.specs.Causes.{instruction_fresh_labels, fresh_labels, body_fresh_labels}
-use Rattle.s390x_typed_steps.specs.MachineInstruction.{MachineInstruction, rr, ril_b, ril_c, rxy, bytes_of, size_of}
+use Rattle.s390x_typed_steps.specs.MachineInstruction.{rr, ril_b, ril_c, rxy, bytes_of, size_of}
 use Rattle.std.specs.Int.{w64, to_be_bytes}
 use Rattle.s390x_typed_steps.specs.Rows.{symbol_call, word_bytes}
 use Rattle.s390x_typed_steps.specs.Parts.{CodePart, Row, Trapping, Branch, Relative, RelativeConstant, RelativeSymbol, SymbolValue, TrapHere, TableWord, ToBlock, ToStep, table_words, table_parts, instruction_parts, part_size, parts_size, CallSymbol, SiteHere, step_parts}
 use Rattle.s390x_emit_int.specs.Fragments.{Fragment, FoldableBranch, AlwaysTaken, TakenWhere, apply, apply_all, Put, StartStep, Draw, Bind, RecordBranch}
 use Rattle.s390x_emit_int.specs.Emission.{branch, jump_fragments, where_fragments, choice_fragments, relative_fragment, table_word, part_fragment, part_fragments, table_rows, table_head, table_fragments, leaf_fragments, back_fragments, fragments, body_fragments}
 use Rattle.s390x_format.specs.Formats.{length_of}
-use Rattle.s390x_format.proofs.Encoding.{encode-length}
-
-pub length-bytes : (m : MachineInstruction) → length (bytes_of m) ≡ size_of m
-length-bytes m = encode-length m.format m.slots
+pub use Rattle.s390x_address.proofs.OnlyMemory.{length-bytes}
 
 pub size-branch : (mask half : ℕ) → size_of (ril_c opcodes.BRCL mask half) ≡ 6
 unfolding length_of

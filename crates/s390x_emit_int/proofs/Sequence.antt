@@ -1,6 +1,7 @@
 -- Steps one after another: what is left behind the first of them comes to what was left before it, and so on.
 use Rattle.std.proofs.Common.{◌≡◌, ℕ, ◌+◌, ◌-◌, ◌<◌, ◌≤◌, ◌⊎◌, inl, inr, min, Bool, true, false, ◌&&◌, List, [], ◌∷◌, ◌++◌, length, get_or, drop, drop-cons, suc, Option, None, Some, Result, Ok, Err, OnOk, IsErrAnd, MatchResult, refl, sym, ap, ◌∙◌, subst, arith}
 use Rattle.std.proofs.lemmas.List.{drop_all}
+use Rattle.std.proofs.lemmas.Bool.{and_parts}
 use Rattle.std.specs.Prelude.{ℤ}
 use Rattle.s390x_base.specs.declared.error.EmitError.{EmitError}
 use Rattle.s390x_base.specs.declared.error.EmitError.TheVariants.{NoMemory, BadRegister}
@@ -38,7 +39,7 @@ use Rattle.s390x_emit_int.specs.Sequence.{AllKeepNominal, Reaches, Emits, EmitsO
 use Rattle.s390x_emit_int.specs.CodeSize.{Adds, IsCounted, code_limit}
 use Rattle.s390x_emit_int.specs.declared.check.CodeSize.{CodeSize}
 use Rattle.s390x_emit_int.proofs.Bodies.{first_run, next_run, body_passed, body_room, rest_passed, started_passed, rest_cause, body_goes_on, leaves_append, loads_behind}
-use Rattle.s390x_emit_int.proofs.CallSites.{and_both, at_call, load_keeps, tail_part_size}
+use Rattle.s390x_emit_int.proofs.CallSites.{at_call, load_keeps, tail_part_size}
 use Rattle.s390x_emit_int.proofs.OnlyMemory.{only_memory_again, put_none}
 use Rattle.s390x_emit_int.proofs.Tables.{parts_turns}
 
@@ -340,9 +341,6 @@ jump_failed flags s s1 u after depth nominal dest r e e1 only_memory is kept = r
 
 -- ---- the check of calls
 
-pub call_refused : (flags : IsaFlags) (D : Declared) (t : CodeSize) (depth nominal : ℕ) (b : StepBody) (later : List StepBody) (e : EmitError) → body_cause flags D t.labels nominal depth b ≡ Some e → ChecksTree flags D t depth nominal (leaves (b ∷ later) empty) (Err e)
-call_refused flags D t depth nominal b later e some = inr (step_stops flags D t.labels depth nominal b (leaves later empty) e some)
-
 -- a body, steps behind it, and others
 pub steps_refused : (flags : IsaFlags) (D : Declared) (t r : CodeSize) (depth nominal m : ℕ) (first : StepBody) (a b : List StepBody) (result : Result CodeSize EmitError) (e : EmitError) → m ≡ body_nominal_after nominal first → IsErrAnd result (λ y. y ≡ e) → body_cause flags D t.labels nominal depth first ≡ None → Adds t r (body_fresh_labels first) (body_size first) →
     ((rest : Tree) → tree_cause flags D r.labels m depth (leaves a rest) ≡ Some e) → ChecksTree flags D t depth nominal (leaves (first ∷ (a ++ b)) empty) result
@@ -383,7 +381,7 @@ adds_none t counted = record { counted = counted; labels = omega arith; bytes = 
 pub opening_valid : (target : CallInstDest) (first : Option ℕ) (lost : Bool) → tail_cause target first lost ≡ None → is_target target ≡ true
 opening_valid target first lost none =
     let valid = unless_true (is_target target && is_first_saved first) BadRegister (first_left (unless (is_target target && is_first_saved first) BadRegister) _ none) in
-    (and_both (is_target target) (is_first_saved first) valid).0
+    (and_parts (is_target target) (is_first_saved first) valid).0
 
 pub opening_refused : (flags : IsaFlags) (D : Declared) (t : CodeSize) (depth nominal : ℕ) (target : CallInstDest) (first : Option ℕ) (lost : Bool) (later : List StepBody) (result : Result CodeSize EmitError) (e : EmitError) → IsErrAnd result (λ y. y ≡ e) → (e ≡ NoMemory) ⊎ (tail_cause target first lost ≡ Some e) →
     ChecksTree flags D t depth nominal (leaves (TailOpening target first lost ∷ later) empty) result

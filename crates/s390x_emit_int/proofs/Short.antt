@@ -1,5 +1,5 @@
 -- How many bytes an instruction has at most, and that emission fails by want of memory alone where no cause stands.
-use Rattle.std.proofs.Common.{ℕ, ◌*◌, ◌++◌, ◌&&◌, append-nil, length-append, ◌≡◌, ◌+◌, ◌≤◌, Bool, true, false, cond, nat_eq, nat_lt, List, [], ◌∷◌, Option, Some, None, length, refl, ap, ◌∙◌, arith, ltb-true, ◌<◌, ap₂, ◌⊎◌, inl, inr, sym, unwrap_or}
+use Rattle.std.proofs.Common.{ℕ, ◌*◌, ◌++◌, ◌&&◌, append-nil, length-append, ◌≡◌, ◌+◌, ◌≤◌, Bool, true, false, cond, nat_eq, nat_lt, List, [], ◌∷◌, Option, Some, None, length, refl, ap, ◌∙◌, arith, ltb-true, ◌<◌, ◌⊎◌, inl, inr, sym, unwrap_or}
 use Rattle.std.proofs.lemmas.Bool.{lt-ltb}
 use Rattle.s390x_base.specs.declared.trap.TrapKind.{TrapKind}
 use Rattle.s390x_base.specs.declared.error.EmitError.{EmitError}
@@ -10,13 +10,12 @@ use Rattle.s390x_inst.specs.declared.inst.Inst.{Inst}
 use Rattle.s390x_inst.specs.Emission.{Emission}
 use Rattle.s390x_inst.specs.declared.args.MemArg.{MemArg}
 use Rattle.s390x_inst.specs.declared.args.MemArg.TheVariants.{Label, RegOffset}
-use Rattle.s390x_inst.specs.declared.inst.Inst.TheVariants.{Loop', JTSequence, Mov64SImm32, LoadAddr, CondBreak, Jump, CondBr, IndirectBr, Ret, LabelAddress, LoadSymbolReloc, Trap, TrapIf, Debugtrap, Vector, Call, ReturnCall}
+use Rattle.s390x_inst.specs.declared.inst.Inst.TheVariants as I
 use Rattle.s390x_base.specs.Regs.{number_of}
 use Rattle.s390x_inst.specs.declared.vec_inst.VecInst.{VecInst}
 use Rattle.s390x_inst.specs.declared.vec_inst.VecInst.TheVariants.{VecEltRev, VecInt128SCmpHi, VecInt128UCmpHi}
 use Rattle.s390x_inst.specs.declared.state.IsaFlags.{IsaFlags}
-use Rattle.s390x_buffer.specs.State.{BufferState, Constant, limit}
-use Rattle.s390x_buffer.specs.Extends.{Extends}
+use Rattle.s390x_buffer.specs.State.{BufferState, limit}
 use Rattle.s390x_typed_steps.specs.SingleInstruction.{SingleInstruction, single_instruction, stop_code}
 use Rattle.s390x_typed_steps.specs.MachineInstruction.{MachineInstruction}
 use Rattle.s390x_typed_steps.specs.Memory.{StorageForm, RxForm, MemoryInstruction, accesses_relative, loaded_memory, memory, type_of, storage_row, address_form, fault_code}
@@ -27,7 +26,7 @@ use Rattle.s390x_typed_steps.specs.Parts.{CodePart, branch_parts, row_part, acce
 use Rattle.s390x_typed_steps.specs.Sizes.{body_size, instruction_size, tree_size}
 use Rattle.s390x_typed_steps.specs.Tree.{Tree, empty, leaf, Whole}
 use Rattle.s390x_typed_steps.specs.Baseline.{whole_or_loaded, body_for}
-use Rattle.s390x_typed_steps.specs.Causes.{Declared, first_emit_cause, unless, aligns_of, declared_in, tree_cause}
+use Rattle.s390x_typed_steps.specs.Causes.{Declared, first_emit_cause, unless, declared_in, tree_cause}
 use Rattle.s390x_typed_steps.proofs.Causes.{first_left, first_right, unless_true}
 use Rattle.s390x_address.proofs.OnlyMemory.{size_append}
 use Rattle.s390x_emit_int.specs.Fragments.{StartStep, apply, apply_all}
@@ -73,8 +72,8 @@ operand_few form code m = either_few (is_relative m) (relative_parts form code m
 
 helper_few : (i : Inst) → parts_size (helper_parts i) ≤ 6
 unfolding length_of
-helper_few (Mov64SImm32 rd imm) = omega arith
-helper_few (LoadAddr rd mem) = operand_few (address_form rd) None mem
+helper_few (I.Mov64SImm32 rd imm) = omega arith
+helper_few (I.LoadAddr rd mem) = operand_few (address_form rd) None mem
 helper_few i = omega arith
 
 helpers_few : (is : List Inst) → parts_size (helpers_parts is) ≤ 6 * length is
@@ -140,32 +139,23 @@ composite_few v = move_few (move_under v)
 
 branch_few : (i : Inst) → is_short i ≡ true → parts_size (branch_parts i) ≤ 44
 unfolding length_of
-branch_few (JTSequence ridx other mask targets) h = absurd (cc)
-branch_few (Jump dest) h = omega arith
-branch_few (CondBr taken not_taken mask) h = omega arith
-branch_few (IndirectBr rn targets) h = omega arith
-branch_few (Ret link) h = omega arith
-branch_few (LabelAddress dst label) h = omega arith
-branch_few (LoadSymbolReloc rd reloc) h = omega arith
-branch_few (Trap code) h = omega arith
-branch_few (TrapIf mask code) h = omega arith
-branch_few Debugtrap h = omega arith
-branch_few (Vector v) h = composite_few v
+branch_few (I.JTSequence ridx other mask targets) h = absurd (cc)
+branch_few (I.Vector v) h = composite_few v
 branch_few i h = omega arith
 
 instruction_few : (i : Inst) → is_short i ≡ true → instruction_size i ≤ 44
-instruction_few (CondBreak mask) h = omega arith
+instruction_few (I.CondBreak mask) h = omega arith
 instruction_few i h = few_or (single_instruction i) (stop_code i) (memory_or (memory i) (branch_parts i)) (memory_few_or (memory i) (branch_parts i) (branch_few i h))
 
 short_resolved : (state : Emission) (i : Inst) → is_short (resolved_instruction state i) ≡ is_short i
-short_resolved state (CondBreak mask) = refl
+short_resolved state (I.CondBreak mask) = refl
 short_resolved state i = refl
 
 -- an instruction that is no loop
 short_leaf : (flags : IsaFlags) (state : Emission) (i : Inst) → is_short i ≡ true → member_of flags state i ≡ leaf (body_for flags (Whole (resolved_instruction state i))) empty
-short_leaf flags state (Loop' mask body all) h = absurd (cc)
-short_leaf flags state (Call link info) h = absurd (cc)
-short_leaf flags state (ReturnCall info) h = absurd (cc)
+short_leaf flags state (I.Loop' mask body all) h = absurd (cc)
+short_leaf flags state (I.Call link info) h = absurd (cc)
+short_leaf flags state (I.ReturnCall info) h = absurd (cc)
 short_leaf flags state i h = refl
 
 -- a load of the address and an access have few bytes
@@ -240,13 +230,6 @@ emit_none flags state i s t n unpoisoned cause is end below =
     sym (counted_cause flags state state i s (declared_in s) (length s.labels) (length s.bytes) refl unpoisoned refl refl refl)
     ∙ ap (λ o. first_emit_cause o (unless (nat_lt (length s.bytes + tree_size step) limit) LabelOutOfRange)) cause
     ∙ ap (λ b. unless b LabelOutOfRange) (lt-ltb (length s.bytes + tree_size step) limit short)
-
-abbrev declared_by : ℕ → List Constant → Declared
-declared_by n cs = record { blocks = n; aligns = aligns_of cs }
-
--- what is declared stays
-pub declared_kept : (s t : BufferState) → Extends s t → declared_in t ≡ declared_in s
-declared_kept s t kept = ap₂ (λ n cs. declared_by n cs) kept.entries.block_count kept.entries.constants
 
 answered_by : (c d : Option EmitError) (error result : EmitError) → c ≡ d → (c ≡ None → error ≡ NoMemory) → result ≡ unwrap_or c error → (result ≡ NoMemory) ⊎ (d ≡ Some result)
 answered_by None d error result same only_memory is = inl (is ∙ only_memory refl)

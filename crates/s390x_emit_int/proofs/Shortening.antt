@@ -16,7 +16,7 @@ use Rattle.s390x_inst.specs.declared.calls.RetLocation.{RetLocation}
 use Rattle.s390x_inst.specs.declared.calls.RetLocation.TheVariants.{Stack}
 use Rattle.s390x_inst.specs.declared.calls.TryCallInfo.{TryCallInfo}
 use Rattle.s390x_inst.specs.declared.inst.Inst.{Inst}
-use Rattle.s390x_inst.specs.declared.inst.Inst.TheVariants.{Loop', Jump, CondBr, Call, ReturnCall}
+use Rattle.s390x_inst.specs.declared.inst.Inst.TheVariants as I
 use Rattle.s390x_inst.specs.declared.state.IsaFlags.{IsaFlags}
 use Rattle.s390x_typed_steps.specs.Baseline.{whole_or_loaded, tree_for}
 use Rattle.s390x_typed_steps.specs.Calls.{wholes, load_or, load_before, load_bodies, behind_call, result_bodies, continuation_bodies, calling, safepoint, jump_target, loses_target}
@@ -33,11 +33,11 @@ use Rattle.s390x_emit_int.specs.BlockEnds.{bytes_to, continuation_bytes, instruc
 use Rattle.s390x_emit_int.specs.Members.{member_of, block_members_of}
 
 -- there is a last step
-abbrev IsFull : Tree → Type 0
+abbrev pub IsFull : Tree → Type 0
 IsFull empty = ⊥
 IsFull t = Unit {0}
 
-folded_joined : (next : ℕ) (t u : Tree) → IsFull u → folded_members next (joined t u) ≡ joined t (folded_members next u)
+pub folded_joined : (next : ℕ) (t u : Tree) → IsFull u → folded_members next (joined t u) ≡ joined t (folded_members next u)
 folded_joined next empty u full = refl
 folded_joined next (leaf b empty) empty full = absurd full
 folded_joined next (leaf b empty) (leaf c rest) full = refl
@@ -55,13 +55,13 @@ takes_joined next n t u full h = omega (arith, ap tree_size (folded_joined next 
 
 -- ---- one instruction
 
-jump_takes : (next : ℕ) (dest : MachLabel) (t : Bool) → tree_size (leaf (body_with_remainder (cond t (Some NothingLeft) None) (Jump dest)) empty) + cond t 6 0 ≡ tree_size (leaf (Whole (Jump dest)) empty)
+jump_takes : (next : ℕ) (dest : MachLabel) (t : Bool) → tree_size (leaf (body_with_remainder (cond t (Some NothingLeft) None) (I.Jump dest)) empty) + cond t 6 0 ≡ tree_size (leaf (Whole (I.Jump dest)) empty)
 jump_takes next dest true = refl
 jump_takes next dest false = refl
 
 choice_takes : (taken not_taken : MachLabel) (mask : ℕ) (u t : Bool) →
-    tree_size (leaf (body_with_remainder (cond u (cond t (Some NothingLeft) (Some (BranchLeft mask taken.0))) (cond t (Some (BranchLeft (15 - mask) not_taken.0)) None)) (CondBr taken not_taken mask)) empty) + (cond t 6 0 + cond u 6 0)
-    ≡ tree_size (leaf (Whole (CondBr taken not_taken mask)) empty)
+    tree_size (leaf (body_with_remainder (cond u (cond t (Some NothingLeft) (Some (BranchLeft mask taken.0))) (cond t (Some (BranchLeft (15 - mask) not_taken.0)) None)) (I.CondBr taken not_taken mask)) empty) + (cond t 6 0 + cond u 6 0)
+    ≡ tree_size (leaf (Whole (I.CondBr taken not_taken mask)) empty)
 choice_takes taken not_taken mask true true = refl
 choice_takes taken not_taken mask true false = refl
 choice_takes taken not_taken mask false true = refl
@@ -110,8 +110,8 @@ call_takes next own None stay =
     let same = leaves_stay next (own ++ []) (stay_append next own [] stay tt) in
     omega (arith, ap tree_size same)
 call_takes next own (Some t) stay =
-    let jump = leaf (Whole (Jump t.continuation)) empty in
-    subst (λ u. Takes next (bytes_to (Some next) t.continuation.0) u) (sym (leaves_joined own (Whole (Jump t.continuation) ∷ [])))
+    let jump = leaf (Whole (I.Jump t.continuation)) empty in
+    subst (λ u. Takes next (bytes_to (Some next) t.continuation.0) u) (sym (leaves_joined own (Whole (I.Jump t.continuation) ∷ [])))
     (takes_joined next (bytes_to (Some next) t.continuation.0) (leaves own empty) jump tt (jump_takes next t.continuation (nat_eq t.continuation.0 next)))
 
 tail_stays : (next : ℕ) (e : Emission) (own : List StepBody) (last : StepBody) → fold next last ≡ last → Takes next 0 (leaves (own ++ last ∷ []) empty)
@@ -127,13 +127,13 @@ whole_takes flags next i stays = go (accesses_relative (memory i) && flags.no_re
     go true = omega arith
 
 member_takes : (flags : IsaFlags) (next : ℕ) (e : Emission) (i : Inst) → Takes next (instruction_bytes (Some next) i) (tree_for flags (prepend e i empty))
-member_takes flags next e (Loop' mask body all) = omega arith
-member_takes flags next e (Jump dest) = jump_takes next dest (nat_eq dest.0 next)
-member_takes flags next e (CondBr taken not_taken mask) = choice_takes taken not_taken mask (nat_eq not_taken.0 next) (nat_eq taken.0 next)
-member_takes flags next e (Call link info) =
+member_takes flags next e (I.Loop' mask body all) = omega arith
+member_takes flags next e (I.Jump dest) = jump_takes next dest (nat_eq dest.0 next)
+member_takes flags next e (I.CondBr taken not_taken mask) = choice_takes taken not_taken mask (nat_eq not_taken.0 next) (nat_eq taken.0 next)
+member_takes flags next e (I.Call link info) =
     subst (λ u. Takes next (continuation_bytes (Some next) info.try_call_info) u) (sym (call_steps flags e link info))
     (call_takes next (CallStep (calling e link info) ∷ result_bodies e info) info.try_call_info (refl, results_stay next e info))
-member_takes flags next e (ReturnCall info) =
+member_takes flags next e (I.ReturnCall info) =
     subst (λ u. Takes next 0 u) (sym (tail_steps flags e info.callee_pop_size info.dest))
     (tail_stays next e (TailOpening info.dest e.layout.first_saved_gpr (loses_target e.layout info.callee_pop_size info.dest) ∷ wholes e (epilogue e.layout info.callee_pop_size info.dest)) (TailJump (jump_target info.dest)) refl)
 member_takes flags next e i = whole_takes flags next (resolved_instruction e i) refl
@@ -141,9 +141,9 @@ member_takes flags next e i = whole_takes flags next (resolved_instruction e i) 
 -- ---- the members of a block
 
 full_member : (flags : IsaFlags) (e : Emission) (i : Inst) (rest : Tree) → IsFull (tree_for flags (prepend e i rest))
-full_member flags e (Loop' mask body all) rest = tt
-full_member flags e (Call link info) rest = tt
-full_member flags e (ReturnCall info) rest = tt
+full_member flags e (I.Loop' mask body all) rest = tt
+full_member flags e (I.Call link info) rest = tt
+full_member flags e (I.ReturnCall info) rest = tt
 full_member flags e i rest = tt
 
 block_takes : (flags : IsaFlags) (next : ℕ) (e : Emission) (is : List Inst) → Takes next (last_bytes (Some next) is) (block_members_of flags e is)
@@ -164,7 +164,7 @@ none_taken (i ∷ []) = go i
     continuation (Some t) = refl
 
     go : (i : Inst) → instruction_bytes None i ≡ 0
-    go (Call link info) = continuation info.try_call_info
+    go (I.Call link info) = continuation info.try_call_info
     go i = refl
 none_taken (i ∷ (j ∷ is)) = none_taken (j ∷ is)
 

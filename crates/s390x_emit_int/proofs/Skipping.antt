@@ -1,7 +1,6 @@
 -- A move under a condition: what its look-up found, its length, and the room for it.
 use Rattle.std.proofs.Common.{◌≡◌, ℕ, ◌+◌, ◌-◌, ◌/◌, Bool, true, false, cond, ◌&&◌, [], ◌∷◌, Option, None, Some, refl, sym, ap, ◌∙◌, nat_lt, arith}
 use Rattle.s390x_base.specs.Regs.{number_of}
-use Rattle.s390x_base.specs.declared.error.EmitError.TheVariants.{BadRegister}
 use Rattle.s390x_buffer.specs.State.{BufferState, put_cause}
 use Rattle.s390x_format.specs.Formats.{length_of}
 use Rattle.s390x_inst.specs.declared.vec_inst.VecInst.{VecInst}
@@ -18,6 +17,7 @@ use Rattle.s390x_emit_int.specs.Emission.{part_fragments}
 use Rattle.s390x_emit_int.specs.Skips.{is_short_move}
 use Rattle.s390x_emit_int.proofs.OnlyMemory.{put_none, put_parts}
 use Rattle.s390x_emit_int.proofs.Symbols.{room_behind}
+use Rattle.s390x_emit_int.proofs.Composing.{valid_of}
 
 -- what was found is a move
 pub record Found (x : MoveUnder) (o : Option Move) : Type 0 where
@@ -30,16 +30,8 @@ pub found_move : (x : MoveUnder) (o : Option Move) → IsMoveUnder (Some x) o �
 found_move x None h = absurd h
 found_move x (Some y) h = record { move = y; is = refl; mask = h.0; code = h.1 }
 
-pub no_move : (o : Option Move) → IsMoveUnder None o → o ≡ None
-no_move None h = refl
-no_move (Some y) h = absurd h
-
-passed : (t : Bool) → cond t None (Some BadRegister) ≡ None → t ≡ true
-passed true h = refl
-passed false h = absurd (cc)
-
 pub valid_found : (x : MoveUnder) (o : Option Move) (f : Found x o) → cause_under o ≡ None → f.move.operands_valid ≡ true
-valid_found x o f h = passed f.move.operands_valid (sym (ap cause_under f.is) ∙ h)
+valid_found x o f h = valid_of f.move.operands_valid (sym (ap cause_under f.is) ∙ h)
 
 -- ---- its length
 

@@ -1,5 +1,5 @@
 -- Where emission's fragments leave the offsets of steps, and what they leave as it was.
-use Rattle.std.proofs.Common.{◌≡◌, ℕ, ◌+◌, List, [], ◌∷◌, ◌++◌, length, refl, sym, ap, ◌∙◌, append-nil}
+use Rattle.std.proofs.Common.{◌≡◌, ℕ, ◌+◌, List, [], ◌∷◌, ◌++◌, length, refl, sym, ap, append-nil}
 use Rattle.s390x_buffer.specs.State.{BufferState}
 use Rattle.s390x_inst.specs.declared.inst.Inst.{Inst}
 use Rattle.s390x_inst.specs.declared.inst.Inst.TheVariants.{CondBreak, JTSequence}
@@ -7,7 +7,6 @@ use Rattle.s390x_typed_steps.specs.Tree.{Tree, Whole, StepBody}
 use Rattle.s390x_typed_steps.specs.Steps.{Step as TypedStep, step_of, steps_from}
 use Rattle.s390x_typed_steps.specs.Parts.{CodePart, Branch, Relative, TableWord, ToBlock, ToStep, table_words, instruction_parts, step_parts}
 use Rattle.s390x_typed_steps.specs.Image.{step_offsets}
-use Rattle.s390x_typed_steps.specs.Causes.{declared_in}
 use Rattle.s390x_emit_int.specs.Fragments.{Fragment, Put, PutTrapping, PutReloc, Link, LinkConstant, StartStep, Draw, Bind, apply, apply_all, AddSite, RecordBranch}
 use Rattle.s390x_emit_int.specs.Emission.{part_fragment, part_fragments, leaf_fragments, fragments, body_fragments, function_fragments}
 use Rattle.s390x_emit_int.specs.Bound.{StepsFollow}
@@ -78,20 +77,3 @@ same_run (Draw ∷ ps) s = let r = same_run ps (apply s Draw) in record { block_
 same_run (Bind l ∷ ps) s = let r = same_run ps (apply s (Bind l)) in record { block_count = r.block_count; constants = r.constants; is_poisoned = r.is_poisoned }
 same_run (AddSite site ∷ ps) s = let r = same_run ps (apply s (AddSite site)) in record { block_count = r.block_count; constants = r.constants; is_poisoned = r.is_poisoned }
 same_run (RecordBranch noted ∷ ps) s = let r = same_run ps (apply s (RecordBranch noted)) in record { block_count = r.block_count; constants = r.constants; is_poisoned = r.is_poisoned }
-
--- what instructions may name stays the same
-declared_applied : (x : Fragment) (s : BufferState) → declared_in (apply s x) ≡ declared_in s
-declared_applied (Put bs) s = refl
-declared_applied (PutReloc bs byte kind name addend) s = refl
-declared_applied (PutTrapping bs byte code) s = refl
-declared_applied (Link k l bs) s = refl
-declared_applied (LinkConstant c bs) s = refl
-declared_applied StartStep s = refl
-declared_applied Draw s = refl
-declared_applied (Bind l) s = refl
-declared_applied (AddSite site) s = refl
-declared_applied (RecordBranch noted) s = refl
-
-pub declared_run : (ps : List Fragment) (s : BufferState) → declared_in (apply_all s ps) ≡ declared_in s
-declared_run [] s = refl
-declared_run (x ∷ ps) s = declared_run ps (apply s x) ∙ declared_applied x s

@@ -1,15 +1,13 @@
 -- Emitting a jump by a table.
-use Rattle.std.proofs.Common.{◌≡◌, ℕ, suc, ◌+◌, ◌*◌, ◌<◌, ◌≤◌, List, [], ◌∷◌, ◌++◌, length, get_or, drop, drop-cons, None, refl, sym, ap, ◌∙◌, subst, arith, nat_lt, ltb-true, length-append, not, ◌&&◌, true, Vec, Global}
+use Rattle.std.proofs.Common.{◌≡◌, ℕ, suc, ◌+◌, ◌*◌, ◌<◌, ◌≤◌, List, [], ◌∷◌, length, get_or, drop, drop-cons, None, refl, sym, ap, ◌∙◌, subst, arith, nat_lt, ltb-true, length-append, not, ◌&&◌, true, Vec, Global}
 use Rattle.std.proofs.lemmas.Bool.{and_parts}
-use Rattle.std.proofs.lemmas.List.{drop_all}
-use Rattle.std.proofs.Math.Seq.{get_or-append_seam}
 use Rattle.s390x_base.specs.declared.error.EmitError.TheVariants.{BadRegister, ScratchConflict, UnboundLabel, LabelOutOfRange}
 use Rattle.s390x_base.specs.declared.ir.MachLabel.{MachLabel}
 use Rattle.s390x_base.specs.declared.regs.Reg.{Reg}
 use Rattle.s390x_base.specs.Regs.{number_of}
 use Rattle.s390x_inst.specs.declared.inst.Inst.{Inst}
 use Rattle.s390x_inst.specs.declared.inst.Inst.TheVariants.{JTSequence}
-use Rattle.s390x_buffer.specs.State.{BufferState, put_cause, draw_cause, label_cause, IsNoConstant}
+use Rattle.s390x_buffer.specs.State.{BufferState, put_cause, draw_cause}
 use Rattle.s390x_format.specs.Formats.{length_of}
 use Rattle.s390x_rows.specs.declared.opcodes.TheConstants as opcodes
 use Rattle.s390x_typed_steps.specs.MachineInstruction.{rxy}
@@ -18,10 +16,10 @@ use Rattle.s390x_typed_steps.specs.Causes.{unless, target_label_cause as block_c
 use Rattle.s390x_typed_steps.specs.General.{is_general, is_nonzero, is_scratch}
 use Rattle.s390x_typed_steps.proofs.Causes.{first_left, first_right, unless_true}
 use Rattle.s390x_emit_int.specs.Fragments.{Draw, Bind, apply, apply_all}
-use Rattle.s390x_emit_int.specs.Emission.{branch_size, branch, table_word, table_rows, table_fragments, part_fragments}
-use Rattle.s390x_emit_int.specs.Room.{HasRoom, FitsWithoutCause, MembersFit}
-use Rattle.s390x_emit_int.proofs.OnlyMemory.{put_none, draw_none, label_none}
-use Rattle.s390x_emit_int.proofs.Passing.{Turns, draw_turns, bind_turns, branch_turns, turns_on}
+use Rattle.s390x_emit_int.specs.Emission.{branch_size, branch, table_word, table_rows, part_fragments}
+use Rattle.s390x_emit_int.specs.Room.{FitsWithoutCause, MembersFit}
+use Rattle.s390x_emit_int.proofs.OnlyMemory.{put_none, draw_none}
+use Rattle.s390x_emit_int.proofs.Passing.{Turns, bind_turns, branch_turns, turns_on}
 use Rattle.s390x_emit_int.proofs.Runs.{parts_grow, table_size, begun_grows}
 use Rattle.s390x_emit_int.proofs.Starts.{same_run}
 
@@ -94,10 +92,6 @@ words_more ls k before v d s s1 r lt at place e h =
     ∙ ap (λ l. apply_all s (part_fragments (table_words (4 * k) l))) (sym (split_at ls k v d lt at))
     ∙ h
 
--- where no word is left
-pub words_done : (ls : List MachLabel) (k : ℕ) (s r : BufferState) → length ls ≤ k → apply_all s (part_fragments (table_words (4 * k) (drop k ls))) ≡ r → s ≡ r
-words_done ls k s r le h = ap (λ l. apply_all s (part_fragments (table_words (4 * k) l))) (sym (drop_all k ls le)) ∙ h
-
 word_turns : (s t : BufferState) (before l : ℕ) → t ≡ apply s (table_word before l) → Turns s t 0 4
 word_turns s t before l e = record { unpoisoned = ap (λ x. x.is_poisoned) e; blocks = ap (λ x. x.block_count) e; constants = ap (λ x. x.constants) e; labels = omega (arith, ap (λ x. length x.labels) e); bytes = ap (λ x. length x.bytes) e ∙ length-append s.bytes _ }
 
@@ -147,39 +141,12 @@ table_passed s after index other targets p numbers =
       listed = first_right (block_cause s.block_count other) _ named;
     }
 
--- behind the drawn label
-pub rows_passed : (s sa : BufferState) (after table : ℕ) (index : Reg) (other : MachLabel) (targets : List MachLabel) → FitsWithoutCause s after (20 + 4 * length targets) (table_cause s.block_count index other targets) → TablePassed s index other targets → sa ≡ apply s Draw → table ≡ length s.labels → FitsWithoutCause sa other.0 20 None × (table < length sa.labels)
-rows_passed s sa after table index other targets p t ea at =
-    let u = draw_turns s sa ea in
-    (record { unpoisoned = u.unpoisoned ∙ p.unpoisoned; blocks = omega (arith, u.blocks, u.labels, p.blocks); label = omega (arith, u.labels, t.known, p.blocks); short = omega (arith, u.bytes, p.short); passed = refl }, omega (arith, u.labels, at))
-
 rows_turns : (s sa sb : BufferState) (table index mask other : ℕ) → sa ≡ apply s Draw → sb ≡ apply_all sa (table_rows table index mask other) → Turns s sb 1 20
 rows_turns s sa sb table index mask other ea eb =
     let e : sb ≡ apply_all s (Draw ∷ table_rows table index mask other) = eb ∙ ap (λ x. apply_all x (table_rows table index mask other)) ea in
     let g = begun_grows s table index mask other in
     let same = same_run (Draw ∷ table_rows table index mask other) s in
     record { unpoisoned = ap (λ x. x.is_poisoned) e ∙ same.is_poisoned; blocks = ap (λ x. x.block_count) e ∙ same.block_count; constants = ap (λ x. x.constants) e ∙ same.constants; labels = ap (λ x. length x.labels) e ∙ g.labels; bytes = ap (λ x. length x.bytes) e ∙ g.bytes }
-
--- the drawn label can be bound
-pub binds : (s sa sb : BufferState) (after table i mask : ℕ) (index : Reg) (other : MachLabel) (targets : List MachLabel) → FitsWithoutCause s after (20 + 4 * length targets) (table_cause s.block_count index other targets) → sa ≡ apply s Draw → table ≡ length s.labels → sb ≡ apply_all sa (table_rows table i mask other.0) → label_cause sb table ≡ None
-binds s sa sb after table i mask index other targets p ea at eb =
-    let u = rows_turns s sa sb table i mask other.0 ea eb in
-    label_none sb table (u.unpoisoned ∙ p.unpoisoned) (omega (arith, u.labels, at))
-
-pub label_free : (s sa sb : BufferState) (table i mask other : ℕ) → sa ≡ apply s Draw → table ≡ length s.labels → sb ≡ apply_all sa (table_rows table i mask other) → get_or sb.labels table None ≡ None
-label_free s sa sb table i mask other ea at eb =
-    ap (λ x. get_or x.labels table None) (eb ∙ ap (λ x. apply_all x (table_rows table i mask other)) ea) ∙ ap (λ n. get_or (s.labels ++ None ∷ []) n None) at ∙ free (length s.labels) refl
-  where
-    free : (n : ℕ) → n ≡ length s.labels → get_or (s.labels ++ None ∷ []) n None ≡ None
-    free n e = ap (λ m. get_or (s.labels ++ None ∷ []) m None) e ∙ get_or-append_seam s.labels None [] None
-
-pub label_is_drawn : (s sa sb : BufferState) (table i mask other : ℕ) → HasRoom s → sa ≡ apply s Draw → table ≡ length s.labels → sb ≡ apply_all sa (table_rows table i mask other) → IsNoConstant sb table
-label_is_drawn s sa sb table i mask other room ea at eb =
-    let same = same_run (Draw ∷ table_rows table i mask other) s in
-    let e : sb ≡ apply_all s (Draw ∷ table_rows table i mask other) = eb ∙ ap (λ x. apply_all x (table_rows table i mask other)) ea in
-    let blocks : sb.block_count ≡ s.block_count = ap (λ x. x.block_count) e ∙ same.block_count in
-    let constants : length sb.constants ≡ length s.constants = ap (λ x. length x.constants) e ∙ ap length same.constants in
-    λ lo. omega (arith, room, at, blocks, constants)
 
 -- behind the bound label
 pub words_begin_passed : (s sa sb sc : BufferState) (after table i mask : ℕ) (index : Reg) (other : MachLabel) (targets : List MachLabel) → FitsWithoutCause s after (20 + 4 * length targets) (table_cause s.block_count index other targets) → TablePassed s index other targets → sa ≡ apply s Draw → sb ≡ apply_all sa (table_rows table i mask other.0) → sc ≡ apply sb (Bind table) → WordsPassed sc after targets
@@ -192,12 +159,6 @@ words_begin_passed s sa sb sc after table i mask index other targets p t ea eb e
       short = omega (arith, u.bytes, p.short);
       passed = ap (λ b. labels_cause b targets) u.blocks ∙ t.listed;
     }
-
-pub table_is : (s sa sb sc r : BufferState) (table i mask other : ℕ) (targets : List MachLabel) → sa ≡ apply s Draw → table ≡ length s.labels → sb ≡ apply_all sa (table_rows table i mask other) → sc ≡ apply sb (Bind table) → r ≡ apply_all sc (part_fragments (table_words 0 targets)) → r ≡ apply_all s (table_fragments (length s.labels) i mask other targets)
-table_is s sa sb sc r table i mask other targets ea at eb ec er =
-    er
-    ∙ ap (λ x. apply_all x (part_fragments (table_words 0 targets))) (ec ∙ ap (λ x. apply x (Bind table)) (eb ∙ ap (λ x. apply_all x (table_rows table i mask other)) ea))
-    ∙ ap (λ n. apply_all s (table_fragments n i mask other targets)) at
 
 -- the other block is there
 known_block : (blocks : ℕ) (index : Reg) (other : MachLabel) (targets : List MachLabel) → table_cause blocks index other targets ≡ None → other.0 < blocks

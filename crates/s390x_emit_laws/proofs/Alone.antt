@@ -53,12 +53,7 @@ labels_alike (RecordBranch branch ∷ ps) s starts branches = labels_alike ps s 
 body_alike : (flags : IsaFlags) (D : Declared) (n nominal : ℕ) (b : StepBody) → body_cause flags D n nominal 0 b ≡ None → (e f : ℕ) → step_of e b ≡ step_of f b
 body_alike flags D n nominal (Whole (CondBreak mask)) valid e f = absurd (cc)
 body_alike flags D n nominal (Whole i) valid e f = refl
-body_alike flags D n nominal (Folded r i) valid e f = refl
-body_alike flags D n nominal (Loaded i) valid e f = refl
-body_alike flags D n nominal (CallStep c) valid e f = refl
-body_alike flags D n nominal NoLoad valid e f = refl
-body_alike flags D n nominal (TailOpening target first_saved is_lost) valid e f = refl
-body_alike flags D n nominal (TailJump target) valid e f = refl
+body_alike flags D n nominal b valid e f = refl
 
 steps_alike : (flags : IsaFlags) (D : Declared) (n nominal : ℕ) (t : Tree) → tree_cause flags D n nominal 0 t ≡ None → (k e f : ℕ) → steps_of k e t ≡ steps_of k f t
 steps_alike flags D n nominal empty valid k e f = refl
@@ -83,8 +78,6 @@ module _ (P Q : Offsets) (place bound count constants : ℕ) (steps : (j : ℕ) 
   word_moved q before x y e = ap (table_distance (place + q) before) e ∙ omega arith
 
   part_moved : (part : CodePart) (q : ℕ) → PartNames count constants part → part_bytes P (place + q) part ≡ part_bytes Q q part
-  part_moved (Row m) q names = refl
-  part_moved (Trapping m byte c) q names = refl
   part_moved (Branch mask (ToBlock b)) q names = ap (λ h. bytes_of (ril_c opcodes.BRCL mask h)) (half_moved q (P.block b) (Q.block b) (blocks b names))
   part_moved (Branch mask (ToStep k)) q names = absurd names
   part_moved (Relative opcode register (ToBlock b)) q names = ap (λ h. bytes_of (ril_b opcode register h)) (half_moved q (P.block b) (Q.block b) (blocks b names))
@@ -92,11 +85,10 @@ module _ (P Q : Offsets) (place bound count constants : ℕ) (steps : (j : ℕ) 
   part_moved (RelativeConstant opcode register c) q names = ap (λ h. bytes_of (ril_b opcode register h)) (half_moved q (P.environment.constant c) (Q.environment.constant c) (stand c names))
   part_moved (RelativeSymbol opcode register name offset) q names = ap (λ h. bytes_of (ril_b opcode register h)) (distances q name offset)
   part_moved (SymbolValue name offset) q names = ap (λ v. to_be_bytes w64 v) (values name offset)
-  part_moved (TrapHere c) q names = refl
   part_moved (TableWord before (ToBlock b)) q names = ap word_bytes (word_moved q before (P.block b) (Q.block b) (blocks b names))
   part_moved (TableWord before (ToStep k)) q names = absurd names
   part_moved (CallSymbol link name) q names = ap (λ h. bytes_of (symbol_call link h)) (distances q name (pos 0))
-  part_moved (SiteHere site) q names = refl
+  part_moved part q names = refl
 
   parts_moved : (parts : List CodePart) (q : ℕ) → PartsName count constants parts → parts_bytes P (place + q) parts ≡ parts_bytes Q q parts
   parts_moved [] q names = refl

@@ -2,6 +2,7 @@
 use Rattle.std.proofs.Common.{◌≡◌, ℕ, ◌+◌, ◌≤◌, ◌%◌, [], ◌∷◌, ◌++◌, length, Some, refl, sym, ap, ◌∙◌, arith, append-nil, append_assoc, slice_get}
 use Rattle.std.proofs.lemmas.Option.{slice_get_within}
 use Rattle.s390x_buffer.specs.State.{BufferState}
+use Rattle.s390x_buffer.proofs.Branching.{length-patch_all}
 use Rattle.s390x_inst.specs.Emission.{Emission}
 use Rattle.s390x_inst.specs.declared.inst.Inst.{Inst}
 use Rattle.s390x_inst.specs.declared.state.IsaFlags.{IsaFlags}
@@ -21,7 +22,6 @@ use Rattle.s390x_emit_int.specs.Bound.{StepsFollow}
 use Rattle.s390x_emit_int.specs.Emission.{fragments, own_fragments}
 use Rattle.s390x_emit_int.specs.Members.{member_of}
 use Rattle.s390x_emit_int.proofs.Functions.{place_follows, place_zero}
-use Rattle.s390x_emit_int.proofs.Patching.{length-patch_all}
 use Rattle.s390x_emit_int.proofs.Recording.{function_recorded, recorded, traps_run}
 use Rattle.s390x_emit_int.proofs.Trees.{member_begins}
 use Rattle.s390x_emit_laws.specs.Alone.{IsAppended, alone, emitted_buffer, patched_bytes}

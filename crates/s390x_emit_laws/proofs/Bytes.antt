@@ -61,33 +61,20 @@ relative_some register rx_opcode rxy_opcode opcode code (Symbol name offset flag
 relative_some register rx_opcode rxy_opcode opcode code _ is e = absurd (cc)
 
 short_some : (form : StorageForm) (accesses : Bool) (code : Option TrapKind) (base index : _) (disp : ℕ) (flags : _) → (type_of form accesses).have_d12 ≡ true → None_of (operand_parts form code (BXD12 base index disp flags)) → ⊥
-short_some (RxForm r (Some opcode) rxy_opcode ril_opcode) accesses code base index disp flags has e = access_some _ code e
 short_some (RxForm r None rxy_opcode ril_opcode) accesses code base index disp flags has e = absurd (cc)
-short_some (RsForm r s (Some opcode) rsy_opcode) accesses code base index disp flags has e = access_some _ code e
 short_some (RsForm r s None rsy_opcode) accesses code base index disp flags has e = absurd (cc)
-short_some (SiForm imm si_opcode siy_opcode) accesses code base index disp flags has e = access_some _ code e
-short_some (SilForm bits sil_opcode) accesses code base index disp flags has e = access_some _ code e
-short_some (VrxForm r vrx_opcode mask) accesses code base index disp flags has e = access_some _ code e
-short_some (FloatForm r rx_opcode rxy_opcode) accesses code base index disp flags has e = access_some _ code e
+short_some form accesses code base index disp flags has e = access_some _ code e
 
 long_some : (form : StorageForm) (accesses : Bool) (code : Option TrapKind) (base index : _) (disp : _) (flags : _) → (type_of form accesses).have_d20 ≡ true → None_of (operand_parts form code (BXD20 base index disp flags)) → ⊥
-long_some (RxForm r rx_opcode (Some opcode) ril_opcode) accesses code base index disp flags has e = access_some _ code e
 long_some (RxForm r rx_opcode None ril_opcode) accesses code base index disp flags has e = absurd (cc)
-long_some (RsForm r s rs_opcode (Some opcode)) accesses code base index disp flags has e = access_some _ code e
 long_some (RsForm r s rs_opcode None) accesses code base index disp flags has e = absurd (cc)
-long_some (SiForm imm si_opcode siy_opcode) accesses code base index disp flags has e = access_some _ code e
 long_some (SilForm bits sil_opcode) accesses code base index disp flags has e = absurd (cc)
 long_some (VrxForm r vrx_opcode mask) accesses code base index disp flags has e = absurd (cc)
-long_some (FloatForm r rx_opcode rxy_opcode) accesses code base index disp flags has e = access_some _ code e
+long_some form accesses code base index disp flags has e = access_some _ code e
 
 place_some : (form : StorageForm) (accesses : Bool) (code : Option TrapKind) (m : MemArg) → (type_of form accesses).have_pcrel ≡ true → is_relative m ≡ true → None_of (operand_parts form code m) → ⊥
 place_some (RxForm r rx_opcode rxy_opcode (Some opcode)) accesses code m has is e = relative_some r rx_opcode rxy_opcode opcode code m is e
-place_some (RxForm r rx_opcode rxy_opcode None) accesses code m has is e = absurd (cc)
-place_some (RsForm r s rs_opcode rsy_opcode) accesses code m has is e = absurd (cc)
-place_some (SiForm imm si_opcode siy_opcode) accesses code m has is e = absurd (cc)
-place_some (SilForm bits sil_opcode) accesses code m has is e = absurd (cc)
-place_some (VrxForm r vrx_opcode mask) accesses code m has is e = absurd (cc)
-place_some (FloatForm r rx_opcode rxy_opcode) accesses code m has is e = absurd (cc)
+place_some form accesses code m has is e = absurd (cc)
 
 operand_some : (form : StorageForm) (accesses : Bool) (code : Option TrapKind) (m : MemArg) → TakesOperand (type_of form accesses) m → None_of (operand_parts form code m) → ⊥
 operand_some form accesses code (BXD12 base index disp flags) takes e = short_some form accesses code base index disp flags takes.0 e

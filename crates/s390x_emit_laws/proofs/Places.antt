@@ -1,7 +1,6 @@
 -- The branches of placed code lead where its layout says.
-use Rattle.std.proofs.Common.{◌≡◌, ℕ, suc, ◌+◌, ◌-◌, ◌*◌, ◌%◌, ◌^◌, ◌<◌, ◌≤◌, inl, inr, [], ◌∷◌, List, length, Some, None, false, cond, if◌then◌else◌, refl, sym, ap, ◌∙◌, subst, arith, slice_get}
-use Rattle.std.specs.Prelude.{nat_lt}
-use Rattle.std.proofs.lemmas.Bool.{lt-ltb}
+use Rattle.std.proofs.Common.{◌≡◌, ℕ, suc, ◌+◌, ◌-◌, ◌*◌, ◌%◌, ◌^◌, ◌<◌, ◌≤◌, inl, inr, [], ◌∷◌, List, length, Some, None, cond, if◌then◌else◌, refl, sym, ap, ◌∙◌, subst, arith, slice_get}
+use Rattle.std.proofs.lemmas.Bool.{lt-ltb, le-ltb}
 use Rattle.s390x_base.specs.Regs.{number_of}
 use Rattle.s390x_base.specs.declared.ir.MachLabel.{MachLabel}
 use Rattle.s390x_inst.specs.declared.inst.Inst.{Inst}
@@ -58,13 +57,10 @@ extended_low w lt =
     let e : w % 4294967296 ≡ w = omega arith in
     ap (λ b. cond b (w % 4294967296) (w % 4294967296 + 18446744069414584320)) (lt-ltb (w % 4294967296) 2147483648 (omega arith)) ∙ e
 
-not_below : (x n : ℕ) → n ≤ x → nat_lt x n ≡ false
-not_below x n le = grind arith
-
 extended_high : (w : ℕ) → 2 ^ 31 ≤ w → w < 2 ^ 32 → extended_bits Signed Bits32 Doubleword w ≡ w + 18446744069414584320
 extended_high w ge lt =
     let e : w % 4294967296 ≡ w = omega arith in
-    ap (λ b. cond b (w % 4294967296) (w % 4294967296 + 18446744069414584320)) (not_below (w % 4294967296) 2147483648 (omega arith)) ∙ ap (λ n. n + 18446744069414584320) e
+    ap (λ b. cond b (w % 4294967296) (w % 4294967296 + 18446744069414584320)) (le-ltb (w % 4294967296) 2147483648 (omega arith)) ∙ ap (λ n. n + 18446744069414584320) e
 
 -- the address of a table plus a word of it is the target's
 pub reaches : (base table j target : ℕ) → table + j < 2 ^ 31 → target < 2 ^ 31 → wrapping_add64 (wrapping_add64 base table) (extended_bits Signed Bits32 Doubleword (table_distance (table + j) j target)) ≡ wrapping_add64 base target
@@ -140,14 +136,9 @@ step_leads (Plain (JTSequence ridx other mask targets)) x valid right =
 step_leads (Plain i) x valid right = tt
 step_leads (Shortened NothingLeft i) x valid right = tt
 step_leads (Shortened (BranchLeft mask b) i) x valid right = left_leads mask b i x valid right
-step_leads (LoadedStep i) x valid right = tt
-step_leads Opening x valid right = tt
 step_leads (Back mask target) x valid right = to_step x mask target refl (small_mask mask valid.0) valid.1
 step_leads (Break mask target) x valid right = to_step x mask target refl (small_mask mask valid.0) valid.1
-step_leads (CallingStep c) x valid right = tt
-step_leads NoLoadStep x valid right = tt
-step_leads (TailOpeningStep target first_saved is_lost) x valid right = tt
-step_leads (TailJumpStep target) x valid right = tt
+step_leads s x valid right = tt
 
 pub branches_lead : (L : Layout) → AllCodeAt L → (k : ℕ) (s : Step) → slice_get L.steps k ≡ Some s → StepLeads L k s
 branches_lead L all k s at = let x = step_at L all k s at in step_leads s x x.code.valid x.code.folded

@@ -34,17 +34,12 @@ use Rattle.s390x_machine.specs.StepKinds.{StepKind, Unsupported, Performed, sing
 
 -- an operand that isn't one of the frame has an address
 address_told : (L : Layout) (o : OperandStep) (m : MemArg) (others : StepKind) → OperandInRange m → kind_or (performed_at o (operand_address L m)) others ≡ Unsupported → ⊥
-address_told L o (BXD12 base index disp flags) others range e = absurd (cc)
-address_told L o (BXD20 base index disp flags) others range e = absurd (cc)
-address_told L o (Label target) others range e = absurd (cc)
-address_told L o (Constant constant) others range e = absurd (cc)
-address_told L o (Symbol name offset flags) others range e = absurd (cc)
-address_told L o (RegOffset reg off flags) others range e = absurd (cc)
 address_told L o (InitialSPOffset off) others range e = range
 address_told L o (IncomingArgOffset off) others range e = range
 address_told L o (OutgoingArgOffset off) others range e = range
 address_told L o (SlotOffset off) others range e = range
 address_told L o (SpillOffset off) others range e = range
+address_told L o m others range e = absurd (cc)
 
 -- what isn't told by an operation isn't told by what stands behind it
 behind : (p : Option Performed) (others : StepKind) → kind_or p others ≡ Unsupported → others ≡ Unsupported

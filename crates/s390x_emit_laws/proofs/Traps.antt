@@ -18,17 +18,8 @@ moved_append place [] ys = refl
 moved_append place (x ∷ xs) ys = ap (λ l. record { offset = place + x.offset; code = x.code } ∷ l) (moved_append place xs ys)
 
 part_moved : (place p : ℕ) (part : CodePart) → part_traps (place + p) part ≡ moved place (part_traps p part)
-part_moved place p (Row m) = refl
 part_moved place p (Trapping m byte code) = ap (λ (n : ℕ). record { offset = n; code = code } ∷ []) (add_assoc place p byte)
-part_moved place p (Branch mask target) = refl
-part_moved place p (Relative opcode register target) = refl
-part_moved place p (RelativeConstant opcode register c) = refl
-part_moved place p (RelativeSymbol opcode register name offset) = refl
-part_moved place p (SymbolValue name offset) = refl
-part_moved place p (TrapHere code) = refl
-part_moved place p (TableWord before target) = refl
-part_moved place p (CallSymbol link name) = refl
-part_moved place p (SiteHere site) = refl
+part_moved place p part = refl
 
 parts_moved : (place p : ℕ) (parts : List CodePart) → parts_traps (place + p) parts ≡ moved place (parts_traps p parts)
 parts_moved place p [] = refl

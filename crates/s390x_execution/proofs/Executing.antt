@@ -5,7 +5,7 @@ use Rattle.s390x_format.specs.declared.fields.Fields.{Fields}
 use Rattle.s390x_operations.specs.State.{State, Memory, Core, StoreEvent}
 use Rattle.s390x_operations.specs.declared.stop.StopKind.{StopKind}
 use Rattle.s390x_machine.specs.declared.instruction_fetch.Fetched.{Fetched}
-use Rattle.s390x_machine.specs.declared.instruction_fetch.Fetched.TheVariants.{Misplaced, Missing, Unknown, Found}
+use Rattle.s390x_machine.specs.declared.instruction_fetch.Fetched.TheVariants.{Found}
 use Rattle.s390x_machine.specs.Machine.{Executed, Interrupted, ActionStep, OddPairStep, RowStep, FetchedStep}
 use Rattle.s390x_machine.specs.Semantics.{action, is_odd_pair, semantics_of}
 use Rattle.s390x_machine.specs.Step.{Steps}
@@ -21,8 +21,7 @@ use Rattle.s390x_execution.specs.declared.execution.End.TheVariants.{Limit, Stop
 
 action_keeps : (a : Action) (size : ℕ) (s : State) (kind : StopKind) (t : State) → ActionStep a size s (Interrupted kind) t → t ≡ s
 action_keeps (Perform op) size s kind t h = h.1
-action_keeps (Branch mask target) size s kind t h = absurd h
-action_keeps (BranchAndSave link target) size s kind t h = absurd h
+action_keeps a size s kind t h = absurd h
 
 pair_keeps : (odd : Bool) (a : Action) (size : ℕ) (s : State) (kind : StopKind) (t : State) → OddPairStep odd a size s (Interrupted kind) t → t ≡ s
 pair_keeps true a size s kind t h = h.1
@@ -33,10 +32,8 @@ row_keeps None f size s kind t h = absurd h
 row_keeps (Some m) f size s kind t h = pair_keeps (is_odd_pair m f) (action m f s.core.registers s.address) size s kind t h
 
 fetched_keeps : (f : Fetched) (s : State) (kind : StopKind) (t : State) → FetchedStep f s (Interrupted kind) t → t ≡ s
-fetched_keeps Misplaced s kind t h = h.1
-fetched_keeps Missing s kind t h = h.1
-fetched_keeps Unknown s kind t h = h.1
 fetched_keeps (Found d) s kind t h = row_keeps (semantics_of d.row.opcode) d.fields (length_of d.row.format) s kind t h
+fetched_keeps f s kind t h = h.1
 
 -- a step that stops leaves the state as it was
 pub stop_keeps : (s : State) (kind : StopKind) (place : ℕ) (t : State) → Steps s (Stops kind place) t → t ≡ s
@@ -61,10 +58,8 @@ row_has None f size s x t h = absurd h
 row_has (Some m) f size s x t h = pair_has (is_odd_pair m f) (action m f s.core.registers s.address) size s x t h
 
 fetched_has : (f : Fetched) (s : State) (x : Option StoreEvent) (t : State) → FetchedStep f s (Executed x) t → t.core.memory.has ≡ s.core.memory.has
-fetched_has Misplaced s x t h = same_has s t h.1
-fetched_has Missing s x t h = same_has s t h.1
-fetched_has Unknown s x t h = same_has s t h.1
 fetched_has (Found d) s x t h = row_has (semantics_of d.row.opcode) d.fields (length_of d.row.format) s x t h
+fetched_has f s x t h = same_has s t h.1
 
 pub step_has : (s t : State) → Steps s Went t → t.core.memory.has ≡ s.core.memory.has
 step_has s t h = fetched_has h.1.goes.fetched s h.1.stored t h.1.goes.acts

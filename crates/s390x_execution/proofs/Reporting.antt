@@ -1,6 +1,5 @@
 -- The text of an execution, part by part.
-use Rattle.std.proofs.Common.{◌≡◌, ℕ, zero, suc, ◌+◌, ◌<◌, List, [], ◌∷◌, ◌++◌, ◌-◌, map, length, get_or, drop, slice_index, refl, sym, ap, ap₂, ◌∙◌, subst, arith, append_assoc, Bool, IsTrue}
-use Rattle.std.proofs.lemmas.List.{drop_more}
+use Rattle.std.proofs.Common.{◌≡◌, ℕ, zero, suc, ◌+◌, ◌<◌, List, [], ◌∷◌, ◌++◌, ◌-◌, map, length, slice_index, refl, sym, ap, ap₂, ◌∙◌, arith, append_assoc, Bool}
 use Rattle.s390x_operations.specs.State.{wrapping_add64, bytes_from}
 use Rattle.s390x_machine.specs.State.{memory_of, registers_of, state_of}
 use Rattle.s390x_machine.specs.declared.machine.Machine.{Machine}
@@ -8,7 +7,7 @@ use Rattle.s390x_job.proofs.Texts.{two_texts}
 use Rattle.s390x_job.specs.Jobs.{lines_text, registers_lines}
 use Rattle.s390x_job.specs.declared.job.MemLine.{MemLine}
 use Rattle.s390x_job.specs.declared.job.StartRegs.{StartRegs}
-use Rattle.s390x_execution.specs.Text.{AllHeld, content_lines, region_line, registers_held, values_between}
+use Rattle.s390x_execution.specs.Text.{content_lines, region_line, registers_held, values_between}
 
 -- the values of a list from its first one on are its items
 shifted : (x : ℕ) (xs : List ℕ) (i n : ℕ) → values_between (λ k. slice_index (x ∷ xs) k) (suc i) n ≡ values_between (λ k. slice_index xs k) i n
@@ -27,13 +26,6 @@ pub four_parts : (w x y z old a b c new : List ℕ) → old ≡ [] → a ≡ old
 four_parts w x y z old a b c new empty p q r s =
     s ∙ ap (λ t. t ++ z) (r ∙ ap (λ t. t ++ y) (q ∙ ap (λ t. t ++ x) (p ∙ ap (λ t. t ++ w) empty)))
     ∙ append_assoc (w ++ x) y z ∙ append_assoc w x (y ++ z)
-
--- the region that stands next is accessible, and so are those behind it
-pub held_next : (has : ℕ → Bool) (rs : List MemLine) (i : ℕ) (d : MemLine) → i < length rs → d ≡ get_or rs i d → AllHeld has (drop i rs)
-    → ((k : ℕ) → k < length d.bytes.items → IsTrue (has (wrapping_add64 d.address k))) × AllHeld has (drop (i + 1) rs)
-held_next has rs i d lt at held =
-    let both = subst (AllHeld has) (drop_more rs i d lt) held in
-    (subst (λ (r : MemLine). (k : ℕ) → k < length r.bytes.items → IsTrue (has (wrapping_add64 r.address k))) (sym at) both.0, both.1)
 
 -- one more byte
 pub bytes_more : (f : ℕ → ℕ) (a i count v : ℕ) (old new whole : List ℕ) → i < count → new ≡ old ++ v ∷ [] → v ≡ f (wrapping_add64 a i)

@@ -1,10 +1,10 @@
 -- The memory in which an execution starts, region by region.
-use Rattle.std.proofs.Common.{◌≡◌, ℕ, zero, ◌+◌, ◌-◌, ◌<◌, ◌≤◌, ◌^◌, Bool, true, false, ◌||◌, ◌&&◌, if◌then◌else◌, List, [], ◌∷◌, length, get_or, drop, slice_index, refl, sym, ap, ap₂, ◌∙◌, subst, arith, true≢false, Option, Some, None, IsTrue, le-leb, lt-ltb}
+use Rattle.std.proofs.Common.{◌≡◌, ℕ, zero, ◌+◌, ◌-◌, ◌<◌, ◌≤◌, ◌^◌, true, false, ◌||◌, ◌&&◌, if◌then◌else◌, List, [], ◌∷◌, length, get_or, drop, slice_index, refl, sym, ap, ap₂, ◌∙◌, subst, arith, true≢false, Option, Some, None, IsTrue, le-leb, lt-ltb}
 use Rattle.std.specs.BTreeMap.{get}
 use Rattle.std.specs.Option.{is_some, unwrap_or}
 use Rattle.std.specs.Ordering.{nat_cmp}
 use Rattle.std.proofs.lemmas.List.{drop_more}
-use Rattle.std.proofs.lemmas.Bool.{or_parts}
+use Rattle.std.proofs.lemmas.Bool.{or_parts, or_right}
 use Rattle.s390x_operations.specs.State.{Memory, wrapping_add64}
 use Rattle.s390x_operations.specs.declared.stop.ConditionCode.{ConditionCode}
 use Rattle.s390x_machine.specs.Regions.{covers, held_in, byte_in, is_held, byte_of}
@@ -67,11 +67,7 @@ covers_own start bytes i lt =
 -- what is accessible stays so under more regions
 still_held : (rs : List MemLine) (m : Memory) (a : ℕ) → IsTrue (m.has a) → IsTrue ((with_regions rs m).has a)
 still_held [] m a h = h
-still_held (r ∷ rs) m a h = still_held rs (with_bytes r.address r.bytes.items m) a (ap (λ b. covers r.address r.bytes.items a || b) h ∙ or_true (covers r.address r.bytes.items a))
-  where
-    or_true : (b : Bool) → (b || true) ≡ true
-    or_true true = refl
-    or_true false = refl
+still_held (r ∷ rs) m a h = still_held rs (with_bytes r.address r.bytes.items m) a (ap (λ b. covers r.address r.bytes.items a || b) h ∙ or_right (covers r.address r.bytes.items a) true refl)
 
 region_held : (r : MemLine) (m : Memory) (i : ℕ) → r.address + length r.bytes.items ≤ 2 ^ 64 → i < length r.bytes.items → IsTrue ((with_bytes r.address r.bytes.items m).has (wrapping_add64 r.address i))
 region_held r m i fits lt =
@@ -86,11 +82,7 @@ regions_held (r ∷ rs) m fit =
 under_image : (rs : List MemLine) (base : ℕ) (image : List ℕ) (m : Memory) → AllHeld m.has rs → AllHeld (with_bytes base image m).has rs
 under_image [] base image m h = tt
 under_image (r ∷ rs) base image m h =
-    (λ i lt. ap (λ b. covers base image (wrapping_add64 r.address i) || b) (h.0 i lt) ∙ or_true (covers base image (wrapping_add64 r.address i)), under_image rs base image m h.1)
-  where
-    or_true : (b : Bool) → (b || true) ≡ true
-    or_true true = refl
-    or_true false = refl
+    (λ i lt. ap (λ b. covers base image (wrapping_add64 r.address i) || b) (h.0 i lt) ∙ or_right (covers base image (wrapping_add64 r.address i)) true refl, under_image rs base image m h.1)
 
 -- each region of a job is accessible when its image starts
 pub start_held : (rs : List MemLine) (base : ℕ) (image : List ℕ) → AllRegionsFit rs → AllHeld (start_memory rs base image).has rs

@@ -7,10 +7,9 @@ use Rattle.s390x_base.specs.declared.error.EmitError.TheVariants.{OffsetOutOfRan
 use Rattle.s390x_format.specs.Formats.{length_of}
 use Rattle.s390x_inst.specs.Emission.{Emission}
 use Rattle.s390x_inst.specs.declared.inst.Inst.{Inst}
-use Rattle.s390x_inst.specs.declared.inst.Inst.TheVariants.{AluRRR, AluRR, Load64, Store64, CondBr, Ret}
+use Rattle.s390x_inst.specs.declared.inst.Inst.TheVariants as I
 use Rattle.s390x_inst.specs.declared.ops.ALUOp.TheVariants.{Add64}
 use Rattle.s390x_inst.specs.declared.args.MemArg.TheVariants.{RegOffset, BXD12, BXD20}
-use Rattle.s390x_inst.specs.declared.inst.Inst.TheVariants.{Mov64SImm32}
 use Rattle.s390x_inst.specs.Memory.{trusted}
 use Rattle.s390x_inst.specs.declared.state.IsaFlags.{IsaFlags}
 use Rattle.s390x_rows.specs.declared.opcodes.TheConstants as opcodes
@@ -54,7 +53,7 @@ abbrev long : ℕ → Finalized
 long d = record { helpers = []; operand = BXD20 (register 15) no_register (pos d) trusted }
 
 abbrev indexed : ℕ → Finalized
-indexed d = record { helpers = Mov64SImm32 scratch (pos d) ∷ []; operand = BXD12 (register 15) scratch 0 trusted }
+indexed d = record { helpers = I.Mov64SImm32 scratch (pos d) ∷ []; operand = BXD12 (register 15) scratch 0 trusted }
 
 abbrev unfit : ℕ → Finalized
 unfit d = record { helpers = []; operand = RegOffset (register 15) (pos d) trusted }
@@ -76,7 +75,7 @@ load_form = RxForm 2 None (Some opcodes.LG) (Some opcodes.LGRL)
 abbrev store_form : StorageForm
 store_form = RxForm 4 None (Some opcodes.STG) (Some opcodes.STGRL)
 
-load_is_fine : (D : Declared) (d : ℕ) → d ≤ 2147483647 → IsFine D (Load64 (register 2) (above_stack d))
+load_is_fine : (D : Declared) (d : ℕ) → d ≤ 2147483647 → IsFine D (I.Load64 (register 2) (above_stack d))
 unfolding length_of
 load_is_fine D d h = record {
   alone = λ e t. refl;
@@ -88,7 +87,7 @@ load_is_fine D d h = record {
   relocs = λ p. in_each_form (λ parts. parts_relocs p parts ≡ []) load_form d refl refl refl refl;
 }
 
-store_is_fine : (D : Declared) (d : ℕ) → d ≤ 2147483647 → IsFine D (Store64 (register 4) (above_stack d))
+store_is_fine : (D : Declared) (d : ℕ) → d ≤ 2147483647 → IsFine D (I.Store64 (register 4) (above_stack d))
 unfolding length_of
 store_is_fine D d h = record {
   alone = λ e t. refl;
@@ -100,11 +99,11 @@ store_is_fine D d h = record {
   relocs = λ p. in_each_form (λ parts. parts_relocs p parts ≡ []) store_form d refl refl refl refl;
 }
 
-sum_is_fine : (D : Declared) → IsFine D (AluRRR Add64 (register 2) (register 3) (register 4))
+sum_is_fine : (D : Declared) → IsFine D (I.AluRRR Add64 (register 2) (register 3) (register 4))
 unfolding length_of
 sum_is_fine D = record { alone = λ e t. refl; cause = λ flags. refl; fresh = refl; nominal = refl; plain = refl; size = refl; relocs = λ p. refl }
 
-added_is_fine : (D : Declared) → IsFine D (AluRR Add64 (register 2) (register 2) (register 4))
+added_is_fine : (D : Declared) → IsFine D (I.AluRR Add64 (register 2) (register 2) (register 4))
 unfolding length_of
 added_is_fine D = record { alone = λ e t. refl; cause = λ flags. refl; fresh = refl; nominal = refl; plain = refl; size = refl; relocs = λ p. refl }
 
@@ -121,14 +120,14 @@ work_is_fine D choice offset h =
 
 -- ---- the last instruction
 
-return_is_fine : (D : Declared) → IsFine D (Ret (register 14))
+return_is_fine : (D : Declared) → IsFine D (I.Ret (register 14))
 unfolding length_of
 return_is_fine D = record { alone = λ e t. refl; cause = λ flags. refl; fresh = refl; nominal = refl; plain = refl; size = refl; relocs = λ p. refl }
 
 bound : (D : Declared) (l : ℕ) → l < D.blocks → target_label_cause D.blocks (label l) ≡ None
 bound D l h = ap (λ b. unless b UnboundLabel) (lt-ltb l D.blocks h)
 
-branch_is_fine : (D : Declared) (taken next : ℕ) → taken < D.blocks → next < D.blocks → IsFine D (CondBr (label taken) (label next) 8)
+branch_is_fine : (D : Declared) (taken next : ℕ) → taken < D.blocks → next < D.blocks → IsFine D (I.CondBr (label taken) (label next) 8)
 branch_is_fine D taken next a b = record {
   alone = λ e t. refl;
   cause = λ flags. ap₂ first_emit_cause (bound D taken a) (bound D next b);
@@ -142,7 +141,7 @@ branch_is_fine D taken next a b = record {
 pub ending_is_fine : (D : Declared) (n k x : ℕ) → k < n → n ≡ D.blocks → IsFine D (ending n k x)
 ending_is_fine D n k x h e = by_test (nat_eq (k + 1) n) refl
   where
-    by_test : (b : Bool) → nat_eq (k + 1) n ≡ b → IsFine D (cond b (Ret (register 14)) (CondBr (label (x % n)) (label (k + 1)) 8))
+    by_test : (b : Bool) → nat_eq (k + 1) n ≡ b → IsFine D (cond b (I.Ret (register 14)) (I.CondBr (label (x % n)) (label (k + 1)) 8))
     by_test true t = return_is_fine D
     by_test false t =
         let other = eqb-false (k + 1) n t in

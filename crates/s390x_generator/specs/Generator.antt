@@ -11,7 +11,7 @@ use Rattle.s390x_inst.specs.declared.args.MemArg.TheVariants.{RegOffset}
 use Rattle.s390x_inst.specs.declared.function.AllocatedFunction.{AllocatedFunction}
 use Rattle.s390x_inst.specs.declared.function.Block.{Block}
 use Rattle.s390x_inst.specs.declared.inst.Inst.{Inst}
-use Rattle.s390x_inst.specs.declared.inst.Inst.TheVariants.{AluRRR, AluRR, Load64, Store64, CondBr, Ret}
+use Rattle.s390x_inst.specs.declared.inst.Inst.TheVariants as I
 use Rattle.s390x_inst.specs.declared.ops.ALUOp.TheVariants.{Add64}
 use Rattle.s390x_typed_steps.specs.Tree.{Tree, block_tree}
 
@@ -34,9 +34,9 @@ above_stack offset = RegOffset (register 15) (pos offset) trusted
 -- the first instruction of a block, by a choice out of four: a sum, a load near the stack pointer, or a store far from it
 abbrev pub work : (choice offset : ℕ) → Inst
 work choice offset =
-    cond (nat_eq choice 0) (AluRRR Add64 (register 2) (register 3) (register 4))
-    (cond (nat_eq choice 1) (AluRR Add64 (register 2) (register 2) (register 4))
-    (cond (nat_eq choice 2) (Load64 (register 2) (above_stack offset)) (Store64 (register 4) (above_stack (offset + 524288)))))
+    cond (nat_eq choice 0) (I.AluRRR Add64 (register 2) (register 3) (register 4))
+    (cond (nat_eq choice 1) (I.AluRR Add64 (register 2) (register 2) (register 4))
+    (cond (nat_eq choice 2) (I.Load64 (register 2) (above_stack offset)) (I.Store64 (register 4) (above_stack (offset + 524288)))))
 
 -- the label of a block
 abbrev pub label : ℕ → MachLabel
@@ -44,7 +44,7 @@ label n = record { 0 = n }
 
 -- the last instruction of block k of n: the last block returns, and another one goes to the block that the number tells or to the next
 abbrev pub ending : (n k x : ℕ) → Inst
-ending n k x = cond (nat_eq (k + 1) n) (Ret (register 14)) (CondBr (label (x % n)) (label (k + 1)) 8)
+ending n k x = cond (nat_eq (k + 1) n) (I.Ret (register 14)) (I.CondBr (label (x % n)) (label (k + 1)) 8)
 
 -- block k of n, by the number x
 abbrev pub generated_block : (n k x : ℕ) → List Inst

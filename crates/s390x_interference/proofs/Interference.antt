@@ -98,9 +98,6 @@ untaken : (a b : ℕ) (n : Bool) → IsFalse n → cond n a b ≡ b
 untaken a b true e = absurd (true≢false e)
 untaken a b false e = refl
 
-executed_goes : (e : Event) (x : Option StoreEvent) → e ≡ Executed x → Goes e
-executed_goes e x h = subst Goes (sym h) tt
-
 stopped_waits : (e : Event) (kind : StopKind) → e ≡ Interrupted kind → IsExecuted e → ⊥
 stopped_waits e kind h g = subst IsExecuted h g
 

@@ -176,11 +176,10 @@ leaf_body L k end i rest here others (inr e) =
 
 -- the members of a retry loop, and that the swap is the last one
 body_of : (L : Layout) (t : Tree) (k end : ℕ) → is_retry_body t ≡ true → StandFrom L.steps k (steps_of k end t) → (b : Body L k end) × (b.swap + 1 ≡ k + step_count t)
-body_of L empty k end h x = absurd (true≢false (sym h))
-body_of L (loop_node mask members rest) k end h x = absurd (true≢false (sym h))
 body_of L (leaf (Whole i) rest) k end h x =
     leaf_body L k end i rest (first_of x) (λ e. body_of L rest (k + 1) end e (behind (step_of end (Whole i) ∷ []) (steps_of (k + 1) end rest) x)) (either (is_swap i && is_empty rest) (is_member i && is_retry_body rest) h)
 body_of L (leaf b rest) k end h x = absurd (true≢false (sym h))
+body_of L t k end h x = absurd (true≢false (sym h))
 
 -- a loop of them is a retry loop
 retry_of : (L : Layout) (n mask : ℕ) (members : Tree) → StandFrom L.steps n (loop_steps n mask members) → is_retry_body members ≡ true → IsFalse (is_selected mask Code0) → (R : Retry L) × (R.opening ≡ n) × (R.mask ≡ mask)

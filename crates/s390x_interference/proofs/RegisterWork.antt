@@ -1,17 +1,10 @@
 -- The instructions that are register work.
-use Rattle.std.proofs.Common.{◌≡◌, ℕ, None, Bool, true, false, if◌then◌else◌, nat_lt, not, IsTrue, refl, sym, true≢false}
+use Rattle.std.proofs.Common.{◌≡◌, ℕ, None, Bool, true, false, if◌then◌else◌, nat_lt, IsTrue, refl, sym, ◌∙◌, true≢false}
+use Rattle.std.proofs.lemmas.Bool.{not-true}
 use Rattle.s390x_inst.specs.declared.inst.Inst.{Inst}
 use Rattle.s390x_inst.specs.declared.inst.Inst.TheVariants as I
 use Rattle.s390x_inst.specs.declared.vec_inst.VecInst.{VecInst}
 use Rattle.s390x_inst.specs.declared.vec_inst.VecInst.TheVariants as V
-use Rattle.s390x_inst.specs.declared.vec_ops.VecBinaryOp.{VecBinaryOp}
-use Rattle.s390x_inst.specs.declared.vec_ops.VecBinaryOp.TheVariants as B
-use Rattle.s390x_inst.specs.declared.vec_ops.VecUnaryOp.{VecUnaryOp}
-use Rattle.s390x_inst.specs.declared.vec_ops.VecUnaryOp.TheVariants as U
-use Rattle.s390x_inst.specs.declared.vec_ops.VecIntCmpOp.{VecIntCmpOp}
-use Rattle.s390x_inst.specs.declared.vec_ops.VecIntCmpOp.TheVariants as C
-use Rattle.s390x_inst.specs.declared.vec_ops.VecIntEltCmpOp.{VecIntEltCmpOp}
-use Rattle.s390x_inst.specs.declared.vec_ops.VecIntEltCmpOp.TheVariants as E
 use Rattle.s390x_lanes.specs.declared.operators.VectorOperation.{VectorOperation}
 use Rattle.s390x_lanes.specs.declared.operators.VectorOperation.TheVariants as O
 use Rattle.s390x_typed_steps.specs.VectorOpcodes.{is_division}
@@ -34,7 +27,7 @@ use Rattle.s390x_machine.specs.Layout.{Layout}
 use Rattle.s390x_machine.specs.Operands.{performed_where, value_in}
 use Rattle.s390x_machine.specs.StepKinds.{StepKind, instruction_kind}
 use Rattle.s390x_machine.specs.VectorOperations.{binary_operation, unary_operation, comparison_operation, element_comparison}
-use Rattle.s390x_machine.proofs.VectorSteps.{computed_vector, is_divide}
+use Rattle.s390x_machine.proofs.VectorSteps.{computed_vector, is_divide, divisions_agree, unary_never, comparison_never, element_never}
 use Rattle.s390x_interference.specs.Retry.{StaysInRegisters, IsRegisterWork}
 use Rattle.s390x_interference.specs.Loops.{is_vector_work, is_register_work}
 
@@ -50,34 +43,6 @@ where_stays false op stays = record { untouched = refl; allowed = refl; certain 
 vector_stays : (o : VectorOperation) (target first second third fourth : ℕ) → is_divide o ≡ false → StaysInRegisters (computed_vector o target first second third fourth)
 vector_stays (O.Divide division sign size) t a b c d e = absurd (true≢false e)
 vector_stays o t a b c d e = record { untouched = refl; allowed = refl; certain = λ kind by. true≢false (sym by.1) }
-
-never_binary : (op : VecBinaryOp) → not (is_division op) ≡ true → is_divide (binary_operation op) ≡ false
-never_binary B.Add8x16 h = refl
-never_binary B.UDiv32x4 h = absurd (true≢false (sym h))
-never_binary B.UDiv64x2 h = absurd (true≢false (sym h))
-never_binary B.UDiv128 h = absurd (true≢false (sym h))
-never_binary B.SDiv32x4 h = absurd (true≢false (sym h))
-never_binary B.SDiv64x2 h = absurd (true≢false (sym h))
-never_binary B.SDiv128 h = absurd (true≢false (sym h))
-never_binary B.URem32x4 h = absurd (true≢false (sym h))
-never_binary B.URem64x2 h = absurd (true≢false (sym h))
-never_binary B.URem128 h = absurd (true≢false (sym h))
-never_binary B.SRem32x4 h = absurd (true≢false (sym h))
-never_binary B.SRem64x2 h = absurd (true≢false (sym h))
-never_binary B.SRem128 h = absurd (true≢false (sym h))
-never_binary _ h = refl
-
-never_unary : (op : VecUnaryOp) → is_divide (unary_operation op) ≡ false
-never_unary U.Abs8x16 = refl
-never_unary _ = refl
-
-never_comparison : (op : VecIntCmpOp) (sets : Bool) → is_divide (comparison_operation op sets) ≡ false
-never_comparison C.CmpEq8x16 sets = refl
-never_comparison _ sets = refl
-
-never_element : (op : VecIntEltCmpOp) → is_divide (element_comparison op) ≡ false
-never_element E.SCmp128 = refl
-never_element E.UCmp128 = refl
 
 put_stays : (chosen : Bool) (target known value known' value' : ℕ) → StaysInRegisters (if chosen then with_rule Kept (PutVector target known value) else with_rule Kept (PutVector target known' value'))
 put_stays true t k x k' x' = plain (with_rule Kept (PutVector t k x)) refl refl (λ kind by. by)
@@ -98,17 +63,17 @@ immediate_moves_stay size mask d bits r =
 -- ---- instructions
 
 vector_work : (L : Layout) (v : VecInst) → is_vector_work v ≡ true → IsRegisterWork (instruction_kind L (I.Vector v))
-vector_work L (V.VecRRR op rd rn rm) h = λ r. vector_stays (binary_operation op) _ _ _ _ _ (never_binary op h)
-vector_work L (V.VecRR op rd rn) h = λ r. vector_stays (unary_operation op) _ _ _ _ _ (never_unary op)
+vector_work L (V.VecRRR op rd rn rm) h = λ r. vector_stays (binary_operation op) _ _ _ _ _ (divisions_agree op ∙ not-true (is_division op) h)
+vector_work L (V.VecRR op rd rn) h = λ r. vector_stays (unary_operation op) _ _ _ _ _ (unary_never op)
 vector_work L (V.VecShiftRR op rd rn amount register) h = λ r. plain _ refl refl (λ kind by. true≢false (sym by.1))
 vector_work L (V.VecSelect rd rn rm ra) h = λ r. plain _ refl refl (λ kind by. true≢false (sym by.1))
 vector_work L (V.VecPermute rd rn rm ra) h = λ r. plain _ refl refl (λ kind by. true≢false (sym by.1))
 vector_work L (V.VecBlend rd rn rm ra) h = λ r. plain _ refl refl (λ kind by. true≢false (sym by.1))
 vector_work L (V.VecEvaluate imm rd rn rm ra) h = λ r. plain _ refl refl (λ kind by. true≢false (sym by.1))
 vector_work L (V.VecPermuteDWImm rd rn rm first second) h = λ r. plain _ refl refl (λ kind by. true≢false (sym by.1))
-vector_work L (V.VecIntCmp op rd rn rm) h = λ r. vector_stays (comparison_operation op false) _ _ _ _ _ (never_comparison op false)
-vector_work L (V.VecIntCmpS op rd rn rm) h = λ r. vector_stays (comparison_operation op true) _ _ _ _ _ (never_comparison op true)
-vector_work L (V.VecIntEltCmp op rn rm) h = λ r. vector_stays (element_comparison op) _ _ _ _ _ (never_element op)
+vector_work L (V.VecIntCmp op rd rn rm) h = λ r. vector_stays (comparison_operation op false) _ _ _ _ _ (comparison_never op false)
+vector_work L (V.VecIntCmpS op rd rn rm) h = λ r. vector_stays (comparison_operation op true) _ _ _ _ _ (comparison_never op true)
+vector_work L (V.VecIntEltCmp op rn rm) h = λ r. vector_stays (element_comparison op) _ _ _ _ _ (element_never op)
 vector_work L (V.VecMov rd rn) h = λ r. plain _ refl refl (λ kind by. true≢false (sym by.1))
 vector_work L (V.FpuMove32 rd rn) h = λ r. plain _ refl refl (λ kind by. by)
 vector_work L (V.FpuMove64 rd rn) h = λ r. plain _ refl refl (λ kind by. by)

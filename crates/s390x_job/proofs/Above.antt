@@ -1,11 +1,11 @@
 -- No completion of more lines than were read is the text of a job.
-use Rattle.std.proofs.Common.{◌≡◌, ℕ, zero, suc, ◌+◌, ◌<◌, List, [], ◌∷◌, ◌++◌, length, map, take, None, refl, sym, ap, ◌∙◌, inl, inr, arith, append_assoc, append-nil, length-append}
-use Rattle.std.specs.Prelude.{◌==◌, ◌-◌, codes}
+use Rattle.std.proofs.Common.{◌≡◌, ℕ, suc, ◌+◌, ◌<◌, List, [], ◌∷◌, ◌++◌, length, map, take, None, refl, sym, ap, ◌∙◌, inl, inr, arith, append_assoc, append-nil, length-append}
+use Rattle.std.specs.Prelude.{◌==◌, ◌-◌}
 use Rattle.s390x_job_fields.specs.Marks.{upto, past}
 use Rattle.s390x_job_lines.specs.Line.{Line, line_text, IsLine}
 use Rattle.s390x_job.specs.Grammar.{Place, AtEnd, class, next_place}
 use Rattle.s390x_job.specs.Jobs.{lines_text, AllLines, text_of_job, IsJob}
-use Rattle.s390x_job.specs.Completions.{pieces_from, pieces, text_of_lines, closing, ending, completion, IsText}
+use Rattle.s390x_job.specs.Completions.{pieces_from, pieces, text_of_lines, ending, completion, IsText}
 use Rattle.s390x_job.specs.declared.job.Job.{Job}
 use Rattle.s390x_job_lines.proofs.Frees.{Free, upto-free, line-free}
 use Rattle.s390x_job.specs.Errors.{IsStuckAt}
@@ -41,11 +41,10 @@ record Taken (xs : List (List ℕ)) (y : List ℕ) (ys : List (List ℕ)) (m : �
   is : take m (xs ++ y ∷ ys) ≡ xs ++ y ∷ zs
 
 take_past : (xs : List (List ℕ)) (y : List ℕ) (ys : List (List ℕ)) (m : ℕ) → length xs < m → Taken xs y ys m
-take_past [] y ys zero h = absurd (omega arith)
 take_past [] y ys (suc m) h = record { zs = take m ys; is = refl }
-take_past (x ∷ xs) y ys zero h = absurd (omega arith)
 take_past (x ∷ xs) y ys (suc m) h =
     let t = take_past xs y ys m (omega arith) in record { zs = t.zs; is = ap (λ u. x ∷ u) t.is }
+take_past xs y ys m h = absurd (omega arith)
 
 length_texts : (ls : List Line) → length (map line_text ls) ≡ length ls
 length_texts [] = refl
@@ -76,10 +75,6 @@ above_text bytes ls p rest i n g =
 pub pieces_none : (s acc : List ℕ) → length (upto 10 s) ≡ length s → pieces_from acc s ≡ []
 pieces_none [] acc h = refl
 pieces_none (x ∷ s) acc h = elim (either (x == 10)) [ inl e ↦ let k = rw e at h in absurd (omega (arith, k)) | inr e ↦ let k = rw e at h in rw e (pieces_none s (acc ++ x ∷ []) (omega (arith, k))) ]
-
-pub closing_step : (k : ℕ) → 0 < k → closing k ≡ codes "endloop" ++ (10 ∷ closing (k - 1))
-closing_step zero h = absurd (omega arith)
-closing_step (suc k) h = let e : k ≡ suc k - 1 = omega arith in ap (λ n. codes "endloop" ++ (10 ∷ closing n)) e
 
 length_front : (bytes : List ℕ) (ls : List Line) (p : Place) (rest : List ℕ) → Inv bytes ls p rest → length (pieces bytes) ≡ length ls + length (pieces rest)
 length_front bytes ls p rest i =

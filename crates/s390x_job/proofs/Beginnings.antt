@@ -27,6 +27,7 @@ use Rattle.s390x_job.specs.declared.build.Progress.TheVariants as P
 use Rattle.s390x_job.specs.declared.job.StartRegs.{StartRegs}
 use Rattle.s390x_job_fields.specs.Operators.{convention_text}
 use Rattle.s390x_job_fields.proofs.Members.{either}
+use Rattle.std.proofs.lemmas.Bool.{and_parts, eqb-true}
 
 follows_cases : (a b c : Bool) → (a || (b && c)) ≡ true → (a ≡ true) ⊎ ((b ≡ true) × (c ≡ true))
 follows_cases true b c h = inl refl
@@ -37,15 +38,12 @@ follows_cases false false c h = absurd cc
 is_less : (m n : ℕ) → nat_lt m n ≡ true → m < n
 is_less m n h = grind (arith, nat_tests)
 
-is_equal : (m n : ℕ) → (m == n) ≡ true → m ≡ n
-is_equal m n h = grind (arith, nat_tests)
-
 is_most : (m n : ℕ) → nat_le m n ≡ true → m ≤ n
 is_most m n h = grind (arith, nat_tests)
 
 pub ranked : (rank bound r first : ℕ) → may_follow rank bound r first ≡ true → (rank < r) ⊎ ((rank ≡ r) × (bound ≤ first))
 ranked rank bound r first h =
-    elim (follows_cases (nat_lt rank r) (rank == r) (nat_le bound first) h) [ inl e ↦ inl (is_less rank r e) | inr e ↦ inr (is_equal rank r e.0, is_most bound first e.1) ]
+    elim (follows_cases (nat_lt rank r) (rank == r) (nat_le bound first) h) [ inl e ↦ inl (is_less rank r e) | inr e ↦ inr (eqb-true rank r e.0, is_most bound first e.1) ]
 
 -- registers
 pub no_starts : (of : ℕ → RealRegister) (n : ℕ) (vs : List ℕ) → ((i : ℕ) → get_or vs i 0 ≡ 0) → start_lines of n vs ≡ []
@@ -327,14 +325,10 @@ abbrev is_zeros : List ℕ → Bool
 is_zeros [] = true
 is_zeros (v ∷ vs) = (v == 0) && is_zeros vs
 
-parts : (a b : Bool) → (a && b) ≡ true → (a ≡ true) × (b ≡ true)
-parts true b h = (refl, h)
-parts false b h = absurd cc
-
 zeros_at : (vs : List ℕ) → is_zeros vs ≡ true → (i : ℕ) → get_or vs i 0 ≡ 0
 zeros_at [] h i = refl
-zeros_at (v ∷ vs) h zero = is_equal v 0 (parts (v == 0) (is_zeros vs) h).0
-zeros_at (v ∷ vs) h (suc i) = zeros_at vs (parts (v == 0) (is_zeros vs) h).1 i
+zeros_at (v ∷ vs) h zero = eqb-true v 0 (and_parts (v == 0) (is_zeros vs) h).0
+zeros_at (v ∷ vs) h (suc i) = zeros_at vs (and_parts (v == 0) (is_zeros vs) h).1 i
 
 abbrev general_zeros : List ℕ
 general_zeros = 0 ∷ 0 ∷ 0 ∷ 0 ∷ 0 ∷ 0 ∷ 0 ∷ 0 ∷ 0 ∷ 0 ∷ 0 ∷ 0 ∷ 0 ∷ 0 ∷ 0 ∷ 0 ∷ []
@@ -354,7 +348,7 @@ beginning cs ss ms = record { flags = no_facilities; conv = SystemV; layout = pl
 all_zero : (k : ℕ) → IsZeroFrom k no_registers
 all_zero k = record { general_zero = λ i h. zeros_at general_zeros refl i; vector_zero = λ i h. zeros_at vector_zeros refl i }
 
-plain_frame : frame_lines SystemV plain_layout ≡ []
+pub plain_frame : frame_lines SystemV plain_layout ≡ []
 unfolding convention_text
 plain_frame = rw (decimal_digit 0 (omega arith)) refl
 
@@ -376,7 +370,7 @@ start_lines_none cs ss ms c s m = rw (c, s, m) (ap (λ t. t ++ []) plain_frame)
 
 -- a number that is not zero, and a region within memory
 pub not_zero : (v : ℕ) → (v ≡ 0 → ⊥) → (v == 0) ≡ false
-not_zero v h = elim (either (v == 0)) [ inl e ↦ absurd (h (is_equal v 0 e)) | inr e ↦ e ]
+not_zero v h = elim (either (v == 0)) [ inl e ↦ absurd (h (eqb-true v 0 e)) | inr e ↦ e ]
 
 not_less : (m n : ℕ) → n ≤ m → nat_lt m n ≡ false
 not_less m n h = grind (arith, nat_tests)

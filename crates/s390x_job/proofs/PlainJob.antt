@@ -1,14 +1,13 @@
 -- A job of blocks and nothing else: its lines, and that it is a job.
 use Rattle.std.proofs.Common.{◌≡◌, ℕ, zero, suc, ◌<◌, ◌^◌, List, [], ◌∷◌, ◌++◌, length, Some, Vec, Global, refl, sym, ap, ◌∙◌, subst, arith}
-use Rattle.std.proofs.lemmas.Fmt.{decimal_digit}
 use Rattle.s390x_inst.specs.State.{base_facilities, fresh_emission}
 use Rattle.s390x_inst.specs.declared.calls.CallConv.TheVariants.{SystemV}
 use Rattle.s390x_inst.specs.declared.function.Block.{Block}
-use Rattle.s390x_job_fields.specs.Operators.{convention_text}
 use Rattle.s390x_job.specs.Grammar.{AtEnd, Header, run}
 use Rattle.s390x_job.specs.Items.{end_line}
-use Rattle.s390x_job.specs.Jobs.{AllLines, IsJob, blocks_lines, frame_lines, job_lines, plain_layout}
+use Rattle.s390x_job.specs.Jobs.{AllLines, IsJob, blocks_lines, job_lines, plain_layout}
 use Rattle.s390x_job.specs.declared.job.Job.{Job}
+use Rattle.s390x_job.proofs.Beginnings.{plain_frame}
 
 -- a vector of these
 unfoldable pub vec : {X : Type 0} (items : List X) → length items < 2 ^ 63 → Vec X Global
@@ -30,13 +29,9 @@ plain_job blocks small = record {
   memory = vec [] (omega arith);
 }
 
-frame_untold : frame_lines SystemV plain_layout ≡ []
-unfolding convention_text
-frame_untold = rw (decimal_digit 0 (omega arith)) refl
-
 pub plain_lines : (blocks : List Block) (small : length blocks < 2 ^ 63) → job_lines (plain_job blocks small) ≡ blocks_lines blocks ++ end_line ∷ []
 unfolding vec zeros plain_job
-plain_lines blocks small = ap (λ fs. (fs ++ []) ++ (blocks_lines blocks ++ end_line ∷ [])) frame_untold
+plain_lines blocks small = ap (λ fs. (fs ++ []) ++ (blocks_lines blocks ++ end_line ∷ [])) plain_frame
 
 pub plain_is_job : (blocks : List Block) (small : length blocks < 2 ^ 63) → AllLines (blocks_lines blocks ++ end_line ∷ []) → run (Some (Header 0 0)) (blocks_lines blocks ++ end_line ∷ []) ≡ Some AtEnd → IsJob (plain_job blocks small)
 unfolding vec zeros plain_job

@@ -18,9 +18,8 @@ closing_size zero = omega (arith, length-append (codes "end") (10 ∷ []))
 closing_size (suc n) = omega (arith, closing_size n, length-append (codes "endloop") (10 ∷ closing n))
 
 pub take_shorter : (n : ℕ) (ws : List (List ℕ)) → length (text_of_lines (take n ws)) ≤ length (text_of_lines ws)
-take_shorter zero ws = omega arith
-take_shorter (suc n) [] = omega arith
 take_shorter (suc n) (w ∷ ws) = omega (arith, take_shorter n ws, length-append w (10 ∷ text_of_lines (take n ws)), length-append w (10 ∷ text_of_lines ws))
+take_shorter n ws = omega arith
 
 short_from : (acc s : List ℕ) → length (text_of_lines (pieces_from acc s)) ≤ length acc + length s
 short_from acc [] = omega arith

@@ -1,5 +1,5 @@
 -- A job is read exactly.
-use Rattle.std.proofs.Common.{◌≡◌, ℕ, suc, ◌+◌, ◌<◌, ◌≤◌, Bool, true, false, List, [], ◌∷◌, ◌++◌, length, drop, Option, Some, None, refl, sym, ap, ◌∙◌, subst, inl, inr, ◌⊎◌, arith, append_assoc, append-nil, length-append}
+use Rattle.std.proofs.Common.{◌≡◌, ℕ, suc, ◌+◌, ◌<◌, ◌≤◌, List, [], ◌∷◌, ◌++◌, length, drop, Option, Some, None, refl, sym, ap, ◌∙◌, subst, inl, inr, arith, append_assoc, append-nil, length-append}
 use Rattle.std.specs.Prelude.{◌==◌, Result, Ok, Err, IfOk}
 use Rattle.std.proofs.lemmas.Bool.Decides.{nat_tests}
 use Rattle.s390x_job_fields.specs.Marks.{upto, past}
@@ -10,6 +10,8 @@ use Rattle.s390x_job.specs.declared.job.Job.{Job}
 use Rattle.s390x_job.specs.Builds.{IsWhole}
 use Rattle.s390x_job_lines.proofs.Frees.{upto-free, past-free, line-free}
 use Rattle.s390x_job_lines.proofs.RoundTrip.{line-round_trip}
+use Rattle.s390x_job.proofs.Texts.{lines_text_append}
+pub use Rattle.s390x_job_fields.proofs.Members.{either}
 
 -- two lines with one text are one
 pub one_line : (k l : Line) → IsLine k → IsLine l → line_text k ≡ line_text l → k ≡ l
@@ -20,11 +22,11 @@ run_append ls None ms = refl
 run_append [] (Some p) ms = refl
 run_append (l ∷ ls) (Some p) ms = run_append ls (next_place p (class l)) ms
 
-all_append : (a b : List Line) → AllLines a → AllLines b → AllLines (a ++ b)
+pub all_append : (a b : List Line) → AllLines a → AllLines b → AllLines (a ++ b)
 all_append [] b h k = k
 all_append (l ∷ a) b h k = (h.0, all_append a b h.1 k)
 
-all_rest : (a b : List Line) → AllLines (a ++ b) → AllLines b
+pub all_rest : (a b : List Line) → AllLines (a ++ b) → AllLines b
 all_rest [] b h = h
 all_rest (l ∷ a) b h = all_rest a b h.1
 
@@ -33,9 +35,6 @@ pub record Inv (bytes : List ℕ) (ls : List Line) (p : Place) (rest : List ℕ)
   pub text : bytes ≡ lines_text ls ++ rest
   pub oks : AllLines ls
   pub runs : run (Some (Header 0 0)) ls ≡ Some p
-
-pub begins : (bytes : List ℕ) → Inv bytes [] (Header 0 0) bytes
-begins bytes = record { text = refl; oks = tt; runs = refl }
 
 -- the lines of a text, after those that it begins with
 record After (ks ls : List Line) (rest : List ℕ) : Type 0 where
@@ -136,11 +135,6 @@ pub accept : (bytes : List ℕ) (j : Job) (rest : List ℕ) → Inv bytes (job_l
 accept bytes j rest i w n =
     (record { lines = i.oks; order = i.runs; state = w.state; frame = w.full.frame; general_count = w.full.general_count; vector_count = w.full.vector_count }, sym (i.text ∙ ap (λ r. lines_text (job_lines j) ++ r) (nil rest n) ∙ append-nil (lines_text (job_lines j))))
 
--- one more line
-pub either : (b : Bool) → (b ≡ true) ⊎ (b ≡ false)
-either true = inl refl
-either false = inr refl
-
 -- what stands behind a line begins at its length
 behind_line : (c : ℕ) (s : List ℕ) → drop (suc (length (upto c s))) s ≡ past c s
 behind_line c [] = refl
@@ -155,15 +149,11 @@ pub cut : (c : ℕ) (s : List ℕ) → (length (upto c s) ≡ length s → ⊥) 
 cut c [] h = absurd (h refl)
 cut c (x ∷ s) h = elim (either (x == c)) [ inl e ↦ let f : x ≡ c = grind (arith, nat_tests) in rw e (ap (λ y. y ∷ s) f) | inr e ↦ let k = rw e at h in rw e (ap (λ t. x ∷ t) (cut c s (λ q. k (omega (arith, q))))) ]
 
-texts_append : (a b : List Line) → lines_text (a ++ b) ≡ lines_text a ++ lines_text b
-texts_append [] b = refl
-texts_append (l ∷ a) b = ap (λ t. line_text l ++ (10 ∷ t)) (texts_append a b) ∙ sym (append_assoc (line_text l) (10 ∷ lines_text a) (lines_text b))
-
 pub one_more_line : (bytes : List ℕ) (ls ns : List Line) (p q : Place) (rest : List ℕ) (k : Line) → Inv bytes ls p rest → (length (upto 10 rest) ≡ length rest → ⊥) → IsLine k → line_text k ≡ upto 10 rest → ns ≡ ls ++ k ∷ [] → next_place p (class k) ≡ Some q → Inv bytes ns q (past 10 rest)
 one_more_line bytes ls ns p q rest k i n a e f g =
     let c : rest ≡ line_text k ++ (10 ∷ past 10 rest) = cut 10 rest n ∙ ap (λ t. t ++ (10 ∷ past 10 rest)) (sym e) in
     record {
-      text = i.text ∙ ap (λ t. lines_text ls ++ t) c ∙ sym (ap (λ t. t ++ past 10 rest) (ap lines_text f ∙ texts_append ls (k ∷ [])) ∙ append_assoc (lines_text ls) (lines_text (k ∷ [])) (past 10 rest) ∙ ap (λ t. lines_text ls ++ t) (append_assoc (line_text k) (10 ∷ []) (past 10 rest)));
+      text = i.text ∙ ap (λ t. lines_text ls ++ t) c ∙ sym (ap (λ t. t ++ past 10 rest) (ap lines_text f ∙ lines_text_append ls (k ∷ [])) ∙ append_assoc (lines_text ls) (lines_text (k ∷ [])) (past 10 rest) ∙ ap (λ t. lines_text ls ++ t) (append_assoc (line_text k) (10 ∷ []) (past 10 rest)));
       oks = subst AllLines (sym f) (all_append ls (k ∷ []) i.oks (a, tt));
       runs = ap (run (Some (Header 0 0))) f ∙ run_append ls (Some (Header 0 0)) (k ∷ []) ∙ ap (λ o. run o (k ∷ [])) i.runs ∙ ap (λ o. run o []) g;
     }

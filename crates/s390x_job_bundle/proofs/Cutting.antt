@@ -1,5 +1,5 @@
 -- The part of a text that is a job, as it is cut off.
-use Rattle.std.proofs.Common.{◌≡◌, ℕ, zero, suc, ◌+◌, inl, inr, false, List, [], ◌∷◌, ◌++◌, drop, length, take, refl, sym, ap, ◌∙◌, subst, arith, append_assoc, append-nil, length-append}
+use Rattle.std.proofs.Common.{◌≡◌, ℕ, suc, ◌+◌, inl, inr, false, List, [], ◌∷◌, ◌++◌, drop, length, take, sym, ap, ◌∙◌, subst, arith, append_assoc, append-nil, length-append}
 use Rattle.std.specs.Prelude.{codes}
 use Rattle.std.specs.Str.{bytes_eq}
 use Rattle.std.proofs.Math.Seq.{drop-append_seam, drop-length, take-append_seam, take-length}
@@ -15,9 +15,8 @@ no_end_append [] b h k = k
 no_end_append (w ∷ a) b h k = (h.0, no_end_append a b h.1 k)
 
 pub no_end_take : (n : ℕ) (a : List (List ℕ)) → HasNoEnd a → HasNoEnd (take n a)
-no_end_take zero a h = tt
-no_end_take (suc n) [] h = tt
 no_end_take (suc n) (w ∷ a) h = (h.0, no_end_take n a h.1)
+no_end_take n a h = tt
 
 -- the lines so far, none of which is `end`, and the rest
 pub record Scanned (bytes rest : List ℕ) : Type 0 where
@@ -25,9 +24,6 @@ pub record Scanned (bytes rest : List ℕ) : Type 0 where
   pub free : HasNoEnd lines
   pub clean : AllFree lines
   pub text : bytes ≡ text_of_lines lines ++ rest
-
-pub scan_start : (bytes : List ℕ) → Scanned bytes bytes
-scan_start bytes = record { lines = []; free = tt; clean = tt; text = refl }
 
 -- the text up to and with a first line of the rest
 line_on : (bytes rest : List ℕ) (s : Scanned bytes rest) → (length (upto 10 rest) ≡ length rest → ⊥) → bytes ≡ text_of_lines (s.lines ++ upto 10 rest ∷ []) ++ past 10 rest

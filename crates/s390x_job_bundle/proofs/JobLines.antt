@@ -33,21 +33,17 @@ pub job_free : (j : Job) → IsJob j → AllFree (words_of j)
 job_free j is = lines_free (job_lines j) is.lines
 
 -- the place behind a line, where the others lead to the end
-going : (o : Option Place) (ls : List Line) → run o ls ≡ Some AtEnd → (q : Place) × (o ≡ Some q)
+pub going : (o : Option Place) (ls : List Line) → run o ls ≡ Some AtEnd → (q : Place) × (o ≡ Some q)
 going None ls h = absurd cc
 going (Some q) ls h = (q, refl)
 
 opens_step : (s : Sort) (b : Bool) (n : ℕ) → b ≡ is_opening s → (if b then n + 1 else n) ≡ rise s + n
 opens_step Opening b n e = rw e (omega arith)
-opens_step Closing b n e = rw e (omega arith)
-opens_step Ending b n e = rw e (omega arith)
-opens_step Plain b n e = rw e (omega arith)
+opens_step s b n e = rw e (omega arith)
 
 closes_step : (s : Sort) (b : Bool) (n : ℕ) → b ≡ is_closing s → (if b then n + 1 else n) ≡ fall s + n
-closes_step Opening b n e = rw e (omega arith)
 closes_step Closing b n e = rw e (omega arith)
-closes_step Ending b n e = rw e (omega arith)
-closes_step Plain b n e = rw e (omega arith)
+closes_step s b n e = rw e (omega arith)
 
 balance : (p : Place) (ls : List Line) → AllLines ls → run (Some p) ls ≡ Some AtEnd → level p + opens (map line_text ls) ≡ closes (map line_text ls)
 balance p [] h r =

@@ -1,10 +1,11 @@
 -- Texts as lists of lines.
-use Rattle.std.proofs.Common.{◌≡◌, ℕ, zero, suc, ◌+◌, false, List, [], ◌∷◌, ◌++◌, length, take, refl, sym, ap, ◌∙◌, inl, inr, arith, append_assoc, append-nil}
+use Rattle.std.proofs.Common.{◌≡◌, ℕ, suc, ◌+◌, false, List, [], ◌∷◌, ◌++◌, length, take, refl, sym, ap, ◌∙◌, inl, inr, arith, append_assoc, append-nil}
 use Rattle.std.specs.Prelude.{◌==◌}
 use Rattle.s390x_job_fields.specs.Marks.{upto, past}
 use Rattle.s390x_job.specs.Completions.{pieces_from, pieces, text_of_lines}
 use Rattle.s390x_job_lines.proofs.Frees.{Free}
-use Rattle.s390x_job.proofs.Above.{pieces_line, pieces_cut}
+use Rattle.s390x_job.proofs.Above.{pieces_line}
+pub use Rattle.s390x_job.proofs.Above.{pieces_cut as first_line}
 use Rattle.s390x_job.proofs.Whole.{either, cut}
 
 -- no line feed stands in these lines
@@ -17,9 +18,8 @@ free_append [] b h k = k
 free_append (w ∷ a) b h k = (h.0, free_append a b h.1 k)
 
 pub free_take : (n : ℕ) (a : List (List ℕ)) → AllFree a → AllFree (take n a)
-free_take zero a h = tt
-free_take (suc n) [] h = tt
 free_take (suc n) (w ∷ a) h = (h.0, free_take n a h.1)
+free_take n a h = tt
 
 pub joined_append : (a b : List (List ℕ)) → text_of_lines (a ++ b) ≡ text_of_lines a ++ text_of_lines b
 joined_append [] b = refl
@@ -53,12 +53,8 @@ same_lines a b h k e = sym (pieces_whole a h) ∙ ap pieces e ∙ pieces_whole b
 pub text_cut : (s : List ℕ) → (length (upto 10 s) ≡ length s → ⊥) → s ≡ upto 10 s ++ (10 ∷ past 10 s)
 text_cut s h = cut 10 s h
 
-pub first_line : (s : List ℕ) → (length (upto 10 s) ≡ length s → ⊥) → pieces s ≡ upto 10 s ∷ pieces (past 10 s)
-first_line s h = pieces_cut s h
-
 -- the first m lines, where one more than those in front is among them
 pub take_front : (front : List (List ℕ)) (w : List ℕ) (back : List (List ℕ)) (m n : ℕ) → m ≡ length front + (n + 1) → take m (front ++ w ∷ back) ≡ front ++ w ∷ take n back
-take_front [] w back zero n e = absurd (omega (arith, e))
 take_front [] w back (suc m) n e = let f : m ≡ n = omega (arith, e) in ap (λ k. w ∷ take k back) f
-take_front (v ∷ front) w back zero n e = absurd (omega (arith, e))
 take_front (v ∷ front) w back (suc m) n e = ap (λ t. v ∷ t) (take_front front w back m n (omega (arith, e)))
+take_front front w back m n e = absurd (omega (arith, e))

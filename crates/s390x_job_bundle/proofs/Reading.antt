@@ -1,5 +1,5 @@
 -- Reading functions one behind the other.
-use Rattle.std.proofs.Common.{◌≡◌, ℕ, ◌+◌, ◌<◌, List, [], ◌∷◌, ◌++◌, drop, length, take, refl, sym, ap, ap₂, ◌∙◌, subst, arith, append_assoc, append-nil}
+use Rattle.std.proofs.Common.{◌≡◌, ℕ, ◌+◌, ◌<◌, List, [], ◌∷◌, ◌++◌, drop, length, take, sym, ap, ap₂, ◌∙◌, subst, arith, append_assoc, append-nil}
 use Rattle.std.proofs.lemmas.List.{take-append-drop}
 use Rattle.s390x_job.specs.Jobs.{IsJob, text_of_job}
 use Rattle.s390x_job.specs.Completions.{text_of_lines, pieces}
@@ -11,10 +11,7 @@ use Rattle.s390x_job_bundle.proofs.JobLines.{job_joined, words_of}
 use Rattle.s390x_job_fields.specs.Marks.{past, upto}
 use Rattle.s390x_job_bundle.proofs.Lines.{first_line, joined_append, text_cut}
 use Rattle.s390x_job_bundle.proofs.Stopping.{At, at_pieces, text_words}
-
-nil : (s : List ℕ) → length s ≡ 0 → s ≡ []
-nil [] h = refl
-nil (x ∷ s) h = absurd (omega (arith, h))
+use Rattle.s390x_job.proofs.Whole.{nil}
 
 -- one function more
 pub at_more : (bytes : List ℕ) (fs gs : List NamedJob) (rest behind : List ℕ) (f : NamedJob) (size : ℕ) → At bytes fs rest → f.name.0 < 4294967296 → IsJob f.job

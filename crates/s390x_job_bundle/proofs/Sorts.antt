@@ -191,9 +191,8 @@ text_ends l h = ends_named l.name l.fields h.kinds_fit ∙ ap is_ending (sym (cl
 
 -- how many loops are open
 abbrev pub level : Place → ℕ
-level (Header rank bound) = 0
 level (Within d) = d
-level AtEnd = 0
+level _ = 0
 
 abbrev pub rise : Sort → ℕ
 rise Opening = 1

@@ -64,9 +64,6 @@ pub record At (bytes : List ℕ) (fs : List NamedJob) (rest : List ℕ) : Type 0
   pub text : bytes ≡ text_of_lines (function_words fs) ++ rest
   pub are : AreFunctions fs
 
-pub at_start : (bytes : List ℕ) → At bytes [] bytes
-at_start bytes = record { text = refl; are = tt }
-
 pub at_pieces : (bytes : List ℕ) (fs : List NamedJob) (rest : List ℕ) → At bytes fs rest → pieces bytes ≡ function_words fs ++ pieces rest
 at_pieces bytes fs rest a = ap pieces a.text ∙ pieces_joined (function_words fs) rest (words_free fs a.are)
 

@@ -27,9 +27,8 @@ AreFunctions (f ∷ fs) = (f.name.0 < 4294967296) × IsJob f.job × AreFunctions
 -- the same functions: by their names and by the lines of their jobs
 abbrev pub SameFunctions : List NamedJob → List NamedJob → Type 0
 SameFunctions [] [] = Unit {0}
-SameFunctions [] (g ∷ gs) = ⊥
-SameFunctions (f ∷ fs) [] = ⊥
 SameFunctions (f ∷ fs) (g ∷ gs) = (f.name ≡ g.name) × SameJob f.job g.job × SameFunctions fs gs
+SameFunctions _ _ = ⊥
 
 -- the bytes are the text of these functions, and of no others
 pub record AreFunctionsOf (bytes : List ℕ) (functions : List NamedJob) : Type 0 where

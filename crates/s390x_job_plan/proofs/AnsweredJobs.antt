@@ -1,5 +1,5 @@
 -- The job with the function that a plan gives is a job.
-use Rattle.std.proofs.Common.{◌≡◌, ℕ, zero, suc, ◌<◌, Option, Some, None, List, [], ◌∷◌, ◌++◌, map, refl, sym, ap, ◌∙◌, subst, arith, append_assoc}
+use Rattle.std.proofs.Common.{◌≡◌, ℕ, zero, suc, ◌<◌, Option, Some, List, [], ◌∷◌, ◌++◌, map, refl, sym, ap, ◌∙◌, subst, arith, append_assoc}
 use Rattle.s390x_base.specs.Registers.{IsRegister, RealRegister}
 use Rattle.s390x_base.specs.declared.ir.ConstantData.{ConstantData}
 use Rattle.s390x_base.specs.declared.regs.Reg.{Reg}
@@ -36,6 +36,7 @@ use Rattle.s390x_job_plan.specs.declared.planned_job.PlannedJob.{PlannedJob}
 use Rattle.s390x_job_plan.specs.Jobs.{with_function}
 use Rattle.s390x_job_plan.proofs.PortionLines.{PortionLines, assigned_lines, portion_line}
 use Rattle.s390x_job_plan.proofs.TreeLines.{assigned_run, from_portions, lines_append, lines_back, lines_front, stays_there, to_portions, tree_lines, tree_stays, trees_stay}
+use Rattle.s390x_job_bundle.proofs.JobLines.{going}
 
 -- ---- the edits of a plan
 
@@ -105,8 +106,6 @@ tail_is e = cc
 
 edits_all : (es : List Edit) (is ys : List Inst) → map portions ys ≡ edits_portions es is → AllPlanLines (map edit_line es) → AllLines (insts_lines is) → AllLines (insts_lines ys)
 edits_all [] is [] e h k = tt
-edits_all [] is (a ∷ ys) e h k = absurd cc
-edits_all (x ∷ es) is [] e h k = absurd cc
 edits_all (Move to from ∷ es) is (a ∷ ys) e h k =
     lines_append (inst_lines a) (insts_lines ys) (subst AllLines (sym (given_lines a (move_portions to from) (head_is e))) (from_portions (move_portions to from) (move_lines to from h.0.0 h.0.1))) (edits_all es is ys (tail_is e) h.1 k)
 edits_all (Step regs ∷ es) [] (a ∷ ys) e h k =
@@ -114,6 +113,7 @@ edits_all (Step regs ∷ es) [] (a ∷ ys) e h k =
 edits_all (Step regs ∷ es) (i ∷ is) (a ∷ ys) e h k =
     lines_append (inst_lines a) (insts_lines ys) (subst AllLines (sym (given_lines a (assigned_portions (portions i) regs.items).0 (head_is e))) (step_all i regs.items (lines_front (inst_lines i) (insts_lines is) k) h.0))
     (edits_all es is ys (tail_is e) h.1 (lines_back (inst_lines i) (insts_lines is) k))
+edits_all es is ys e h k = absurd cc
 
 -- one instruction, and the rest
 then_run : (a : Inst) (ys : List Inst) → run (Some (Within 0)) (inst_lines a) ≡ Some (Within 0) → run (Some (Within 0)) (insts_lines ys) ≡ Some (Within 0) → run (Some (Within 0)) (insts_lines (a ∷ ys)) ≡ Some (Within 0)
@@ -127,13 +127,12 @@ rest_run i is h = ap (λ o. run o (insts_lines is)) (sym (first_run i is h)) ∙
 
 edits_run : (es : List Edit) (is ys : List Inst) → map portions ys ≡ edits_portions es is → run (Some (Within 0)) (insts_lines is) ≡ Some (Within 0) → run (Some (Within 0)) (insts_lines ys) ≡ Some (Within 0)
 edits_run [] is [] e k = refl
-edits_run [] is (a ∷ ys) e k = absurd cc
-edits_run (x ∷ es) is [] e k = absurd cc
 edits_run (Move to from ∷ es) is (a ∷ ys) e k =
     then_run a ys (ap (run (Some (Within 0))) (given_lines a (move_portions to from) (head_is e)) ∙ move_run to from) (edits_run es is ys (tail_is e) k)
 edits_run (Step regs ∷ es) [] (a ∷ ys) e k = then_run a ys (ap (run (Some (Within 0))) (given_lines a [] (head_is e))) (edits_run es [] ys (tail_is e) k)
 edits_run (Step regs ∷ es) (i ∷ is) (a ∷ ys) e k =
     then_run a ys (ap (run (Some (Within 0))) (given_lines a (assigned_portions (portions i) regs.items).0 (head_is e)) ∙ step_run i regs.items (Some (Within 0)) ∙ first_run i is k) (edits_run es is ys (tail_is e) (rest_run i is k))
+edits_run es is ys e k = absurd cc
 
 -- ---- blocks
 
@@ -147,32 +146,27 @@ plan_all p ps h =
 
 blocks_all : (bs : List Block) (ps : List BlockPlan) (ys : List Block) → map block_portions ys ≡ blocks_answer bs ps → AllPlanLines (plan_blocks_lines ps) → AllLines (blocks_lines bs) → AllLines (blocks_lines ys)
 blocks_all [] ps [] e h k = tt
-blocks_all [] ps (a ∷ ys) e h k = absurd cc
 blocks_all (b ∷ bs) [] [] e h k = tt
-blocks_all (b ∷ bs) [] (a ∷ ys) e h k = absurd cc
-blocks_all (b ∷ bs) (p ∷ ps) [] e h k = absurd cc
 blocks_all (b ∷ bs) (p ∷ ps) (a ∷ ys) e h k =
     let plan = plan_all p ps h in
     (k.0, lines_append (insts_lines a.insts.items) (blocks_lines ys) (edits_all p.edits.items b.insts.items a.insts.items (head_is e) plan.0 (lines_front (insts_lines b.insts.items) (blocks_lines bs) k.1)) (blocks_all bs ps ys (tail_is e) plan.1 (lines_back (insts_lines b.insts.items) (blocks_lines bs) k.1)))
+blocks_all bs ps ys e h k = absurd cc
 
 -- where a block may begin, and the job may end
 abbrev IsOpen : Place → Type 0
-IsOpen (Header rank bound) = Unit {0}
-IsOpen (Within zero) = Unit {0}
 IsOpen (Within (suc d)) = ⊥
 IsOpen AtEnd = ⊥
+IsOpen _ = Unit {0}
 
 ends_at : (p : Place) → IsOpen p → run (Some p) (end_line ∷ []) ≡ Some AtEnd
-ends_at (Header rank bound) h = refl
-ends_at (Within zero) h = refl
 ends_at (Within (suc d)) h = absurd h
 ends_at AtEnd h = absurd h
+ends_at p h = refl
 
 begins_at : (p : Place) → IsOpen p → next_place p (class block_line) ≡ Some (Within 0)
-begins_at (Header rank bound) h = refl
-begins_at (Within zero) h = refl
 begins_at (Within (suc d)) h = absurd h
 begins_at AtEnd h = absurd h
+begins_at p h = refl
 
 open_place : (p : Place) (bs : List Block) → run (Some p) (blocks_lines bs ++ end_line ∷ []) ≡ Some AtEnd → IsOpen p
 open_place (Header rank bound) bs e = tt
@@ -221,11 +215,6 @@ same_head : (j : Job) (function : AllocatedFunction) → map constant_value func
 same_head j function e =
     ap (λ cs. flags_lines j.info.isa_flags ++ (frame_lines j.conv j.state.layout ++ (cs ++ (map symbol_line j.symbols.items ++ (registers_lines j.registers ++ map memory_line j.memory.items))))) (same_constants function.constants.items j.function.constants.items e)
 
--- a place that is come to
-somewhere : (o : Option Place) (ls : List Line) → run o ls ≡ Some AtEnd → (p : Place) × (o ≡ Some p)
-somewhere None ls h = absurd cc
-somewhere (Some p) ls h = (p, refl)
-
 pub answered_job : (p : PlannedJob) (function : AllocatedFunction) → IsPlanned p → IsAnswered p.job.state.layout p.job.function p.plan function → IsJob (with_function p.job function)
 answered_job p function is answer =
     let j = p.job in
@@ -236,7 +225,7 @@ answered_job p function is answer =
     let tail' = blocks_lines ys ++ end_line ∷ [] in
     let whole : job_lines (with_function j function) ≡ head ++ tail' = ap (λ ls. ls ++ tail') (same_head j function answer.constants_are) in
     let order : run (run (Some (Header 0 0)) head) tail ≡ Some AtEnd = sym (run_append head (Some (Header 0 0)) tail) ∙ is.0.order in
-    let place = somewhere (run (Some (Header 0 0)) head) tail order in
+    let place = going (run (Some (Header 0 0)) head) tail order in
     let from : run (Some place.0) tail ≡ Some AtEnd = ap (λ o. run o tail) (sym place.1) ∙ order in
     let to : run (Some place.0) tail' ≡ Some AtEnd = blocks_run bs p.plan.blocks.items ys place.0 (open_place place.0 bs from) answer.blocks_are from in
     let plan = plan_front (plan_blocks_lines p.plan.blocks.items) _ is.1.1 in

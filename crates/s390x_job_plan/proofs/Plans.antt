@@ -38,27 +38,21 @@ module _ (t : List PlanLine) (ends : (s : Stage) → IsOpen s → run (Some s) t
   edits_run (Move to from ∷ es) InEdits h = edits_run es InEdits tt
   edits_run (Step regs ∷ es) InEntry h = edits_run es InEdits tt
   edits_run (Step regs ∷ es) InEdits h = edits_run es InEdits tt
-  edits_run es AtStart h = absurd h
-  edits_run es Ahead h = absurd h
-  edits_run es AtEnd h = absurd h
+  edits_run es s h = absurd h
 
   pairs_run : (ps : List EntryPair) (es : List Edit) → run (Some InEntry) (map pair_line ps ++ (map edit_line es ++ t)) ≡ Some AtEnd
   pairs_run [] es = edits_run es InEntry tt
   pairs_run (p ∷ ps) es = pairs_run ps es
 
   block_run : (ps : List EntryPair) (es : List Edit) (s : Stage) → IsOpen s → run (Some s) (Opening ∷ (map pair_line ps ++ (map edit_line es ++ t))) ≡ Some AtEnd
-  block_run ps es Ahead h = pairs_run ps es
-  block_run ps es InEntry h = pairs_run ps es
-  block_run ps es InEdits h = pairs_run ps es
   block_run ps es AtStart h = absurd h
   block_run ps es AtEnd h = absurd h
+  block_run ps es s h = pairs_run ps es
 
 closing_run : (s : Stage) → IsOpen s → run (Some s) (Closing ∷ []) ≡ Some AtEnd
-closing_run Ahead h = refl
-closing_run InEntry h = refl
-closing_run InEdits h = refl
 closing_run AtStart h = absurd h
 closing_run AtEnd h = absurd h
+closing_run s h = refl
 
 blocks_run : (bs : List BlockPlan) (s : Stage) → IsOpen s → run (Some s) (blocks_lines bs ++ Closing ∷ []) ≡ Some AtEnd
 blocks_run [] s h = closing_run s h
@@ -73,9 +67,8 @@ plan_run : (bs : List BlockPlan) → run (Some AtStart) (plan_lines bs) ≡ Some
 plan_run bs = blocks_run bs Ahead tt
 
 run_append : (o : Option Stage) (a b : List PlanLine) → run o (a ++ b) ≡ run (run o a) b
-run_append None a b = refl
-run_append (Some s) [] b = refl
 run_append (Some s) (l ∷ a) b = run_append (next_stage s l) a b
+run_append o a b = refl
 
 -- ---- one block more
 
@@ -90,12 +83,9 @@ more_blocks bs cs b l e = ap (λ t. Heading ∷ (t ++ l ∷ [])) (ap blocks_line
 -- ---- a block with no edits
 
 same_next : (l : Line) → ((p : EntryPair) → l ≡ L.Entry p → ⊥) → next_stage InEdits (line_value l) ≡ next_stage InEntry (line_value l)
-same_next L.Plan h = refl
-same_next L.Block h = refl
 same_next (L.Entry p) h = absurd (h p refl)
 same_next (L.Edit (Move to from)) h = refl
-same_next (L.Edit (Step regs)) h = refl
-same_next L.Close h = refl
+same_next l h = refl
 
 -- a line that is no pair goes on behind no edits as behind pairs
 pub no_edits : (blocks : Vec BlockPlan Global) (entry : Vec EntryPair Global) (edits : Vec Edit Global) (l : Line) (o : Option Progress) → edits.items ≡ [] → ((p : EntryPair) → l ≡ L.Entry p → ⊥) → Follows (Editing blocks entry edits) l o → Follows (Entering blocks entry) l o
@@ -193,10 +183,9 @@ texts_more (x ∷ s) zero d h = refl
 texts_more (x ∷ s) (suc n) d h = ap (λ t. x.now ∷ t) (texts_more s n d (omega (arith, h)))
 
 texts_count : (s : List (Bor (List ℕ))) (n : ℕ) → n ≤ length s → length (texts (take n s)) ≡ n
-texts_count [] zero h = refl
 texts_count [] (suc n) h = absurd (omega (arith, h))
-texts_count (x ∷ s) zero h = refl
 texts_count (x ∷ s) (suc n) h = omega (arith, texts_count s n (omega (arith, h)))
+texts_count s n h = refl
 
 texts_all : (s : List (Bor (List ℕ))) (n : ℕ) → length s ≤ n → take n s ≡ s
 texts_all [] zero h = refl
@@ -222,11 +211,8 @@ told_at s n w d e l h t read follows =
     subst (λ ws. Told ws e) one (told_more (texts (take n s)) d e (get_or s n w).now l t read follows)
 
 not_end : (d : Progress) → ((blocks : Vec BlockPlan Global) → d ≡ Done blocks → ⊥) → stage_of d ≡ AtEnd → ⊥
-not_end Start h e = absurd cc
-not_end Between h e = absurd cc
-not_end (Entering blocks entry) h e = absurd cc
-not_end (Editing blocks entry edits) h e = absurd cc
 not_end (Done blocks) h e = h blocks refl
+not_end d h e = absurd cc
 
 pub unfinished_at : (s : List (Bor (List ℕ))) (n : ℕ) (d : Progress) → length s ≤ n → Told (texts (take n s)) d → ((blocks : Vec BlockPlan Global) → d ≡ Done blocks → ⊥) → IsPlanStuckAt (texts s) (length s)
 unfinished_at s n d h t open_yet =

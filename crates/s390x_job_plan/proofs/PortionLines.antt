@@ -15,7 +15,6 @@ use Rattle.s390x_inst.specs.declared.calls.RetPair.{RetPair}
 use Rattle.s390x_inst.specs.declared.calls.TryCallInfo.{TryCallInfo}
 use Rattle.s390x_inst.specs.declared.inst.Inst.{Inst}
 use Rattle.s390x_inst.specs.declared.inst.Inst.TheVariants as I
-use Rattle.s390x_inst.specs.declared.vec_inst.VecInst.{VecInst}
 use Rattle.s390x_inst.specs.declared.vec_inst.VecInst.TheVariants as V
 use Rattle.s390x_job_fields.specs.Atoms.{IsReg}
 use Rattle.s390x_job_fields.specs.Calls.{Goes, IsArg, IsCallTarget, IsResult, IsRet, IsUse, NoTry, TryPart, try_part}
@@ -23,7 +22,7 @@ use Rattle.s390x_job_fields.specs.Lists.{AllItems}
 use Rattle.s390x_job_fields.specs.Numbers.{W32}
 use Rattle.s390x_job_fields.specs.Sets.{members_of}
 use Rattle.s390x_job_fields.specs.Fields.{FArgs, FBool, FCond, FConvention, FDefs, FLabels, FNatural, FOption, FReg, FRets, FSet, FTarget, FTry, FUses}
-use Rattle.s390x_job_lines.specs.Instructions.{inst_line, vector_line}
+use Rattle.s390x_job_lines.specs.Instructions.{inst_line}
 use Rattle.s390x_job_lines.specs.Kinds.{kinds}
 use Rattle.s390x_job_lines.specs.Line.{AllFields, IsLine, Line, kinds_of}
 use Rattle.s390x_job_lines.specs.declared.inst_name.ControlName.TheVariants as ControlIs
@@ -63,16 +62,8 @@ first_line i = refl
 
 -- ---- kinds
 
-vector_kinds_fit : (v : VecInst) → kinds (vector_line v).name ≡ kinds_of (vector_line v).fields
-vector_kinds_fit (V.VecRR op rd rn) = refl
-vector_kinds_fit v = refl
-
-inst_kinds_fit : (i : Inst) → kinds (inst_line i).name ≡ kinds_of (inst_line i).fields
-inst_kinds_fit (I.Vector v) = vector_kinds_fit v
-inst_kinds_fit i = refl
-
 kinds_fit : (p : Portion) → kinds (portion_line p).name ≡ kinds_of (portion_line p).fields
-kinds_fit (plain i) = inst_kinds_fit i
+kinds_fit (plain (I.Vector (V.VecRR op rd rn))) = refl
 kinds_fit p = refl
 
 -- ---- ranges
@@ -150,8 +141,7 @@ portion_fields (tail_calling dest uses size) s h k =
     ((target dest s h.0 k, (uses_kept uses t h.1.0 k', h.1.1)), uses_left uses t k')
 portion_fields (arguments args) s h k = ((args_kept args s h.0 k, h.1), args_left args s k)
 portion_fields (results rets) s h k = ((rets_kept rets s h.0 k, h.1), rets_left rets s k)
-portion_fields (opening mask) s h k = (h, k)
-portion_fields closing s h k = (h, k)
+portion_fields p s h k = (h, k)
 
 -- the lines of portions
 abbrev pub PortionLines : List Portion → Type 0

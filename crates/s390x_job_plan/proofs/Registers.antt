@@ -3,23 +3,17 @@ use Rattle.std.proofs.Common.{◌≡◌, List, [], ◌∷◌, ◌++◌, Option, 
 use Rattle.s390x_base.specs.declared.regs.Reg.{Reg}
 use Rattle.s390x_inst.specs.declared.inst.Inst.{Inst}
 use Rattle.s390x_inst.specs.declared.inst.Inst.TheVariants as I
-use Rattle.s390x_inst.specs.declared.vec_inst.VecInst.{VecInst}
 use Rattle.s390x_inst.specs.declared.vec_inst.VecInst.TheVariants as V
-use Rattle.s390x_described.specs.Instructions.{description_of, described_vector}
+use Rattle.s390x_described.specs.Instructions.{description_of}
 use Rattle.s390x_described.specs.Roles.{Described, each_role}
 use Rattle.s390x_job_fields.specs.Fields.{Field, FReg, FPair, FMemory}
-use Rattle.s390x_job_lines.specs.Instructions.{inst_line, vector_line}
-use Rattle.s390x_assign.specs.Assignments.{assigned_operator, assigned_role, assigned_vector}
+use Rattle.s390x_job_lines.specs.Instructions.{inst_line}
+use Rattle.s390x_assign.specs.Assignments.{assigned_operator, assigned_role}
 use Rattle.s390x_job_plan.specs.Registers.{register_fields, role_fields, described_fields, other_fields}
 
 -- one clause stands for every instruction, here and below
-vectors : (v : VecInst) → register_fields (vector_line v).fields ≡ role_fields (described_vector v).roles
-vectors (V.VecMov rd rn) = refl
-vectors v = refl
-
 pub each_register : (i : Inst) → register_fields (inst_line i).fields ≡ other_fields i ++ described_fields (description_of i)
-each_register (I.Vector v) = vectors v
-each_register I.Fence = refl
+each_register (I.Vector (V.VecMov rd rn)) = refl
 each_register i = refl
 
 -- the fields for the roles with their registers
@@ -27,13 +21,8 @@ abbrev pub given_fields : Option (Described Inst) → List Reg → List Field
 given_fields None s = []
 given_fields (Some d) s = role_fields (each_role assigned_role d.roles s).0
 
-given_vectors : (v : VecInst) (s : List Reg) → register_fields (vector_line (assigned_vector v s).0).fields ≡ role_fields (each_role assigned_role (described_vector v).roles s).0
-given_vectors (V.VecMov rd rn) s = refl
-given_vectors v s = refl
-
 pub given_registers : (i : Inst) (s : List Reg) → register_fields (inst_line (assigned_operator i s).0).fields ≡ other_fields i ++ given_fields (description_of i) s
-given_registers (I.Vector v) s = given_vectors v s
-given_registers I.Fence s = refl
+given_registers (I.Vector (V.VecMov rd rn)) s = refl
 given_registers i s = refl
 
 -- the fields that are no registers, pairs and operands in memory
@@ -44,11 +33,6 @@ plain_fields (FPair h l ∷ fs) = plain_fields fs
 plain_fields (FMemory m ∷ fs) = plain_fields fs
 plain_fields (f ∷ fs) = f ∷ plain_fields fs
 
-plain_vectors : (v : VecInst) (s : List Reg) → plain_fields (vector_line (assigned_vector v s).0).fields ≡ plain_fields (vector_line v).fields
-plain_vectors (V.VecMov rd rn) s = refl
-plain_vectors v s = refl
-
 pub plain_kept : (i : Inst) (s : List Reg) → plain_fields (inst_line (assigned_operator i s).0).fields ≡ plain_fields (inst_line i).fields
-plain_kept (I.Vector v) s = plain_vectors v s
-plain_kept I.Fence s = refl
+plain_kept (I.Vector (V.VecMov rd rn)) s = refl
 plain_kept i s = refl

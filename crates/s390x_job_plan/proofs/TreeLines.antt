@@ -8,14 +8,15 @@ use Rattle.s390x_inst.specs.declared.inst.Inst.{Inst, Row_of-Inst, end_of-Inst, 
 use Rattle.s390x_inst.specs.declared.inst.Inst.TheVariants as I
 use Rattle.s390x_inst.specs.declared.vec_inst.VecInst.{VecInst}
 use Rattle.s390x_inst.specs.declared.vec_inst.VecInst.TheVariants as V
-use Rattle.s390x_job_lines.specs.Instructions.{inst_line, vector_line}
+use Rattle.s390x_job_lines.specs.Instructions.{vector_line}
 use Rattle.s390x_job_lines.specs.Line.{Line}
 use Rattle.s390x_job.specs.Grammar.{Instruction, Place, Within, class, next_place, run}
 use Rattle.s390x_job.specs.Items.{close_line, loop_line}
 use Rattle.s390x_job.specs.Jobs.{AllLines, inst_lines, insts_lines, row_lines}
 use Rattle.s390x_job.proofs.Whole.{either, run_append}
-use Rattle.s390x_assign.specs.Assignments.{assigned_portions, assigned_operator, assigned_vector, portion_at}
+use Rattle.s390x_assign.specs.Assignments.{assigned_portions, assigned_vector, portion_at}
 use Rattle.s390x_job_plan.proofs.PortionLines.{PortionLines, first_line, portion_line}
+pub use Rattle.s390x_job.proofs.Whole.{all_append as lines_append, all_rest as lines_back}
 
 mutual
   pub tree_lines : (i : Inst) → inst_lines i ≡ map portion_line (portions i)
@@ -39,17 +40,9 @@ pub from_portions : (ps : List Portion) → PortionLines ps → AllLines (map po
 from_portions [] h = tt
 from_portions (p ∷ ps) h = (h.0, from_portions ps h.1)
 
-pub lines_append : (a b : List Line) → AllLines a → AllLines b → AllLines (a ++ b)
-lines_append [] b h k = k
-lines_append (l ∷ a) b h k = (h.0, lines_append a b h.1 k)
-
 pub lines_front : (a b : List Line) → AllLines (a ++ b) → AllLines a
 lines_front [] b h = tt
 lines_front (l ∷ a) b h = (h.0, lines_front a b h.1)
-
-pub lines_back : (a b : List Line) → AllLines (a ++ b) → AllLines b
-lines_back [] b h = h
-lines_back (l ∷ a) b h = lines_back a b h.1
 
 -- ---- lines in their order
 
@@ -112,16 +105,11 @@ stays_there p o ls q (inr e) h = e
 assigned_vector_class : (v : VecInst) (s : List Reg) → class (vector_line (assigned_vector v s).0) ≡ class (vector_line v)
 assigned_vector_class v s = vector_class (assigned_vector v s).0 ∙ sym (vector_class v)
 
-operator_class : (i : Inst) (s : List Reg) → class (inst_line (assigned_operator i s).0) ≡ class (inst_line i)
-operator_class (I.Vector v) s = assigned_vector_class v s
-operator_class i s = refl
-
 portion_class : (p : Portion) (s : List Reg) → class (portion_line (portion_at p s).0) ≡ class (portion_line p)
-portion_class (plain i) s = operator_class i s
+portion_class (plain (I.Vector v)) s = assigned_vector_class v s
 portion_class p s = refl
 
 pub assigned_run : (ps : List Portion) (s : List Reg) (o : Option Place) → run o (map portion_line (assigned_portions ps s).0) ≡ run o (map portion_line ps)
-assigned_run [] s o = refl
-assigned_run (p ∷ ps) s None = refl
 assigned_run (p ∷ ps) s (Some q) =
     ap (λ c. run (next_place q c) (map portion_line (assigned_portions ps (portion_at p s).1).0)) (portion_class p s) ∙ assigned_run ps (portion_at p s).1 (next_place q (class (portion_line p)))
+assigned_run ps s o = refl

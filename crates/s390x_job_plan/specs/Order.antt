@@ -13,11 +13,8 @@ pub data Stage : Type 0 where
 -- the place after one more line
 abbrev pub next_stage : Stage → PlanLine → Option Stage
 next_stage AtStart Heading = Some Ahead
-next_stage AtStart l = None
 next_stage Ahead Opening = Some InEntry
 next_stage Ahead Closing = Some AtEnd
-next_stage Ahead l = None
-next_stage InEntry Heading = None
 next_stage InEntry Opening = Some InEntry
 next_stage InEntry (Held place vreg) = Some InEntry
 next_stage InEntry (Moving to from) = Some InEdits
@@ -27,8 +24,7 @@ next_stage InEdits Opening = Some InEntry
 next_stage InEdits (Moving to from) = Some InEdits
 next_stage InEdits (Stepping regs) = Some InEdits
 next_stage InEdits Closing = Some AtEnd
-next_stage InEdits l = None
-next_stage AtEnd l = None
+next_stage _ _ = None
 
 -- the place after these lines
 abbrev pub run : Option Stage → List PlanLine → Option Stage

@@ -1,7 +1,8 @@
--- Items of two lists, one behind the other, and numbers of two digits.
-use Rattle.std.proofs.Common.{◌≡◌, ℕ, ◌+◌, ◌/◌, ◌%◌, ◌<◌, ◌≤◌, ◌^◌, List, [], ◌∷◌, ◌++◌, refl, sym, ap, ◌∙◌, append_assoc, codes, decimal, arith}
-use Rattle.std.proofs.lemmas.Fmt.{decimal_digit, decimal_step}
+-- Items of two lists, one behind the other.
+use Rattle.std.proofs.Common.{◌≡◌, Bool, List, [], ◌∷◌, ◌++◌, Result, Ok, Err, refl, sym, ap, ◌∙◌, append_assoc, codes}
 use Rattle.s390x_operands.specs.declared.constraint.Reported.{Reported}
+use Rattle.s390x_operands.specs.declared.constraint.OperandError.{OperandError}
+use Rattle.s390x_operands.specs.Visits.{Takes}
 use Rattle.s390x_listing.specs.Operands.{item_text, more_items}
 
 pub more_append : (xs ys : List Reported) → more_items (xs ++ ys) ≡ more_items xs ++ more_items ys
@@ -10,8 +11,7 @@ more_append (x ∷ xs) ys =
     ap (λ t. codes ", " ++ (item_text x ++ t)) (more_append xs ys)
     ∙ ap (λ t. codes ", " ++ t) (sym (append_assoc (item_text x) (more_items xs) (more_items ys)))
 
-pub two_digits : (n : ℕ) → 10 ≤ n → n < 100 → decimal n ≡ (48 + n / 10) ∷ (48 + n % 10) ∷ []
-two_digits n a b =
-    let small : n < 2 ^ 64 = omega (arith, b) in
-    let first : n / 10 < 10 = omega (arith, b) in
-    decimal_step n a small ∙ ap (λ d. d ++ (48 + n % 10) ∷ []) (decimal_digit (n / 10) first)
+-- what the second of two lists takes is taken behind the first
+pub taken_behind : (denies : Bool) (x : Reported) (first before after : List Reported) (r : Result (Unit {0}) OperandError) → Takes denies x before after r → Takes denies x (first ++ before) (first ++ after) r
+taken_behind denies x first before after (Ok u) t = (ap (λ l. first ++ l) t.0 ∙ sym (append_assoc first before (x ∷ [])), t.1)
+taken_behind denies x first before after (Err e) t = (ap (λ l. first ++ l) t.0, t.1)

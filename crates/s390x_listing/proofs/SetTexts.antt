@@ -19,9 +19,8 @@ text_append true (x ∷ xs) ys =
     ap (λ t. real_text x ++ t) (more_append xs ys) ∙ sym (append_assoc (real_text x) (more_text real_text xs) (more_text real_text ys))
 
 pub none_append : (first : Bool) (xs ys : List RealRegister) → (first && no_member (xs ++ ys)) ≡ ((first && no_member xs) && no_member ys)
-none_append false xs ys = refl
 none_append true [] ys = refl
-none_append true (x ∷ xs) ys = refl
+none_append first xs ys = refl
 
 pub no_text : (first : Bool) (xs : List RealRegister) → false ≡ not (no_member xs) → members_text first xs ≡ []
 no_text false [] e = refl

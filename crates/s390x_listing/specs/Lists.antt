@@ -6,4 +6,4 @@ use Rattle.s390x_listing.specs.declared.item_list.ItemList.{ItemList}
 
 -- the real registers that came first, and the others behind them
 abbrev pub items_in : ItemList → List Reported
-items_in l = map Fixed l.fixed.items ++ l.others.items
+items_in l = map Fixed l.fixed.items ++ l.others.items.items

@@ -2,7 +2,7 @@
 ghost use Rattle.std.specs.Prelude.{◌≡◌, ◌++◌, OnOk, string_bytes};
 ghost use Rattle.s390x_listing.specs.Listings.{block_head};
 
-use s390x_job_fields::number::{put, put_natural};
+use s390x_text_rows::{put, put_natural};
 use std::alloc::AllocError;
 
 /// Appends `block K` and a line feed.

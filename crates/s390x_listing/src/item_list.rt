@@ -4,7 +4,7 @@ ghost use Rattle.s390x_operands.specs.Visits.{Takes};
 
 use s390x_base::{PReg, PRegSet, Reg};
 use s390x_operands::{
-    OperandConstraint, OperandError, OperandKind, OperandPos, OperandVisitor, Reported,
+    OperandConstraint, OperandError, OperandKind, OperandList, OperandPos, OperandVisitor, Reported,
 };
 use std::alloc::Global;
 
@@ -13,7 +13,7 @@ use std::alloc::Global;
 #[derive(Drop)]
 pub struct ItemList {
     fixed: Vec<PReg>,
-    others: Vec<Reported>,
+    others: OperandList,
 }
 
 impl ItemList {
@@ -23,7 +23,7 @@ impl ItemList {
     pub fn new(alloc: Global) -> ItemList {
         ItemList {
             fixed: Vec::new(alloc),
-            others: Vec::new(alloc),
+            others: OperandList::new(alloc),
         }
     }
 
@@ -36,9 +36,9 @@ impl ItemList {
 
     /// The items behind those.
     pub fn others(&self) -> &[Reported]
-        ensures { result.now ≡ self.now.others.items }
+        ensures { result.now ≡ self.now.others.items.items }
     {
-        &self.others
+        self.others.items()
     }
 
     /// Forgets what was reported, and keeps the room for it.
@@ -49,35 +49,25 @@ impl ItemList {
         self.others.clear();
     }
 
-    // Keeps one item behind all others.
-    #[inline(always)]
-    fn take(&mut self, item: Reported) -> Result<(), OperandError>
-        ensures { Takes false item (items_in self.old) (items_in self.new) result }
-    {
-        match self.others.extend_from_slice(&[item]) {
-            Ok(()) => Ok(()),
-            Err(_) => Err(OperandError::NoMemory),
-        }
-    }
-
-    // Keeps a real register behind all others.
-    #[inline(never)]
-    fn take_late(&mut self, preg: PReg) -> Result<(), OperandError>
-        ensures { Takes false (Reported.Fixed preg) (items_in self.old) (items_in self.new) result }
-    {
-        self.take(Reported::Fixed(preg))
-    }
-
     // Keeps one of the first real registers.
     #[inline(always)]
     fn take_fixed(&mut self, preg: PReg) -> Result<(), OperandError>
-        requires { self.old.others.items ≡ [] }
+        requires { self.old.others.items.items ≡ [] }
         ensures { Takes false (Reported.Fixed preg) (items_in self.old) (items_in self.new) result }
     {
         match self.fixed.extend_from_slice(&[preg]) {
             Ok(()) => Ok(()),
             Err(_) => Err(OperandError::NoMemory),
         }
+    }
+
+    // Keeps a real register behind all others. It is rare, so its code doesn't stand in each instruction's report.
+    #[inline(never)]
+    #[tactic(auto, using(crate::proofs::Lines::taken_behind))]
+    fn take_late(&mut self, preg: PReg) -> Result<(), OperandError>
+        ensures { Takes false (Reported.Fixed preg) (items_in self.old) (items_in self.new) result }
+    {
+        self.others.reg_fixed_nonallocatable(preg)
     }
 }
 
@@ -88,6 +78,7 @@ impl OperandVisitor for ItemList {
 
     ghost denies = { λ v. false };
 
+    #[tactic(auto, using(crate::proofs::Lines::taken_behind))]
     fn add_operand(
         &mut self,
         reg: Reg,
@@ -95,23 +86,19 @@ impl OperandVisitor for ItemList {
         kind: OperandKind,
         pos: OperandPos,
     ) -> Result<(), OperandError> {
-        self.take(Reported::Operand {
-            reg,
-            constraint,
-            kind,
-            pos,
-        })
+        self.others.add_operand(reg, constraint, kind, pos)
     }
 
     fn reg_fixed_nonallocatable(&mut self, preg: PReg) -> Result<(), OperandError> {
-        if self.others.is_empty() {
+        if self.others.items().is_empty() {
             self.take_fixed(preg)
         } else {
             self.take_late(preg)
         }
     }
 
+    #[tactic(auto, using(crate::proofs::Lines::taken_behind))]
     fn reg_clobbers(&mut self, regs: PRegSet) -> Result<(), OperandError> {
-        self.take(Reported::Clobbers(regs))
+        self.others.reg_clobbers(regs)
     }
 }

@@ -9,11 +9,11 @@ ghost use Rattle.s390x_listing.specs.Operands.{item_text, items_text, kind_text,
 
 use crate::item_list::ItemList;
 use crate::members::put_members;
-use crate::registers::put_small;
 use s390x_base::{PReg, PRegSet, Reg, RegClass};
-use s390x_job_fields::atoms::{put_real, put_reg};
-use s390x_job_fields::number::{put, put_char, put_natural};
+use s390x_job_fields::atoms::put_reg;
+use s390x_job_fields::number::put_char;
 use s390x_operands::{OperandConstraint, OperandKind, Reported};
+use s390x_text_rows::{put, put_natural, put_real, put_small};
 use std::alloc::AllocError;
 
 /// Appends the items joined by `, `, or `none`, and a line feed.

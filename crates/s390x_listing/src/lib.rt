@@ -6,7 +6,6 @@ mod item_list;
 mod items;
 mod members;
 mod operands;
-mod registers;
 mod texts;
 
 pub use operands::listed_operands;

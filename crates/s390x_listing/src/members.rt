@@ -6,9 +6,9 @@ ghost use Rattle.s390x_job_fields.specs.Lists.{list_text};
 ghost use Rattle.s390x_job_fields.specs.Sets.{members_of};
 ghost use Rattle.s390x_listing.specs.Members.{Listed, general_members, members_text, no_member, vector_members};
 
-use crate::registers::put_register;
 use s390x_base::{PReg, PRegSet, gpr_preg, vr_preg};
 use s390x_job_fields::number::put_char;
+use s390x_text_rows::put_real;
 use std::alloc::AllocError;
 
 /// Appends a set's members as a list.
@@ -31,7 +31,7 @@ fn put_general(out: &mut String, set: &PRegSet) -> Result<bool, AllocError>
     let mut is_first = true;
     for n in 0..16 {
         let register = gpr_preg(n);
-        is_first = put_if(out, set.contains(register), register, is_first)?;
+        is_first = put_possible_member(out, set.contains(register), register, is_first)?;
     }
     Ok(is_first)
 }
@@ -60,21 +60,25 @@ fn has_vector(set: &PRegSet) -> bool
 }
 
 // The vector registers of a set, one by one.
-fn put_each_vector(out: &mut String, set: &PRegSet, no_other: bool) -> Result<bool, AllocError>
-    ensures { Listed no_other (vector_members (has set.now)) (string_bytes out.old)
+fn put_each_vector(
+    out: &mut String,
+    set: &PRegSet,
+    begins_list: bool,
+) -> Result<bool, AllocError>
+    ensures { Listed begins_list (vector_members (has set.now)) (string_bytes out.old)
         (string_bytes out.new) result }
 {
-    let mut is_first = no_other;
+    let mut is_first = begins_list;
     for n in 0..32 {
         let register = vr_preg(n);
-        is_first = put_if(out, set.contains(register), register, is_first)?;
+        is_first = put_possible_member(out, set.contains(register), register, is_first)?;
     }
     Ok(is_first)
 }
 
 // A register where it is a member.
 #[inline(always)]
-fn put_if(
+fn put_possible_member(
     out: &mut String,
     is_member: bool,
     register: PReg,
@@ -90,16 +94,16 @@ fn put_if(
     Ok(false)
 }
 
-// A register, behind a comma unless it is the first one.
+// A register, behind a comma unless it is the first one. It stands once, not in each turn of the loops, of which few have a member.
 #[inline(never)]
 fn put_member(out: &mut String, register: PReg, is_first: bool) -> Result<(), AllocError>
     ensures { OnOk result
         (string_bytes out.new ≡ string_bytes out.old ++ members_text is_first (register ∷ [])) }
 {
     if is_first {
-        put_register(out, register)
+        put_real(out, register)
     } else {
         put_char(out, ',')?;
-        put_register(out, register)
+        put_real(out, register)
     }
 }

@@ -6,8 +6,8 @@ ghost use Rattle.s390x_listing.specs.Texts.{block_texts, blocks_texts, inst_text
 
 use crate::head::put_head;
 use s390x_inst::{Block, EmitInfo, EmitState, Inst};
-use s390x_job_fields::number::put;
 use s390x_text::{TextError, put_pretty};
+use s390x_text_rows::put;
 use std::alloc::Global;
 
 /// For each block the line `block K`, and a line for each of its instructions: its text, in the state of emission behind

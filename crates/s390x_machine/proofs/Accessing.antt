@@ -29,13 +29,10 @@ use Rattle.s390x_machine.specs.Storage.{loads_address}
 use Rattle.s390x_machine.specs.Typed.{with_scratch_value, kind_at}
 use Rattle.s390x_machine.proofs.Addresses.{sum_more}
 use Rattle.s390x_machine.proofs.SingleInstruction.{lgfi_row, word_at}
-use Rattle.s390x_machine.proofs.Built.{StepAt, step_even}
+use Rattle.s390x_machine.proofs.Built.{StepAt, step_even, exactly}
 use Rattle.s390x_machine.proofs.Operands.{word_bits, put_twice, low_below, loaded_address, far_offset}
 use Rattle.s390x_machine.proofs.Simulation.{Inside, Simulates, ValuesCoded, at_start, general_step}
 use Rattle.s390x_machine.proofs.Storage.{Stands, LastRow, step_rows_before, moved, helper_then}
-
-pub itself : (op : Operation) → Refines op op
-itself op = record { access = refl; refused = refl; may_refuse = λ kind h. h; results = λ c r h. h; code = λ c code h. h }
 
 module _ {L : Layout} {k : ℕ} {s : Step} (x : StepAt L k s) (form : StorageForm) (operation : ℕ → Registers → Operation) (code : Option TrapKind) (never : (a : ℕ) (r : Registers) → ValuesCoded (operation a r) (access_code code)) where
   -- the access ends the step
@@ -48,7 +45,7 @@ module _ {L : Layout} {k : ℕ} {s : Step} (x : StepAt L k s) (form : StorageFor
   pub direct : (address : Registers → ℕ) (operand : MemArg) → Stands L form operand operation address → kind_at L k ≡ Some (Performs false (λ r. operation (address r) r) (access_code code)) → step_parts s ≡ operand_parts form code operand → StepRuns L k
   direct address operand st is parts c is_loaded =
       let b = step_rows_before L x.image k s x.at x.code [] tt st.part code st.some (parts ∙ st.is code) in
-      last_runs false 0 address address operand st c [] (L.offsets.step k) is b (at_start L k c (record { offset = L.offsets.step k; above = omega arith; below = omega (arith, b.next, st.some); is = refl }) is_loaded) (itself (operation (address c.registers) c.registers))
+      last_runs false 0 address address operand st c [] (L.offsets.step k) is b (at_start L k c (record { offset = L.offsets.step k; above = omega arith; below = omega (arith, b.next, st.some); is = refl }) is_loaded) (exactly (operation (address c.registers) c.registers))
 
   -- the address is loaded first
   pub after_address : (address : Registers → ℕ) (first operand : MemArg) → Stands L (address_form scratch) first (loads_address 1) address → Stands L form operand operation (λ r. address_by_index r 1 0 (pos 0)) → ((r : Registers) → address r < 2 ^ 64) →

@@ -14,9 +14,9 @@ use Rattle.s390x_operations.specs.declared.effect.Operation.{Operation}
 use Rattle.s390x_machine.specs.Operands.{address_by_base, performed_where}
 use Rattle.s390x_machine.specs.Semantics.{register_field, mask_field, vector_field, element_size, all_bits, left_bits, action, on_elements}
 use Rattle.s390x_format.specs.declared.semantics.RowSemantics.{RowSemantics}
-use Rattle.s390x_format.specs.declared.semantics.RowSemantics.TheVariants.{Compute, Compare, MoveWhere, CountOnes, RotateThen, MultiplySigned, MultiplyLogical, DivideSigned, DivideLogical, CompareAndTrap, CompareImmediateAndTrap, FindLeftmostOne, Havoc}
-use Rattle.s390x_format.specs.declared.semantics.RowSemantics.TheVariants.{BranchToRegister, BranchRelative, Store, StoreByte, StoreImmediate, LoadMultiple, StoreMultiple, LoadAndOperate, CompareAndSwap, BranchAndSaveToRegister, BranchAndSaveRelative}
-use Rattle.s390x_format.specs.declared.semantics.RowSemantics.TheVariants.{Elements, ShiftElements, LoadVector, StoreVector, LoadLeft, StoreLeft, MoveLeft, RegisterToLeft, LeftToRegister, JoinRegisters, InsertElement, ExtractElement}
+use Rattle.s390x_format.specs.declared.semantics.RowSemantics.TheVariants.{MoveWhere, RotateThen}
+use Rattle.s390x_format.specs.declared.semantics.RowSemantics.TheVariants.{BranchToRegister}
+use Rattle.s390x_format.specs.declared.semantics.RowSemantics.TheVariants.{Elements, ShiftElements, LoadVector, LoadLeft, MoveLeft, RegisterToLeft, JoinRegisters, InsertElement, ExtractElement}
 use Rattle.s390x_machine.specs.declared.action_type.Action.{Action}
 use Rattle.s390x_machine.specs.declared.action_type.Action.TheVariants.{Perform, Branch, BranchAndSave}
 use Rattle.s390x_machine.specs.Machine.{Event, Executed, Interrupted, ActionStep}
@@ -70,30 +70,7 @@ row_has ExtractElement f r address h = either_has (nat_lt (address_by_base r (re
 row_has (MoveWhere size s) f r address h = where_has (is_selected (mask_field f 0) r.code) _ tt
 row_has (RotateThen op rule) f r address h = either_has (nat_lt (mask_field f 0) 64) _ _ tt tt
 row_has BranchToRegister f r address h = either_has (register_field f 1 == 0) _ _ tt tt
-row_has (Compute operator size s rule) f r address h = tt
-row_has (Compare sign size s) f r address h = tt
-row_has CountOnes f r address h = tt
-row_has MultiplySigned f r address h = tt
-row_has MultiplyLogical f r address h = tt
-row_has (DivideSigned width) f r address h = tt
-row_has (DivideLogical size) f r address h = tt
-row_has (CompareAndTrap sign size) f r address h = tt
-row_has (CompareImmediateAndTrap sign size) f r address h = tt
-row_has FindLeftmostOne f r address h = tt
-row_has Havoc f r address h = tt
-row_has BranchRelative f r address h = tt
-row_has (Store s) f r address h = tt
-row_has StoreByte f r address h = tt
-row_has (StoreImmediate width) f r address h = tt
-row_has LoadMultiple f r address h = tt
-row_has StoreMultiple f r address h = tt
-row_has (LoadAndOperate operator size) f r address h = tt
-row_has (CompareAndSwap size) f r address h = tt
-row_has BranchAndSaveToRegister f r address h = tt
-row_has BranchAndSaveRelative f r address h = tt
-row_has (StoreVector storage) f r address h = tt
-row_has (StoreLeft size) f r address h = tt
-row_has LeftToRegister f r address h = tt
+row_has semantics f r address h = tt
 
 -- ---- an action goes or stops
 

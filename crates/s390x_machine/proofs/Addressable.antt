@@ -4,7 +4,7 @@ use Rattle.std.proofs.Common.{◌≡◌, ℕ, ◌^◌, ◌<◌, [], ◌∷◌, O
 use Rattle.std.specs.Prelude.{ℤ, pos, ◌+ℤ◌, ◌*ℤ◌, is_some}
 use Rattle.std.specs.Int.{cast_signed}
 use mir.Syntax.{w32}
-use Rattle.std.proofs.lemmas.Bool.{and_parts}
+use Rattle.std.proofs.lemmas.Bool.{and_parts, or_right}
 use Rattle.s390x_base.specs.declared.ir.ExternalName.{ExternalName}
 use Rattle.s390x_base.specs.AccessFlags.{AccessFlags}
 use Rattle.s390x_base.specs.declared.trap.TrapKind.{TrapKind}
@@ -13,7 +13,7 @@ use Rattle.s390x_inst.specs.declared.args.MemArg.TheVariants.{BXD12, Symbol}
 use Rattle.s390x_inst.specs.declared.inst.Inst.{Inst}
 use Rattle.s390x_inst.specs.declared.inst.Inst.TheVariants.{LoadAddr, AluRX, AtomicRmw, Vector}
 use Rattle.s390x_inst.specs.declared.vec_inst.VecInst.{VecInst}
-use Rattle.s390x_inst.specs.declared.vec_inst.VecInst.TheVariants.{VecLoadReplicate, VecLoadReplicateRev, VecLoadLane, VecLoadLaneRev, VecLoadLaneUndef, VecLoadLaneRevUndef, VecStoreLane, VecStoreLaneRev}
+use Rattle.s390x_inst.specs.declared.vec_inst.VecInst.TheVariants as V
 use Rattle.s390x_typed_steps.specs.SingleInstruction.{SingleInstruction, single_instruction, stop_code}
 use Rattle.s390x_typed_steps.specs.Memory.{MemoryInstruction, StorageForm, memory, loaded_memory, type_of, fault_code}
 use Rattle.s390x_typed_steps.specs.Operands.{no_register, scratch, with_widened, finalized_operand, operand_general, loses_base}
@@ -27,25 +27,21 @@ use Rattle.s390x_operations.specs.State.{wrapping_add64}
 use Rattle.s390x_machine.proofs.Finalizing.{not_lost}
 use Rattle.s390x_machine.proofs.Operands.{low_below}
 
-either : (b : Bool) → (b || true) ≡ true
-either true = refl
-either false = refl
-
 vector_is_one : (v : VecInst) → (not (is_some (memory (Vector v))) || not (is_some (single_instruction (Vector v)))) ≡ true
-vector_is_one (VecLoadReplicate size rd mem) = either _
-vector_is_one (VecLoadReplicateRev size rd mem) = either _
-vector_is_one (VecLoadLane size rd ri mem lane) = either _
-vector_is_one (VecLoadLaneRev size rd ri mem lane) = either _
-vector_is_one (VecLoadLaneUndef size rd mem lane) = either _
-vector_is_one (VecLoadLaneRevUndef size rd mem lane) = either _
-vector_is_one (VecStoreLane size rd mem lane) = either _
-vector_is_one (VecStoreLaneRev size rd mem lane) = either _
+vector_is_one (V.VecLoadReplicate size rd mem) = or_right _ true refl
+vector_is_one (V.VecLoadReplicateRev size rd mem) = or_right _ true refl
+vector_is_one (V.VecLoadLane size rd ri mem lane) = or_right _ true refl
+vector_is_one (V.VecLoadLaneRev size rd ri mem lane) = or_right _ true refl
+vector_is_one (V.VecLoadLaneUndef size rd mem lane) = or_right _ true refl
+vector_is_one (V.VecLoadLaneRevUndef size rd mem lane) = or_right _ true refl
+vector_is_one (V.VecStoreLane size rd mem lane) = or_right _ true refl
+vector_is_one (V.VecStoreLaneRev size rd mem lane) = or_right _ true refl
 vector_is_one v = refl
 
 -- no instruction is both one machine instruction and an access of an operand
 is_one : (i : Inst) → (not (is_some (memory i)) || not (is_some (single_instruction i))) ≡ true
-is_one (AluRX op rd ri mem) = either _
-is_one (AtomicRmw op rd rn mem) = either _
+is_one (AluRX op rd ri mem) = or_right _ true refl
+is_one (AtomicRmw op rd rn mem) = or_right _ true refl
 is_one (Vector v) = vector_is_one v
 is_one i = refl
 

@@ -18,7 +18,7 @@ use Rattle.s390x_inst.proofs.Transfers.{Transfer, LoadOf, StoreOf, as_transfer, 
 use Rattle.s390x_inst.specs.declared.inst.Inst.{Inst}
 use Rattle.s390x_inst.specs.declared.inst.Inst.TheVariants.{AluRX, CmpRX, AtomicRmw, Vector}
 use Rattle.s390x_inst.specs.declared.vec_inst.VecInst.{VecInst}
-use Rattle.s390x_inst.specs.declared.vec_inst.VecInst.TheVariants.{VecLoadReplicate, VecLoadReplicateRev, VecLoadLane, VecLoadLaneRev, VecLoadLaneUndef, VecLoadLaneRevUndef, VecStoreLane, VecStoreLaneRev}
+use Rattle.s390x_inst.specs.declared.vec_inst.VecInst.TheVariants as V
 use Rattle.s390x_inst.specs.declared.ops.CmpOp.{CmpOp}
 use Rattle.s390x_inst.specs.declared.ops.CmpOp.TheVariants as C
 use Rattle.s390x_typed_steps.specs.Causes.{bound_cause, relative_access, boundary, alignment_cause}
@@ -164,18 +164,18 @@ no_left true false valid register a b c d mem others opcode h e = absurd (cc)
 no_left false u valid register a b c d mem others opcode h e = h e
 
 no_vector : (v : VecInst) (opcode : ℕ) → relative_row_of (vector_memory v) ≡ Some opcode → ⊥
-no_vector (VecLoadReplicate size rd mem) opcode e = no_elements opcodes.VLREP rd (element_code size) mem opcode e
-no_vector (VecLoadReplicateRev size rd mem) opcode e = no_elements opcodes.VLBRREP rd (reversed_code size) mem opcode e
-no_vector (VecLoadLane size rd ri mem lane) opcode e = no_lane (reuses_vector rd ri) load_lane_opcode (number_of rd) (element_code size) size lane mem opcode e
-no_vector (VecLoadLaneRev size rd ri mem lane) opcode e = no_lane (reuses_vector rd ri) load_reversed_opcode (number_of rd) (reversed_code size) size lane mem opcode e
-no_vector (VecLoadLaneUndef size rd mem lane) opcode e =
+no_vector (V.VecLoadReplicate size rd mem) opcode e = no_elements opcodes.VLREP rd (element_code size) mem opcode e
+no_vector (V.VecLoadReplicateRev size rd mem) opcode e = no_elements opcodes.VLBRREP rd (reversed_code size) mem opcode e
+no_vector (V.VecLoadLane size rd ri mem lane) opcode e = no_lane (reuses_vector rd ri) load_lane_opcode (number_of rd) (element_code size) size lane mem opcode e
+no_vector (V.VecLoadLaneRev size rd ri mem lane) opcode e = no_lane (reuses_vector rd ri) load_reversed_opcode (number_of rd) (reversed_code size) size lane mem opcode e
+no_vector (V.VecLoadLaneUndef size rd mem lane) opcode e =
     no_left (is_left_lane size lane (number_of rd)) (nat_eq size 32) (is_vector rd) (number_of rd) opcodes.LE opcodes.LEY opcodes.LD opcodes.LDY mem (access_lane (is_vector rd) load_lane_opcode (number_of rd) (element_code size) size lane mem) opcode
     (no_lane (is_vector rd) load_lane_opcode (number_of rd) (element_code size) size lane mem opcode) e
-no_vector (VecLoadLaneRevUndef size rd mem lane) opcode e = no_lane (is_vector rd) load_reversed_opcode (number_of rd) (reversed_code size) size lane mem opcode e
-no_vector (VecStoreLane size rd mem lane) opcode e =
+no_vector (V.VecLoadLaneRevUndef size rd mem lane) opcode e = no_lane (is_vector rd) load_reversed_opcode (number_of rd) (reversed_code size) size lane mem opcode e
+no_vector (V.VecStoreLane size rd mem lane) opcode e =
     no_left (is_left_lane size lane (number_of rd)) (nat_eq size 32) (is_vector rd) (number_of rd) opcodes.STE opcodes.STEY opcodes.STD opcodes.STDY mem (access_lane (is_vector rd) store_lane_opcode (number_of rd) (element_code size) size lane mem) opcode
     (no_lane (is_vector rd) store_lane_opcode (number_of rd) (element_code size) size lane mem opcode) e
-no_vector (VecStoreLaneRev size rd mem lane) opcode e = no_lane (is_vector rd) store_reversed_opcode (number_of rd) (reversed_code size) size lane mem opcode e
+no_vector (V.VecStoreLaneRev size rd mem lane) opcode e = no_lane (is_vector rd) store_reversed_opcode (number_of rd) (reversed_code size) size lane mem opcode e
 no_vector v opcode e = absurd (cc)
 
 -- what a row relative to the instruction accesses, where there is one: this computes for each load, also where there is none

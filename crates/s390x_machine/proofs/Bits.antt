@@ -1,6 +1,6 @@
 -- The rows of the instructions on parts of registers, of shifts, rotations, extensions and conditional moves.
 use Rattle.std.proofs.Common.{◌≡◌, ℕ, ◌+◌, ◌*◌, ◌<◌, ◌≤◌, Some, None, Bool, true, false, cond, ◌&&◌, ◌||◌, refl, sym, ap, ◌∙◌, arith, nat_lt, nat_le, nat_eq, eqb-true, subst, Option}
-use Rattle.std.proofs.lemmas.Bool.Decides.{nat_tests}
+use Rattle.std.proofs.lemmas.Bool.{le-leb, le-ltb, lt-ltb}
 use Rattle.s390x_format.specs.declared.kind.FormatKind.TheVariants.{Rr, Rre, RrfAb, RrfCde, RiA, RieA, RieF, RieG, RilA, Rsy, Rxy}
 use Rattle.s390x_format.specs.declared.row.Allowed.{Allowed}
 use Rattle.s390x_format.specs.declared.row.Allowed.TheVariants.{Any, FirstMask, CountMode, RotateBits, RotateBitsOrTest}
@@ -128,25 +128,15 @@ doubleword_opcode signed one eight sixteen thirty_two =
 
 word_rows : (signed one eight sixteen : Bool) → TwoRows (word_opcode signed one eight sixteen) (computed (with_second Move Word (narrower signed one eight sixteen)) Register Kept)
 unfolding machine_rows row_for semantics_in semantics_of
-word_rows true true eight sixteen = (record { is = refl }, refl)
-word_rows false true eight sixteen = (record { is = refl }, refl)
-word_rows true false true sixteen = (record { is = refl }, refl)
-word_rows false false true sixteen = (record { is = refl }, refl)
 word_rows true false false true = (record { is = refl }, refl)
-word_rows false false false true = (record { is = refl }, refl)
 word_rows signed false false false = tt
+word_rows signed one eight sixteen = (record { is = refl }, refl)
 
 doubleword_rows : (signed one eight sixteen thirty_two : Bool) → TwoRows (doubleword_opcode signed one eight sixteen thirty_two) (computed (with_second Move Doubleword (narrower signed one eight sixteen)) Register Kept)
 unfolding machine_rows row_for semantics_in semantics_of
-doubleword_rows true true eight sixteen more = (record { is = refl }, refl)
-doubleword_rows false true eight sixteen more = (record { is = refl }, refl)
-doubleword_rows true false true sixteen more = (record { is = refl }, refl)
-doubleword_rows false false true sixteen more = (record { is = refl }, refl)
-doubleword_rows true false false true more = (record { is = refl }, refl)
-doubleword_rows false false false true more = (record { is = refl }, refl)
 doubleword_rows true false false false true = (record { is = refl }, refl)
-doubleword_rows false false false false true = (record { is = refl }, refl)
 doubleword_rows signed false false false false = tt
+doubleword_rows signed one eight sixteen thirty_two = (record { is = refl }, refl)
 
 sized_rows : (signed : Bool) (from : ℕ) (to_word to_doubleword : Bool) → TwoRows (cond to_word (extend_to_word signed from) (cond to_doubleword (extend_to_doubleword signed from) None)) (computed (with_second Move (cond to_word Word Doubleword) (extended_second signed from)) Register Kept)
 sized_rows signed from true more = word_rows signed (nat_eq from 1) (nat_eq from 8) (nat_eq from 16)
@@ -288,19 +278,13 @@ AnyRows o = MeantRows Rxy Any o Havoc
 
 any_rows : (one two three four : Bool) → AnyRows (cond one (Some opcodes.LXAH) (cond two (Some opcodes.LXAF) (cond three (Some opcodes.LXAG) (cond four (Some opcodes.LXAQ) None))))
 unfolding machine_rows row_for semantics_in semantics_of
-any_rows true two three four = (record { is = refl }, refl)
-any_rows false true three four = (record { is = refl }, refl)
-any_rows false false true four = (record { is = refl }, refl)
-any_rows false false false true = (record { is = refl }, refl)
 any_rows false false false false = tt
+any_rows one two three four = (record { is = refl }, refl)
 
 logical_any_rows : (one two three four : Bool) → AnyRows (cond one (Some opcodes.LLXAH) (cond two (Some opcodes.LLXAF) (cond three (Some opcodes.LLXAG) (cond four (Some opcodes.LLXAQ) None))))
 unfolding machine_rows row_for semantics_in semantics_of
-logical_any_rows true two three four = (record { is = refl }, refl)
-logical_any_rows false true three four = (record { is = refl }, refl)
-logical_any_rows false false true four = (record { is = refl }, refl)
-logical_any_rows false false false true = (record { is = refl }, refl)
 logical_any_rows false false false false = tt
+logical_any_rows one two three four = (record { is = refl }, refl)
 
 pub indexed_rows : (size : ℕ) → AnyRows (indexed_opcode size)
 indexed_rows size = any_rows (nat_eq size 1) (nat_eq size 2) (nat_eq size 3) (nat_eq size 4)
@@ -310,35 +294,26 @@ logical_indexed_rows size = logical_any_rows (nat_eq size 1) (nat_eq size 2) (na
 
 -- ---- tests
 
-pub below : (a b : ℕ) → a < b → nat_lt a b ≡ true
-below a b h = grind (arith, nat_tests)
-
-pub not_below : (a b : ℕ) → b ≤ a → nat_lt a b ≡ false
-not_below a b h = grind (arith, nat_tests)
-
-pub at_most : (a b : ℕ) → a ≤ b → nat_le a b ≡ true
-at_most a b h = grind (arith, nat_tests)
-
 -- a mask of 4 bits is allowed
 pub mask_allowed : (opcode a b mask : ℕ) → mask < 16 → is_allowed any_mask (rrf_cde opcode a b mask 0).slots ≡ true
-mask_allowed opcode a b mask lt = ap (λ t. t && nat_le mask 15 && true && true) (at_most 0 mask (omega arith)) ∙ ap (λ t. t && true && true) (at_most mask 15 (omega (arith, lt)))
+mask_allowed opcode a b mask lt = ap (λ t. t && nat_le mask 15 && true && true) (le-leb 0 mask (omega arith)) ∙ ap (λ t. t && true && true) (le-leb mask 15 (omega (arith, lt)))
 
 -- bit numbers below 64 are allowed, and the first one with 128 added where the row can test
 bits_allowed : (op : RxSBGOp) (a b c : Bool) → a ≡ true → b ≡ true → c ≡ true → (a && b && c) ≡ true
 bits_allowed op a b c e f g = ap (λ x. x && b && c) e ∙ ap (λ x. x && c) f ∙ g
 
 pub rotation_allowed : (op : RxSBGOp) (a b first last amount : ℕ) → first < 64 → last < 64 → amount < 64 → is_allowed (rotate_allows op) (rie_f (rotate_then op) a b first last amount).slots ≡ true
-rotation_allowed R.Insert a b first last amount lf ll la = bits_allowed R.Insert (nat_lt first 64) (nat_lt last 64) (nat_lt amount 64) (below first 64 lf) (below last 64 ll) (below amount 64 la)
-rotation_allowed R.And a b first last amount lf ll la = bits_allowed R.And _ (nat_lt last 64) (nat_lt amount 64) (ap (λ t. t || (nat_le 128 first && nat_lt first 192)) (below first 64 lf)) (below last 64 ll) (below amount 64 la)
-rotation_allowed R.Or a b first last amount lf ll la = bits_allowed R.Or _ (nat_lt last 64) (nat_lt amount 64) (ap (λ t. t || (nat_le 128 first && nat_lt first 192)) (below first 64 lf)) (below last 64 ll) (below amount 64 la)
-rotation_allowed R.Xor a b first last amount lf ll la = bits_allowed R.Xor _ (nat_lt last 64) (nat_lt amount 64) (ap (λ t. t || (nat_le 128 first && nat_lt first 192)) (below first 64 lf)) (below last 64 ll) (below amount 64 la)
+rotation_allowed R.Insert a b first last amount lf ll la = bits_allowed R.Insert (nat_lt first 64) (nat_lt last 64) (nat_lt amount 64) (lt-ltb first 64 lf) (lt-ltb last 64 ll) (lt-ltb amount 64 la)
+rotation_allowed R.And a b first last amount lf ll la = bits_allowed R.And _ (nat_lt last 64) (nat_lt amount 64) (ap (λ t. t || (nat_le 128 first && nat_lt first 192)) (lt-ltb first 64 lf)) (lt-ltb last 64 ll) (lt-ltb amount 64 la)
+rotation_allowed R.Or a b first last amount lf ll la = bits_allowed R.Or _ (nat_lt last 64) (nat_lt amount 64) (ap (λ t. t || (nat_le 128 first && nat_lt first 192)) (lt-ltb first 64 lf)) (lt-ltb last 64 ll) (lt-ltb amount 64 la)
+rotation_allowed R.Xor a b first last amount lf ll la = bits_allowed R.Xor _ (nat_lt last 64) (nat_lt amount 64) (ap (λ t. t || (nat_le 128 first && nat_lt first 192)) (lt-ltb first 64 lf)) (lt-ltb last 64 ll) (lt-ltb amount 64 la)
 
 -- 128 added to the first bit number is allowed where the row can test
 first_tested : (first : ℕ) → first < 64 → (nat_lt (first + 128) 64 || (nat_le 128 (first + 128) && nat_lt (first + 128) 192)) ≡ true
 first_tested first lt =
-    ap (λ t. t || (nat_le 128 (first + 128) && nat_lt (first + 128) 192)) (not_below (first + 128) 64 (omega arith))
-    ∙ ap (λ t. t && nat_lt (first + 128) 192) (at_most 128 (first + 128) (omega arith))
-    ∙ below (first + 128) 192 (omega (arith, lt))
+    ap (λ t. t || (nat_le 128 (first + 128) && nat_lt (first + 128) 192)) (le-ltb (first + 128) 64 (omega arith))
+    ∙ ap (λ t. t && nat_lt (first + 128) 192) (le-leb 128 (first + 128) (omega arith))
+    ∙ lt-ltb (first + 128) 192 (omega (arith, lt))
 
 pub test_allowed : (opcode a b first last amount : ℕ) → first < 64 → last < 64 → amount < 64 → is_allowed RotateBitsOrTest (rie_f opcode a b (first + 128) last amount).slots ≡ true
-test_allowed opcode a b first last amount lf ll la = bits_allowed R.And _ (nat_lt last 64) (nat_lt amount 64) (first_tested first lf) (below last 64 ll) (below amount 64 la)
+test_allowed opcode a b first last amount lf ll la = bits_allowed R.And _ (nat_lt last 64) (nat_lt amount 64) (first_tested first lf) (lt-ltb last 64 ll) (lt-ltb amount 64 la)

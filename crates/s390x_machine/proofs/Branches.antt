@@ -4,7 +4,7 @@ use Rattle.s390x_base.specs.declared.ir.MachLabel.{MachLabel}
 use Rattle.s390x_operations.specs.State.{Registers, Core, core_after_writes, wrapping_add64}
 use Rattle.s390x_operations.specs.Effects.{is_selected}
 use Rattle.s390x_operations.specs.declared.stop.ConditionCode.{ConditionCode}
-use Rattle.s390x_operations.specs.declared.stop.ConditionCode.TheVariants.{Code0, Code1, Code2, Code3}
+use Rattle.s390x_operations.specs.declared.stop.ConditionCode.TheVariants.{Code0}
 use Rattle.s390x_machine.specs.declared.action_type.Action.{Action}
 use Rattle.s390x_machine.specs.declared.action_type.Action.TheVariants.{Branch}
 use Rattle.s390x_machine.specs.Machine.{Executed, Transition, Run, all_writes}
@@ -17,11 +17,9 @@ use Rattle.s390x_machine.specs.CodeAt.{ImageAt, IsBlock, AreBlocks}
 use Rattle.s390x_machine.proofs.Simulation.{RowAt, mid, Inside, Simulates, at_start, Turned, further, resume, branch, done, ended}
 use Rattle.s390x_machine.proofs.Standing.{block_begins}
 
-selected_always : (code : ConditionCode) → is_selected 15 code ≡ true
+pub selected_always : (code : ConditionCode) → is_selected 15 code ≡ true
 selected_always Code0 = refl
-selected_always Code1 = refl
-selected_always Code2 = refl
-selected_always Code3 = refl
+selected_always code = refl
 
 -- a step of this form stores nothing
 pub stores_none : (L : Layout) (k : ℕ) (f : StepKind) → ((y : Core) → store_event_of_kind (Some f) y ≡ None) → kind_at L k ≡ Some f → (y : Core) → typed_store_event L k y ≡ None

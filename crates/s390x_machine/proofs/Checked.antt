@@ -7,7 +7,7 @@ use Rattle.s390x_base.specs.declared.ir.MachLabel.{MachLabel}
 use Rattle.s390x_base.specs.declared.error.EmitError.{EmitError}
 use Rattle.s390x_base.specs.declared.error.EmitError.TheVariants.{BadOperator, BadRegister, ScratchConflict, OffsetOutOfRange, UnboundLabel, BadStackState}
 use Rattle.s390x_inst.specs.declared.inst.Inst.{Inst}
-use Rattle.s390x_inst.specs.declared.inst.Inst.TheVariants.{Jump, CondBr, IndirectBr, Ret, CondBreak, Nop0, LabelAddress, LoadSymbolReloc, Trap, TrapIf, Debugtrap, JTSequence, AllocateArgs, Args, Rets, DummyUse, SequencePoint, Vector}
+use Rattle.s390x_inst.specs.declared.inst.Inst.TheVariants as I
 use Rattle.s390x_typed_steps.specs.Calls.{is_target, site_labels}
 use Rattle.s390x_typed_steps.specs.Causes.{first_emit_cause, unless, facility_cause, target_label_cause, labels_cause, cause_or, loses_scratch, addend_fits, target_cause, memory_cause_or, instruction_cause, numbers_cause, leaf_cause, remainder_cause}
 use Rattle.s390x_typed_steps.specs.Causes.{nesting_cause, fresh_labels, tree_cause, block_cause, blocks_cause, nominal_behind, instruction_fresh_labels, body_cause, body_fresh_labels, body_nominal_after}
@@ -67,34 +67,34 @@ module _ (L : Layout) where
 
   -- an instruction, in so many loops, the innermost of which ends at a step
   valid_step : (flags : IsaFlags) (nominal depth after : ℕ) (i : Inst) → instruction_cause flags (declarations L) nominal depth i ≡ None → InRange i → (0 < depth → after ≤ length L.steps) → IsValidStep L (step_of after (Whole i))
-  valid_step flags nominal depth after (Jump dest) e range le = block_of dest e
-  valid_step flags nominal depth after (CondBr taken not_taken mask) e range le = let parts = first_none (target_label_cause L.block_count taken) (target_label_cause L.block_count not_taken) e in (block_of taken parts.0, block_of not_taken parts.1, range.0)
-  valid_step flags nominal depth after (IndirectBr rn targets) e range le =
+  valid_step flags nominal depth after (I.Jump dest) e range le = block_of dest e
+  valid_step flags nominal depth after (I.CondBr taken not_taken mask) e range le = let parts = first_none (target_label_cause L.block_count taken) (target_label_cause L.block_count not_taken) e in (block_of taken parts.0, block_of not_taken parts.1, range.0)
+  valid_step flags nominal depth after (I.IndirectBr rn targets) e range le =
       let parts = first_none (unless (is_general rn && is_nonzero rn) BadRegister) (labels_cause L.block_count targets.items) e in
       let regs = and_parts (is_general rn) (is_nonzero rn) (unless_none (is_general rn && is_nonzero rn) BadRegister parts.0) in
       (regs.0, regs.1, blocks_of targets.items parts.1)
-  valid_step flags nominal depth after (Ret link) e range le = and_parts (is_general link) (is_nonzero link) (unless_none (is_general link && is_nonzero link) BadRegister e)
-  valid_step flags nominal depth after (JTSequence ridx other mask targets) e range le =
+  valid_step flags nominal depth after (I.Ret link) e range le = and_parts (is_general link) (is_nonzero link) (unless_none (is_general link && is_nonzero link) BadRegister e)
+  valid_step flags nominal depth after (I.JTSequence ridx other mask targets) e range le =
       let registers = first_none (unless (is_general ridx && is_nonzero ridx) BadRegister) (first_emit_cause (unless (not (is_scratch ridx)) ScratchConflict) (first_emit_cause (target_label_cause L.block_count other) (labels_cause L.block_count targets.items))) e in
       let scratch = first_none (unless (not (is_scratch ridx)) ScratchConflict) (first_emit_cause (target_label_cause L.block_count other) (labels_cause L.block_count targets.items)) registers.1 in
       let labels = first_none (target_label_cause L.block_count other) (labels_cause L.block_count targets.items) scratch.1 in
       let general = and_parts (is_general ridx) (is_nonzero ridx) (unless_none (is_general ridx && is_nonzero ridx) BadRegister registers.0) in
       (general.0, general.1, unless_none (not (is_scratch ridx)) ScratchConflict scratch.0, block_of other labels.0, blocks_of targets.items labels.1, range.0)
-  valid_step flags nominal depth after (CondBreak mask) e range le = (range.0, le (ltb-true 0 depth (unless_none (nat_lt 0 depth) Rattle.s390x_base.specs.declared.error.EmitError.TheVariants.BreakOutsideLoop e)))
-  valid_step flags nominal depth after Nop0 e range le = tt
-  valid_step flags nominal depth after (Args args) e range le = tt
-  valid_step flags nominal depth after (Rets rets) e range le = tt
-  valid_step flags nominal depth after (DummyUse reg) e range le = tt
-  valid_step flags nominal depth after SequencePoint e range le = tt
-  valid_step flags nominal depth after (AllocateArgs size) e range le = refl
-  valid_step flags nominal depth after (LabelAddress dst label) e range le =
+  valid_step flags nominal depth after (I.CondBreak mask) e range le = (range.0, le (ltb-true 0 depth (unless_none (nat_lt 0 depth) Rattle.s390x_base.specs.declared.error.EmitError.TheVariants.BreakOutsideLoop e)))
+  valid_step flags nominal depth after I.Nop0 e range le = tt
+  valid_step flags nominal depth after (I.Args args) e range le = tt
+  valid_step flags nominal depth after (I.Rets rets) e range le = tt
+  valid_step flags nominal depth after (I.DummyUse reg) e range le = tt
+  valid_step flags nominal depth after I.SequencePoint e range le = tt
+  valid_step flags nominal depth after (I.AllocateArgs size) e range le = refl
+  valid_step flags nominal depth after (I.LabelAddress dst label) e range le =
       let parts = first_none (unless (is_general dst) BadRegister) (target_label_cause L.block_count label) e in
       (unless_none (is_general dst) BadRegister parts.0, block_of label parts.1)
-  valid_step flags nominal depth after (LoadSymbolReloc rd reloc) e range le = unless_none (is_general rd) BadRegister e
-  valid_step flags nominal depth after (Trap code) e range le = tt
-  valid_step flags nominal depth after (TrapIf mask code) e range le = range.0
-  valid_step flags nominal depth after Debugtrap e range le = tt
-  valid_step flags nominal depth after (Vector v) e range le = valid_other (single_instruction (Vector v)) (memory (Vector v)) (composite_cause v) (first_none (facility_cause flags (Vector v)) (cause_or (single_instruction (Vector v)) (memory_cause_or (declarations L) (memory (Vector v)) (composite_cause v))) e).1 range.1
+  valid_step flags nominal depth after (I.LoadSymbolReloc rd reloc) e range le = unless_none (is_general rd) BadRegister e
+  valid_step flags nominal depth after (I.Trap code) e range le = tt
+  valid_step flags nominal depth after (I.TrapIf mask code) e range le = range.0
+  valid_step flags nominal depth after I.Debugtrap e range le = tt
+  valid_step flags nominal depth after (I.Vector v) e range le = valid_other (single_instruction (I.Vector v)) (memory (I.Vector v)) (composite_cause v) (first_none (facility_cause flags (I.Vector v)) (cause_or (single_instruction (I.Vector v)) (memory_cause_or (declarations L) (memory (I.Vector v)) (composite_cause v))) e).1 range.1
   valid_step flags nominal depth after i e range le = valid_single (single_instruction i) (memory i) (first_none (facility_cause flags i) (cause_or (single_instruction i) (memory_cause_or (declarations L) (memory i) (Some BadOperator))) e).1 range.1
 
   -- the operand is the same in other rows
@@ -110,12 +110,12 @@ module _ (L : Layout) where
   valid_body : (flags : IsaFlags) (n nominal depth after : ℕ) (b : StepBody) → body_cause flags (declarations L) n nominal depth b ≡ None → BodyMasked b → (0 < depth → after ≤ length L.steps) → IsValidStep L (step_of after b)
   valid_body flags n nominal depth after (Whole i) e range le =
       valid_step flags nominal depth after i (first_none (instruction_cause flags (declarations L) nominal depth i) (numbers_cause n (instruction_fresh_labels i)) e).0 range le
-  valid_body flags n nominal depth after (Folded r (Jump dest)) e range le =
-      let i = Jump dest in
+  valid_body flags n nominal depth after (Folded r (I.Jump dest)) e range le =
+      let i = I.Jump dest in
       let own = first_none (leaf_cause flags (declarations L) n nominal depth i) (remainder_cause L.block_count r) e in
       valid_step flags nominal depth after i (first_none (instruction_cause flags (declarations L) nominal depth i) (numbers_cause n 0) own.0).0 range.0 le
-  valid_body flags n nominal depth after (Folded r (CondBr taken not_taken mask)) e range le =
-      let i = CondBr taken not_taken mask in
+  valid_body flags n nominal depth after (Folded r (I.CondBr taken not_taken mask)) e range le =
+      let i = I.CondBr taken not_taken mask in
       let own = first_none (leaf_cause flags (declarations L) n nominal depth i) (remainder_cause L.block_count r) e in
       valid_step flags nominal depth after i (first_none (instruction_cause flags (declarations L) nominal depth i) (numbers_cause n 0) own.0).0 range.0 le
   valid_body flags n nominal depth after (Folded r i) e range le = absurd range.1

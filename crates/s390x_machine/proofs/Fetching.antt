@@ -11,6 +11,7 @@ use Rattle.s390x_format.specs.Rows.{fetch_length_of}
 use Rattle.s390x_format.specs.Fetch.{IsFetch, machine_rows}
 use Rattle.s390x_format.specs.Encoded.{IsEncoded, decoded_of}
 use Rattle.s390x_format.proofs.Encoding.{encode-length}
+use Rattle.s390x_format.proofs.FormatFacts.{length_some}
 use Rattle.s390x_typed_steps.specs.MachineInstruction.{MachineInstruction, bytes_of, size_of}
 use Rattle.s390x_operations.specs.State.{Registers, Memory, State, wrapping_add64, CodeImage, is_within, IsLoaded, bytes_from, bytes_at, reaches}
 use Rattle.s390x_machine.specs.declared.action_type.Action.{Action}
@@ -24,11 +25,6 @@ pub size_even : (kind : FormatKind) → length_of kind % 2 ≡ 0
 unfolding length_of
 size_even E = refl
 size_even _ = refl
-
-pub size_some : (kind : FormatKind) → 2 ≤ length_of kind
-unfolding length_of
-size_some E = omega arith
-size_some _ = omega arith
 
 pub is_within_at : (image : CodeImage) (i : ℕ) → i < length image.bytes → IsTrue (is_within image (image.base + i))
 is_within_at image i lt =
@@ -107,26 +103,24 @@ nothing_at image m offset second even_base even_offset fits is_loaded s f h =
 
 -- what stands at a place is one thing
 pub one_thing : (m : Memory) (p : ℕ) (f g : Fetched) → Fetches m p f → Fetches m p g → f ≡ g
-one_thing m p Misplaced Misplaced h k = refl
 one_thing m p Misplaced Missing h k = absurd (omega (arith, h, k.0))
 one_thing m p Misplaced Unknown h k = absurd (omega (arith, h, k.0))
 one_thing m p Misplaced (Found d) h k = absurd (omega (arith, h, k.even))
 one_thing m p Missing Misplaced h k = absurd (omega (arith, h.0, k))
-one_thing m p Missing Missing h k = refl
 one_thing m p Missing Unknown h k = absurd (h.1 k.1)
 one_thing m p Missing (Found d) h k = absurd (h.1 k.reached)
 one_thing m p Unknown Misplaced h k = absurd (omega (arith, h.0, k))
 one_thing m p Unknown Missing h k = absurd (k.1 h.1)
-one_thing m p Unknown Unknown h k = refl
 one_thing m p Unknown (Found d) h k = absurd (h.2 d k.row)
 one_thing m p (Found d) g h k = sym (settled m p d h g k)
+one_thing m p f g h k = refl
 
 pub found_at : (image : CodeImage) (m : Memory) (offset : ℕ) (kind : FormatKind) (slots : List ℕ) → image.base % 2 ≡ 0 → offset % 2 ≡ 0 → image.base + length image.bytes ≤ 2 ^ 64 → IsLoaded image m → StandsAt image offset (encode kind slots) → SlotsFit (layout_of kind) slots → IsEncoded machine_rows kind slots →
     IsFound m (wrapping_add64 image.base offset) (decoded_of kind slots)
 found_at image m offset kind slots even_base even_offset fits is_loaded s fit e =
     let p = wrapping_add64 image.base offset in
     let long : length (encode kind slots) ≡ length_of kind = encode-length kind slots in
-    let some = size_some kind in
+    let some = length_some kind in
     let each = λ (i : ℕ) (lt : i < length (encode kind slots)). byte_at image m offset i (encode kind slots) fits is_loaded s lt in
     let zero_in : 0 < length (encode kind slots) = omega (arith, long, some) in
     let same : wrapping_add64 p 0 ≡ p = omega arith in

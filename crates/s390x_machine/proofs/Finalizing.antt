@@ -5,7 +5,7 @@ use Rattle.std.specs.Prelude.{ℤ, pos, negsuc, ◌+ℤ◌, ◌*ℤ◌, ◌≤�
 use Rattle.std.specs.Int.{cast_signed}
 use Rattle.s390x_rows.specs.declared.opcodes.TheConstants as opcodes
 use mir.Syntax.{w32}
-use Rattle.std.proofs.lemmas.Bool.{and_parts, eqb-true}
+use Rattle.std.proofs.lemmas.Bool.{and_parts, eqb-true, and_right, not-false, or_parts}
 use Rattle.std.proofs.lemmas.Int.{ints}
 use Rattle.s390x_base.specs.Regs.{number_of}
 use Rattle.s390x_base.specs.declared.regs.Reg.{Reg}
@@ -14,7 +14,7 @@ use Rattle.s390x_base.specs.declared.ir.VCodeConstant.{VCodeConstant}
 use Rattle.s390x_base.specs.declared.trap.TrapKind.{TrapKind}
 use Rattle.s390x_inst.specs.Memory.{flags_of}
 use Rattle.s390x_inst.specs.declared.args.MemArg.{MemArg}
-use Rattle.s390x_inst.specs.declared.args.MemArg.TheVariants.{BXD12, BXD20, Label, Constant, Symbol, RegOffset, InitialSPOffset, IncomingArgOffset, OutgoingArgOffset, SlotOffset, SpillOffset}
+use Rattle.s390x_inst.specs.declared.args.MemArg.TheVariants.{BXD12, BXD20, Label, Constant, Symbol, RegOffset}
 use Rattle.s390x_inst.specs.declared.inst.Inst.TheVariants.{Mov64SImm32, LoadAddr}
 use Rattle.s390x_typed_steps.specs.General.{is_general}
 use Rattle.s390x_typed_steps.specs.Memory.{MemoryInstruction, StorageForm, RxForm, RsForm, SiForm, SilForm, VrxForm, FloatForm, type_of, address_form, fault_code}
@@ -27,7 +27,7 @@ use Rattle.s390x_typed_steps.specs.declared.mem_inst_type.MemInstType.{MemInstTy
 use Rattle.s390x_operations.specs.State.{Registers, set_general, wrapping_add64}
 use Rattle.s390x_operations.specs.Effects.{Refines, stop_of_effect, MayRefuse}
 use Rattle.s390x_operations.specs.declared.effect.Effect.{Effect}
-use Rattle.s390x_operations.specs.declared.effect.Effect.TheVariants.{Compute, Compare, Store}
+use Rattle.s390x_operations.specs.declared.effect.Effect.TheVariants.{Compute}
 use Rattle.s390x_operations.specs.declared.stop.StopKind.{StopKind}
 use Rattle.s390x_operations.specs.declared.effect.Operation.{Operation}
 use Rattle.s390x_machine.specs.StepKinds.{Performs, Unsupported, kind_or, performed_at, access_code}
@@ -47,12 +47,10 @@ use Rattle.s390x_machine.proofs.Relative.{RelativeForm, RelativeDoes, Distant, f
 use Rattle.s390x_machine.proofs.Storage.{FormDoes, IndexedForm, MayIndex, Stands, stands_12, stands_20}
 
 may_none : (form : StorageForm) → MayIndex form 0
-may_none (RxForm register short long relative) = tt
 may_none (RsForm first second short long) = refl
 may_none (SiForm imm short long) = refl
 may_none (SilForm bits opcode) = refl
-may_none (VrxForm register opcode mask) = tt
-may_none (FloatForm register short long) = tt
+may_none form = tt
 
 -- where the rows have an index, or there is none
 may_index : (form : StorageForm) (accesses none : Bool) (index : ℕ) → (not (type_of form accesses).have_index && not none) ≡ false → (none ≡ true → index ≡ 0) → MayIndex form index
@@ -66,10 +64,6 @@ may_index (SilForm bits opcode) accesses false index e zero = absurd (cc)
 may_index (VrxForm register opcode mask) accesses none index e zero = tt
 may_index (FloatForm register short long) accesses none index e zero = tt
 
-pub and_false : (b : Bool) → (b && false) ≡ false
-and_false true = refl
-and_false false = refl
-
 pub and_true : (b : Bool) → (b && true) ≡ b
 and_true true = refl
 and_true false = refl
@@ -77,14 +71,6 @@ and_true false = refl
 pub or_false : (b : Bool) → (b || false) ≡ b
 or_false true = refl
 or_false false = refl
-
-pub not_not : (b : Bool) → not b ≡ false → b ≡ true
-not_not true e = refl
-not_not false e = absurd (cc)
-
-pub neither : (a b : Bool) → (a || b) ≡ false → (a ≡ false) × (b ≡ false)
-neither true b e = absurd (cc)
-neither false b e = (refl, e)
 
 -- an access after a helper doesn't read %r1
 not_read : (stuck reads : Bool) → IsTrue (not (stuck || (reads && true))) → reads ≡ false
@@ -99,8 +85,6 @@ not_lost false other e = refl
 -- an aligned operand brings about no other stop by its values
 aligned_values : (effect : Effect) (kind : StopKind) → (stop_of_effect (aligned_effect effect) ≡ Some kind) ⊎ MayRefuse (aligned_effect effect) kind → (stop_of_effect effect ≡ Some kind) ⊎ MayRefuse effect kind
 aligned_values (Compute operator size target first second) kind h = h
-aligned_values (Compare sign size first second) kind h = h
-aligned_values (Store width stored destination) kind h = h
 aligned_values effect kind h = h
 
 aligned_coded : (aligned : Bool) (op : Operation) (code : StopKind → Option TrapKind) → ValuesCoded op code → ValuesCoded (aligned_where aligned op) code
@@ -174,9 +158,9 @@ module _ {L : Layout} {k : ℕ} {s : Step} (b : StepAt L k s) (load : LoadsAddre
     unfolding Ready
     indexed_20 base index z flags general least most false e ready =
         let g = and_parts (is_general base) (is_general index) general in
-        let parts = neither (not mi.have_d20) (not mi.have_index && not (is_numbered 0 index)) e in
+        let parts = or_parts (not mi.have_d20) (not mi.have_index && not (is_numbered 0 index)) e in
         let may = may_index form accesses (is_numbered 0 index) (number_of index) parts.1 (λ y. eqb-true (number_of index) 0 (sym (zero_test index g.1) ∙ y)) in
-        direct b form operation code never (there base index z) (BXD20 base index z flags) (stands_20 L b.image operation form does accesses (not_not mi.have_d20 parts.0) base index z flags (general_number base g.0) (general_number index g.1) may least most (displacement_bits z)) ready.0 ready.1
+        direct b form operation code never (there base index z) (BXD20 base index z flags) (stands_20 L b.image operation form does accesses (not-false mi.have_d20 parts.0) base index z flags (general_number base g.0) (general_number index g.1) may least most (displacement_bits z)) ready.0 ready.1
     indexed_20 base index z flags general least most true e ready =
         let g = and_parts (is_general base) (is_general index) general in
         after_address b form operation code never (there base index z) (BXD20 base index z flags) (with_long_displacement mi (BXD12 scratch no_register 0 flags))
@@ -203,7 +187,7 @@ module _ {L : Layout} {k : ℕ} {s : Step} (b : StepAt L k s) (load : LoadsAddre
   distant_runs mem address d reads ignores flags true pcrel small has kept is parts =
       after_address b form operation code never (λ r. address) mem (with_long_displacement mi (BXD12 scratch no_register 0 flags))
       (distant_stands L b.image (address_form scratch) false (loads_address 1) larl refl mem address d) (loaded_stands flags (sym (or_false (mi.have_d12 || mi.have_d20)) ∙ has)) (λ r. small refl parts) (ignores (not_read false reads kept))
-      (is ∙ ap (λ b. Some (Performs true (λ r. aligned_where b (operation address r)) (access_code code))) (and_false accesses)) parts
+      (is ∙ ap (λ b. Some (Performs true (λ r. aligned_where b (operation address r)) (access_code code))) (and_right accesses false refl)) parts
 
   -- a constant is named by the access, or by its helper
   names_constant : (c : VCodeConstant) (flags : AccessFlags) (t : Bool) → (t ≡ false → mi.have_pcrel ≡ true) →
@@ -248,7 +232,7 @@ module _ {L : Layout} {k : ℕ} {s : Step} (b : StepAt L k s) (load : LoadsAddre
           let is_pos : off ≡ pos (unsigned_abs off) = n.1 ∙ ap pos (sym same) in
           indexed_12 (is_numbered 1 reg && (t32 && false && not t20)) reads ignores have reg no_register (unsigned_abs off) flags (and_true (is_general reg) ∙ general) le (not mi.have_index && false) refl (
             is2 ∙ moves false (λ r. address_by_base r (number_of reg) off) (λ r. address_by_index r (number_of reg) 0 (pos (unsigned_abs off))) (λ r. ap (address_by_base r (number_of reg)) is_pos ∙ sym (based_indexed r (number_of reg) (pos (unsigned_abs off))))
-                ∙ ap (λ b. Some (Performs b (λ r. operation (address_by_index r (number_of reg) 0 (pos (unsigned_abs off))) r) (access_code code))) (sym (and_false (not mi.have_index))),
+                ∙ ap (λ b. Some (Performs b (λ r. operation (address_by_index r (number_of reg) 0 (pos (unsigned_abs off))) r) (access_code code))) (sym (and_right (not mi.have_index) false refl)),
             parts2,
             kept2,
           )
@@ -256,7 +240,7 @@ module _ {L : Layout} {k : ℕ} {s : Step} (b : StepAt L k s) (load : LoadsAddre
           let z = short_20 off e20 in
           indexed_20 (is_numbered 1 reg && (t32 && true && false)) reads ignores have reg no_register off flags (and_true (is_general reg) ∙ general) z.0 z.1 (not mi.have_d20 || (not mi.have_index && false)) refl (
             is2 ∙ moves (not mi.have_d20) (λ r. address_by_base r (number_of reg) off) (λ r. address_by_index r (number_of reg) 0 off) (λ r. sym (based_indexed r (number_of reg) off))
-                ∙ ap (λ b. Some (Performs b (λ r. operation (address_by_index r (number_of reg) 0 off) r) (access_code code))) (sym (ap (λ b. not mi.have_d20 || b) (and_false (not mi.have_index)) ∙ or_false (not mi.have_d20))),
+                ∙ ap (λ b. Some (Performs b (λ r. operation (address_by_index r (number_of reg) 0 off) r) (access_code code))) (sym (ap (λ b. not mi.have_d20 || b) (and_right (not mi.have_index) false refl) ∙ or_false (not mi.have_d20))),
             parts2,
             kept2,
           )
@@ -266,21 +250,17 @@ module _ {L : Layout} {k : ℕ} {s : Step} (b : StepAt L k s) (load : LoadsAddre
           far (is_numbered 1 reg && true) reads ignores have reg off flags general (not_scratch reg general (sym (and_true (is_numbered 1 reg)) ∙ stuck)) z.0 z.1 (not mi.have_index && true) refl (is2, parts2, kept2)
       go have false e12 false e20 false e32 is2 parts2 kept2 fits2 = absurd (cc)
   operand_runs (Label target) reads ignores has general kept fits range bound is parts =
-      distant_runs (Label target) (block_address L target.0) (to_label L b.image target (label_known L target bound)) reads ignores (flags_of (Label target)) (not mi.have_pcrel) (λ e. not_not mi.have_pcrel e) (λ e parts2. sum_below L.image.base (L.offsets.block target.0)) has kept (is (λ r. block_address L target.0) refl) parts
+      distant_runs (Label target) (block_address L target.0) (to_label L b.image target (label_known L target bound)) reads ignores (flags_of (Label target)) (not mi.have_pcrel) (λ e. not-false mi.have_pcrel e) (λ e parts2. sum_below L.image.base (L.offsets.block target.0)) has kept (is (λ r. block_address L target.0) refl) parts
   operand_runs (Constant c) reads ignores has general kept fits range bound is parts =
-      let names = subst (NamesConstant c.0) (sym parts) (names_constant c (flags_of (Constant c)) (not mi.have_pcrel) (λ e. not_not mi.have_pcrel e)) in
-      distant_runs (Constant c) (constant_address L c.0) (to_constant L b.image c (b.constants c.0 (constant_known L c bound) names)) reads ignores (flags_of (Constant c)) (not mi.have_pcrel) (λ e. not_not mi.have_pcrel e) (λ e parts2. sum_below L.image.base (L.offsets.environment.constant c.0)) has kept (is (λ r. constant_address L c.0) refl) parts
+      let names = subst (NamesConstant c.0) (sym parts) (names_constant c (flags_of (Constant c)) (not mi.have_pcrel) (λ e. not-false mi.have_pcrel e)) in
+      distant_runs (Constant c) (constant_address L c.0) (to_constant L b.image c (b.constants c.0 (constant_known L c bound) names)) reads ignores (flags_of (Constant c)) (not mi.have_pcrel) (λ e. not-false mi.have_pcrel e) (λ e parts2. sum_below L.image.base (L.offsets.environment.constant c.0)) has kept (is (λ r. constant_address L c.0) refl) parts
   operand_runs (Symbol name offset flags) reads ignores has general kept fits range bound is parts =
       distant_runs (Symbol name offset flags) (L.offsets.environment.symbol_value name offset) (to_symbol L name offset flags) reads ignores flags (not mi.have_pcrel || (not flags.aligned && not mi.have_unaligned_pcrel)) (λ e.
-      not_not mi.have_pcrel (neither (not mi.have_pcrel) (not flags.aligned && not mi.have_unaligned_pcrel) e).0) (λ e parts2.
+      not-false mi.have_pcrel (or_parts (not mi.have_pcrel) (not flags.aligned && not mi.have_unaligned_pcrel) e).0) (λ e parts2.
       let r = subst (λ ps. PartsReach L (L.offsets.step k) ps) parts2 b.code.reached in
       let half = L.offsets.environment.symbol_distance (L.offsets.step k) name offset in
       subst (λ n. n < 2 ^ 64) r.0.1 (low_below (pos (wrapping_add64 L.image.base (L.offsets.step k)) +ℤ pos 2 *ℤ cast_signed w32 half))) has kept (is (λ r. L.offsets.environment.symbol_value name offset) refl) parts
-  operand_runs (InitialSPOffset off) reads ignores has general kept fits range bound is parts = absurd range
-  operand_runs (IncomingArgOffset off) reads ignores has general kept fits range bound is parts = absurd range
-  operand_runs (OutgoingArgOffset off) reads ignores has general kept fits range bound is parts = absurd range
-  operand_runs (SlotOffset off) reads ignores has general kept fits range bound is parts = absurd range
-  operand_runs (SpillOffset off) reads ignores has general kept fits range bound is parts = absurd range
+  operand_runs mem reads ignores has general kept fits range bound is parts = absurd range
 
 -- an instruction with an operand in memory runs as its step, where emission's rows have the forms that the step knows
 pub memory_runs : {L : Layout} {k : ℕ} {s : Step} (b : StepAt L k s) (load : LoadsAddress) (larl : LoadsRelative) (x : MemoryInstruction) (forms : MemInstType) (operation : ℕ → Registers → Operation) →

@@ -1,7 +1,7 @@
 -- Helpers stand where a step needs `%r1`, and keep the operand's address.
 use Rattle.std.proofs.Common.{◌⊎◌, inl, inr, ◌≤◌, arith, ◌≡◌, ℕ, ◌+◌, ◌%◌, ◌^◌, ◌<◌, List, [], ◌∷◌, Option, Some, None, Bool, true, false, cond, not, ◌&&◌, ◌||◌, ◌==◌, IsTrue, refl, sym, ap, ◌∙◌, subst}
 use Rattle.std.specs.Prelude.{ℤ, pos, negsuc, ◌+ℤ◌, ◌≤ℤ◌, unsigned_abs}
-use Rattle.std.proofs.lemmas.Bool.{and_parts, eqb-true}
+use Rattle.std.proofs.lemmas.Bool.{and_parts, eqb-true, and_right, not-false, or_parts}
 use Rattle.std.proofs.lemmas.Int.{ints}
 use Rattle.s390x_typed_steps.specs.Operands.{has_form}
 use Rattle.s390x_typed_steps.specs.Ranges.{OperandInRange}
@@ -11,7 +11,7 @@ use Rattle.s390x_base.specs.declared.regs.Reg.{Reg}
 use Rattle.s390x_base.specs.AccessFlags.{AccessFlags}
 use Rattle.s390x_inst.specs.Memory.{flags_of}
 use Rattle.s390x_inst.specs.declared.args.MemArg.{MemArg}
-use Rattle.s390x_inst.specs.declared.args.MemArg.TheVariants.{BXD12, BXD20, Label, Constant, Symbol, RegOffset, InitialSPOffset, IncomingArgOffset, OutgoingArgOffset, SlotOffset, SpillOffset}
+use Rattle.s390x_inst.specs.declared.args.MemArg.TheVariants.{BXD12, BXD20, Label, Constant, Symbol, RegOffset, InitialSPOffset}
 use Rattle.s390x_inst.specs.declared.inst.Inst.{Inst}
 use Rattle.s390x_inst.specs.declared.inst.Inst.TheVariants.{Mov64SImm32, LoadAddr}
 use Rattle.s390x_typed_steps.specs.General.{is_general}
@@ -38,7 +38,7 @@ use Rattle.s390x_machine.specs.Storage.{operand_address, needs_scratch, loads_ad
 use Rattle.s390x_machine.specs.Typed.{loosen}
 use Rattle.s390x_machine.proofs.Addresses.{sum_below}
 use Rattle.s390x_machine.proofs.Composites.{compute_changes}
-use Rattle.s390x_machine.proofs.Finalizing.{and_false, and_true, or_false, not_not, neither}
+use Rattle.s390x_machine.proofs.Finalizing.{and_true, or_false}
 use Rattle.s390x_machine.proofs.Operands.{zero_test, short_12, short_20, short_32, based_indexed, put_twice, not_scratch, low_below, loaded_address, far_offset}
 
 -- ---- where they stand
@@ -74,18 +74,15 @@ helped_where_needed mi (RegOffset reg off flags) general fits = go (fits_12 off)
     go : (t12 t20 t32 : Bool) → IsTrue t32 → is_helped (with_widened mi (with_address_loaded mi (near t12 t20 t32))).helpers ≡ (not t12 && not (t20 && mi.have_d20))
     go true t20 t32 h =
         loaded_where mi (LoadAddr scratch (BXD12 reg no_register (unsigned_abs off) flags)) [] (BXD12 scratch no_register 0 flags) (BXD12 reg no_register (unsigned_abs off) flags) (not mi.have_index && false)
-        ∙ and_false (not mi.have_index)
+        ∙ and_right (not mi.have_index) false refl
     go false true t32 h =
         loaded_where mi (LoadAddr scratch (BXD20 reg no_register off flags)) [] (BXD12 scratch no_register 0 flags) (BXD20 reg no_register off flags) (not mi.have_d20 || (not mi.have_index && false))
-        ∙ ap (λ b. not mi.have_d20 || b) (and_false (not mi.have_index)) ∙ or_false (not mi.have_d20)
+        ∙ ap (λ b. not mi.have_d20 || b) (and_right (not mi.have_index) false refl) ∙ or_false (not mi.have_d20)
     go false false true h =
         loaded_anyway mi (Mov64SImm32 scratch off) (LoadAddr scratch (BXD12 reg scratch 0 flags) ∷ []) [] (BXD12 scratch no_register 0 flags) (BXD12 reg scratch 0 flags) (not mi.have_index && true)
     go false false false h = absurd (cc)
 helped_where_needed mi (InitialSPOffset off) general fits = refl
-helped_where_needed mi (IncomingArgOffset off) general fits = refl
-helped_where_needed mi (OutgoingArgOffset off) general fits = refl
-helped_where_needed mi (SlotOffset off) general fits = refl
-helped_where_needed mi (SpillOffset off) general fits = refl
+helped_where_needed mi m general fits = refl
 
 -- ---- what they keep
 
@@ -195,10 +192,10 @@ module _ (L : Layout) (mi : MemInstType) where
           let is_pos : off ≡ pos (unsigned_abs off) = n.1 ∙ ap pos (sym (ap unsigned_abs n.1)) in
           let same : address_by_base c.registers (number_of reg) off ≡ address_by_index c.registers (number_of reg) 0 (pos (unsigned_abs off)) = ap (address_by_base c.registers (number_of reg)) is_pos ∙ sym (based_indexed c.registers (number_of reg) (pos (unsigned_abs off))) in
           let x = keeps_12 reg no_register (unsigned_abs off) flags (not mi.have_index && false) c t g in
-          (same_other (operand_address L (with_widened mi (with_address_loaded mi (near true t20 t32))).operand) t.registers c.registers (λ r. address_by_index r (number_of reg) 0 (pos (unsigned_abs off))) (λ r. address_by_base r (number_of reg) off) (sym same) x.0, x.1, subst (λ n. t ≡ loosen n x.1 c) (and_false (not mi.have_index)) x.2)
+          (same_other (operand_address L (with_widened mi (with_address_loaded mi (near true t20 t32))).operand) t.registers c.registers (λ r. address_by_index r (number_of reg) 0 (pos (unsigned_abs off))) (λ r. address_by_base r (number_of reg) off) (sym same) x.0, x.1, subst (λ n. t ≡ loosen n x.1 c) (and_right (not mi.have_index) false refl) x.2)
       go false e12 true e20 t32 e32 fits kept g =
           let x = keeps_20 reg no_register off flags (not mi.have_d20 || (not mi.have_index && false)) c t g in
-          let needs : (not mi.have_d20 || (not mi.have_index && false)) ≡ not mi.have_d20 = ap (λ n. not mi.have_d20 || n) (and_false (not mi.have_index)) ∙ or_false (not mi.have_d20) in
+          let needs : (not mi.have_d20 || (not mi.have_index && false)) ≡ not mi.have_d20 = ap (λ n. not mi.have_d20 || n) (and_right (not mi.have_index) false refl) ∙ or_false (not mi.have_d20) in
           (same_other (operand_address L (with_widened mi (with_address_loaded mi (near false true t32))).operand) t.registers c.registers (λ r. address_by_index r (number_of reg) 0 off) (λ r. address_by_base r (number_of reg) off) (based_indexed c.registers (number_of reg) off) x.0, x.1, subst (λ n. t ≡ loosen n x.1 c) needs x.2)
       go false e12 false e20 true e32 fits kept g =
           let z = short_32 off e32 in
@@ -210,11 +207,7 @@ module _ (L : Layout) (mi : MemInstType) where
       keeps_place (Constant constant) (flags_of (Constant constant)) (constant_address L constant.0) refl refl (λ x y g. g) (not mi.have_pcrel) (λ e. sum_below L.image.base (L.offsets.environment.constant constant.0)) c t h
   helpers_keep (Symbol name offset flags) b c t h =
       keeps_place (Symbol name offset flags) flags (L.offsets.environment.symbol_value name offset) refl refl (λ x y g. g) (not mi.have_pcrel || (not flags.aligned && not mi.have_unaligned_pcrel)) (λ e. b.address (loaded_here flags (Symbol name offset flags) _ e)) c t h
-  helpers_keep (InitialSPOffset off) b c t h = absurd b.range
-  helpers_keep (IncomingArgOffset off) b c t h = absurd b.range
-  helpers_keep (OutgoingArgOffset off) b c t h = absurd b.range
-  helpers_keep (SlotOffset off) b c t h = absurd b.range
-  helpers_keep (SpillOffset off) b c t h = absurd b.range
+  helpers_keep m b c t h = absurd b.range
 
 -- ---- what stands in the access
 
@@ -253,8 +246,8 @@ module _ (mi : MemInstType) where
   unfolding Stands
   taken_20 base index z flags helpers have general least most true e = loaded_taken flags have
   taken_20 base index z flags helpers have general least most false e =
-      let p = neither (not mi.have_d20) (not mi.have_index && not (is_numbered 0 index)) e in
-      ((not_not mi.have_d20 p.0, takes_index mi.have_index (is_numbered 0 index) (number_of index) p.1 (λ y. eqb-true (number_of index) 0 (sym (zero_test index general) ∙ y))), (least, most))
+      let p = or_parts (not mi.have_d20) (not mi.have_index && not (is_numbered 0 index)) e in
+      ((not-false mi.have_d20 p.0, takes_index mi.have_index (is_numbered 0 index) (number_of index) p.1 (λ y. eqb-true (number_of index) 0 (sym (zero_test index general) ∙ y))), (least, most))
 
   -- a relative operand stands where the rows have that form
   taken_relative : (m : MemArg) (helpers : List Inst) (flags : AccessFlags) → with_long_displacement mi m ≡ m → (t : Bool) → (t ≡ false → Stands mi m) → (mi.have_d12 || mi.have_d20 || (true && not t)) ≡ true → Stands mi (with_widened mi (cond t (record { helpers = helpers; operand = BXD12 scratch no_register 0 flags }) (record { helpers = []; operand = m }))).operand
@@ -267,12 +260,12 @@ module _ (mi : MemInstType) where
       taken_12 base index d flags (LoadAddr scratch (BXD12 base index d flags) ∷ []) (sym (or_false (mi.have_d12 || mi.have_d20)) ∙ has) (and_parts (is_general base) (is_general index) general).1 range (not mi.have_index && not (is_numbered 0 index)) refl
   operand_taken (BXD20 base index z flags) has general fits range =
       taken_20 base index z flags (LoadAddr scratch (BXD20 base index z flags) ∷ []) (sym (or_false (mi.have_d12 || mi.have_d20)) ∙ has) (and_parts (is_general base) (is_general index) general).1 range.0 range.1 (not mi.have_d20 || (not mi.have_index && not (is_numbered 0 index))) refl
-  operand_taken (Label target) has general fits range = taken_relative (Label target) (LoadAddr scratch (Label target) ∷ []) trusted refl (not mi.have_pcrel) (λ e. (not_not mi.have_pcrel e, tt)) has
-  operand_taken (Constant constant) has general fits range = taken_relative (Constant constant) (LoadAddr scratch (Constant constant) ∷ []) trusted refl (not mi.have_pcrel) (λ e. (not_not mi.have_pcrel e, tt)) has
+  operand_taken (Label target) has general fits range = taken_relative (Label target) (LoadAddr scratch (Label target) ∷ []) trusted refl (not mi.have_pcrel) (λ e. (not-false mi.have_pcrel e, tt)) has
+  operand_taken (Constant constant) has general fits range = taken_relative (Constant constant) (LoadAddr scratch (Constant constant) ∷ []) trusted refl (not mi.have_pcrel) (λ e. (not-false mi.have_pcrel e, tt)) has
   operand_taken (Symbol name offset flags) has general fits range =
       taken_relative (Symbol name offset flags) (LoadAddr scratch (Symbol name offset flags) ∷ []) flags refl (not mi.have_pcrel || (not flags.aligned && not mi.have_unaligned_pcrel)) (λ e.
-      let p = neither (not mi.have_pcrel) (not flags.aligned && not mi.have_unaligned_pcrel) e in
-      ((not_not mi.have_pcrel p.0, one_of flags.aligned mi.have_unaligned_pcrel p.1), tt)) has
+      let p = or_parts (not mi.have_pcrel) (not flags.aligned && not mi.have_unaligned_pcrel) e in
+      ((not-false mi.have_pcrel p.0, one_of flags.aligned mi.have_unaligned_pcrel p.1), tt)) has
     where
       one_of : (a b : Bool) → (not a && not b) ≡ false → (a ≡ true) ⊎ (b ≡ true)
       one_of true b e = inl refl
@@ -304,7 +297,4 @@ module _ (mi : MemInstType) where
       go false e12 false e20 true h = far (not mi.have_index && true) refl
       go false e12 false e20 false h = absurd (cc)
   operand_taken (InitialSPOffset off) has general fits range = absurd range
-  operand_taken (IncomingArgOffset off) has general fits range = absurd range
-  operand_taken (OutgoingArgOffset off) has general fits range = absurd range
-  operand_taken (SlotOffset off) has general fits range = absurd range
-  operand_taken (SpillOffset off) has general fits range = absurd range
+  operand_taken m has general fits range = absurd range

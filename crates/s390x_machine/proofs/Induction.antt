@@ -82,7 +82,7 @@ trace_of L holds k = every_run_from L (λ j. by_instruction L holds j (slice_get
 
 -- ---- a step by itself, from what the machine does
 
-abbrev form_into : CodeImage → Option StepKind → Core → Bool
+abbrev pub form_into : CodeImage → Option StepKind → Core → Bool
 form_into image (Some (Performs needs operation code)) c = stores_into image (access (operation c.registers).effect)
 form_into image _ c = false
 
@@ -91,7 +91,7 @@ wrong_into L (Some (Performs needs operation code)) c e = touches_image e
 wrong_into L (Some _) c e = absurd (true≢false (sym e))
 wrong_into L None c e = tt
 
-apart_form : (image : CodeImage) (o : Option StepKind) (c : Core) (ws : List Write) → IsFalse (form_into image o c) → IsDisjoint image (store_event_of_kind o (core_after_writes ws c))
+pub apart_form : (image : CodeImage) (o : Option StepKind) (c : Core) (ws : List Write) → IsFalse (form_into image o c) → IsDisjoint image (store_event_of_kind o (core_after_writes ws c))
 apart_form image (Some (Performs needs operation code)) c ws e = apart_of image (access (operation c.registers).effect) (core_after_writes ws c).memory e
 apart_form image (Some _) c ws e = tt
 apart_form image None c ws e = tt

@@ -14,12 +14,7 @@ use Rattle.s390x_inst.specs.declared.store.StoreOp.TheVariants as StoreOps
 use Rattle.s390x_inst.specs.Stores.{store_instruction}
 use Rattle.s390x_inst.proofs.Transfers.{Transfer, LoadOf, StoreOf, as_transfer, transfer_instruction, the_transfer}
 use Rattle.s390x_inst.specs.declared.inst.Inst.{Inst}
-use Rattle.s390x_inst.specs.declared.inst.Inst.TheVariants.{Loop', CondBreak, Call, ReturnCall}
-use Rattle.s390x_inst.specs.declared.inst.Inst.TheVariants.{AluRRR, AluRR, AluRRSImm16, AluRSImm16, AluRSImm32, AluRUImm32, UnaryRR, CmpRR, CmpRSImm16, CmpRSImm32, CmpRUImm32, Mov64, MovPReg, Mov32, Mov32Imm, Mov32SImm16, Mov64SImm16, Mov64SImm32, AluRUImm16Shifted, AluRUImm32Shifted, SMulWide, UMulWide, Flogr, ShiftRR, RxSBG, RxSBGTest, Mov64UImm16Shifted, Mov64UImm32Shifted}
-use Rattle.s390x_inst.specs.declared.inst.Inst.TheVariants.{Insert64UImm16Shifted, Insert64UImm32Shifted, CMov32, CMov64, CMov32SImm16, CMov64SImm16, Extend, LoadAR, InsertAR, LoadIndexedAddr, LoadLogicalIndexedAddr, Fence, Nop0, Nop2, Jump, CondBr, IndirectBr, Ret, LabelAddress, LoadSymbolReloc, Trap, TrapIf, Debugtrap, SDivMod32, SDivMod64, UDivMod32, UDivMod64, CmpTrapRR}
-use Rattle.s390x_inst.specs.declared.inst.Inst.TheVariants.{CmpTrapRSImm16, CmpTrapRUImm16, AluRX, CmpRX, StoreImm8}
-use Rattle.s390x_inst.specs.declared.inst.Inst.TheVariants.{StoreImm16, StoreImm32SExt16, StoreImm64SExt16, LoadMultiple64, StoreMultiple64, LoadAddr, AtomicRmw, AtomicCas32, AtomicCas64, JTSequence, AllocateArgs, Args, Rets, DummyUse, SequencePoint}
-use Rattle.s390x_inst.specs.declared.inst.Inst.TheVariants.{Vector}
+use Rattle.s390x_inst.specs.declared.inst.Inst.TheVariants as I
 use Rattle.s390x_format.specs.Formats.{length_of}
 use Rattle.s390x_format.specs.declared.kind.FormatKind.TheVariants.{Rr}
 use Rattle.s390x_rows.specs.declared.opcodes.TheConstants as opcodes
@@ -85,143 +80,143 @@ transfer_runs L k (StoreOf s) b operands_valid = store_runs L k s.op s.rd s.mem 
 
 -- the last clause is a copy for each load
 instruction_runs : (L : Layout) (k : ℕ) (i : Inst) → StepAt L k (Plain i) → IsValidInstruction L i → StepRuns L k
-instruction_runs L k (AluRRR op rd rn rm) b operands_valid =
+instruction_runs L k (I.AluRRR op rd rn rm) b operands_valid =
     alu_three_runs b op (number_of rd) (number_of rn) (number_of rm) (is_general rd && is_general rn && is_general rm) (refl, refl, operands_valid) (three_small rd rn rm)
-instruction_runs L k (AluRR op rd ri rm) b operands_valid =
+instruction_runs L k (I.AluRR op rd ri rm) b operands_valid =
     computes_two b (reuses rd ri && is_general rm) (alu_two op) (alu_computation op) (alu_two_rule op) (alu_two_rows op) (number_of rd) (number_of rm) (refl, refl, operands_valid) (reused_small rd ri rm)
-instruction_runs L k (UnaryRR U.PopcntByte rd rn) b operands_valid =
+instruction_runs L k (I.UnaryRR U.PopcntByte rd rn) b operands_valid =
     count_runs b 0 (omega arith) refl (number_of rd) (number_of rn) (refl, refl) (two_small rd rn operands_valid)
-instruction_runs L k (UnaryRR U.PopcntReg rd rn) b operands_valid =
+instruction_runs L k (I.UnaryRR U.PopcntReg rd rn) b operands_valid =
     count_runs b 8 (omega arith) refl (number_of rd) (number_of rn) (refl, refl) (two_small rd rn operands_valid)
-instruction_runs L k (UnaryRR op rd rn) b operands_valid =
+instruction_runs L k (I.UnaryRR op rd rn) b operands_valid =
     computes_two b (is_general rd && is_general rn) (unary_two op) (unary_computation op) (unary_rule op) (unary_rows op) (number_of rd) (number_of rn) (refl, refl, operands_valid) (two_small rd rn)
-instruction_runs L k (CmpRR op rn rm) b operands_valid =
+instruction_runs L k (I.CmpRR op rn rm) b operands_valid =
     compares_two b (is_general rn && is_general rm) (cmp_two op) (comparison op) (cmp_rows op) (number_of rn) (number_of rm) (refl, refl, operands_valid) (two_small rn rm)
-instruction_runs L k (Mov64 rd rm) b operands_valid =
+instruction_runs L k (I.Mov64 rd rm) b operands_valid =
     computes_two b (is_general rd && is_general rm) (Some opcodes.LGR) (on_doublewords Move) Kept lgr_row (number_of rd) (number_of rm) (refl, refl, operands_valid) (two_small rd rm)
-instruction_runs L k (MovPReg rd rm) b operands_valid =
+instruction_runs L k (I.MovPReg rd rm) b operands_valid =
     computes_two b (is_general rd && is_general (Real rm)) (Some opcodes.LGR) (on_doublewords Move) Kept lgr_row (number_of rd) (number_of (Real rm)) (refl, refl, operands_valid) (two_small rd (Real rm))
-instruction_runs L k (Mov32 rd rm) b operands_valid =
+instruction_runs L k (I.Mov32 rd rm) b operands_valid =
     computes_two b (is_general rd && is_general rm) (Some opcodes.LR) (on_words Move) Kept lr_row (number_of rd) (number_of rm) (refl, refl, operands_valid) (two_small rd rm)
-instruction_runs L k (AluRRSImm16 op rd rn imm) b operands_valid =
+instruction_runs L k (I.AluRRSImm16 op rd rn imm) b operands_valid =
     three_halfword_runs b (on_immediate (alu_computation op) signed_halfword) (alu_two_rule op) (number_of rd) (number_of rn) (low_halfword imm) (is_general rd && is_general rn) (alu_three_halfword op) (alu_halfword op) (three_halfword_rows op) (halfword_rows op) (refl, refl, operands_valid) (two_small rd rn) (halfword_bits imm)
-instruction_runs L k (AluRSImm16 op rd ri imm) b operands_valid =
+instruction_runs L k (I.AluRSImm16 op rd ri imm) b operands_valid =
     one_of_halfword b (reuses rd ri) (alu_halfword op) (on_immediate (alu_computation op) signed_halfword) (alu_two_rule op) (halfword_rows op) (number_of rd) (low_halfword imm) (refl, refl, operands_valid) (output_small rd ri) (halfword_bits imm)
-instruction_runs L k (AluRSImm32 op rd ri imm) b operands_valid =
+instruction_runs L k (I.AluRSImm32 op rd ri imm) b operands_valid =
     one_of_word b (reuses rd ri) (alu_signed_word op) (on_immediate (alu_computation op) signed_word) (alu_two_rule op) (signed_word_rows op) (number_of rd) (low_word imm) (refl, refl, operands_valid) (output_small rd ri) (word_bits imm)
-instruction_runs L k (CmpRSImm16 op rn imm) b operands_valid =
+instruction_runs L k (I.CmpRSImm16 op rn imm) b operands_valid =
     compare_of_halfword b (is_general rn) (cmp_halfword op) (compares_on_immediate (comparison op) signed_halfword) (cmp_halfword_rows op) (number_of rn) (low_halfword imm) (refl, refl, operands_valid) (general_number rn) (halfword_bits imm)
-instruction_runs L k (CmpRSImm32 op rn imm) b operands_valid =
+instruction_runs L k (I.CmpRSImm32 op rn imm) b operands_valid =
     compare_of_word b (is_general rn) (cmp_signed_word op) (compares_on_immediate (comparison op) signed_word) (cmp_signed_word_rows op) (number_of rn) (low_word imm) (refl, refl, operands_valid) (general_number rn) (word_bits imm)
-instruction_runs L k (AluRUImm32 op rd ri imm) b operands_valid =
+instruction_runs L k (I.AluRUImm32 op rd ri imm) b operands_valid =
     one_of_word b (reuses rd ri) (alu_unsigned_word op) (on_immediate (alu_computation op) unsigned_word) (alu_two_rule op) (unsigned_word_rows op) (number_of rd) (low_word (pos imm)) (refl, refl, operands_valid) (output_small rd ri) (word_bits (pos imm))
-instruction_runs L k (CmpRUImm32 op rn imm) b operands_valid =
+instruction_runs L k (I.CmpRUImm32 op rn imm) b operands_valid =
     compare_of_word b (is_general rn) (cmp_unsigned_word op) (compares_on_immediate (comparison op) unsigned_word) (cmp_unsigned_word_rows op) (number_of rn) (low_word (pos imm)) (refl, refl, operands_valid) (general_number rn) (word_bits (pos imm))
-instruction_runs L k (Mov32Imm rd imm) b operands_valid =
+instruction_runs L k (I.Mov32Imm rd imm) b operands_valid =
     one_of_word b (is_general rd) (Some opcodes.IILF) (on_words Move) Kept iilf_row (number_of rd) (low_word (pos imm)) (refl, refl, operands_valid) (general_number rd) (word_bits (pos imm))
-instruction_runs L k (Mov32SImm16 rd imm) b operands_valid =
+instruction_runs L k (I.Mov32SImm16 rd imm) b operands_valid =
     one_of_halfword b (is_general rd) (Some opcodes.LHI) (on_immediate (on_words Move) signed_halfword) Kept lhi_row (number_of rd) (low_halfword imm) (refl, refl, operands_valid) (general_number rd) (halfword_bits imm)
-instruction_runs L k (Mov64SImm16 rd imm) b operands_valid =
+instruction_runs L k (I.Mov64SImm16 rd imm) b operands_valid =
     one_of_halfword b (is_general rd) (Some opcodes.LGHI) (on_immediate (on_doublewords Move) signed_halfword) Kept lghi_row (number_of rd) (low_halfword imm) (refl, refl, operands_valid) (general_number rd) (halfword_bits imm)
-instruction_runs L k (Mov64SImm32 rd imm) b operands_valid =
+instruction_runs L k (I.Mov64SImm32 rd imm) b operands_valid =
     one_of_word b (is_general rd) (Some opcodes.LGFI) (on_immediate (on_doublewords Move) signed_word) Kept lgfi_row (number_of rd) (low_word imm) (refl, refl, operands_valid) (general_number rd) (word_bits imm)
-instruction_runs L k (AluRUImm16Shifted op rd ri imm) b operands_valid =
+instruction_runs L k (I.AluRUImm16Shifted op rd ri imm) b operands_valid =
     placed_halfword b (reuses rd ri) (alu_part op imm.shift) (SelectedBits (part_operator op) (part_mask imm.shift)) Set (16 * imm.shift) (part_rows op imm.shift) (number_of rd) (low_halfword (pos imm.bits)) (refl, refl, operands_valid) (output_small rd ri) (halfword_bits (pos imm.bits))
-instruction_runs L k (AluRUImm32Shifted op rd ri imm) b operands_valid =
+instruction_runs L k (I.AluRUImm32Shifted op rd ri imm) b operands_valid =
     placed_word b (reuses rd ri) (alu_half op imm.shift) (SelectedBits (part_operator op) (half_mask imm.shift)) Set (32 * imm.shift) (half_rows op imm.shift) (number_of rd) (low_word (pos imm.bits)) (refl, refl, operands_valid) (output_small rd ri) (word_bits (pos imm.bits))
-instruction_runs L k (Mov64UImm16Shifted rd imm) b operands_valid =
+instruction_runs L k (I.Mov64UImm16Shifted rd imm) b operands_valid =
     placed_halfword b (is_general rd) (load_part imm.shift) Move Kept (16 * imm.shift) (load_part_rows imm.shift) (number_of rd) (low_halfword (pos imm.bits)) (refl, refl, operands_valid) (general_number rd) (halfword_bits (pos imm.bits))
-instruction_runs L k (Mov64UImm32Shifted rd imm) b operands_valid =
+instruction_runs L k (I.Mov64UImm32Shifted rd imm) b operands_valid =
     placed_word b (is_general rd) (load_half imm.shift) Move Kept (32 * imm.shift) (load_half_rows imm.shift) (number_of rd) (low_word (pos imm.bits)) (refl, refl, operands_valid) (general_number rd) (word_bits (pos imm.bits))
-instruction_runs L k (Insert64UImm16Shifted rd ri imm) b operands_valid =
+instruction_runs L k (I.Insert64UImm16Shifted rd ri imm) b operands_valid =
     placed_halfword b (reuses rd ri) (insert_part imm.shift) (SelectedBits Select.Insert (part_mask imm.shift)) Kept (16 * imm.shift) (insert_part_rows imm.shift) (number_of rd) (low_halfword (pos imm.bits)) (refl, refl, operands_valid) (output_small rd ri) (halfword_bits (pos imm.bits))
-instruction_runs L k (Insert64UImm32Shifted rd ri imm) b operands_valid =
+instruction_runs L k (I.Insert64UImm32Shifted rd ri imm) b operands_valid =
     inserted_half b (reuses rd ri) imm.shift (number_of rd) (low_word (pos imm.bits)) (refl, refl, operands_valid) (output_small rd ri) (word_bits (pos imm.bits))
-instruction_runs L k (Extend rd rn signed from to) b operands_valid =
+instruction_runs L k (I.Extend rd rn signed from to) b operands_valid =
     computes_two b (is_general rd && is_general rn) (extend_two signed from to) (extension signed from to) Kept (extend_rows signed from to) (number_of rd) (number_of rn) (refl, refl, operands_valid) (two_small rd rn)
-instruction_runs L k (LoadAR rd ar) b operands_valid =
+instruction_runs L k (I.LoadAR rd ar) b operands_valid =
     copies_runs b (is_general rd && is_access ar) (number_of rd) (four_bits ar) (refl, refl, operands_valid) (λ h. access_small rd ar (general_number rd (and_parts (is_general rd) (is_access ar) h).0))
-instruction_runs L k (InsertAR rd ri ar) b operands_valid =
+instruction_runs L k (I.InsertAR rd ri ar) b operands_valid =
     copies_runs b (reuses rd ri && is_access ar) (number_of rd) (four_bits ar) (refl, refl, operands_valid) (λ h. access_small rd ar (output_small rd ri (and_parts (reuses rd ri) (is_access ar) h).0))
-instruction_runs L k (ShiftRR op rd rn amount register) b operands_valid =
+instruction_runs L k (I.ShiftRR op rd rn amount register) b operands_valid =
     shift_runs b op (number_of rd) (number_of rn) (number_of register) amount (refl, refl) (three_small rd rn register operands_valid)
-instruction_runs L k (RxSBG op rd ri rn start end amount) b operands_valid =
+instruction_runs L k (I.RxSBG op rd ri rn start end amount) b operands_valid =
     rotate_runs b op (reuses rd ri && is_general rn) (number_of rd) (number_of rn) start end amount (refl, refl, operands_valid) (reused_small rd ri rn)
-instruction_runs L k (RxSBGTest op rd rn start end amount) b operands_valid =
+instruction_runs L k (I.RxSBGTest op rd rn start end amount) b operands_valid =
     test_runs b op (is_general rd && is_general rn) (number_of rd) (number_of rn) start end amount (refl, refl, operands_valid) (two_small rd rn)
-instruction_runs L k (SMulWide rd rn rm) b operands_valid =
+instruction_runs L k (I.SMulWide rd rn rm) b operands_valid =
     signed_runs b (number_of rd.hi) (number_of rn) (number_of rm) (refl, refl) (pair_small2 rd.hi rd.lo rn rm operands_valid)
-instruction_runs L k (UMulWide rd ri rn) b operands_valid =
+instruction_runs L k (I.UMulWide rd ri rn) b operands_valid =
     logical_runs b (number_of rd.hi) (number_of rn) (refl, refl) (pair_tested_small rd.hi rd.lo rn (reuses rd.lo ri) operands_valid)
-instruction_runs L k (Flogr rd rn) b operands_valid =
+instruction_runs L k (I.Flogr rd rn) b operands_valid =
     leftmost_runs b (number_of rd.hi) (number_of rn) (refl, refl) (pair_small rd.hi rd.lo rn operands_valid)
-instruction_runs L k (SDivMod32 rd ri rn) b operands_valid =
+instruction_runs L k (I.SDivMod32 rd ri rn) b operands_valid =
     divide_runs b opcodes.DSGFR (DivideSigned Bits32) dsgfr_row (divides_signed Bits32 (number_of rd.hi) (number_of rn)) (signed_coded Bits32 (number_of rd.hi) (number_of rn)) (number_of rd.hi) (number_of rn) (pair_tested_small rd.hi rd.lo rn (reuses rd.lo ri) operands_valid) (λ r q. refl) (refl, refl)
-instruction_runs L k (SDivMod64 rd ri rn) b operands_valid =
+instruction_runs L k (I.SDivMod64 rd ri rn) b operands_valid =
     divide_runs b opcodes.DSGR (DivideSigned Bits64) dsgr_row (divides_signed Bits64 (number_of rd.hi) (number_of rn)) (signed_coded Bits64 (number_of rd.hi) (number_of rn)) (number_of rd.hi) (number_of rn) (pair_tested_small rd.hi rd.lo rn (reuses rd.lo ri) operands_valid) (λ r q. refl) (refl, refl)
-instruction_runs L k (UDivMod32 rd ri rn) b operands_valid =
+instruction_runs L k (I.UDivMod32 rd ri rn) b operands_valid =
     divide_runs b opcodes.DLR (DivideLogical Word) dlr_row (divides_logical Word (number_of rd.hi) (number_of rn)) (logical_coded Word (number_of rd.hi) (number_of rn)) (number_of rd.hi) (number_of rn) (pair_tested_small rd.hi rd.lo rn (reuses_pair rd ri) operands_valid) (λ r q. refl) (refl, refl)
-instruction_runs L k (UDivMod64 rd ri rn) b operands_valid =
+instruction_runs L k (I.UDivMod64 rd ri rn) b operands_valid =
     divide_runs b opcodes.DLGR (DivideLogical Doubleword) dlgr_row (divides_logical Doubleword (number_of rd.hi) (number_of rn)) (logical_coded Doubleword (number_of rd.hi) (number_of rn)) (number_of rd.hi) (number_of rn) (pair_tested_small rd.hi rd.lo rn (reuses_pair rd ri) operands_valid) (λ r q. refl) (refl, refl)
-instruction_runs L k (CmpTrapRR op rn rm mask code) b operands_valid =
+instruction_runs L k (I.CmpTrapRR op rn rm mask code) b operands_valid =
     compare_trap_runs b (is_general rn && is_general rm) (cmp_trap op) (comparison op) (trap_rows op) (number_of rn) (number_of rm) (four_bits mask) code (mask_bits mask) (refl, refl, operands_valid) (two_small rn rm)
-instruction_runs L k (CmpTrapRSImm16 op rn imm mask code) b operands_valid =
+instruction_runs L k (I.CmpTrapRSImm16 op rn imm mask code) b operands_valid =
     compare_immediate_trap_runs b (is_general rn) (cmp_trap_signed op) (comparison op) (trap_signed_rows op) (number_of rn) (low_halfword imm) (four_bits mask) code (halfword_bits imm) (mask_bits mask) (refl, refl, operands_valid) (general_number rn)
-instruction_runs L k (CmpTrapRUImm16 op rn imm mask code) b operands_valid =
+instruction_runs L k (I.CmpTrapRUImm16 op rn imm mask code) b operands_valid =
     compare_immediate_trap_runs b (is_general rn) (cmp_trap_unsigned op) (comparison op) (trap_unsigned_rows op) (number_of rn) (low_halfword (pos imm)) (four_bits mask) code (halfword_bits (pos imm)) (mask_bits mask) (refl, refl, operands_valid) (general_number rn)
-instruction_runs L k (CMov32 rd mask ri rm) b operands_valid =
+instruction_runs L k (I.CMov32 rd mask ri rm) b operands_valid =
     move_where_runs b opcodes.LOCR Word unsigned_word locr_row mask (number_of rd) (number_of rm) (refl, refl) (reused_small rd ri rm operands_valid)
-instruction_runs L k (CMov64 rd mask ri rm) b operands_valid =
+instruction_runs L k (I.CMov64 rd mask ri rm) b operands_valid =
     move_where_runs b opcodes.LOCGR Doubleword doubleword locgr_row mask (number_of rd) (number_of rm) (refl, refl) (reused_small rd ri rm operands_valid)
-instruction_runs L k (CMov32SImm16 rd mask ri imm) b operands_valid =
+instruction_runs L k (I.CMov32SImm16 rd mask ri imm) b operands_valid =
     move_immediate_where_runs b opcodes.LOCHI Word lochi_row mask (number_of rd) (low_halfword imm) (refl, refl) (output_small rd ri operands_valid) (halfword_bits imm)
-instruction_runs L k (CMov64SImm16 rd mask ri imm) b operands_valid =
+instruction_runs L k (I.CMov64SImm16 rd mask ri imm) b operands_valid =
     move_immediate_where_runs b opcodes.LOCGHI Doubleword locghi_row mask (number_of rd) (low_halfword imm) (refl, refl) (output_small rd ri operands_valid) (halfword_bits imm)
-instruction_runs L k (LoadIndexedAddr rd base index offset size) b operands_valid =
+instruction_runs L k (I.LoadIndexedAddr rd base index offset size) b operands_valid =
     any_runs b (is_general rd && is_general base && is_general index) (indexed_opcode size) (indexed_rows size) (number_of rd) (number_of base) (number_of index) (low_displacement offset) (refl, refl, operands_valid) (three_small rd base index) (displacement_bits offset)
-instruction_runs L k (LoadLogicalIndexedAddr rd base index offset size) b operands_valid =
+instruction_runs L k (I.LoadLogicalIndexedAddr rd base index offset size) b operands_valid =
     any_runs b (is_general rd && is_general base && is_general index) (logical_indexed_opcode size) (logical_indexed_rows size) (number_of rd) (number_of base) (number_of index) (low_displacement offset) (refl, refl, operands_valid) (three_small rd base index) (displacement_bits offset)
-instruction_runs L k (AllocateArgs size) b operands_valid = allocate_runs b size (refl, refl)
-instruction_runs L k Fence b operands_valid = fence_runs b (refl, refl)
-instruction_runs L k Nop2 b operands_valid = idle_runs b (refl, refl)
-instruction_runs L k Nop0 b operands_valid = opening_runs b refl refl
-instruction_runs L k (Args args) b operands_valid = opening_runs b refl refl
-instruction_runs L k (Rets rets) b operands_valid = opening_runs b refl refl
-instruction_runs L k (DummyUse reg) b operands_valid = opening_runs b refl refl
-instruction_runs L k SequencePoint b operands_valid = opening_runs b refl refl
-instruction_runs L k (Jump dest) b operands_valid = goto_runs b dest.0 refl refl operands_valid
-instruction_runs L k (CondBr taken not_taken mask) b operands_valid = condbr_runs b mask taken.0 not_taken.0 refl refl (small_mask mask operands_valid.2) operands_valid.0 operands_valid.1
-instruction_runs L k (IndirectBr rn targets) b operands_valid =
+instruction_runs L k (I.AllocateArgs size) b operands_valid = allocate_runs b size (refl, refl)
+instruction_runs L k I.Fence b operands_valid = fence_runs b (refl, refl)
+instruction_runs L k I.Nop2 b operands_valid = idle_runs b (refl, refl)
+instruction_runs L k I.Nop0 b operands_valid = opening_runs b refl refl
+instruction_runs L k (I.Args args) b operands_valid = opening_runs b refl refl
+instruction_runs L k (I.Rets rets) b operands_valid = opening_runs b refl refl
+instruction_runs L k (I.DummyUse reg) b operands_valid = opening_runs b refl refl
+instruction_runs L k I.SequencePoint b operands_valid = opening_runs b refl refl
+instruction_runs L k (I.Jump dest) b operands_valid = goto_runs b dest.0 refl refl operands_valid
+instruction_runs L k (I.CondBr taken not_taken mask) b operands_valid = condbr_runs b mask taken.0 not_taken.0 refl refl (small_mask mask operands_valid.2) operands_valid.0 operands_valid.1
+instruction_runs L k (I.IndirectBr rn targets) b operands_valid =
     let row = register_row b (number_of rn) refl (general_number rn operands_valid.0) (nonzero_number rn operands_valid.0 operands_valid.1) in
     address_runs L b.image k (number_of rn) (length_of Rr) targets.items (ap (kind_of_step L) b.at) operands_valid.2 row.0 row.1
-instruction_runs L k (Ret link) b operands_valid =
+instruction_runs L k (I.Ret link) b operands_valid =
     let row = register_row b (number_of link) refl (general_number link operands_valid.0) (nonzero_number link operands_valid.0 operands_valid.1) in
     returns_runs L k (number_of link) (length_of Rr) (ap (kind_of_step L) b.at) row.0 row.1
-instruction_runs L k (JTSequence ridx other mask targets) b operands_valid =
+instruction_runs L k (I.JTSequence ridx other mask targets) b operands_valid =
     jump_by_table_runs b (number_of ridx) mask other.0 targets.items refl refl (general_number ridx operands_valid.0) (nonzero_number ridx operands_valid.0 operands_valid.1) (unscratched_number ridx operands_valid.0 operands_valid.2) (small_mask mask operands_valid.5) operands_valid.3 operands_valid.4
-instruction_runs L k (LabelAddress dst label) b operands_valid = label_runs b (number_of dst) label.0 refl refl (general_number dst operands_valid.0) operands_valid.1
-instruction_runs L k (LoadSymbolReloc rd reloc) b operands_valid = load_symbol_runs b (number_of rd) reloc refl refl (general_number rd operands_valid)
-instruction_runs L k (Trap code) b operands_valid = always_traps b code refl refl
-instruction_runs L k (TrapIf mask code) b operands_valid = traps_where b mask code refl refl (small_mask mask operands_valid)
-instruction_runs L k Debugtrap b operands_valid = debug_stops b refl refl
-instruction_runs L k (LoadAddr rd mem) b operands_valid = loads_an_address b rd mem (record { have_d12 = true; have_d20 = true; have_pcrel = true; have_unaligned_pcrel = true; have_index = true }) (refl, refl, refl, operands_valid)
-instruction_runs L k (StoreImm8 imm mem) b operands_valid = stores_a_byte b imm mem (based_forms true true) (refl, refl, refl, operands_valid)
-instruction_runs L k (StoreImm16 imm mem) b operands_valid = stores_an_immediate b Bits16 opcodes.MVHHI (low_halfword imm) (halfword_bits imm) store_immediate_16 mem (based_forms true false) (refl, refl, refl, operands_valid)
-instruction_runs L k (StoreImm32SExt16 imm mem) b operands_valid = stores_an_immediate b Bits32 opcodes.MVHI (low_halfword imm) (halfword_bits imm) store_immediate_32 mem (based_forms true false) (refl, refl, refl, operands_valid)
-instruction_runs L k (StoreImm64SExt16 imm mem) b operands_valid = stores_an_immediate b Bits64 opcodes.MVGHI (low_halfword imm) (halfword_bits imm) store_immediate_64 mem (based_forms true false) (refl, refl, refl, operands_valid)
-instruction_runs L k (LoadMultiple64 rt rt2 mem) b operands_valid = loads_registers b rt rt2 mem (based_forms false true) (refl, refl, refl, operands_valid)
-instruction_runs L k (StoreMultiple64 rt rt2 mem) b operands_valid = stores_registers b rt rt2 mem (based_forms false true) (refl, refl, refl, operands_valid)
-instruction_runs L k (AluRX op rd ri mem) b operands_valid =
+instruction_runs L k (I.LabelAddress dst label) b operands_valid = label_runs b (number_of dst) label.0 refl refl (general_number dst operands_valid.0) operands_valid.1
+instruction_runs L k (I.LoadSymbolReloc rd reloc) b operands_valid = load_symbol_runs b (number_of rd) reloc refl refl (general_number rd operands_valid)
+instruction_runs L k (I.Trap code) b operands_valid = always_traps b code refl refl
+instruction_runs L k (I.TrapIf mask code) b operands_valid = traps_where b mask code refl refl (small_mask mask operands_valid)
+instruction_runs L k I.Debugtrap b operands_valid = debug_stops b refl refl
+instruction_runs L k (I.LoadAddr rd mem) b operands_valid = loads_an_address b rd mem (record { have_d12 = true; have_d20 = true; have_pcrel = true; have_unaligned_pcrel = true; have_index = true }) (refl, refl, refl, operands_valid)
+instruction_runs L k (I.StoreImm8 imm mem) b operands_valid = stores_a_byte b imm mem (based_forms true true) (refl, refl, refl, operands_valid)
+instruction_runs L k (I.StoreImm16 imm mem) b operands_valid = stores_an_immediate b Bits16 opcodes.MVHHI (low_halfword imm) (halfword_bits imm) store_immediate_16 mem (based_forms true false) (refl, refl, refl, operands_valid)
+instruction_runs L k (I.StoreImm32SExt16 imm mem) b operands_valid = stores_an_immediate b Bits32 opcodes.MVHI (low_halfword imm) (halfword_bits imm) store_immediate_32 mem (based_forms true false) (refl, refl, refl, operands_valid)
+instruction_runs L k (I.StoreImm64SExt16 imm mem) b operands_valid = stores_an_immediate b Bits64 opcodes.MVGHI (low_halfword imm) (halfword_bits imm) store_immediate_64 mem (based_forms true false) (refl, refl, refl, operands_valid)
+instruction_runs L k (I.LoadMultiple64 rt rt2 mem) b operands_valid = loads_registers b rt rt2 mem (based_forms false true) (refl, refl, refl, operands_valid)
+instruction_runs L k (I.StoreMultiple64 rt rt2 mem) b operands_valid = stores_registers b rt rt2 mem (based_forms false true) (refl, refl, refl, operands_valid)
+instruction_runs L k (I.AluRX op rd ri mem) b operands_valid =
     computes_in_memory b (is_some (alu_rx op) || is_some (alu_rxy op)) (alu_computation op) (alu_two_rule op) (alu_rx op) (alu_rxy op) (alu_short_rows op) (alu_long_rows op) rd ri mem (alu_forms op) (alu_same op (number_of rd)) (refl, refl, operands_valid)
-instruction_runs L k (CmpRX op rn mem) b operands_valid = compares_in_memory b (comparison op) (cmp_rx op) (cmp_rxy op) (Some (cmp_ril op)) (cmp_short_rows op) (cmp_long_rows op) (cmp_relative_rows op) rn mem (cmp_forms op) (cmp_same op (number_of rn), refl, refl, operands_valid)
-instruction_runs L k (AtomicRmw op rd rn mem) b operands_valid = operates b (alu_computation op) (atomic_rsy op) (atomic_rows op) rd rn mem (based_forms false true) (λ opcode. refl) (refl, refl, operands_valid)
-instruction_runs L k (AtomicCas32 rd ri rn mem) b operands_valid = swaps b Word (Some opcodes.CS) (Some opcodes.CSY) swap_32 rd ri rn mem (based_forms true true) (refl, refl, refl, operands_valid)
-instruction_runs L k (AtomicCas64 rd ri rn mem) b operands_valid = swaps b Doubleword None (Some opcodes.CSG) swap_64 rd ri rn mem (based_forms false true) (refl, refl, refl, operands_valid)
-instruction_runs L k (Vector v) b operands_valid = any_vector_runs b v (refl, refl, operands_valid)
-instruction_runs L k (Loop' mask body all) b operands_valid = absurd operands_valid
-instruction_runs L k (CondBreak mask) b operands_valid = absurd operands_valid
-instruction_runs L k (Call link info) b operands_valid = absurd operands_valid
-instruction_runs L k (ReturnCall info) b operands_valid = absurd operands_valid
+instruction_runs L k (I.CmpRX op rn mem) b operands_valid = compares_in_memory b (comparison op) (cmp_rx op) (cmp_rxy op) (Some (cmp_ril op)) (cmp_short_rows op) (cmp_long_rows op) (cmp_relative_rows op) rn mem (cmp_forms op) (cmp_same op (number_of rn), refl, refl, operands_valid)
+instruction_runs L k (I.AtomicRmw op rd rn mem) b operands_valid = operates b (alu_computation op) (atomic_rsy op) (atomic_rows op) rd rn mem (based_forms false true) (λ opcode. refl) (refl, refl, operands_valid)
+instruction_runs L k (I.AtomicCas32 rd ri rn mem) b operands_valid = swaps b Word (Some opcodes.CS) (Some opcodes.CSY) swap_32 rd ri rn mem (based_forms true true) (refl, refl, refl, operands_valid)
+instruction_runs L k (I.AtomicCas64 rd ri rn mem) b operands_valid = swaps b Doubleword None (Some opcodes.CSG) swap_64 rd ri rn mem (based_forms false true) (refl, refl, refl, operands_valid)
+instruction_runs L k (I.Vector v) b operands_valid = any_vector_runs b v (refl, refl, operands_valid)
+instruction_runs L k (I.Loop' mask body all) b operands_valid = absurd operands_valid
+instruction_runs L k (I.CondBreak mask) b operands_valid = absurd operands_valid
+instruction_runs L k (I.Call link info) b operands_valid = absurd operands_valid
+instruction_runs L k (I.ReturnCall info) b operands_valid = absurd operands_valid
 instruction_runs L k i b operands_valid = transfer_runs L k (the_transfer (as_transfer i) refl) b operands_valid
 
 pub step_runs : (L : Layout) (k : ℕ) (s : Step) → StepAt L k s → IsValidStep L s → StepRuns L k

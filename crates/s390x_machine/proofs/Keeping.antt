@@ -24,9 +24,9 @@ use Rattle.s390x_machine.specs.Machine.{Event, Executed, Interrupted, ActionStep
 use Rattle.s390x_format.specs.declared.semantics.OperandSource.{OperandSource}
 use Rattle.s390x_format.specs.declared.semantics.OperandSource.TheVariants.{ThreeRegisters, ThreeImmediate, Amount}
 use Rattle.s390x_format.specs.declared.semantics.RowSemantics.{RowSemantics}
-use Rattle.s390x_format.specs.declared.semantics.RowSemantics.TheVariants.{Compute, Compare, MoveWhere, CountOnes, RotateThen, MultiplySigned, MultiplyLogical, DivideSigned, DivideLogical, CompareAndTrap, CompareImmediateAndTrap, FindLeftmostOne, Havoc}
-use Rattle.s390x_format.specs.declared.semantics.RowSemantics.TheVariants.{BranchToRegister, BranchRelative, Store, StoreByte, StoreImmediate, LoadMultiple, StoreMultiple, LoadAndOperate, CompareAndSwap, BranchAndSaveToRegister, BranchAndSaveRelative}
-use Rattle.s390x_format.specs.declared.semantics.RowSemantics.TheVariants.{Elements, ShiftElements, LoadVector, StoreVector, LoadLeft, StoreLeft, MoveLeft, RegisterToLeft, LeftToRegister, JoinRegisters, InsertElement, ExtractElement}
+use Rattle.s390x_format.specs.declared.semantics.RowSemantics.TheVariants.{Compute, MoveWhere, CountOnes, RotateThen, MultiplySigned, MultiplyLogical, DivideLogical, FindLeftmostOne}
+use Rattle.s390x_format.specs.declared.semantics.RowSemantics.TheVariants.{BranchToRegister, BranchRelative, BranchAndSaveToRegister, BranchAndSaveRelative}
+use Rattle.s390x_format.specs.declared.semantics.RowSemantics.TheVariants.{Elements, ShiftElements, LeftToRegister, InsertElement, ExtractElement}
 use Rattle.s390x_machine.specs.declared.action_type.Action.{Action}
 use Rattle.s390x_machine.specs.declared.action_type.Action.TheVariants.{Perform, Branch, BranchAndSave}
 use Rattle.s390x_machine.proofs.Performing.{can_perform}
@@ -106,25 +106,7 @@ row_fits InsertElement f r address regs meant even fit = either_fits (nat_lt (ad
 row_fits (Elements row) f r address regs meant even fit =
     elements_fit (operation_of row f.masks f.imm) (register_field f 0) (vector_field f r 0) (vector_field f r 1) (vector_field f r 2) (vector_field f r 3)
 row_fits (ShiftElements row) f r address regs meant even fit = elements_fit (operation_of row f.masks _) (register_field f 0) (vector_field f r 0) (vector_field f r 2) 0 0
-row_fits (Compare sign size s) f r address regs meant even fit = tt
-row_fits (DivideSigned width) f r address regs meant even fit = tt
-row_fits (CompareAndTrap sign size) f r address regs meant even fit = tt
-row_fits (CompareImmediateAndTrap sign size) f r address regs meant even fit = tt
-row_fits Havoc f r address regs meant even fit = tt
-row_fits (Store s) f r address regs meant even fit = tt
-row_fits StoreByte f r address regs meant even fit = tt
-row_fits (StoreImmediate width) f r address regs meant even fit = tt
-row_fits LoadMultiple f r address regs meant even fit = tt
-row_fits StoreMultiple f r address regs meant even fit = tt
-row_fits (LoadAndOperate operator size) f r address regs meant even fit = tt
-row_fits (CompareAndSwap size) f r address regs meant even fit = tt
-row_fits (LoadVector storage) f r address regs meant even fit = tt
-row_fits (StoreVector storage) f r address regs meant even fit = tt
-row_fits (LoadLeft size) f r address regs meant even fit = tt
-row_fits (StoreLeft size) f r address regs meant even fit = tt
-row_fits (MoveLeft size) f r address regs meant even fit = tt
-row_fits RegisterToLeft f r address regs meant even fit = tt
-row_fits JoinRegisters f r address regs meant even fit = tt
+row_fits semantics f r address regs meant even fit = tt
 
 -- ---- one step
 
@@ -210,10 +192,8 @@ row_reaches None f size s event t acts = absurd acts
 row_reaches (Some semantics) f size s event t acts = pair_reaches (is_odd_pair semantics f) (action semantics f s.core.registers s.address) size s event t acts
 
 fetched_reaches : (fetched : Fetched) (s : State) (event : Event) (t : State) → FetchedStep fetched s event t → t.core.memory.has ≡ s.core.memory.has
-fetched_reaches Misplaced s event t acts = ap (λ (u : State). u.core.memory.has) acts.1
-fetched_reaches Missing s event t acts = ap (λ (u : State). u.core.memory.has) acts.1
-fetched_reaches Unknown s event t acts = ap (λ (u : State). u.core.memory.has) acts.1
 fetched_reaches (Found d) s event t acts = row_reaches (semantics_of d.row.opcode) d.fields (length_of d.row.format) s event t acts
+fetched_reaches fetched s event t acts = ap (λ (u : State). u.core.memory.has) acts.1
 
 -- ---- a run under each list of writes
 

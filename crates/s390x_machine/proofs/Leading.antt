@@ -14,7 +14,7 @@ use Rattle.s390x_operations.specs.State.{Registers, Core, State, with_code, wrap
 use Rattle.s390x_operations.specs.declared.effect.CodeRule.TheVariants.{Kept}
 use Rattle.s390x_operations.specs.declared.operator.Operator.TheVariants.{Move}
 use Rattle.s390x_operations.specs.declared.stop.ConditionCode.{ConditionCode}
-use Rattle.s390x_operations.specs.declared.stop.ConditionCode.TheVariants.{Code0, Code1, Code2, Code3}
+use Rattle.s390x_operations.specs.declared.stop.ConditionCode.TheVariants.{Code0}
 use Rattle.s390x_machine.specs.declared.action_type.Action.TheVariants.{Perform, Branch as BranchAction}
 use Rattle.s390x_format.specs.declared.semantics.RowSemantics.TheVariants.{BranchToRegister}
 use Rattle.s390x_machine.specs.Computations.{computes_immediate, on_doublewords, idles}
@@ -40,9 +40,7 @@ use Rattle.s390x_machine.proofs.Trapping.{within_image}
 -- no code is selected by a mask of zeros
 none_selected : (code : ConditionCode) → is_selected 0 code ≡ false
 none_selected Code0 = refl
-none_selected Code1 = refl
-none_selected Code2 = refl
-none_selected Code3 = refl
+none_selected code = refl
 
 idle_acts : (target size : ℕ) (s : State) (event : Event) (t : State) → ActionStep (BranchAction 0 target) size s event t → ActionStep (Perform (idles s.core.registers)) size s event t
 idle_acts target size s (Executed x) t h = (

@@ -6,7 +6,7 @@ use Rattle.s390x_operations.specs.Bits.{bytes}
 use Rattle.s390x_operations.specs.Values.{width_of}
 use Rattle.s390x_operations.specs.State.{update, wrapping_add64, number_at, bytes_to, write_get}
 use Rattle.s390x_operations.specs.declared.size.Size.{Size}
-use Rattle.s390x_operations.specs.declared.size.Size.TheVariants.{Halfword, Word, Doubleword}
+use Rattle.s390x_operations.specs.declared.size.Size.TheVariants.{Halfword}
 
 pub number_none : (f : ℕ → ℕ) (a : ℕ) → number_at f a 0 ≡ 0
 number_none f a = refl
@@ -46,5 +46,4 @@ room n few = pow-le-pow_right {n = 256} (lit< tt) {i = n} {j = 8} few
 -- how many numbers the bytes of a size hold
 pub whole_bytes : (size : Size) (n : ℕ) → n ≡ bytes (width_of size) → 256 ^ n ≡ modulus size
 whole_bytes Halfword n e = ap (λ k. 256 ^ k) e
-whole_bytes Word n e = ap (λ k. 256 ^ k) e
-whole_bytes Doubleword n e = ap (λ k. 256 ^ k) e
+whole_bytes size n e = ap (λ k. 256 ^ k) e

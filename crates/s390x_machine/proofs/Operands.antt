@@ -6,7 +6,7 @@ use mir.Syntax.{w16}
 use lib.Signed.{le_z_yes}
 use lib.Dec.{T}
 use Rattle.std.proofs.Math.Nat.{add-mod_right}
-use Rattle.std.proofs.lemmas.Bool.{and_parts, cases_lt}
+use Rattle.std.proofs.lemmas.Bool.{and_parts, cases_lt, lt-ltb, le-ltb}
 use Rattle.std.proofs.lemmas.Int.{ints, to_z-of_z, to_z_pos}
 use Rattle.s390x_base.specs.Regs.{number_of, is_int}
 use Rattle.s390x_base.specs.declared.regs.Reg.{Reg}
@@ -24,7 +24,6 @@ use Rattle.s390x_machine.specs.Operands.{address_part, address_by_index, address
 use Rattle.s390x_machine.specs.Storage.{signed_immediate}
 use Rattle.s390x_machine.proofs.Addresses.{low_of}
 use Rattle.s390x_machine.proofs.SingleInstruction.{low_small}
-use Rattle.s390x_machine.proofs.Bits.{below, not_below}
 
 -- ---- ranges
 
@@ -49,19 +48,19 @@ short_32 z e = between (negsuc 2147483647) z (pos 2147483647) e
 -- ---- displacements are read back
 
 pub read_12 : (d : ℕ) → d ≤ 4095 → disp_of (low_12 d) ≡ pos d
-read_12 d le = let same : low_12 d ≡ d = omega (arith, le) in ap disp_of same ∙ ap (λ t. cond t (pos d) (pos d -ℤ pos (2 ^ 20))) (below d (2 ^ 19) (omega (arith, le)))
+read_12 d le = let same : low_12 d ≡ d = omega (arith, le) in ap disp_of same ∙ ap (λ t. cond t (pos d) (pos d -ℤ pos (2 ^ 20))) (lt-ltb d (2 ^ 19) (omega (arith, le)))
 
 pub read_20 : (z : ℤ) → negsuc 524287 ≤ℤ z → z ≤ℤ pos 524287 → disp_of (low_displacement z) ≡ z
 read_20 (pos a) least most =
     let le : a ≤ 524287 = omega (arith, most, ints) in
     let same : low_displacement (pos a) ≡ a = omega (arith, le) in
-    ap disp_of same ∙ ap (λ t. cond t (pos a) (pos a -ℤ pos (2 ^ 20))) (below a (2 ^ 19) (omega (arith, le)))
+    ap disp_of same ∙ ap (λ t. cond t (pos a) (pos a -ℤ pos (2 ^ 20))) (lt-ltb a (2 ^ 19) (omega (arith, le)))
 read_20 (negsuc a) least most =
     let le : a ≤ 524287 = omega (arith, least, ints) in
     let m : ℕ = 1048576 - suc a in
     let same : low_displacement (negsuc a) ≡ m = omega (arith, le) in
     let back : pos m -ℤ pos (2 ^ 20) ≡ negsuc a = omega (arith, le, ints) in
-    ap disp_of same ∙ ap (λ t. cond t (pos m) (pos m -ℤ pos (2 ^ 20))) (not_below m (2 ^ 19) (omega (arith, le))) ∙ back
+    ap disp_of same ∙ ap (λ t. cond t (pos m) (pos m -ℤ pos (2 ^ 20))) (le-ltb m (2 ^ 19) (omega (arith, le))) ∙ back
 
 -- ---- the bits of immediates and displacements
 
@@ -93,7 +92,7 @@ other_kept r v i e = ap (λ t. cond t v (r.general i)) e
 part_kept : (r : Registers) (v i : ℕ) → (i == 1) ≡ false → address_part (set_general r 1 v) i ≡ address_part r i
 part_kept r v i e = ap (λ x. if i == 0 then 0 else x) (other_kept r v i e)
 
-twice : (t : Bool) (v w f : ℕ) → cond t w (cond t v f) ≡ cond t w f
+pub twice : (t : Bool) (v w f : ℕ) → cond t w (cond t v f) ≡ cond t w f
 twice true v w f = refl
 twice false v w f = refl
 
@@ -128,7 +127,7 @@ loaded_offset : (x : ℕ) (off : ℤ) → negsuc 2147483647 ≤ℤ off → off �
 loaded_offset x (pos a) least most =
     let le : a ≤ 2147483647 = omega (arith, most, ints) in
     let word : low_word (pos a) % 2 ^ 32 ≡ a = omega (arith, le) in
-    let value : extended_bits Signed Bits32 Doubleword (low_word (pos a)) ≡ a = ap (λ n. cond (nat_lt n (2 ^ 31)) n (n + (2 ^ 64 - 2 ^ 32))) word ∙ ap (λ t. cond t a (a + (2 ^ 64 - 2 ^ 32))) (below a (2 ^ 31) (omega (arith, le))) in
+    let value : extended_bits Signed Bits32 Doubleword (low_word (pos a)) ≡ a = ap (λ n. cond (nat_lt n (2 ^ 31)) n (n + (2 ^ 64 - 2 ^ 32))) word ∙ ap (λ t. cond t a (a + (2 ^ 64 - 2 ^ 32))) (lt-ltb a (2 ^ 31) (omega (arith, le))) in
     let e : pos (x + a) +ℤ pos 0 ≡ pos x +ℤ pos a = omega (arith, ints) in
     ap (λ n. low Doubleword (pos (x + n) +ℤ pos 0)) value ∙ ap (low Doubleword) e
 loaded_offset x (negsuc a) least most =
@@ -136,7 +135,7 @@ loaded_offset x (negsuc a) least most =
     let m : ℕ = 2 ^ 32 - suc a in
     let word : low_word (negsuc a) % 2 ^ 32 ≡ m = omega (arith, le) in
     let high : m + (2 ^ 64 - 2 ^ 32) ≡ 2 ^ 64 - suc a = omega (arith, le) in
-    let value : extended_bits Signed Bits32 Doubleword (low_word (negsuc a)) ≡ 2 ^ 64 - suc a = ap (λ n. cond (nat_lt n (2 ^ 31)) n (n + (2 ^ 64 - 2 ^ 32))) word ∙ ap (λ t. cond t m (m + (2 ^ 64 - 2 ^ 32))) (not_below m (2 ^ 31) (omega (arith, le))) ∙ high in
+    let value : extended_bits Signed Bits32 Doubleword (low_word (negsuc a)) ≡ 2 ^ 64 - suc a = ap (λ n. cond (nat_lt n (2 ^ 31)) n (n + (2 ^ 64 - 2 ^ 32))) word ∙ ap (λ t. cond t m (m + (2 ^ 64 - 2 ^ 32))) (le-ltb m (2 ^ 31) (omega (arith, le))) ∙ high in
     let n : ℕ = x + (2 ^ 64 - suc a) in
     let left : pos n +ℤ pos 0 +ℤ pos (1 * 2 ^ 64) ≡ pos (n + 2 ^ 64) = omega (arith, ints) in
     let right : pos x +ℤ negsuc a +ℤ pos (1 * 2 ^ 64) ≡ pos n = omega (arith, le, ints) in
@@ -155,8 +154,8 @@ signed_read bits lt =
     let extends : signed_immediate bits ≡ cond (nat_lt bits (2 ^ 15)) bits (bits + (2 ^ 64 - 2 ^ 16)) = ap (λ n. cond (nat_lt n (2 ^ 15)) n (n + (2 ^ 64 - 2 ^ 16))) same in
     ap (λ n. low Doubleword (cast_signed w16 n)) same
     ∙ elim (cases_lt bits (2 ^ 15)) [
-      | inl less ↦ ap (low Doubleword) (to_z_pos w16 bits less) ∙ low_small bits (omega (arith, lt)) ∙ sym (extends ∙ ap (λ t. cond t bits (bits + (2 ^ 64 - 2 ^ 16))) (below bits (2 ^ 15) less))
-      | inr more ↦ negative (2 ^ 16 - 1 - bits) (omega (arith, lt)) (omega (arith, more)) ∙ sym (extends ∙ ap (λ t. cond t bits (bits + (2 ^ 64 - 2 ^ 16))) (not_below bits (2 ^ 15) more))
+      | inl less ↦ ap (low Doubleword) (to_z_pos w16 bits less) ∙ low_small bits (omega (arith, lt)) ∙ sym (extends ∙ ap (λ t. cond t bits (bits + (2 ^ 64 - 2 ^ 16))) (lt-ltb bits (2 ^ 15) less))
+      | inr more ↦ negative (2 ^ 16 - 1 - bits) (omega (arith, lt)) (omega (arith, more)) ∙ sym (extends ∙ ap (λ t. cond t bits (bits + (2 ^ 64 - 2 ^ 16))) (le-ltb bits (2 ^ 15) more))
     ]
   where
     negative : (i : ℕ) → bits ≡ 2 ^ 16 - suc i → suc i ≤ 2 ^ 15 → low Doubleword (cast_signed w16 bits) ≡ bits + (2 ^ 64 - 2 ^ 16)

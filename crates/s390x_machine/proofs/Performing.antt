@@ -7,10 +7,10 @@ use Rattle.std.proofs.Math.Nat.{pow-le-pow_right}
 use Rattle.s390x_format.specs.declared.kind.FormatKind.{FormatKind}
 use Rattle.s390x_format.specs.declared.fields.Fields.{Fields}
 use Rattle.s390x_format.specs.declared.fields.Imm.{Imm}
-use Rattle.s390x_format.specs.declared.fields.Imm.TheVariants.{Unsigned, Signed16, Half16, Half32}
+use Rattle.s390x_format.specs.declared.fields.Imm.TheVariants.{Unsigned}
 use Rattle.s390x_format.specs.declared.row.MachineRow.{MachineRow}
 use Rattle.s390x_format.specs.declared.row.Allowed.{Allowed}
-use Rattle.s390x_format.specs.declared.row.Allowed.TheVariants.{Any, FirstMask, CountMode, ComparedLanes, DoublewordPair, RotateBits, RotateBitsOrTest, BitRange, ReplicatedLane}
+use Rattle.s390x_format.specs.declared.row.Allowed.TheVariants.{FirstMask}
 use Rattle.s390x_format.specs.Rows.{is_allowed}
 use Rattle.s390x_format.specs.declared.decoder.Decoded.{Decoded}
 use Rattle.s390x_format.specs.declared.table.TheConstants.{MACHINE_ROWS}
@@ -31,8 +31,8 @@ use Rattle.s390x_format.specs.declared.semantics.OperandSource.{OperandSource}
 use Rattle.s390x_format.specs.declared.semantics.OperandSource.TheVariants.{ShiftedImmediate}
 use Rattle.s390x_format.specs.declared.semantics.SecondOperand.{SecondOperand}
 use Rattle.s390x_format.specs.declared.semantics.RowSemantics.{RowSemantics}
-use Rattle.s390x_format.specs.declared.semantics.RowSemantics.TheVariants.{Compute, Compare, MoveWhere, CountOnes, RotateThen, MultiplySigned, MultiplyLogical, DivideSigned, DivideLogical, CompareAndTrap, CompareImmediateAndTrap, FindLeftmostOne, Havoc, BranchToRegister, BranchRelative, Store, StoreByte, StoreImmediate, LoadMultiple, StoreMultiple, LoadAndOperate, CompareAndSwap}
-use Rattle.s390x_format.specs.declared.semantics.RowSemantics.TheVariants.{BranchAndSaveToRegister, BranchAndSaveRelative, Elements, ShiftElements, LoadVector, StoreVector, LoadLeft, StoreLeft, MoveLeft, RegisterToLeft, LeftToRegister, JoinRegisters, InsertElement, ExtractElement}
+use Rattle.s390x_format.specs.declared.semantics.RowSemantics.TheVariants.{Compute, Compare, MoveWhere, Store}
+use Rattle.s390x_format.specs.declared.semantics.RowSemantics.TheVariants.{ExtractElement}
 
 -- ---- the table
 
@@ -61,10 +61,7 @@ five_bits w x false h lt = let up = pow-le-pow_right {n = 2} (lit< tt) {i = w} {
 
 four : (a b c d : Bool) → (a && b && c && d) ≡ true → (a ≡ true) × (b ≡ true) × (c ≡ true) × (d ≡ true)
 four true true true true h = (refl, refl, refl, refl)
-four true true true false h = cc
-four true true false d h = cc
-four true false c d h = cc
-four false b c d h = cc
+four a b c d h = cc
 
 none_left : (v : Bool) → 0 < register_bound v
 none_left true = lit< tt
@@ -91,22 +88,13 @@ small_mask (FirstMask low high) slots h ok =
     let up = leb-true (slice_index slots 5) high each.1 in
     let few = leb-true high 3 h in
     omega arith
-small_mask Any slots h ok = cc
-small_mask CountMode slots h ok = cc
-small_mask ComparedLanes slots h ok = cc
-small_mask DoublewordPair slots h ok = cc
-small_mask RotateBits slots h ok = cc
-small_mask RotateBitsOrTest slots h ok = cc
-small_mask BitRange slots h ok = cc
-small_mask ReplicatedLane slots h ok = cc
+small_mask allowed slots h ok = cc
 
 -- ---- immediates
 
 plain_immediate : (class : Imm) (x : ℕ) → is_unsigned class ≡ true → x < 2 ^ 64 → low Doubleword (imm_of class x) ≡ x
 plain_immediate Unsigned x h lt = mod-eq_of_lt lt
-plain_immediate Signed16 x h lt = cc
-plain_immediate Half16 x h lt = cc
-plain_immediate Half32 x h lt = cc
+plain_immediate class x h lt = cc
 
 room_left : (class : Imm) (n w x : ℕ) → is_unsigned class ≡ true → n + w ≤ 64 → x < 2 ^ w → low Doubleword (imm_of class x) * 2 ^ n < 2 ^ 64
 room_left class n w x h fits lt =
@@ -130,14 +118,8 @@ within Bits8 Halfword h = omega arith
 within Bits16 Halfword h = omega arith
 within Bits32 Halfword h = cc
 within Bits64 Halfword h = cc
-within Bits8 Word h = omega arith
-within Bits16 Word h = omega arith
-within Bits32 Word h = omega arith
 within Bits64 Word h = cc
-within Bits8 Doubleword h = omega arith
-within Bits16 Doubleword h = omega arith
-within Bits32 Doubleword h = omega arith
-within Bits64 Doubleword h = omega arith
+within width size h = omega arith
 
 -- ---- meanings
 
@@ -151,38 +133,7 @@ meant (Compute operator size second rule) format slots h fit = operand_fits seco
 meant (Compare sign size second) format slots h fit = operand_fits second size format slots h fit
 meant (MoveWhere size second) format slots h fit = operand_fits second size format slots h fit
 meant (Store destination) format slots h fit = (tt, room destination.operand_source format slots h fit)
-meant CountOnes format slots h fit = (tt, tt)
-meant (RotateThen operator rule) format slots h fit = (tt, tt)
-meant MultiplySigned format slots h fit = (tt, tt)
-meant MultiplyLogical format slots h fit = (tt, tt)
-meant (DivideSigned width) format slots h fit = (tt, tt)
-meant (DivideLogical size) format slots h fit = (tt, tt)
-meant (CompareAndTrap sign size) format slots h fit = (tt, tt)
-meant (CompareImmediateAndTrap sign size) format slots h fit = (tt, tt)
-meant FindLeftmostOne format slots h fit = (tt, tt)
-meant Havoc format slots h fit = (tt, tt)
-meant BranchToRegister format slots h fit = (tt, tt)
-meant BranchRelative format slots h fit = (tt, tt)
-meant StoreByte format slots h fit = (tt, tt)
-meant (StoreImmediate width) format slots h fit = (tt, tt)
-meant LoadMultiple format slots h fit = (tt, tt)
-meant StoreMultiple format slots h fit = (tt, tt)
-meant (LoadAndOperate operator size) format slots h fit = (tt, tt)
-meant (CompareAndSwap size) format slots h fit = (tt, tt)
-meant BranchAndSaveToRegister format slots h fit = (tt, tt)
-meant BranchAndSaveRelative format slots h fit = (tt, tt)
-meant (Elements row) format slots h fit = (tt, tt)
-meant (ShiftElements row) format slots h fit = (tt, tt)
-meant (LoadVector storage) format slots h fit = (tt, tt)
-meant (StoreVector storage) format slots h fit = (tt, tt)
-meant (LoadLeft size) format slots h fit = (tt, tt)
-meant (StoreLeft size) format slots h fit = (tt, tt)
-meant (MoveLeft size) format slots h fit = (tt, tt)
-meant RegisterToLeft format slots h fit = (tt, tt)
-meant LeftToRegister format slots h fit = (tt, tt)
-meant JoinRegisters format slots h fit = (tt, tt)
-meant InsertElement format slots h fit = (tt, tt)
-meant ExtractElement format slots h fit = (tt, tt)
+meant semantics format slots h fit = (tt, tt)
 
 element : (semantics : RowSemantics) (format : FormatKind) (allowed : Allowed) (slots : List ℕ) → has_element semantics allowed ≡ true → is_allowed allowed slots ≡ true → HasElement semantics (fields_of format slots)
 element ExtractElement format allowed slots h ok = small_mask allowed slots h ok
@@ -190,9 +141,7 @@ element semantics format allowed slots h ok = tt
 
 three : (a b c : Bool) → (a && b && c) ≡ true → (a ≡ true) × (b ≡ true) × (c ≡ true)
 three true true true h = (refl, refl, refl)
-three true true false h = cc
-three true false c h = cc
-three false b c h = cc
+three a b c h = cc
 
 -- what is fetched can be performed
 pub can_perform : (bytes : List ℕ) (d : Decoded) (semantics : RowSemantics) → IsFetch bytes d → semantics_of d.row.opcode ≡ Some semantics → CanPerform semantics d.fields

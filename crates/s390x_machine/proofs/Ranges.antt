@@ -12,7 +12,7 @@ use Rattle.s390x_operations.specs.declared.size.Size.TheVariants.{Doubleword}
 use Rattle.s390x_operations.specs.declared.operand.Pair.{Pair}
 use Rattle.s390x_operations.specs.declared.stop.ConditionCode.{ConditionCode}
 use Rattle.s390x_operations.specs.declared.effect.Effect.{Effect}
-use Rattle.s390x_operations.specs.declared.effect.Effect.TheVariants.{Nothing, Compute, Test, Compare, CompareAndTrap, MultiplyPair, DividePair, DivideLogicalPair, FindLeftmostOne, Store, LoadAndOperate, CompareAndSwap, LoadMultiple, StoreMultiple, Havoc, ComputeVector, PutVector, LoadVector, StoreVector}
+use Rattle.s390x_operations.specs.declared.effect.Effect.TheVariants.{Compute, MultiplyPair, DividePair, DivideLogicalPair, FindLeftmostOne, LoadAndOperate, CompareAndSwap, LoadMultiple, Havoc, ComputeVector, PutVector, LoadVector}
 use Rattle.s390x_machine.proofs.Lanes.{choice_lt}
 use Rattle.s390x_machine.proofs.Values.{value_lt, taken_lt, number_lt, found_lt, merged_lt, product_below, leftmost_below, signed_below, unsigned_below}
 
@@ -74,17 +74,7 @@ plain_fits (FindLeftmostOne pair x) c h fit bytes = pair_fits Doubleword c.regis
 plain_fits (LoadAndOperate operator size target second address) c h fit bytes = sized_fits size c.registers target (number_in_memory size c.memory address) fit (found_lt size c.memory address bytes)
 plain_fits (CompareAndSwap size target expected replacement address) c h fit bytes = sized_fits size c.registers target (number_in_memory size c.memory address) fit (found_lt size c.memory address bytes)
 plain_fits (LoadMultiple first_register count address) c h fit bytes = multiple_fits c.registers c.memory.get first_register address count fit bytes
-plain_fits Nothing c h fit bytes = fit
-plain_fits (Test operator size first second) c h fit bytes = fit
-plain_fits (Compare sign size first second) c h fit bytes = fit
-plain_fits (CompareAndTrap sign size first second mask) c h fit bytes = fit
-plain_fits (Store width stored destination) c h fit bytes = fit
-plain_fits (StoreMultiple values count address) c h fit bytes = fit
-plain_fits (Havoc target) c h fit bytes = fit
-plain_fits (ComputeVector operation target first second third fourth) c h fit bytes = fit
-plain_fits (PutVector target known x) c h fit bytes = fit
-plain_fits (LoadVector layout target old known address) c h fit bytes = fit
-plain_fits (StoreVector layout stored address) c h fit bytes = fit
+plain_fits effect c h fit bytes = fit
 
 same_fits : (effect : Effect) (c : Core) (r : Registers) → ValuesFit effect → RegistersFit c.registers → ((i : ℕ) → c.memory.get i < 256) → r ≡ with_code r.code (results effect c) → RegistersFit r
 same_fits effect c r h fit bytes e = subst RegistersFit (sym e) (code_fits (results effect c) r.code (plain_fits effect c h fit bytes))

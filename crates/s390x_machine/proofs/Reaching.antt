@@ -1,6 +1,6 @@
 -- Accessible bytes, one after another.
 use Rattle.std.proofs.Common.{◌≡◌, ℕ, zero, suc, ◌+◌, ◌<◌, Bool, true, false, ◌&&◌, IsTrue, inl, inr, refl, ap, ap₂, ◌∙◌, arith, add-one, subst}
-use Rattle.std.proofs.lemmas.Bool.{cases_lt, and_parts}
+use Rattle.std.proofs.lemmas.Bool.{cases_lt, and_parts, and_right}
 use Rattle.s390x_operations.specs.State.{wrapping_add64, reaches}
 
 pub reaches_none : (has : ℕ → Bool) (a : ℕ) → reaches has a 0 ≡ true
@@ -22,16 +22,12 @@ reached_at has a (suc n) i h lt =
 pub reaches_next : (has : ℕ → Bool) (a i : ℕ) → has (wrapping_add64 a i) ≡ true → reaches has a i ≡ true → reaches has a (i + 1) ≡ true
 reaches_next has a i here before = rw add-one (ap₂ (λ x y. x && y) here before)
 
-none_after : (x : Bool) → (x && false) ≡ false
-none_after true = refl
-none_after false = refl
-
 -- one of them isn't there
 pub reaches_missing : (has : ℕ → Bool) (a n i : ℕ) → i < n → has (wrapping_add64 a i) ≡ false → reaches has a n ≡ false
 reaches_missing has a zero i lt h = absurd (omega arith)
 reaches_missing has a (suc n) i lt h =
     elim (cases_lt i n) [
-      | inl less ↦ ap (λ x. has (wrapping_add64 a n) && x) (reaches_missing has a n i less h) ∙ none_after (has (wrapping_add64 a n))
+      | inl less ↦ ap (λ x. has (wrapping_add64 a n) && x) (reaches_missing has a n i less h) ∙ and_right (has (wrapping_add64 a n)) false refl
       | inr more ↦ let e : n ≡ i = omega arith in ap (λ k. has (wrapping_add64 a k) && reaches has a n) e ∙ ap (λ x. x && reaches has a n) h
     ]
 

@@ -5,7 +5,7 @@ use Rattle.std.specs.BTreeMap.{get}
 use Rattle.std.specs.Option.{is_some, unwrap_or}
 use Rattle.std.specs.Ordering.{nat_cmp}
 use Rattle.std.proofs.Math.Nat.{mod-eq_of_lt}
-use Rattle.std.proofs.lemmas.Bool.{and_parts, leb-true, ltb-true, le-leb, lt-leb, lt-ltb, le-ltb, eqb-true, eqb-false, cases_eq}
+use Rattle.std.proofs.lemmas.Bool.{and_parts, leb-true, ltb-true, le-leb, lt-leb, lt-ltb, le-ltb, eqb-true, eqb-false, cases_eq, and_right}
 use Rattle.std.proofs.lemmas.List.{get_or-set_same, get_or-set_other, get_or_default, length-set}
 use Rattle.s390x_operations.specs.State.{update, wrapping_add64, reaches}
 use Rattle.s390x_machine.specs.Regions.{covers, contains, held_in, byte_in, is_held, byte_of, ContainsAll, ContainsNone, NoneBefore, IsHolder, HoldsAll, IsInFirst}
@@ -123,14 +123,6 @@ still_holds (Some i) rs ss a n stays h j lt = stays (wrapping_add64 a j) i (h j 
 
 -- ---- a region is added
 
-pub held_added : (r : Region) (rs : List Region) (a : ℕ) → held_in (r ∷ rs) a ≡ (contains r a || held_in rs a)
-unfolding held_in
-held_added r rs a = refl
-
-pub byte_added : (r : Region) (rs : List Region) (a : ℕ) → byte_in (r ∷ rs) a ≡ (if contains r a then slice_index r.bytes.items (a - r.start) else byte_in rs a)
-unfolding byte_in
-byte_added r rs a = refl
-
 pub none_held : (a : ℕ) → held_in [] a ≡ false
 unfolding held_in
 none_held a = refl
@@ -147,10 +139,6 @@ contained r a n low few end small i lt =
 below_top : (r : Region) (a : ℕ) → contains r a ≡ true → a < 2 ^ 64
 below_top r a here = ltb-true a (2 ^ 64) (and_parts (covers r.start r.bytes.items a) (nat_lt a (2 ^ 64)) here).1
 
-and_none : (x : Bool) → (x && false) ≡ false
-and_none true = refl
-and_none false = refl
-
 pub apart_below : (r : Region) (a n : ℕ) → a < r.start → n ≤ r.start - a → ContainsNone r a n
 apart_below r a n low few i lt =
     let out : nat_le r.start (a + i) ≡ false = lt-leb r.start (a + i) (omega arith) in
@@ -159,7 +147,7 @@ apart_below r a n low few i lt =
 pub apart_above : (r : Region) (a n : ℕ) → r.start ≤ a → length r.bytes.items ≤ a - r.start → ContainsNone r a n
 apart_above r a n high past i lt =
     let out : nat_lt (a + i - r.start) (length r.bytes.items) ≡ false = le-ltb (a + i - r.start) (length r.bytes.items) (omega arith) in
-    ap (λ x. (nat_le r.start (a + i) && x) && nat_lt (a + i) (2 ^ 64)) out ∙ ap (λ x. x && nat_lt (a + i) (2 ^ 64)) (and_none (nat_le r.start (a + i)))
+    ap (λ x. (nat_le r.start (a + i) && x) && nat_lt (a + i) (2 ^ 64)) out ∙ ap (λ x. x && nat_lt (a + i) (2 ^ 64)) (and_right (nat_le r.start (a + i)) false refl)
 
 pub each_held : (rs : List Region) (a n i : ℕ) → i < length rs → ((z : Region) → ContainsAll (get_or rs i z) a n) → ((k : ℕ) → k < i → (z : Region) → ContainsNone (get_or rs k z) a n) → HoldsAll (Some i) rs a n
 each_held [] a n i lt all none j less = absurd (omega (arith, lt))

@@ -17,7 +17,7 @@ use Rattle.s390x_format.specs.declared.kind.FormatKind.TheVariants.{RilB}
 use Rattle.s390x_format.specs.Formats.{length_of}
 use Rattle.s390x_format.specs.View.{fields_of}
 use Rattle.s390x_typed_steps.specs.MachineInstruction.{bytes_of, ril_b}
-use Rattle.s390x_typed_steps.specs.Memory.{StorageForm, RxForm, RsForm, SiForm, SilForm, VrxForm, FloatForm, type_of, storage_row}
+use Rattle.s390x_typed_steps.specs.Memory.{StorageForm, RxForm, RsForm, type_of, storage_row}
 use Rattle.s390x_typed_steps.specs.Operands.{is_relative, with_long_displacement}
 use Rattle.s390x_typed_steps.specs.Parts.{CodePart, Relative, RelativeConstant, RelativeSymbol, ToBlock, part_size, trap_here, relative_part, relative_parts, access_parts}
 use Rattle.s390x_typed_steps.specs.Rows.{half_distance, part_bytes}
@@ -131,12 +131,7 @@ to_constant L image c stands = record {
 pub named_there : (c : VCodeConstant) (form : StorageForm) (accesses : Bool) (code : Option TrapKind) → (type_of form accesses).have_pcrel ≡ true → NamesConstant c.0 (relative_parts form code (Constant c))
 named_there c (RxForm register short long (Some opcode)) accesses None have = inl refl
 named_there c (RxForm register short long (Some opcode)) accesses (Some trap) have = inl refl
-named_there c (RxForm register short long None) accesses code have = absurd (cc)
-named_there c (RsForm first second short long) accesses code have = absurd (cc)
-named_there c (SiForm imm short long) accesses code have = absurd (cc)
-named_there c (SilForm bits opcode) accesses code have = absurd (cc)
-named_there c (VrxForm register opcode mask) accesses code have = absurd (cc)
-named_there c (FloatForm register short long) accesses code have = absurd (cc)
+named_there c form accesses code have = absurd (cc)
 
 pub to_symbol : (L : Layout) (name : ExternalName) (offset : ℤ) (flags : AccessFlags) → Distant L (Symbol name offset flags) (L.offsets.environment.symbol_value name offset)
 to_symbol L name offset flags = record {
@@ -176,7 +171,4 @@ distant_stands L image (RxForm register short long (Some opcode)) accesses opera
   row = λ offset even stands reaches. distant_row L image mem address d register opcode (λ a r. aligned_where accesses (operation a r)) does offset even stands reaches;
 }
 distant_stands L image (RsForm first_emit_cause second short long) accesses operation does have mem address d = absurd (cc)
-distant_stands L image (SiForm imm short long) accesses operation does have mem address d = absurd (cc)
-distant_stands L image (SilForm bits opcode) accesses operation does have mem address d = absurd (cc)
-distant_stands L image (VrxForm register opcode mask) accesses operation does have mem address d = absurd (cc)
-distant_stands L image (FloatForm register short long) accesses operation does have mem address d = absurd (cc)
+distant_stands L image form accesses operation does have mem address d = absurd (cc)

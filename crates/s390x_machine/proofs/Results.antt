@@ -2,7 +2,7 @@
 use Rattle.std.proofs.Common.{◌≡◌, ℕ, ◌+◌, ◌-◌, ◌*◌, ◌/◌, ◌%◌, ◌^◌, ◌<◌, IsTrue, nat_lt, nat_le, ◌==◌, refl, sym, subst, arith, true≢false}
 use Rattle.std.proofs.Math.Pow.{pow_pos}
 use Rattle.s390x_lanes.specs.declared.size.ElementSize.{ElementSize}
-use Rattle.s390x_lanes.specs.declared.size.ElementSize.TheVariants.{Byte, Halfword, Word, Doubleword, Quadword}
+use Rattle.s390x_lanes.specs.declared.size.ElementSize.TheVariants.{Byte, Quadword}
 use Rattle.s390x_lanes.specs.declared.operators.Signedness.TheVariants as Sign
 use Rattle.s390x_lanes.specs.declared.operators.VectorOperation.{VectorOperation}
 use Rattle.s390x_lanes.specs.declared.operators.VectorOperation.TheVariants.{Binary, Compare, MultiplyHigh, MultiplyPairs, Divide, Unary, ShiftElements, Pack, Merge, Unpack, Replicate, ByteMask, BitMask, Select, Permute, PermuteDoublewords, ShiftByBits, ShiftByBytes, Move, InsertImmediate, ReplicateImmediate, BitPermute, CompareElement, Blend, Evaluate}
@@ -21,11 +21,8 @@ bits_some Byte = omega arith
 bits_some _ = omega arith
 
 twice_bits : (size : ElementSize) → IsTrue (nat_le (element_bits size) 64) → 2 * element_bits size ≡ element_bits (wider size)
-twice_bits Byte h = refl
-twice_bits Halfword h = refl
-twice_bits Word h = refl
-twice_bits Doubleword h = refl
 twice_bits Quadword h = absurd (true≢false (sym h))
+twice_bits size h = refl
 
 wider_lt : (size : ElementSize) (x : ℕ) → IsTrue (nat_le (element_bits size) 64) → x < 2 ^ (2 * element_bits size) → x < 2 ^ element_bits (wider size)
 wider_lt size x h lt = subst (λ (w : ℕ). x < 2 ^ w) (twice_bits size h) lt

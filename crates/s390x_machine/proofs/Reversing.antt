@@ -52,15 +52,12 @@ use Rattle.s390x_machine.proofs.SingleInstruction.{DoesThere, meant_at}
 use Rattle.s390x_machine.proofs.Standing.{inside_at, inside_first, next_place}
 use Rattle.s390x_machine.proofs.VectorRows.{doublewords_rows, elements_few, elements_listed, fits_vrr_c, fits_vrs_a, shift_allowed, shift_code, shift_operation, shift_rows, small_displacement, vector_row_of}
 use Rattle.s390x_machine.proofs.VectorSteps.{computed_vector, elements_computed, vector_there}
+use Rattle.s390x_machine.proofs.Operands.{twice}
 
 -- ---- a vector register that gets one value after another
 
-second_of : (t : Bool) (x y z : ℕ) → cond t y (cond t x z) ≡ cond t y z
-second_of true x y z = refl
-second_of false x y z = refl
-
 pub put_again : (r : Registers) (d x y : ℕ) → set_vector (set_vector r d x) d y ≡ set_vector r d y
-put_again r d x y = λ i. record r { vector = λ k. second_of (k == d) x y (r.vector k) i }
+put_again r d x y = λ i. record r { vector = λ k. twice (k == d) x y (r.vector k) i }
 
 pub put_held : (r : Registers) (d x : ℕ) → (set_vector r d x).vector d ≡ x
 put_held r d x = ap (λ t. cond t x (r.vector d)) (eq-eqb d d refl)

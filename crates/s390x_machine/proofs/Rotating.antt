@@ -1,7 +1,7 @@
 -- The steps of shifts, and of rotations that select bits.
 use Rattle.std.proofs.Common.{◌≡◌, ℕ, ◌+◌, ◌-◌, ◌^◌, ◌<◌, ◌&&◌, Some, None, Bool, true, false, cond, IsTrue, refl, ap, ◌∙◌, arith, nat_lt, ℤ, pos, ltb-true}
 use Rattle.std.specs.Prelude.{◌-ℤ◌}
-use Rattle.std.proofs.lemmas.Bool.{and_parts}
+use Rattle.std.proofs.lemmas.Bool.{and_parts, lt-ltb, le-ltb}
 use Rattle.s390x_inst.specs.declared.ops.ShiftOp.{ShiftOp}
 use Rattle.s390x_inst.specs.declared.ops.RxSBGOp.{RxSBGOp}
 use Rattle.s390x_inst.specs.declared.ops.RxSBGOp.TheVariants as R
@@ -26,7 +26,7 @@ use Rattle.s390x_machine.specs.StepKinds.{no_code}
 use Rattle.s390x_machine.specs.Layout.{Layout}
 use Rattle.s390x_machine.specs.OneStep.{StepRuns}
 use Rattle.s390x_machine.specs.Operands.{value_in, address_by_base, rotated_operand}
-use Rattle.s390x_machine.proofs.Bits.{shift_semantics, shift_rows, rotate_allows, rotate_rows, below, not_below, rotation_allowed, test_allowed}
+use Rattle.s390x_machine.proofs.Bits.{shift_semantics, shift_rows, rotate_allows, rotate_rows, rotation_allowed, test_allowed}
 use Rattle.s390x_machine.proofs.Built.{StepAt, IsRow, IsSingle, meant_runs}
 use Rattle.s390x_machine.proofs.Listing.{few_digits}
 use Rattle.s390x_machine.proofs.RegisterNumbers.{rotation_small}
@@ -45,7 +45,7 @@ module _ {L : Layout} {k : ℕ} {s : Step} (b : StepAt L k s) where
   shift_runs op d n base amount is l =
       let byte : low_byte amount < 2 ^ 19 = omega arith in
       meant_runs b (rsy (shift_opcode op) d n base (low_byte amount)) (shift_semantics op) (shifts op d n base (low_byte amount)) (λ r. never_by_values (shifts op d n base (low_byte amount) r) no_code refl (λ kind h. h)) is (shift_rows op) (fits_rsy (shift_opcode op) d n base (low_byte amount) (few_digits (shift_rows op).0) l.0 l.1 l.2 (omega arith)) refl (λ r p.
-      ap (λ t. Perform (with_rule (shift_rule op) (Effect.Compute (Shift (shift_operator op)) (shift_size op) d (value_in (shift_size op) r n) (operand_of (shift_computation op).second (address_by_base r base (cond t (pos (low_byte amount)) (pos (low_byte amount) -ℤ pos (2 ^ 20)))))))) (below (low_byte amount) (2 ^ 19) byte))
+      ap (λ t. Perform (with_rule (shift_rule op) (Effect.Compute (Shift (shift_operator op)) (shift_size op) d (value_in (shift_size op) r n) (operand_of (shift_computation op).second (address_by_base r base (cond t (pos (low_byte amount)) (pos (low_byte amount) -ℤ pos (2 ^ 20)))))))) (lt-ltb (low_byte amount) (2 ^ 19) byte))
 
   pub rotate_runs : (op : RxSBGOp) (operands_valid : Bool) (d n start end : ℕ) (amount : ℤ) → IsSingle L s operands_valid (rotated_row (Some (rotate_then op)) d n start end start (rotation amount)) (rotates_into op d n start end (rotation amount)) → (IsTrue operands_valid → (d < 16) × (n < 16)) → StepRuns L k
   rotate_runs op operands_valid d n start end amount is small = go (nat_lt start 64 && nat_lt end 64) refl is
@@ -65,7 +65,7 @@ module _ {L : Layout} {k : ℕ} {s : Step} (b : StepAt L k s) where
           let le = ltb-true end 64 tests.1 in
           let fit = fits_rie_f (rotate_then op) d n start end am (few_digits (rotate_rows op).0) l.0 l.1 (omega (arith, ls)) (omega (arith, le)) (omega (arith, rotation_small amount)) in
           meant_runs b x (RotateThen (rotate_operator op) (rotate_rule op)) (rotates_into op d n start end am) (λ r. never_by_values (rotates_into op d n start end am r) no_code refl (λ kind h. h)) (is2.0, is2.1) (rotate_rows op) fit (rotation_allowed op d n start end am ls le (rotation_small amount)) (λ r p.
-          ap (λ t. cond t (Perform (rotated op d n start end am r)) (Perform (compared_only op d n start end am r))) (below start 64 ls))
+          ap (λ t. cond t (Perform (rotated op d n start end am r)) (Perform (compared_only op d n start end am r))) (lt-ltb start 64 ls))
 
   -- the same for the code alone
   tested : (op : RxSBGOp) → rotate_allows op ≡ RotateBitsOrTest → (operands_valid : Bool) (d n start end : ℕ) (amount : ℤ) → IsSingle L s operands_valid (rotated_row (Some (rotate_then op)) d n start end (start + 128) (rotation amount)) (rotates_to_test op d n start end (rotation amount)) → (IsTrue operands_valid → (d < 16) × (n < 16)) → StepRuns L k
@@ -88,7 +88,7 @@ module _ {L : Layout} {k : ℕ} {s : Step} (b : StepAt L k s) where
           let fit = fits_rie_f (rotate_then op) d n (start + 128) end am (few_digits (rotate_rows op).0) l.0 l.1 (omega (arith, ls)) (omega (arith, le)) (omega (arith, rotation_small amount)) in
           let allowed : is_allowed (rotate_allows op) x.slots ≡ true = ap (λ a. is_allowed a x.slots) tests_alone ∙ test_allowed (rotate_then op) d n start end am ls le (rotation_small amount) in
           meant_runs b x (RotateThen (rotate_operator op) (rotate_rule op)) (rotates_to_test op d n start end am) (λ r. never_by_values (rotates_to_test op d n start end am r) no_code refl (λ kind h. h)) (is2.0, is2.1) (rotate_rows op) fit allowed (λ r p.
-          ap (λ t. cond t (Perform (rotated op d n (start + 128) end am r)) (Perform (compared_only op d n (start + 128) end am r))) (not_below (start + 128) 64 (omega arith)) ∙ ap (λ i. Perform (rotates_to_test op d n i end am r)) back)
+          ap (λ t. cond t (Perform (rotated op d n (start + 128) end am r)) (Perform (compared_only op d n (start + 128) end am r))) (le-ltb (start + 128) 64 (omega arith)) ∙ ap (λ i. Perform (rotates_to_test op d n i end am r)) back)
 
   pub test_runs : (op : RxSBGOp) (operands_valid : Bool) (d n start end : ℕ) (amount : ℤ) → IsSingle L s operands_valid (rotated_row (rotate_then_test op) d n start end (start + 128) (rotation amount)) (rotates_to_test op d n start end (rotation amount)) → (IsTrue operands_valid → (d < 16) × (n < 16)) → StepRuns L k
   test_runs R.Insert operands_valid d n start end amount is small = absurd is.2

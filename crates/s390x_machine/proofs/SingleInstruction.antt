@@ -305,29 +305,18 @@ looser_code : (a b : CodeRule) (effect : Effect) (c : Core) (code : ConditionCod
 looser_code a Unspecified effect c code l h = tt
 looser_code Set Set effect c code l h = h
 looser_code Kept Kept effect c code l h = h
-looser_code Set Kept effect c code l h = absurd l
-looser_code Kept Set effect c code l h = absurd l
-looser_code Unspecified Set effect c code l h = absurd l
-looser_code Unspecified Kept effect c code l h = absurd l
+looser_code a b effect c code l h = absurd l
 
 pub loosens : (effect : Effect) (a b : CodeRule) → Looser a b → Refines (with_rule a effect) (with_rule b effect)
 loosens effect a b l = record { access = refl; refused = refl; may_refuse = λ kind h. h; results = λ c r h. h; code = λ c code h. looser_code a b effect c code l h }
 
-pub same_rule : (a : CodeRule) → Looser a a
-same_rule Kept = tt
-same_rule Set = tt
-same_rule Unspecified = tt
-
 pub three_looser : (op : ALUOp) → Looser Set (alu_three_rule op)
 three_looser A.Mul32 = tt
-three_looser A.Mul64 = tt
-three_looser _ = tt
+three_looser op = tt
 
 -- where there are both rows
 pub two_looser : (op : ALUOp) (opcode : ℕ) → alu_three op ≡ Some opcode → Looser (alu_two_rule op) (alu_three_rule op)
-two_looser A.Mul32 opcode e = tt
-two_looser A.Mul64 opcode e = tt
 two_looser A.Mul32Ext16 opcode e = absurd (cc)
 two_looser A.Mul64Ext16 opcode e = absurd (cc)
 two_looser A.Mul64Ext32 opcode e = absurd (cc)
-two_looser _ opcode e = tt
+two_looser op opcode e = tt

@@ -6,7 +6,7 @@ use Rattle.s390x_format.proofs.Encoding.{encode-length}
 use Rattle.s390x_rows.specs.declared.opcodes.TheConstants as opcodes
 use Rattle.s390x_typed_steps.specs.MachineInstruction.{ril_b, ril_c}
 use Rattle.s390x_typed_steps.specs.Steps.{Step}
-use Rattle.s390x_typed_steps.specs.Parts.{CodePart, Row, Trapping, Branch, Relative, RelativeConstant, RelativeSymbol, SymbolValue, TrapHere, TableWord, CallSymbol, SiteHere, part_size, parts_size, step_parts, step_size}
+use Rattle.s390x_typed_steps.specs.Parts.{CodePart, Row, Trapping, Branch, Relative, RelativeConstant, RelativeSymbol, CallSymbol, part_size, parts_size, step_parts, step_size}
 use Rattle.s390x_typed_steps.specs.Rows.{Offsets, target_offset, half_distance, part_bytes, parts_bytes, step_bytes}
 use Rattle.s390x_operations.specs.State.{wrapping_add64}
 use Rattle.s390x_machine.specs.Layout.{Layout, step_address, block_address, InStep}
@@ -23,12 +23,9 @@ part_length P p (Branch mask target) = let m = ril_c opcodes.BRCL mask (half_dis
 part_length P p (Relative opcode register target) = let m = ril_b opcode register (half_distance p (target_offset P target)) in encode-length m.format m.slots
 part_length P p (RelativeConstant opcode register c) = let m = ril_b opcode register (half_distance p (P.environment.constant c)) in encode-length m.format m.slots
 part_length P p (RelativeSymbol opcode register name offset) = let m = ril_b opcode register (P.environment.symbol_distance p name offset) in encode-length m.format m.slots
-part_length P p (SymbolValue name offset) = refl
-part_length P p (TrapHere code) = refl
-part_length P p (TableWord before target) = refl
 part_length P p (CallSymbol (Some link) name) = let m = ril_b opcodes.BRASL link (P.environment.symbol_distance p name (pos 0)) in encode-length m.format m.slots
 part_length P p (CallSymbol None name) = let m = ril_c opcodes.BRCL 15 (P.environment.symbol_distance p name (pos 0)) in encode-length m.format m.slots
-part_length P p (SiteHere site) = refl
+part_length P p part = refl
 
 parts_length : (P : Offsets) (p : ℕ) (parts : List CodePart) → length (parts_bytes P p parts) ≡ parts_size parts
 parts_length P p [] = refl
@@ -39,15 +36,7 @@ parts_even : (parts : List CodePart) → parts_size parts % 2 ≡ 0
 parts_even [] = refl
 parts_even (Row m ∷ parts) = omega (arith, size_even m.format, parts_even parts)
 parts_even (Trapping m byte code ∷ parts) = omega (arith, size_even m.format, parts_even parts)
-parts_even (Branch mask target ∷ parts) = omega (arith, parts_even parts)
-parts_even (Relative opcode register target ∷ parts) = omega (arith, parts_even parts)
-parts_even (RelativeConstant opcode register c ∷ parts) = omega (arith, parts_even parts)
-parts_even (RelativeSymbol opcode register name offset ∷ parts) = omega (arith, parts_even parts)
-parts_even (SymbolValue name offset ∷ parts) = omega (arith, parts_even parts)
-parts_even (TrapHere code ∷ parts) = omega (arith, parts_even parts)
-parts_even (TableWord before target ∷ parts) = omega (arith, parts_even parts)
-parts_even (CallSymbol link name ∷ parts) = omega (arith, parts_even parts)
-parts_even (SiteHere site ∷ parts) = omega (arith, parts_even parts)
+parts_even (part ∷ parts) = omega (arith, parts_even parts)
 
 pub part_even : (part : CodePart) → part_size part % 2 ≡ 0
 part_even part = omega (arith, parts_even (part ∷ []))

@@ -4,7 +4,7 @@ use Rattle.s390x_format.specs.Formats.{length_of}
 use Rattle.s390x_format.specs.declared.decoder.Decoded.{Decoded}
 use Rattle.s390x_operations.specs.State.{State}
 use Rattle.s390x_operations.specs.declared.stop.StopKind.TheVariants.{Access, Operation, Specification}
-use Rattle.s390x_machine.specs.Fetch.{Fetched, Misplaced, Missing, Unknown, Found, Fetches, IsFound}
+use Rattle.s390x_machine.specs.Fetch.{Fetched, Missing, Unknown, Found, Fetches, IsFound}
 use Rattle.s390x_machine.specs.Machine.{Event, OddPairStep, RowStep, MachineStep, Executed, Interrupted}
 use Rattle.s390x_machine.specs.Semantics.{action, is_odd_pair, semantics_of}
 use Rattle.s390x_machine.specs.Sound.{is_free}
@@ -34,12 +34,10 @@ unknown_stops s h = (not_found s Unknown h no_unknown, record { fetched = Unknow
 
 -- what was found; else a given one
 abbrev found_or : Decoded → Fetched → Decoded
-found_or d Misplaced = d
-found_or d Missing = d
-found_or d Unknown = d
 found_or d (Found e) = e
+found_or d _ = d
 
-found_alike : (d e : Decoded) → Found d ≡ Found e → d ≡ e
+pub found_alike : (d e : Decoded) → Found d ≡ Found e → d ≡ e
 found_alike d e same = ap (λ (f : Fetched). found_or d f) same
 
 -- what a row means; else a given meaning

@@ -132,12 +132,10 @@ pub record Stands (L : Layout) (form : StorageForm) (operand : MemArg) (operatio
 
 -- an index may stand there, or there is none
 abbrev pub MayIndex : StorageForm → ℕ → Type 0
-MayIndex (RxForm register short long relative) index = Unit {0}
 MayIndex (RsForm first second short long) index = index ≡ 0
 MayIndex (SiForm imm short long) index = index ≡ 0
 MayIndex (SilForm bits opcode) index = index ≡ 0
-MayIndex (VrxForm register opcode mask) index = Unit {0}
-MayIndex (FloatForm register short long) index = Unit {0}
+MayIndex _ index = Unit {0}
 
 -- a row that does an operation does each freer one
 looser_row : (L : Layout) (p size : ℕ) (does operation : Registers → Operation) → ((r : Registers) → Refines (does r) (operation r)) → RowAt L p (λ r. Perform (does r)) size → RowAt L p (λ r. Perform (operation r)) size
@@ -289,10 +287,7 @@ coded_access L part code o stands reaches = trapped_here L part code o stands re
 
 uncoded_access : (kind : StopKind) (n : TrapKind) → access_code None kind ≡ Some n → ⊥
 uncoded_access Stop.Operation n e = absurd (cc)
-uncoded_access Stop.Access n e = absurd (cc)
-uncoded_access Stop.Specification n e = absurd (cc)
-uncoded_access Stop.Divide n e = absurd (cc)
-uncoded_access Stop.CompareTrap n e = absurd (cc)
+uncoded_access kind n e = absurd (cc)
 
 module _ (L : Layout) (image : ImageAt L) (k : ℕ) where
   -- the code of a fault stands at the access's first byte
@@ -305,9 +300,7 @@ module _ (L : Layout) (image : ImageAt L) (k : ℕ) where
       go : Coded L (wrapping_add64 L.image.base o) (access_code (Some x))
       go Stop.Access n e = code_within L image.fits o inside Stop.Access ∙ found ∙ e
       go Stop.Specification n e = code_within L image.fits o inside Stop.Specification ∙ found ∙ e
-      go Stop.Operation n e = absurd (cc)
-      go Stop.Divide n e = absurd (cc)
-      go Stop.CompareTrap n e = absurd (cc)
+      go _ n e = absurd (cc)
 
   last_row : (part : CodePart) (code : Option TrapKind) (o : ℕ) → o % 2 ≡ 0 → L.offsets.step k ≤ o → 0 < part_size part → PartsStand L o (access_of code part) → PartsReach L o (access_of code part) → L.offsets.step (suc k) ≡ o + parts_size (access_of code part) →
       ((q : ℕ) → L.offsets.step k ≤ q → q < L.offsets.step (suc k) → o ≤ q → first_code L.traps q ≡ first_code (parts_traps o (access_of code part)) q) → LastRow L k part code o

@@ -1,7 +1,7 @@
 -- Each kind of instruction with an operand in memory runs as its step.
 use Rattle.std.proofs.Common.{◌≡◌, ℕ, zero, suc, ◌+◌, ◌-◌, ◌*◌, ◌%◌, ◌^◌, ◌<◌, ◌≤◌, [], Option, Some, None, Bool, true, false, ◌&&◌, ◌||◌, ◌==◌, IsTrue, slice_index, refl, sym, ap, ap₂, ◌∙◌, subst, arith}
 use Rattle.std.specs.Prelude.{nat_eq, nat_le}
-use Rattle.std.proofs.lemmas.Bool.{and_parts, eqb-true, leb-true}
+use Rattle.std.proofs.lemmas.Bool.{and_parts, eqb-true, leb-true, or_parts, le-leb}
 use Rattle.s390x_base.specs.Regs.{number_of}
 use Rattle.s390x_base.specs.declared.regs.Reg.{Reg}
 use Rattle.s390x_inst.specs.declared.args.MemArg.{MemArg}
@@ -42,10 +42,8 @@ use Rattle.s390x_machine.specs.Storage.{operand_address, operand_at, computes_at
 use Rattle.s390x_machine.specs.Typed.{kind_of_step}
 use Rattle.s390x_machine.proofs.Listing.{OpcodeRow, OpcodeRows}
 use Rattle.s390x_machine.proofs.SingleInstruction.{computed, compared_with, second_register}
-use Rattle.s390x_machine.proofs.Bits.{at_most}
-use Rattle.s390x_machine.proofs.Built.{StepAt}
-use Rattle.s390x_machine.proofs.Finalizing.{neither, memory_runs}
-use Rattle.s390x_machine.proofs.Accessing.{itself}
+use Rattle.s390x_machine.proofs.Built.{StepAt, exactly}
+use Rattle.s390x_machine.proofs.Finalizing.{memory_runs}
 use Rattle.s390x_machine.proofs.Relative.{RelativeForm, RelativeDoes}
 use Rattle.s390x_machine.proofs.RelativeRows.{RelativeRows, relative_loading, relative_storing, relative_address_row}
 use Rattle.s390x_machine.proofs.Operands.{other_kept, not_scratch, signed_read}
@@ -54,12 +52,13 @@ use Rattle.s390x_machine.proofs.Stops.{never_by_values}
 use Rattle.s390x_machine.proofs.Simulation.{ValuesCoded}
 use Rattle.s390x_machine.proofs.Storage.{IndexedForm, FormDoes}
 use Rattle.s390x_machine.proofs.StorageRows.{IndexedRows, BasedRows, loading, storing, load_address, store_byte, load_multiple, store_multiple}
+use Rattle.s390x_machine.proofs.RegisterNumbers.{output_small}
 
 -- ---- what an operation reads
 
 -- the same operation
 same_operation : (m op : Operation) → m ≡ op → Refines m op
-same_operation m op e = subst (λ x. Refines x op) (sym e) (itself op)
+same_operation m op e = subst (λ x. Refines x op) (sym e) (exactly op)
 
 value_kept : (size : Size) (r : Registers) (v i : ℕ) → (i == 1) ≡ false → value_in size (set_general r 1 v) i ≡ value_in size r i
 value_kept Halfword r v i e = ap (λ n. n % 2 ^ 16) (other_kept r v i e)
@@ -71,11 +70,6 @@ reused_other : (output input : Reg) → IsTrue (reuses output input) → is_numb
 reused_other output input h e =
     let p = and_parts (is_general output && is_general input) (nat_eq (number_of output) (number_of input)) h in
     ap (λ n. n == 1) (eqb-true (number_of output) (number_of input) p.1) ∙ not_scratch input (and_parts (is_general output) (is_general input) p.0).1 e
-
-reused_number : (output input : Reg) → IsTrue (reuses output input) → number_of output < 16
-reused_number output input h =
-    let p = and_parts (is_general output && is_general input) (nat_eq (number_of output) (number_of input)) h in
-    general_number output (and_parts (is_general output) (is_general input) p.0).0
 
 -- ---- registers of a multiple
 
@@ -95,7 +89,7 @@ other_in_range first last j none above below = go (j == 1) refl
     go false e = e
     go true e =
         let one : j ≡ 1 = eqb-true j 1 e in
-        let both : (nat_le first 1 && nat_le 1 last) ≡ true = ap (λ t. t && nat_le 1 last) (at_most first 1 (omega (arith, one, above))) ∙ at_most 1 last (omega (arith, one, below)) in
+        let both : (nat_le first 1 && nat_le 1 last) ≡ true = ap (λ t. t && nat_le 1 last) (le-leb first 1 (omega (arith, one, above))) ∙ le-leb 1 last (omega (arith, one, below)) in
         absurd (cc)
 
 joined_kept : (r : Registers) (v first last n : ℕ) → (nat_le first 1 && nat_le 1 last) ≡ false → last < 16 → first + n ≤ last + 1 → joined_doublewords (values_from (set_general r 1 v) first 16) n ≡ joined_doublewords (values_from r first 16) n
@@ -186,21 +180,21 @@ module _ {L : Layout} {k : ℕ} {s : Step} (b : StepAt L k s) where
       let d = number_of rd in
       let x : MemoryInstruction = record { form = RxForm d short long None; operand = mem; accesses = true; operands_valid = reuses rd ri; reads_scratch = is_numbered 1 ri } in
       let reused = (and_parts (reuses rd ri) (operand_general mem) is.2.registers).0 in
-      memory_steps x forms (computes_at rule c d) (record { few = reused_number rd ri reused; semantics = computed c Indexed rule; short_rows = short_rows; long_rows = long_rows; acts = λ kind opcode base index n r p. refl })
-      (record { few = reused_number rd ri reused; semantics = computed c Relative rule; rows = tt; acts = λ opcode half r p. refl }) (λ a r. never_by_values (computes_at rule c d a r) (access_code (fault_code x)) refl (λ kind h. h)) (λ e a r v.
+      memory_steps x forms (computes_at rule c d) (record { few = output_small rd ri reused; semantics = computed c Indexed rule; short_rows = short_rows; long_rows = long_rows; acts = λ kind opcode base index n r p. refl })
+      (record { few = output_small rd ri reused; semantics = computed c Relative rule; rows = tt; acts = λ opcode half r p. refl }) (λ a r. never_by_values (computes_at rule c d a r) (access_code (fault_code x)) refl (λ kind h. h)) (λ e a r v.
       same_operation (computes_at rule c d a (set_general r 1 v)) (computes_at rule c d a r) (ap (λ n. with_rule rule (Effect.Compute c.operator c.size d n (operand_at c.second a))) (value_kept c.size r v d (reused_other rd ri reused e)))) (same refl, is.0, is.1, is.2)
 
   pub stores_a_byte : (imm : ℕ) (mem : MemArg) (forms : MemInstType) → Is (record { form = SiForm (low_byte imm) opcodes.MVI opcodes.MVIY; operand = mem; accesses = true; operands_valid = true; reads_scratch = false }) forms (stores_value Bits8 (low_byte imm)) → StepRuns L k
   stores_a_byte imm mem forms is =
       let x : MemoryInstruction = record { form = SiForm (low_byte imm) opcodes.MVI opcodes.MVIY; operand = mem; accesses = true; operands_valid = true; reads_scratch = false } in
       memory_steps x forms (stores_value Bits8 (low_byte imm)) (record { few = omega arith; semantics = StoreByte; short_row = store_byte.0; long_row = store_byte.1; acts = λ kind opcode base n r p. refl }) tt
-      (λ a r. never_by_values (stores_value Bits8 (low_byte imm) a r) (access_code (fault_code x)) refl (λ kind h. h)) (λ e a r v. itself (stores_value Bits8 (low_byte imm) a r)) is
+      (λ a r. never_by_values (stores_value Bits8 (low_byte imm) a r) (access_code (fault_code x)) refl (λ kind h. h)) (λ e a r v. exactly (stores_value Bits8 (low_byte imm) a r)) is
 
   pub stores_an_immediate : (width : Width) (opcode bits : ℕ) → bits < 2 ^ 16 → OpcodeRow Sil 65536 opcode (StoreImmediate width) → (mem : MemArg) (forms : MemInstType) → Is (record { form = SilForm bits opcode; operand = mem; accesses = true; operands_valid = true; reads_scratch = false }) forms (stores_value width (signed_immediate bits)) → StepRuns L k
   stores_an_immediate width opcode bits lt row mem forms is =
       let x : MemoryInstruction = record { form = SilForm bits opcode; operand = mem; accesses = true; operands_valid = true; reads_scratch = false } in
       memory_steps x forms (stores_value width (signed_immediate bits)) (record { few = lt; semantics = StoreImmediate width; row = row; acts = λ base n r p. ap (λ y. Perform (stores_value width y (address_by_base r base (disp_of n)) r)) (signed_read bits lt) }) tt
-      (λ a r. never_by_values (stores_value width (signed_immediate bits) a r) (access_code (fault_code x)) refl (λ kind h. h)) (λ e a r v. itself (stores_value width (signed_immediate bits) a r)) is
+      (λ a r. never_by_values (stores_value width (signed_immediate bits) a r) (access_code (fault_code x)) refl (λ kind h. h)) (λ e a r v. exactly (stores_value width (signed_immediate bits) a r)) is
 
   pub loads_registers : (rt rt2 : Reg) (mem : MemArg) (forms : MemInstType) → Is (record { form = RsForm (number_of rt) (number_of rt2) None (Some opcodes.LMG); operand = mem; accesses = true; operands_valid = is_range rt rt2; reads_scratch = false }) forms (loads_multiple (number_of rt) (number_of rt2)) → StepRuns L k
   loads_registers rt rt2 mem forms is =
@@ -212,7 +206,7 @@ module _ {L : Layout} {k : ℕ} {s : Step} (b : StepAt L k s) where
       let count = counted first last (leb-true first last p.1) (general_number rt2 g.1) in
       memory_steps x forms (loads_multiple first last)
       (record { few = general_number rt g.0; few_second = general_number rt2 g.1; semantics = LoadMultiple; short_rows = load_multiple.0; long_rows = load_multiple.1; acts = λ kind opcode base n r q. ap (λ m. Perform (with_rule Kept (Effect.LoadMultiple first m (address_by_base r base (disp_of n))))) count }) tt
-      (λ a r. never_by_values (loads_multiple first last a r) (access_code (fault_code x)) refl (λ kind h. h)) (λ e a r v. itself (loads_multiple first last a r)) is
+      (λ a r. never_by_values (loads_multiple first last a r) (access_code (fault_code x)) refl (λ kind h. h)) (λ e a r v. exactly (loads_multiple first last a r)) is
 
   pub stores_registers : (rt rt2 : Reg) (mem : MemArg) (forms : MemInstType) → Is (record { form = RsForm (number_of rt) (number_of rt2) None (Some opcodes.STMG); operand = mem; accesses = true; operands_valid = is_range rt rt2; reads_scratch = holds_scratch rt rt2 }) forms (stores_multiple (number_of rt) (number_of rt2)) → StepRuns L k
   stores_registers rt rt2 mem forms is =
@@ -246,7 +240,7 @@ module _ {L : Layout} {k : ℕ} {s : Step} (b : StepAt L k s) where
       let n = number_of rn in
       let x : MemoryInstruction = record { form = RsForm d n short long; operand = mem; accesses = true; operands_valid = reuses rd ri && is_general rn; reads_scratch = is_numbered 1 ri || is_numbered 1 rn } in
       let g = and_parts (reuses rd ri) (is_general rn) (and_parts (reuses rd ri && is_general rn) (operand_general mem) is.3.registers).0 in
-      memory_steps x forms (swaps_at size d n) (record { few = reused_number rd ri g.0; few_second = general_number rn g.1; semantics = CompareAndSwap size; short_rows = rows.0; long_rows = rows.1; acts = λ kind opcode base m r p. refl }) tt
+      memory_steps x forms (swaps_at size d n) (record { few = output_small rd ri g.0; few_second = general_number rn g.1; semantics = CompareAndSwap size; short_rows = rows.0; long_rows = rows.1; acts = λ kind opcode base m r p. refl }) tt
       (λ a r. never_by_values (swaps_at size d n a r) (access_code (fault_code x)) refl (λ kind h. h)) (λ e a r v.
-      let other = neither (is_numbered 1 ri) (is_numbered 1 rn) e in
+      let other = or_parts (is_numbered 1 ri) (is_numbered 1 rn) e in
       same_operation (swaps_at size d n a (set_general r 1 v)) (swaps_at size d n a r) (ap₂ (λ y z. with_rule Set (Effect.CompareAndSwap size d y z a)) (value_kept size r v d (reused_other rd ri g.0 other.0)) (value_kept size r v n (not_scratch rn g.1 other.1)))) is

@@ -2,7 +2,7 @@
 use Rattle.std.proofs.Common.{◌≡◌, ◌≢◌, ℕ, zero, suc, ◌+◌, ◌-◌, ◌*◌, ◌/◌, ◌%◌, ◌^◌, ◌<◌, ◌≤◌, inl, inr, List, [], ◌∷◌, length, Option, Some, None, Bool, true, false, cond, ◌==◌, refl, sym, ap, ◌∙◌, subst, arith, slice_get, eqb-true}
 use Rattle.std.specs.Prelude.{ℤ, pos, nat_lt, ◌+ℤ◌, ◌-ℤ◌, unsigned_abs}
 use Rattle.std.proofs.Math.Path.{fun_ext}
-use Rattle.std.proofs.lemmas.Bool.{ltb-true, lt-ltb}
+use Rattle.std.proofs.lemmas.Bool.{ltb-true, lt-ltb, le-ltb}
 use Rattle.std.proofs.lemmas.Int.{ints, int_rem_euclid_is}
 use Rattle.s390x_base.specs.declared.ir.MachLabel.{MachLabel}
 use Rattle.s390x_lanes.specs.declared.operators.Signedness.TheVariants.{Signed, Unsigned}
@@ -86,13 +86,10 @@ extended_low w lt =
     let e : w % 4294967296 ≡ w = omega arith in
     ap (λ b. cond b (w % 4294967296) (w % 4294967296 + 18446744069414584320)) (lt-ltb (w % 4294967296) 2147483648 (omega arith)) ∙ e
 
-not_below : (x n : ℕ) → n ≤ x → nat_lt x n ≡ false
-not_below x n le = grind arith
-
 extended_high : (w : ℕ) → 2 ^ 31 ≤ w → w < 2 ^ 32 → extended_bits Signed Bits32 Doubleword w ≡ w + 18446744069414584320
 extended_high w ge lt =
     let e : w % 4294967296 ≡ w = omega arith in
-    ap (λ b. cond b (w % 4294967296) (w % 4294967296 + 18446744069414584320)) (not_below (w % 4294967296) 2147483648 (omega arith)) ∙ ap (λ n. n + 18446744069414584320) e
+    ap (λ b. cond b (w % 4294967296) (w % 4294967296 + 18446744069414584320)) (le-ltb (w % 4294967296) 2147483648 (omega arith)) ∙ ap (λ n. n + 18446744069414584320) e
 
 -- the address of a table plus a word of it is the target's
 reaches_target : (base table j target : ℕ) → table + j < 2 ^ 31 → target < 2 ^ 31 →

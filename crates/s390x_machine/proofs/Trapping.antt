@@ -12,7 +12,7 @@ use Rattle.s390x_typed_steps.specs.MachineInstruction.{bytes_of, format_e, ril_c
 use Rattle.s390x_typed_steps.specs.Traps.{first_code}
 use Rattle.s390x_operations.specs.State.{wrapping_add64, is_within}
 use Rattle.s390x_operations.specs.declared.stop.StopKind.{StopKind}
-use Rattle.s390x_operations.specs.declared.stop.StopKind.TheVariants.{Operation as OperationStop, Access, Specification, Divide, CompareTrap}
+use Rattle.s390x_operations.specs.declared.stop.StopKind.TheVariants.{Operation as OperationStop, Divide, CompareTrap}
 use Rattle.s390x_machine.specs.Fetch.{Unknown, Fetches}
 use Rattle.s390x_machine.specs.Machine.{InterruptsAs, FetchedStep}
 use Rattle.s390x_machine.specs.Codes.{code_offset, trap_code_at}
@@ -34,17 +34,11 @@ IsLate L kind = (o : ℕ) → code_offset L.image.bytes o kind ≡ o + (fetch_le
 -- that of a division, and that of a comparison
 pub division_late : (L : Layout) (kind : StopKind) (n : TrapKind) → division_code kind ≡ Some n → IsLate L kind × (n ≡ IntegerDivisionByZero)
 division_late L Divide n e = (λ o. refl, cc)
-division_late L OperationStop n e = absurd (cc)
-division_late L Access n e = absurd (cc)
-division_late L Specification n e = absurd (cc)
-division_late L CompareTrap n e = absurd (cc)
+division_late L kind n e = absurd (cc)
 
 pub comparison_late : (L : Layout) (code : TrapKind) (kind : StopKind) (n : TrapKind) → comparison_code code kind ≡ Some n → IsLate L kind × (n ≡ code)
 comparison_late L code CompareTrap n e = (λ o. refl, cc)
-comparison_late L code OperationStop n e = absurd (cc)
-comparison_late L code Access n e = absurd (cc)
-comparison_late L code Specification n e = absurd (cc)
-comparison_late L code Divide n e = absurd (cc)
+comparison_late L code kind n e = absurd (cc)
 
 pub within_image : (L : Layout) (offset : ℕ) (bytes : List ℕ) → StandsAt L.image offset bytes → offset + length bytes ≤ length L.image.bytes
 within_image L offset bytes s =

@@ -35,8 +35,7 @@ use Rattle.s390x_machine.proofs.Lanes.{choice_lt}
 
 whole_some : (size : Size) → 64 < modulus size
 whole_some Halfword = omega arith
-whole_some Word = omega arith
-whole_some Doubleword = omega arith
+whole_some size = omega arith
 
 mod_whole : (size : Size) (x : ℕ) → x % modulus size < modulus size
 mod_whole size x = mod_below x (modulus size) (omega (arith, whole_some size))

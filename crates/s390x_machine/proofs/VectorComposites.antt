@@ -7,10 +7,9 @@ use Rattle.s390x_base.specs.Regs.{number_of}
 use Rattle.s390x_base.specs.declared.error.EmitError.TheVariants.{BadOperator, BadRegister}
 use Rattle.s390x_base.specs.declared.regs.Reg.{Reg}
 use Rattle.s390x_inst.specs.declared.vec_inst.VecInst.{VecInst}
-use Rattle.s390x_inst.specs.declared.vec_inst.VecInst.TheVariants.{FpuCMov32, FpuCMov64, VecCMov, VecEltRev, VecInt128SCmpHi, VecInt128UCmpHi}
+use Rattle.s390x_inst.specs.declared.vec_inst.VecInst.TheVariants as V
 use Rattle.s390x_inst.specs.declared.whole.WholeAccess.{WholeAccess}
 use Rattle.s390x_inst.specs.Wholes.{as_whole, by_whole, by_direction}
-use Rattle.s390x_inst.specs.declared.vec_inst.VecInst.TheVariants.{VecLoadReplicate, VecLoadReplicateRev, VecLoadLane, VecLoadLaneRev, VecLoadLaneUndef, VecLoadLaneRevUndef, VecStoreLane, VecStoreLaneRev}
 use Rattle.s390x_format.specs.declared.kind.FormatKind.TheVariants.{Rr}
 use Rattle.s390x_format.specs.declared.row.Allowed.TheVariants.{Any}
 use Rattle.s390x_format.specs.Formats.{length_of}
@@ -65,10 +64,7 @@ use Rattle.s390x_machine.proofs.VectorStorage.{Accesses, load_alone_runs, load_l
 other_digit : (a b : ℕ) → a + b ≡ 1 → nat_eq a 1 ≡ not (nat_eq b 1)
 other_digit zero (suc zero) e = refl
 other_digit (suc zero) zero e = refl
-other_digit zero zero e = absurd (omega (arith, e))
-other_digit zero (suc (suc b)) e = absurd (omega (arith, e))
-other_digit (suc zero) (suc b) e = absurd (omega (arith, e))
-other_digit (suc (suc a)) b e = absurd (omega (arith, e))
+other_digit a b e = absurd (omega (arith, e))
 
 -- a code is selected by a mask or by its inverse
 pub inverts : (mask : ℕ) → mask < 16 → (code : ConditionCode) → is_selected (15 - mask) code ≡ not (is_selected mask code)
@@ -180,22 +176,22 @@ whole_or_single b v None is = vector_instruction_runs b v (is.0, is.1, no_severa
 whole_or_single b v (Some w) is = whole_runs b w.direction w.layout w.rd w.mem is
 
 pub any_vector_runs : {L : Layout} {k : ℕ} {s : Step} (b : StepAt L k s) (v : VecInst) → IsAnyVectorStep L s v → StepRuns L k
-any_vector_runs b (FpuCMov32 rd mask ri rm) is = skipped_left b opcodes.LER Word (omega arith) ler_row (four_bits mask) (number_of rd) (number_of rm) is.0 (omega arith) (moved_registers rd ri rm is.2) is.1
-any_vector_runs b (FpuCMov64 rd mask ri rm) is = skipped_left b opcodes.LDR Doubleword (omega arith) ldr_row (four_bits mask) (number_of rd) (number_of rm) is.0 (omega arith) (moved_registers rd ri rm is.2) is.1
-any_vector_runs b (VecCMov rd mask ri rm) is =
+any_vector_runs b (V.FpuCMov32 rd mask ri rm) is = skipped_left b opcodes.LER Word (omega arith) ler_row (four_bits mask) (number_of rd) (number_of rm) is.0 (omega arith) (moved_registers rd ri rm is.2) is.1
+any_vector_runs b (V.FpuCMov64 rd mask ri rm) is = skipped_left b opcodes.LDR Doubleword (omega arith) ldr_row (four_bits mask) (number_of rd) (number_of rm) is.0 (omega arith) (moved_registers rd ri rm is.2) is.1
+any_vector_runs b (V.VecCMov rd mask ri rm) is =
     let d = number_of rd in
     let n = number_of rm in
     let few = moved_registers rd ri rm is.2 in
     skipped_vector b (four_bits mask) d n (computes_one_vector O.Move d n) is.0 is.1 (omega arith) few.0 few.1 (λ r. no_third O.Move refl d (r.vector d) (r.vector n) (r.vector 0) (r.vector 0)) (λ r. refl) (λ r. refl) (λ r kind h. true≢false (sym h.1))
-any_vector_runs b (VecEltRev count rd rn) is = reversal_runs b count (number_of rd) (number_of rn) (is_vector rd && is_vector rn) (two_vectors rd rn) is
-any_vector_runs b (VecInt128SCmpHi tmp rn rm) is = wide_runs b opcodes.VEC Signed (number_of tmp) (number_of rn) (number_of rm) (compare_signed_row (number_of rm) (number_of rn)) (compared_registers tmp rn rm is.2) is.0 is.1
-any_vector_runs b (VecInt128UCmpHi tmp rn rm) is = wide_runs b opcodes.VECL Unsigned (number_of tmp) (number_of rn) (number_of rm) (compare_unsigned_row (number_of rm) (number_of rn)) (compared_registers tmp rn rm is.2) is.0 is.1
-any_vector_runs b (VecLoadReplicate size rd mem) is = replicated_runs b (is_vector rd) size (number_of rd) mem (λ o. access_elements opcodes.VLREP rd o mem) refl (λ c. refl) (vector_number rd) is
-any_vector_runs b (VecLoadReplicateRev size rd mem) is = reversed_replicated_runs b (is_vector rd) size (number_of rd) mem (λ o. access_elements opcodes.VLBRREP rd o mem) refl (λ c. refl) (vector_number rd) is
-any_vector_runs b (VecLoadLane size rd ri mem lane) is = load_lane_runs b (reuses_vector rd ri) size lane (number_of rd) mem (reused_vector rd ri) is
-any_vector_runs b (VecLoadLaneRev size rd ri mem lane) is = load_reversed_runs b (reuses_vector rd ri) size lane (number_of rd) mem (reused_vector rd ri) is
-any_vector_runs b (VecLoadLaneUndef size rd mem lane) is = load_alone_runs b (is_vector rd) size lane (number_of rd) mem (vector_number rd) is
-any_vector_runs b (VecLoadLaneRevUndef size rd mem lane) is = load_reversed_alone_runs b (is_vector rd) size lane (number_of rd) mem (vector_number rd) is
-any_vector_runs b (VecStoreLane size rd mem lane) is = store_lane_runs b (is_vector rd) size lane (number_of rd) mem (vector_number rd) is
-any_vector_runs b (VecStoreLaneRev size rd mem lane) is = store_reversed_runs b (is_vector rd) size lane (number_of rd) mem (vector_number rd) is
+any_vector_runs b (V.VecEltRev count rd rn) is = reversal_runs b count (number_of rd) (number_of rn) (is_vector rd && is_vector rn) (two_vectors rd rn) is
+any_vector_runs b (V.VecInt128SCmpHi tmp rn rm) is = wide_runs b opcodes.VEC Signed (number_of tmp) (number_of rn) (number_of rm) (compare_signed_row (number_of rm) (number_of rn)) (compared_registers tmp rn rm is.2) is.0 is.1
+any_vector_runs b (V.VecInt128UCmpHi tmp rn rm) is = wide_runs b opcodes.VECL Unsigned (number_of tmp) (number_of rn) (number_of rm) (compare_unsigned_row (number_of rm) (number_of rn)) (compared_registers tmp rn rm is.2) is.0 is.1
+any_vector_runs b (V.VecLoadReplicate size rd mem) is = replicated_runs b (is_vector rd) size (number_of rd) mem (λ o. access_elements opcodes.VLREP rd o mem) refl (λ c. refl) (vector_number rd) is
+any_vector_runs b (V.VecLoadReplicateRev size rd mem) is = reversed_replicated_runs b (is_vector rd) size (number_of rd) mem (λ o. access_elements opcodes.VLBRREP rd o mem) refl (λ c. refl) (vector_number rd) is
+any_vector_runs b (V.VecLoadLane size rd ri mem lane) is = load_lane_runs b (reuses_vector rd ri) size lane (number_of rd) mem (reused_vector rd ri) is
+any_vector_runs b (V.VecLoadLaneRev size rd ri mem lane) is = load_reversed_runs b (reuses_vector rd ri) size lane (number_of rd) mem (reused_vector rd ri) is
+any_vector_runs b (V.VecLoadLaneUndef size rd mem lane) is = load_alone_runs b (is_vector rd) size lane (number_of rd) mem (vector_number rd) is
+any_vector_runs b (V.VecLoadLaneRevUndef size rd mem lane) is = load_reversed_alone_runs b (is_vector rd) size lane (number_of rd) mem (vector_number rd) is
+any_vector_runs b (V.VecStoreLane size rd mem lane) is = store_lane_runs b (is_vector rd) size lane (number_of rd) mem (vector_number rd) is
+any_vector_runs b (V.VecStoreLaneRev size rd mem lane) is = store_reversed_runs b (is_vector rd) size lane (number_of rd) mem (vector_number rd) is
 any_vector_runs b v is = whole_or_single b v (as_whole v) is

@@ -13,7 +13,7 @@ use Rattle.s390x_lanes.proofs.Building.{build_lt, lane_lt, whole}
 use Rattle.s390x_lanes.specs.Lanes.{lane, from_lanes}
 use Rattle.s390x_lanes.specs.Size.{element_bits, lane_count, size_of_code}
 use Rattle.s390x_lanes.specs.declared.size.ElementSize.{ElementSize}
-use Rattle.s390x_lanes.specs.declared.size.ElementSize.TheVariants.{Byte, Halfword, Word, Doubleword, Quadword}
+use Rattle.s390x_lanes.specs.declared.size.ElementSize.TheVariants.{Byte, Doubleword, Quadword}
 use Rattle.s390x_operations.specs.Effects.{Refines}
 use Rattle.s390x_operations.specs.State.{Registers}
 use Rattle.s390x_operations.specs.Vectors.{register_after_load}
@@ -132,38 +132,23 @@ left_known d x old = record {
 
 pub size_again : (e : ElementSize) → size_of_code (code_of_size e) ≡ e
 size_again Byte = refl
-size_again Halfword = refl
-size_again Word = refl
-size_again Doubleword = refl
-size_again Quadword = refl
+size_again e = refl
 
 pub code_few : (e : ElementSize) → code_of_size e < 16
 code_few Byte = omega arith
-code_few Halfword = omega arith
-code_few Word = omega arith
-code_few Doubleword = omega arith
-code_few Quadword = omega arith
+code_few e = omega arith
 
 lane_low : (e : ElementSize) (lane : ℕ) → lane < lane_count e → lane < 4096
 lane_low Byte lane lt = omega (arith, lt)
-lane_low Halfword lane lt = omega (arith, lt)
-lane_low Word lane lt = omega (arith, lt)
-lane_low Doubleword lane lt = omega (arith, lt)
-lane_low Quadword lane lt = omega (arith, lt)
+lane_low e lane lt = omega (arith, lt)
 
 insert_allowed : (e : ElementSize) → IsNarrow e → (d n base lane : ℕ) → is_allowed (FirstMask 0 3) (vrs_b opcodes.VLVG d base n (code_of_size e) lane).slots ≡ true
-insert_allowed Byte narrow d n base lane = refl
-insert_allowed Halfword narrow d n base lane = refl
-insert_allowed Word narrow d n base lane = refl
-insert_allowed Doubleword narrow d n base lane = refl
 insert_allowed Quadword narrow d n base lane = absurd narrow
+insert_allowed e narrow d n base lane = refl
 
 extract_allowed : (e : ElementSize) → IsNarrow e → (d n base lane : ℕ) → is_allowed (FirstMask 0 3) (vrs_c opcodes.VLGV d base n (code_of_size e) lane).slots ≡ true
-extract_allowed Byte narrow d n base lane = refl
-extract_allowed Halfword narrow d n base lane = refl
-extract_allowed Word narrow d n base lane = refl
-extract_allowed Doubleword narrow d n base lane = refl
 extract_allowed Quadword narrow d n base lane = absurd narrow
+extract_allowed e narrow d n base lane = refl
 
 inserts_there : (e : ElementSize) (d n base displacement : ℕ) → displacement < 4096 → Doing (fields_of VrsB (vrs_b opcodes.VLVG d base n (code_of_size e) displacement).slots) InsertElement (inserts_lane e d n base displacement)
 inserts_there e d n base displacement low r p =

@@ -1,5 +1,6 @@
 -- The rows on vector registers and immediates: each is listed, allows its masks, and its operation is its instruction's. One equation an operator.
 use Rattle.std.proofs.Common.{◌≡◌, ℕ, zero, suc, ◌+◌, ◌*◌, ◌<◌, ◌^◌, ◌==◌, ◌&&◌, [], ◌∷◌, slice_index, ◌⊎◌, inl, inr, Option, Some, None, Bool, true, false, cond, pos, ◌-ℤ◌, refl, sym, ap, ◌∙◌, subst, arith, nat_lt, nat_le, nat_eq, ltb-true, eqb-true}
+use Rattle.std.proofs.lemmas.Bool.{lt-ltb, le-leb}
 use Rattle.s390x_inst.specs.declared.vec_ops.VecBinaryOp.{VecBinaryOp}
 use Rattle.s390x_inst.specs.declared.vec_ops.VecBinaryOp.TheVariants as B
 use Rattle.s390x_inst.specs.declared.vec_ops.VecUnaryOp.{VecUnaryOp}
@@ -39,7 +40,6 @@ use Rattle.s390x_format.specs.declared.semantics.RowSemantics.TheVariants as Row
 use Rattle.s390x_machine.specs.Semantics.{semantics_in, semantics_of}
 use Rattle.s390x_machine.specs.VectorOperations.{binary_operation, unary_operation, shift_operator, shifted_elements, comparison_operation, element_comparison}
 use Rattle.s390x_machine.specs.VectorSteps.{elements_of}
-use Rattle.s390x_machine.proofs.Bits.{below, at_most}
 use Rattle.s390x_machine.proofs.Listing.{Entry, entry, wanted, Listed, Meant, Agrees, rows}
 
 abbrev pub opcode_in : MachineInstruction → ℕ
@@ -103,11 +103,11 @@ entry_of code x o listed allows operation few = record { is = λ i. record { lis
 
 -- an immediate of 16 bits is read as it is
 sixteen_bits : (bits : ℕ) → bits < 65536 → immediate_bits (pos bits) ≡ Some bits
-sixteen_bits bits lt = ap (λ t. cond t (Some bits) None) (below bits 65536 lt)
+sixteen_bits bits lt = ap (λ t. cond t (Some bits) None) (lt-ltb bits 65536 lt)
 
 -- a displacement of 12 bits is read as it is
 pub small_displacement : (d : ℕ) → d < 4096 → disp_of d ≡ pos d
-small_displacement d lt = ap (λ t. cond t (pos d) (pos d -ℤ pos (2 ^ 20))) (below d (2 ^ 19) (omega (arith, lt)))
+small_displacement d lt = ap (λ t. cond t (pos d) (pos d -ℤ pos (2 ^ 20))) (lt-ltb d (2 ^ 19) (omega (arith, lt)))
 
 -- ---- sizes of 8 to 64 bits
 
@@ -242,18 +242,15 @@ pub evaluate_row : (imm d n m a : ℕ) → imm < 256 → ElementsRow 0 (vri_k op
 unfolding machine_rows row_for semantics_in semantics_of operation_of vector_row_of
 evaluate_row imm d n m a lt =
     entry_of 0 (vri_k opcodes.VEVAL imm d n m a) (Evaluate imm) refl refl
-    (ap (λ t. cond ((t && nat_le imm 255) && (0 == 0) && (0 == 0) && (0 == 0)) (Some (Evaluate imm)) None) (at_most 0 imm (omega arith))
-    ∙ ap (λ t. cond ((true && t) && (0 == 0) && (0 == 0) && (0 == 0)) (Some (Evaluate imm)) None) (at_most imm 255 (omega (arith, lt)))) refl
+    (ap (λ t. cond ((t && nat_le imm 255) && (0 == 0) && (0 == 0) && (0 == 0)) (Some (Evaluate imm)) None) (le-leb 0 imm (omega arith))
+    ∙ ap (λ t. cond ((true && t) && (0 == 0) && (0 == 0) && (0 == 0)) (Some (Evaluate imm)) None) (le-leb imm 255 (omega (arith, lt)))) refl
 
 -- two doublewords, each by its number 0 or 1
 pub doublewords_rows : (d n m first second : ℕ) → first < 2 → second < 2 → ElementsRow (4 * first + second) (vrr_c opcodes.VPDI d n m (4 * first + second)) (PermuteDoublewords first second)
 unfolding machine_rows row_for semantics_in semantics_of operation_of vector_row_of
-doublewords_rows d n m zero zero lf ls = record { is = refl }
-doublewords_rows d n m zero (suc zero) lf ls = record { is = refl }
-doublewords_rows d n m (suc zero) zero lf ls = record { is = refl }
-doublewords_rows d n m (suc zero) (suc zero) lf ls = record { is = refl }
 doublewords_rows d n m (suc (suc i)) second lf ls = absurd (omega (arith, lf))
 doublewords_rows d n m first (suc (suc i)) lf ls = absurd (omega (arith, ls))
+doublewords_rows d n m first second lf ls = record { is = refl }
 
 pub byte_mask_row : (d mask : ℕ) → mask < 65536 → ElementsRow 0 (vri_a opcodes.VGBM d mask 0) (ByteMask mask)
 unfolding machine_rows row_for semantics_in semantics_of operation_of vector_row_of
@@ -272,34 +269,34 @@ replicate_rows Quadword narrow d bits lt = absurd narrow
 pub lane_rows : (e : ElementSize) → IsNarrow e → (d n lane : ℕ) → lane < lane_count e → ElementsRow (code_of_size e) (vri_c opcodes.VREP d n lane (code_of_size e)) (Replicate e lane)
 unfolding machine_rows row_for semantics_in semantics_of operation_of vector_row_of
 lane_rows Byte narrow d n lane lt =
-    entry_of 0 (vri_c opcodes.VREP d n lane 0) (Replicate Byte lane) refl (below lane 16 lt)
-    (ap (λ k. with_immediate (vector_row_of opcodes.VREP) (0 ∷ 0 ∷ 0 ∷ []) k) (sixteen_bits lane (omega (arith, lt))) ∙ ap (λ t. cond t (Some (Replicate Byte lane)) None) (below lane 16 lt)) refl
+    entry_of 0 (vri_c opcodes.VREP d n lane 0) (Replicate Byte lane) refl (lt-ltb lane 16 lt)
+    (ap (λ k. with_immediate (vector_row_of opcodes.VREP) (0 ∷ 0 ∷ 0 ∷ []) k) (sixteen_bits lane (omega (arith, lt))) ∙ ap (λ t. cond t (Some (Replicate Byte lane)) None) (lt-ltb lane 16 lt)) refl
 lane_rows Halfword narrow d n lane lt =
-    entry_of 1 (vri_c opcodes.VREP d n lane 1) (Replicate Halfword lane) refl (below lane 8 lt)
-    (ap (λ k. with_immediate (vector_row_of opcodes.VREP) (1 ∷ 0 ∷ 0 ∷ []) k) (sixteen_bits lane (omega (arith, lt))) ∙ ap (λ t. cond t (Some (Replicate Halfword lane)) None) (below lane 8 lt)) refl
+    entry_of 1 (vri_c opcodes.VREP d n lane 1) (Replicate Halfword lane) refl (lt-ltb lane 8 lt)
+    (ap (λ k. with_immediate (vector_row_of opcodes.VREP) (1 ∷ 0 ∷ 0 ∷ []) k) (sixteen_bits lane (omega (arith, lt))) ∙ ap (λ t. cond t (Some (Replicate Halfword lane)) None) (lt-ltb lane 8 lt)) refl
 lane_rows Word narrow d n lane lt =
-    entry_of 2 (vri_c opcodes.VREP d n lane 2) (Replicate Word lane) refl (below lane 4 lt)
-    (ap (λ k. with_immediate (vector_row_of opcodes.VREP) (2 ∷ 0 ∷ 0 ∷ []) k) (sixteen_bits lane (omega (arith, lt))) ∙ ap (λ t. cond t (Some (Replicate Word lane)) None) (below lane 4 lt)) refl
+    entry_of 2 (vri_c opcodes.VREP d n lane 2) (Replicate Word lane) refl (lt-ltb lane 4 lt)
+    (ap (λ k. with_immediate (vector_row_of opcodes.VREP) (2 ∷ 0 ∷ 0 ∷ []) k) (sixteen_bits lane (omega (arith, lt))) ∙ ap (λ t. cond t (Some (Replicate Word lane)) None) (lt-ltb lane 4 lt)) refl
 lane_rows Doubleword narrow d n lane lt =
-    entry_of 3 (vri_c opcodes.VREP d n lane 3) (Replicate Doubleword lane) refl (below lane 2 lt)
-    (ap (λ k. with_immediate (vector_row_of opcodes.VREP) (3 ∷ 0 ∷ 0 ∷ []) k) (sixteen_bits lane (omega (arith, lt))) ∙ ap (λ t. cond t (Some (Replicate Doubleword lane)) None) (below lane 2 lt)) refl
+    entry_of 3 (vri_c opcodes.VREP d n lane 3) (Replicate Doubleword lane) refl (lt-ltb lane 2 lt)
+    (ap (λ k. with_immediate (vector_row_of opcodes.VREP) (3 ∷ 0 ∷ 0 ∷ []) k) (sixteen_bits lane (omega (arith, lt))) ∙ ap (λ t. cond t (Some (Replicate Doubleword lane)) None) (lt-ltb lane 2 lt)) refl
 lane_rows Quadword narrow d n lane lt = absurd narrow
 
 -- ones from a bit to another one
 pub bit_mask_rows : (e : ElementSize) → IsNarrow e → (d start end : ℕ) → start < element_bits e → end < element_bits e → ElementsRow (code_of_size e) (vri_b opcodes.VGM d start end (code_of_size e)) (BitMask e start end)
 unfolding machine_rows row_for semantics_in semantics_of operation_of vector_row_of
 bit_mask_rows Byte narrow d start end ls le =
-    entry_of 0 (vri_b opcodes.VGM d start end 0) (BitMask Byte start end) refl (ap (λ t. t && nat_lt end 8) (below start 8 ls) ∙ below end 8 le)
-    (ap (λ t. cond (t && nat_lt end 8) (Some (BitMask Byte start end)) None) (below start 8 ls) ∙ ap (λ t. cond t (Some (BitMask Byte start end)) None) (below end 8 le)) refl
+    entry_of 0 (vri_b opcodes.VGM d start end 0) (BitMask Byte start end) refl (ap (λ t. t && nat_lt end 8) (lt-ltb start 8 ls) ∙ lt-ltb end 8 le)
+    (ap (λ t. cond (t && nat_lt end 8) (Some (BitMask Byte start end)) None) (lt-ltb start 8 ls) ∙ ap (λ t. cond t (Some (BitMask Byte start end)) None) (lt-ltb end 8 le)) refl
 bit_mask_rows Halfword narrow d start end ls le =
-    entry_of 1 (vri_b opcodes.VGM d start end 1) (BitMask Halfword start end) refl (ap (λ t. t && nat_lt end 16) (below start 16 ls) ∙ below end 16 le)
-    (ap (λ t. cond (t && nat_lt end 16) (Some (BitMask Halfword start end)) None) (below start 16 ls) ∙ ap (λ t. cond t (Some (BitMask Halfword start end)) None) (below end 16 le)) refl
+    entry_of 1 (vri_b opcodes.VGM d start end 1) (BitMask Halfword start end) refl (ap (λ t. t && nat_lt end 16) (lt-ltb start 16 ls) ∙ lt-ltb end 16 le)
+    (ap (λ t. cond (t && nat_lt end 16) (Some (BitMask Halfword start end)) None) (lt-ltb start 16 ls) ∙ ap (λ t. cond t (Some (BitMask Halfword start end)) None) (lt-ltb end 16 le)) refl
 bit_mask_rows Word narrow d start end ls le =
-    entry_of 2 (vri_b opcodes.VGM d start end 2) (BitMask Word start end) refl (ap (λ t. t && nat_lt end 32) (below start 32 ls) ∙ below end 32 le)
-    (ap (λ t. cond (t && nat_lt end 32) (Some (BitMask Word start end)) None) (below start 32 ls) ∙ ap (λ t. cond t (Some (BitMask Word start end)) None) (below end 32 le)) refl
+    entry_of 2 (vri_b opcodes.VGM d start end 2) (BitMask Word start end) refl (ap (λ t. t && nat_lt end 32) (lt-ltb start 32 ls) ∙ lt-ltb end 32 le)
+    (ap (λ t. cond (t && nat_lt end 32) (Some (BitMask Word start end)) None) (lt-ltb start 32 ls) ∙ ap (λ t. cond t (Some (BitMask Word start end)) None) (lt-ltb end 32 le)) refl
 bit_mask_rows Doubleword narrow d start end ls le =
-    entry_of 3 (vri_b opcodes.VGM d start end 3) (BitMask Doubleword start end) refl (ap (λ t. t && nat_lt end 64) (below start 64 ls) ∙ below end 64 le)
-    (ap (λ t. cond (t && nat_lt end 64) (Some (BitMask Doubleword start end)) None) (below start 64 ls) ∙ ap (λ t. cond t (Some (BitMask Doubleword start end)) None) (below end 64 le)) refl
+    entry_of 3 (vri_b opcodes.VGM d start end 3) (BitMask Doubleword start end) refl (ap (λ t. t && nat_lt end 64) (lt-ltb start 64 ls) ∙ lt-ltb end 64 le)
+    (ap (λ t. cond (t && nat_lt end 64) (Some (BitMask Doubleword start end)) None) (lt-ltb start 64 ls) ∙ ap (λ t. cond t (Some (BitMask Doubleword start end)) None) (lt-ltb end 64 le)) refl
 bit_mask_rows Quadword narrow d start end ls le = absurd narrow
 
 -- an immediate in one element
@@ -307,32 +304,32 @@ pub insert_rows : (e : ElementSize) → IsNarrow e → (d bits lane : ℕ) → b
 unfolding machine_rows row_for semantics_in semantics_of operation_of vector_row_of
 insert_rows Byte narrow d bits lane lb lt =
     entry_of lane (vri_a opcodes.VLEIB d bits lane) (InsertImmediate Byte bits lane) refl
-    (ap (λ t. (t && nat_le lane 15) && true && true) (at_most 0 lane (omega arith)) ∙ ap (λ t. (true && t) && true && true) (at_most lane 15 (omega (arith, lt))))
+    (ap (λ t. (t && nat_le lane 15) && true && true) (le-leb 0 lane (omega arith)) ∙ ap (λ t. (true && t) && true && true) (le-leb lane 15 (omega (arith, lt))))
     (ap (λ k. with_immediate (vector_row_of opcodes.VLEIB) (lane ∷ 0 ∷ 0 ∷ []) k) (sixteen_bits bits lb)
-    ∙ ap (λ t. cond ((t && nat_le lane 15) && true && true) (cond (nat_lt lane 16) (Some (InsertImmediate Byte bits lane)) None) None) (at_most 0 lane (omega arith))
-    ∙ ap (λ t. cond ((true && t) && true && true) (cond (nat_lt lane 16) (Some (InsertImmediate Byte bits lane)) None) None) (at_most lane 15 (omega (arith, lt)))
-    ∙ ap (λ t. cond t (Some (InsertImmediate Byte bits lane)) None) (below lane 16 lt)) (below lane 16 (omega (arith, lt)))
+    ∙ ap (λ t. cond ((t && nat_le lane 15) && true && true) (cond (nat_lt lane 16) (Some (InsertImmediate Byte bits lane)) None) None) (le-leb 0 lane (omega arith))
+    ∙ ap (λ t. cond ((true && t) && true && true) (cond (nat_lt lane 16) (Some (InsertImmediate Byte bits lane)) None) None) (le-leb lane 15 (omega (arith, lt)))
+    ∙ ap (λ t. cond t (Some (InsertImmediate Byte bits lane)) None) (lt-ltb lane 16 lt)) (lt-ltb lane 16 (omega (arith, lt)))
 insert_rows Halfword narrow d bits lane lb lt =
     entry_of lane (vri_a opcodes.VLEIH d bits lane) (InsertImmediate Halfword bits lane) refl
-    (ap (λ t. (t && nat_le lane 7) && true && true) (at_most 0 lane (omega arith)) ∙ ap (λ t. (true && t) && true && true) (at_most lane 7 (omega (arith, lt))))
+    (ap (λ t. (t && nat_le lane 7) && true && true) (le-leb 0 lane (omega arith)) ∙ ap (λ t. (true && t) && true && true) (le-leb lane 7 (omega (arith, lt))))
     (ap (λ k. with_immediate (vector_row_of opcodes.VLEIH) (lane ∷ 0 ∷ 0 ∷ []) k) (sixteen_bits bits lb)
-    ∙ ap (λ t. cond ((t && nat_le lane 7) && true && true) (cond (nat_lt lane 8) (Some (InsertImmediate Halfword bits lane)) None) None) (at_most 0 lane (omega arith))
-    ∙ ap (λ t. cond ((true && t) && true && true) (cond (nat_lt lane 8) (Some (InsertImmediate Halfword bits lane)) None) None) (at_most lane 7 (omega (arith, lt)))
-    ∙ ap (λ t. cond t (Some (InsertImmediate Halfword bits lane)) None) (below lane 8 lt)) (below lane 16 (omega (arith, lt)))
+    ∙ ap (λ t. cond ((t && nat_le lane 7) && true && true) (cond (nat_lt lane 8) (Some (InsertImmediate Halfword bits lane)) None) None) (le-leb 0 lane (omega arith))
+    ∙ ap (λ t. cond ((true && t) && true && true) (cond (nat_lt lane 8) (Some (InsertImmediate Halfword bits lane)) None) None) (le-leb lane 7 (omega (arith, lt)))
+    ∙ ap (λ t. cond t (Some (InsertImmediate Halfword bits lane)) None) (lt-ltb lane 8 lt)) (lt-ltb lane 16 (omega (arith, lt)))
 insert_rows Word narrow d bits lane lb lt =
     entry_of lane (vri_a opcodes.VLEIF d bits lane) (InsertImmediate Word bits lane) refl
-    (ap (λ t. (t && nat_le lane 3) && true && true) (at_most 0 lane (omega arith)) ∙ ap (λ t. (true && t) && true && true) (at_most lane 3 (omega (arith, lt))))
+    (ap (λ t. (t && nat_le lane 3) && true && true) (le-leb 0 lane (omega arith)) ∙ ap (λ t. (true && t) && true && true) (le-leb lane 3 (omega (arith, lt))))
     (ap (λ k. with_immediate (vector_row_of opcodes.VLEIF) (lane ∷ 0 ∷ 0 ∷ []) k) (sixteen_bits bits lb)
-    ∙ ap (λ t. cond ((t && nat_le lane 3) && true && true) (cond (nat_lt lane 4) (Some (InsertImmediate Word bits lane)) None) None) (at_most 0 lane (omega arith))
-    ∙ ap (λ t. cond ((true && t) && true && true) (cond (nat_lt lane 4) (Some (InsertImmediate Word bits lane)) None) None) (at_most lane 3 (omega (arith, lt)))
-    ∙ ap (λ t. cond t (Some (InsertImmediate Word bits lane)) None) (below lane 4 lt)) (below lane 16 (omega (arith, lt)))
+    ∙ ap (λ t. cond ((t && nat_le lane 3) && true && true) (cond (nat_lt lane 4) (Some (InsertImmediate Word bits lane)) None) None) (le-leb 0 lane (omega arith))
+    ∙ ap (λ t. cond ((true && t) && true && true) (cond (nat_lt lane 4) (Some (InsertImmediate Word bits lane)) None) None) (le-leb lane 3 (omega (arith, lt)))
+    ∙ ap (λ t. cond t (Some (InsertImmediate Word bits lane)) None) (lt-ltb lane 4 lt)) (lt-ltb lane 16 (omega (arith, lt)))
 insert_rows Doubleword narrow d bits lane lb lt =
     entry_of lane (vri_a opcodes.VLEIG d bits lane) (InsertImmediate Doubleword bits lane) refl
-    (ap (λ t. (t && nat_le lane 1) && true && true) (at_most 0 lane (omega arith)) ∙ ap (λ t. (true && t) && true && true) (at_most lane 1 (omega (arith, lt))))
+    (ap (λ t. (t && nat_le lane 1) && true && true) (le-leb 0 lane (omega arith)) ∙ ap (λ t. (true && t) && true && true) (le-leb lane 1 (omega (arith, lt))))
     (ap (λ k. with_immediate (vector_row_of opcodes.VLEIG) (lane ∷ 0 ∷ 0 ∷ []) k) (sixteen_bits bits lb)
-    ∙ ap (λ t. cond ((t && nat_le lane 1) && true && true) (cond (nat_lt lane 2) (Some (InsertImmediate Doubleword bits lane)) None) None) (at_most 0 lane (omega arith))
-    ∙ ap (λ t. cond ((true && t) && true && true) (cond (nat_lt lane 2) (Some (InsertImmediate Doubleword bits lane)) None) None) (at_most lane 1 (omega (arith, lt)))
-    ∙ ap (λ t. cond t (Some (InsertImmediate Doubleword bits lane)) None) (below lane 2 lt)) (below lane 16 (omega (arith, lt)))
+    ∙ ap (λ t. cond ((t && nat_le lane 1) && true && true) (cond (nat_lt lane 2) (Some (InsertImmediate Doubleword bits lane)) None) None) (le-leb 0 lane (omega arith))
+    ∙ ap (λ t. cond ((true && t) && true && true) (cond (nat_lt lane 2) (Some (InsertImmediate Doubleword bits lane)) None) None) (le-leb lane 1 (omega (arith, lt)))
+    ∙ ap (λ t. cond t (Some (InsertImmediate Doubleword bits lane)) None) (lt-ltb lane 2 lt)) (lt-ltb lane 16 (omega (arith, lt)))
 insert_rows Quadword narrow d bits lane lb lt = absurd narrow
 
 -- ---- rows of another kind
@@ -390,7 +387,7 @@ pub shift_operation : (op : VecShiftOp) (k : ℕ) → k < 64 → operation_of (v
 unfolding machine_rows semantics_in semantics_of operation_of vector_row_of
 shift_operation op k lt =
     ap (λ i. with_immediate (vector_row_of (shift_row op).opcode) ((shift_row op).code ∷ 0 ∷ 0 ∷ []) i) (sixteen_bits k (omega (arith, lt))) ∙ tested op
-    ∙ ap (λ t. cond t (Some (O.ShiftElements (shift_operator op) (shifted_elements op) k)) None) (below k 64 lt)
+    ∙ ap (λ t. cond t (Some (O.ShiftElements (shift_operator op) (shifted_elements op) k)) None) (lt-ltb k 64 lt)
   where
     tested : (op : VecShiftOp) → with_immediate (vector_row_of (shift_row op).opcode) ((shift_row op).code ∷ 0 ∷ 0 ∷ []) (Some k) ≡ cond (nat_lt k 64) (Some (O.ShiftElements (shift_operator op) (shifted_elements op) k)) None
     tested S.RotL8x16 = refl

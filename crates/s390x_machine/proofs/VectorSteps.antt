@@ -7,7 +7,7 @@ use Rattle.s390x_base.specs.declared.regs.Reg.TheVariants.{Real, Virtual}
 use Rattle.s390x_base.specs.declared.trap.TrapKind.{TrapKind}
 use Rattle.s390x_base.specs.declared.trap.TrapKind.TheVariants.{IntegerDivisionByZero}
 use Rattle.s390x_inst.specs.declared.vec_inst.VecInst.{VecInst}
-use Rattle.s390x_inst.specs.declared.vec_inst.VecInst.TheVariants.{VecRRR, VecRR, VecSelect, VecPermute, VecBlend, VecIntCmp, VecIntCmpS, VecIntEltCmp, VecMov, VecShiftRR, VecEvaluate, VecPermuteDWImm, MovToVec128, VecImmByteMask, VecImmReplicate, VecImmBitMask, VecReplicateLane, VecInsertLaneImm, VecInsertLaneImmUndef, VecInsertLane, VecInsertLaneUndef, VecExtractLane, FpuMove32, FpuMove64}
+use Rattle.s390x_inst.specs.declared.vec_inst.VecInst.TheVariants as V
 use Rattle.s390x_inst.specs.declared.vec_ops.VecBinaryOp.{VecBinaryOp}
 use Rattle.s390x_inst.specs.declared.vec_ops.VecBinaryOp.TheVariants as B
 use Rattle.s390x_inst.specs.declared.vec_ops.VecUnaryOp.{VecUnaryOp}
@@ -26,7 +26,7 @@ use Rattle.s390x_format.proofs.Encoding.{encode-length}
 use Rattle.s390x_lanes.specs.Lanes.{from_lanes}
 use Rattle.s390x_lanes.specs.Size.{element_bits, lane_count}
 use Rattle.s390x_lanes.specs.declared.size.ElementSize.{ElementSize}
-use Rattle.s390x_lanes.specs.declared.size.ElementSize.TheVariants.{Byte, Halfword, Word, Doubleword, Quadword}
+use Rattle.s390x_lanes.specs.declared.size.ElementSize.TheVariants.{Byte, Word, Doubleword}
 use Rattle.s390x_lanes.specs.Relation.{code_of, divides_by_zero, division_overflows, is_determined}
 use Rattle.s390x_lanes.specs.Rows.{operation_of}
 use Rattle.s390x_lanes.specs.Results.{vector_result}
@@ -215,11 +215,11 @@ unary_takes : (op : VecUnaryOp) → takes_second_alone (unary_operation op) ≡ 
 unary_takes U.Abs8x16 = refl
 unary_takes _ = refl
 
-unary_never : (op : VecUnaryOp) → is_divide (unary_operation op) ≡ false
+pub unary_never : (op : VecUnaryOp) → is_divide (unary_operation op) ≡ false
 unary_never U.Abs8x16 = refl
 unary_never _ = refl
 
-divisions_agree : (op : VecBinaryOp) → is_divide (binary_operation op) ≡ is_division op
+pub divisions_agree : (op : VecBinaryOp) → is_divide (binary_operation op) ≡ is_division op
 divisions_agree B.Add8x16 = refl
 divisions_agree _ = refl
 
@@ -227,7 +227,7 @@ comparison_takes : (op : VecIntCmpOp) (sets : Bool) → takes_fourth (comparison
 comparison_takes C.CmpEq8x16 sets = refl
 comparison_takes _ sets = refl
 
-comparison_never : (op : VecIntCmpOp) (sets : Bool) → is_divide (comparison_operation op sets) ≡ false
+pub comparison_never : (op : VecIntCmpOp) (sets : Bool) → is_divide (comparison_operation op sets) ≡ false
 comparison_never C.CmpEq8x16 sets = refl
 comparison_never _ sets = refl
 
@@ -235,23 +235,17 @@ element_takes : (op : VecIntEltCmpOp) → takes_second_alone (element_comparison
 element_takes E.SCmp128 = refl
 element_takes E.UCmp128 = refl
 
-element_never : (op : VecIntEltCmpOp) → is_divide (element_comparison op) ≡ false
+pub element_never : (op : VecIntEltCmpOp) → is_divide (element_comparison op) ≡ false
 element_never E.SCmp128 = refl
 element_never E.UCmp128 = refl
 
 lane_small : (e : ElementSize) (lane : ℕ) → lane < lane_count e → lane < 65536
 lane_small Byte lane lt = omega (arith, lt)
-lane_small Halfword lane lt = omega (arith, lt)
-lane_small Word lane lt = omega (arith, lt)
-lane_small Doubleword lane lt = omega (arith, lt)
-lane_small Quadword lane lt = omega (arith, lt)
+lane_small e lane lt = omega (arith, lt)
 
 bit_small : (e : ElementSize) (bit : ℕ) → bit < element_bits e → bit < 256
 bit_small Byte bit lt = omega (arith, lt)
-bit_small Halfword bit lt = omega (arith, lt)
-bit_small Word bit lt = omega (arith, lt)
-bit_small Doubleword bit lt = omega (arith, lt)
-bit_small Quadword bit lt = omega (arith, lt)
+bit_small e bit lt = omega (arith, lt)
 
 pub reused_vector : (output input : Reg) → IsTrue (reuses_vector output input) → number_of output < 32
 reused_vector output input h = (two_vectors output input (and_parts (is_vector output && is_vector input) (nat_eq (number_of output) (number_of input)) h).0).0
@@ -433,7 +427,7 @@ IsVectorStep L s v =
     (kind_of_step L (Some s) ≡ Some (kind_or (on_vectors (divides v) (vector_operation v)) Unsupported)) × (step_parts s ≡ parts_or single (vector_stop v) []) × OperandsValidOr single ⊥
 
 pub vector_instruction_runs : {L : Layout} {k : ℕ} {s : Step} (b : StepAt L k s) (v : VecInst) → IsVectorStep L s v → StepRuns L k
-vector_instruction_runs b (VecRRR op rd rn rm) is =
+vector_instruction_runs b (V.VecRRR op rd rn rm) is =
     let few = three_vectors rd rn rm is.2 in
     let d = number_of rd in
     let n = number_of rn in
@@ -443,82 +437,82 @@ vector_instruction_runs b (VecRRR op rd rn rm) is =
     vector_runs b (binary_instruction op d n m) o (computes_two_vectors o d n m) (is_division op) row (fits_vrr_c (binary_row op).opcode d n m (binary_row op).code (few_digits (elements_listed row)) few.0 few.1 few.2 (elements_few row))
     (λ r. no_fourth o (binary_takes op) d (r.vector d) (r.vector n) (r.vector m) (r.vector 0))
     (λ r. subst (λ t. ValuesCoded (computes_two_vectors o d n m r) (stop_codes t)) (divisions_agree op) (vector_coded o d (r.vector d) (r.vector n) (r.vector m) 0)) is.0 is.1
-vector_instruction_runs b (VecRR op rd rn) is =
+vector_instruction_runs b (V.VecRR op rd rn) is =
     let few = two_vectors rd rn is.2 in
     let row = unary_rows op (number_of rd) (number_of rn) in
     let fit = fits_vrr_a (unary_row op).opcode (number_of rd) (number_of rn) (unary_row op).code (few_digits (elements_listed row)) few.0 few.1 (elements_few row) in
     one_vector_runs b (unary_instruction op (number_of rd) (number_of rn)) (unary_operation op) (number_of rd) (number_of rn) row fit (unary_takes op) (unary_never op) (λ r. refl) (is.0, is.1)
-vector_instruction_runs b (VecSelect rd rn rm ra) is =
+vector_instruction_runs b (V.VecSelect rd rn rm ra) is =
     let few = four_vectors rd rn rm ra is.2 in
     let row = select_row (number_of rd) (number_of rn) (number_of rm) (number_of ra) in
     let fit = fits_vrr_e opcodes.VSEL (number_of rd) (number_of rn) (number_of rm) (number_of ra) (few_digits (elements_listed row)) few.0 few.1 few.2 few.3 in
     three_vectors_run b (vrr_e opcodes.VSEL (number_of rd) (number_of rn) (number_of rm) (number_of ra)) O.Select (number_of rd) (number_of rn) (number_of rm) (number_of ra) row fit refl (λ r. refl) (is.0, is.1)
-vector_instruction_runs b (VecPermute rd rn rm ra) is =
+vector_instruction_runs b (V.VecPermute rd rn rm ra) is =
     let few = four_vectors rd rn rm ra is.2 in
     let row = permute_row (number_of rd) (number_of rn) (number_of rm) (number_of ra) in
     let fit = fits_vrr_e opcodes.VPERM (number_of rd) (number_of rn) (number_of rm) (number_of ra) (few_digits (elements_listed row)) few.0 few.1 few.2 few.3 in
     three_vectors_run b (vrr_e opcodes.VPERM (number_of rd) (number_of rn) (number_of rm) (number_of ra)) O.Permute (number_of rd) (number_of rn) (number_of rm) (number_of ra) row fit refl (λ r. refl) (is.0, is.1)
-vector_instruction_runs b (VecBlend rd rn rm ra) is =
+vector_instruction_runs b (V.VecBlend rd rn rm ra) is =
     let few = four_vectors rd rn rm ra is.2 in
     let row = blend_row (number_of rd) (number_of rn) (number_of rm) (number_of ra) in
     let fit = fits_vrr_d opcodes.VBLEND (number_of rd) (number_of rn) (number_of rm) (number_of ra) 0 (few_digits (elements_listed row)) few.0 few.1 few.2 few.3 (omega arith) in
     three_vectors_run b (vrr_d opcodes.VBLEND (number_of rd) (number_of rn) (number_of rm) (number_of ra) 0) O.Blend (number_of rd) (number_of rn) (number_of rm) (number_of ra) row fit refl (λ r. refl) (is.0, is.1)
-vector_instruction_runs b (VecIntCmp op rd rn rm) is =
+vector_instruction_runs b (V.VecIntCmp op rd rn rm) is =
     let few = three_vectors rd rn rm is.2 in
     let row = comparison_rows op (number_of rd) (number_of rn) (number_of rm) in
     let fit = fits_vrr_b (comparison_row op).opcode (number_of rd) (number_of rn) (number_of rm) (comparison_row op).code 0 (few_digits (elements_listed row)) few.0 few.1 few.2 (elements_few row) (omega arith) in
     two_vectors_run b (comparison_instruction op (number_of rd) (number_of rn) (number_of rm) 0) (comparison_operation op false) (number_of rd) (number_of rn) (number_of rm) row fit (comparison_takes op false) (comparison_never op false) (λ r. refl) (is.0, is.1)
-vector_instruction_runs b (VecIntCmpS op rd rn rm) is =
+vector_instruction_runs b (V.VecIntCmpS op rd rn rm) is =
     let few = three_vectors rd rn rm is.2 in
     let row = asking_rows op (number_of rd) (number_of rn) (number_of rm) in
     let fit = fits_vrr_b (comparison_row op).opcode (number_of rd) (number_of rn) (number_of rm) (comparison_row op).code 1 (few_digits (elements_listed row)) few.0 few.1 few.2 (elements_few row) (omega arith) in
     two_vectors_run b (comparison_instruction op (number_of rd) (number_of rn) (number_of rm) 1) (comparison_operation op true) (number_of rd) (number_of rn) (number_of rm) row fit (comparison_takes op true) (comparison_never op true) (λ r. refl) (is.0, is.1)
-vector_instruction_runs b (VecIntEltCmp op rn rm) is =
+vector_instruction_runs b (V.VecIntEltCmp op rn rm) is =
     let few = two_vectors rn rm is.2 in
     let row = element_rows op (number_of rn) (number_of rm) in
     let fit = fits_vrr_a (element_comparison_row op).opcode (number_of rn) (number_of rm) (element_comparison_row op).code (few_digits (elements_listed row)) few.0 few.1 (elements_few row) in
     one_vector_runs b (element_instruction op (number_of rn) (number_of rm)) (element_comparison op) (number_of rn) (number_of rm) row fit (element_takes op) (element_never op) (λ r. refl) (is.0, is.1)
-vector_instruction_runs b (VecMov rd rn) is =
+vector_instruction_runs b (V.VecMov rd rn) is =
     let few = two_vectors rd rn is.2 in
     let row = move_row (number_of rd) (number_of rn) in
     let fit = fits_vrr_a opcodes.VLR (number_of rd) (number_of rn) 0 (few_digits (elements_listed row)) few.0 few.1 (omega arith) in
     one_vector_runs b (vrr_a opcodes.VLR (number_of rd) (number_of rn) 0) O.Move (number_of rd) (number_of rn) row fit refl refl (λ r. refl) (is.0, is.1)
-vector_instruction_runs b (VecShiftRR op rd rn amount register) is =
+vector_instruction_runs b (V.VecShiftRR op rd rn amount register) is =
     let few = and_parts (is_vector rd && is_vector rn) (is_general register) is.2 in
     let two = two_vectors rd rn few.0 in
     shifted_vector_runs b op (number_of rd) (number_of rn) (number_of register) (low_byte amount) (two.0, two.1, general_number register few.1) (omega arith) (is.0, is.1)
-vector_instruction_runs b (VecEvaluate imm rd rn rm ra) is =
+vector_instruction_runs b (V.VecEvaluate imm rd rn rm ra) is =
     let few = four_vectors rd rn rm ra is.2 in
     let byte : low_byte imm < 256 = omega arith in
     let row = evaluate_row (low_byte imm) (number_of rd) (number_of rn) (number_of rm) (number_of ra) byte in
     let fit = fits_vri_k opcodes.VEVAL (low_byte imm) (number_of rd) (number_of rn) (number_of rm) (number_of ra) (few_digits (elements_listed row)) byte few.0 few.1 few.2 few.3 in
     three_vectors_run b (vri_k opcodes.VEVAL (low_byte imm) (number_of rd) (number_of rn) (number_of rm) (number_of ra)) (O.Evaluate (low_byte imm)) (number_of rd) (number_of rn) (number_of rm) (number_of ra) row fit refl (λ r. refl) (is.0, is.1)
-vector_instruction_runs b (VecPermuteDWImm rd rn rm first second) is =
+vector_instruction_runs b (V.VecPermuteDWImm rd rn rm first second) is =
     doublewords_run b (is_vector rd && is_vector rn && is_vector rm) (number_of rd) (number_of rn) (number_of rm) first second (three_vectors rd rn rm) (is.0, is.1, is.2)
-vector_instruction_runs b (MovToVec128 rd rn rm) is =
+vector_instruction_runs b (V.MovToVec128 rd rn rm) is =
     let few = and_parts (is_vector rd && is_general rn) (is_general rm) is.2 in
     let two = and_parts (is_vector rd) (is_general rn) few.0 in
     joined_runs b (number_of rd) (number_of rn) (number_of rm) (vector_number rd two.0, general_number rn two.1, general_number rm few.1) (is.0, is.1)
-vector_instruction_runs b (VecImmByteMask rd mask) is =
+vector_instruction_runs b (V.VecImmByteMask rd mask) is =
     let bits : low_halfword (pos mask) < 65536 = halfword_bits (pos mask) in
     let row = byte_mask_row (number_of rd) (low_halfword (pos mask)) bits in
     let fit = fits_vri_a opcodes.VGBM (number_of rd) (low_halfword (pos mask)) 0 (few_digits (elements_listed row)) (vector_number rd is.2) bits (omega arith) in
     generated_runs b (vri_a opcodes.VGBM (number_of rd) (low_halfword (pos mask)) 0) (O.ByteMask (low_halfword (pos mask))) (number_of rd) row fit refl refl (λ r. refl) (is.0, is.1)
-vector_instruction_runs b (VecImmReplicate size rd imm) is =
+vector_instruction_runs b (V.VecImmReplicate size rd imm) is =
     replicated_runs b (is_vector rd) size (number_of rd) (low_halfword imm) (vector_number rd) (halfword_bits imm) (is.0, is.1, is.2)
-vector_instruction_runs b (VecImmBitMask size rd start end) is = bit_mask_runs b (is_vector rd) size (number_of rd) start end (vector_number rd) (is.0, is.1, is.2)
-vector_instruction_runs b (VecReplicateLane size rd rn lane) is = lane_replicated_runs b (is_vector rd && is_vector rn) size (number_of rd) (number_of rn) lane (two_vectors rd rn) (is.0, is.1, is.2)
-vector_instruction_runs b (VecInsertLaneImm size rd ri imm lane) is =
+vector_instruction_runs b (V.VecImmBitMask size rd start end) is = bit_mask_runs b (is_vector rd) size (number_of rd) start end (vector_number rd) (is.0, is.1, is.2)
+vector_instruction_runs b (V.VecReplicateLane size rd rn lane) is = lane_replicated_runs b (is_vector rd && is_vector rn) size (number_of rd) (number_of rn) lane (two_vectors rd rn) (is.0, is.1, is.2)
+vector_instruction_runs b (V.VecInsertLaneImm size rd ri imm lane) is =
     let d = number_of rd in
     let bits = low_halfword imm in
     let does : ElementSize → Registers → Operation = λ e. generates_vector (O.InsertImmediate e bits lane) d in
     immediate_inserted_runs b (reuses_vector rd ri) size d bits lane does (λ e r. no_second (O.InsertImmediate e bits lane) refl d (r.vector d) (r.vector 0) (r.vector 0) (r.vector 0)) (λ e r. vector_coded (O.InsertImmediate e bits lane) d (r.vector d) 0 0 0) (reused_vector rd ri) (halfword_bits imm) (is.0, is.1, is.2)
-vector_instruction_runs b (VecInsertLaneImmUndef size rd imm lane) is =
+vector_instruction_runs b (V.VecInsertLaneImmUndef size rd imm lane) is =
     let d = number_of rd in
     let bits = low_halfword imm in
     let does : ElementSize → Registers → Operation = λ e. inserts_immediate_alone e d bits lane in
     immediate_inserted_runs b (is_vector rd) size d bits lane does (λ e r. inserts_alone e d bits lane (lane_bits e lane) (r.vector d) (r.vector 0) (r.vector 0) (r.vector 0)) (λ e r. never_by_values (does e r) no_code refl (λ kind h. h)) (vector_number rd) (halfword_bits imm) (is.0, is.1, is.2)
-vector_instruction_runs b (VecInsertLane size rd ri rn lane base) is =
+vector_instruction_runs b (V.VecInsertLane size rd ri rn lane base) is =
     let d = number_of rd in
     let n = number_of rn in
     let m = number_of base in
@@ -526,16 +520,16 @@ vector_instruction_runs b (VecInsertLane size rd ri rn lane base) is =
     let p = and_parts (reuses_vector rd ri && is_general rn) (is_general base) h in
     let q = and_parts (reuses_vector rd ri) (is_general rn) p.0 in
     (reused_vector rd ri q.0, general_number rn q.1, general_number base p.1)) (is.0, is.1, is.2)
-vector_instruction_runs b (VecInsertLaneUndef size rd rn lane base) is =
+vector_instruction_runs b (V.VecInsertLaneUndef size rd rn lane base) is =
     alone_inserted_runs b (is_vector rd && is_general rn && is_general base) size (number_of rd) (number_of rn) (number_of base) lane (λ h.
     let p = and_parts (is_vector rd && is_general rn) (is_general base) h in
     let q = and_parts (is_vector rd) (is_general rn) p.0 in
     (vector_number rd q.0, general_number rn q.1, general_number base p.1)) (is.0, is.1, is.2)
-vector_instruction_runs b (VecExtractLane size rd rn lane base) is =
+vector_instruction_runs b (V.VecExtractLane size rd rn lane base) is =
     lane_extracted_runs b (is_general rd && is_vector rn && is_general base) size (number_of rd) (number_of rn) (number_of base) lane (λ h.
     let p = and_parts (is_general rd && is_vector rn) (is_general base) h in
     let q = and_parts (is_general rd) (is_vector rn) p.0 in
     (general_number rd q.0, vector_number rn q.1, general_number base p.1)) (is.0, is.1, is.2)
-vector_instruction_runs b (FpuMove32 rd rn) is = left_moved_runs b opcodes.LER Word (omega arith) ler_row (number_of rd) (number_of rn) (two_vectors rd rn is.2) (is.0, is.1)
-vector_instruction_runs b (FpuMove64 rd rn) is = left_moved_runs b opcodes.LDR Doubleword (omega arith) ldr_row (number_of rd) (number_of rn) (two_vectors rd rn is.2) (is.0, is.1)
+vector_instruction_runs b (V.FpuMove32 rd rn) is = left_moved_runs b opcodes.LER Word (omega arith) ler_row (number_of rd) (number_of rn) (two_vectors rd rn is.2) (is.0, is.1)
+vector_instruction_runs b (V.FpuMove64 rd rn) is = left_moved_runs b opcodes.LDR Doubleword (omega arith) ldr_row (number_of rd) (number_of rn) (two_vectors rd rn is.2) (is.0, is.1)
 vector_instruction_runs b _ is = absurd is.2

@@ -1,6 +1,6 @@
 -- The steps of loads and stores of vector registers.
 use Rattle.std.proofs.Common.{◌≡◌, ℕ, ◌+◌, ◌-◌, ◌*◌, ◌^◌, ◌<◌, ◌≤◌, ◌⊎◌, inl, inr, [], Option, Some, None, Bool, true, false, cond, ◌&&◌, ◌||◌, IsTrue, refl, sym, ap, ◌∙◌, subst, arith, nat_lt, nat_le, nat_eq, bit_and, ltb-true, eqb-true}
-use Rattle.std.proofs.lemmas.Bool.{and_parts}
+use Rattle.std.proofs.lemmas.Bool.{and_parts, le-leb}
 use Rattle.std.proofs.lemmas.Nat.{and_assoc, and_mask}
 use Rattle.std.proofs.Math.Nat.{mod-eq_of_lt}
 use Rattle.s390x_base.specs.declared.error.EmitError.TheVariants.{BadOperator}
@@ -48,7 +48,6 @@ use Rattle.s390x_machine.specs.StepKinds.{Unsupported, kind_or, performed_at, ac
 use Rattle.s390x_machine.specs.Storage.{indexed_forms, lane_forms, layout_of, loads_vector, operand_address, stores_vector, vector_forms}
 use Rattle.s390x_machine.specs.Typed.{kind_of_step}
 use Rattle.s390x_machine.specs.VectorSteps.{elements_of, lane_bits}
-use Rattle.s390x_machine.proofs.Bits.{at_most}
 use Rattle.s390x_machine.proofs.Built.{StepAt}
 use Rattle.s390x_machine.proofs.Finalizing.{memory_runs}
 use Rattle.s390x_machine.proofs.Listing.{Meant}
@@ -170,35 +169,25 @@ IsWide _ = ⊥
 
 load_lane_row : (e : ElementSize) → IsNarrow e → Meant Vrx (FirstMask 0 (lane_count e - 1)) (load_lane_opcode (code_of_size e)) (Row.LoadVector (VectorStorage.Element e false))
 unfolding machine_rows row_for semantics_in semantics_of
-load_lane_row Byte narrow = (record { is = refl }, refl)
-load_lane_row Halfword narrow = (record { is = refl }, refl)
-load_lane_row Word narrow = (record { is = refl }, refl)
-load_lane_row Doubleword narrow = (record { is = refl }, refl)
 load_lane_row Quadword narrow = absurd narrow
+load_lane_row e narrow = (record { is = refl }, refl)
 
 store_lane_row : (e : ElementSize) → IsNarrow e → Meant Vrx (FirstMask 0 (lane_count e - 1)) (store_lane_opcode (code_of_size e)) (Row.StoreVector (VectorStorage.Element e false))
 unfolding machine_rows row_for semantics_in semantics_of
-store_lane_row Byte narrow = (record { is = refl }, refl)
-store_lane_row Halfword narrow = (record { is = refl }, refl)
-store_lane_row Word narrow = (record { is = refl }, refl)
-store_lane_row Doubleword narrow = (record { is = refl }, refl)
 store_lane_row Quadword narrow = absurd narrow
+store_lane_row e narrow = (record { is = refl }, refl)
 
 load_reversed_row : (e : ElementSize) → IsWide e → Meant Vrx (FirstMask 0 (lane_count e - 1)) (load_reversed_opcode (code_of_size e)) (Row.LoadVector (VectorStorage.Element e true))
 unfolding machine_rows row_for semantics_in semantics_of
 load_reversed_row Byte wide = absurd wide
-load_reversed_row Halfword wide = (record { is = refl }, refl)
-load_reversed_row Word wide = (record { is = refl }, refl)
-load_reversed_row Doubleword wide = (record { is = refl }, refl)
 load_reversed_row Quadword wide = absurd wide
+load_reversed_row e wide = (record { is = refl }, refl)
 
 store_reversed_row : (e : ElementSize) → IsWide e → Meant Vrx (FirstMask 0 (lane_count e - 1)) (store_reversed_opcode (code_of_size e)) (Row.StoreVector (VectorStorage.Element e true))
 unfolding machine_rows row_for semantics_in semantics_of
 store_reversed_row Byte wide = absurd wide
-store_reversed_row Halfword wide = (record { is = refl }, refl)
-store_reversed_row Word wide = (record { is = refl }, refl)
-store_reversed_row Doubleword wide = (record { is = refl }, refl)
 store_reversed_row Quadword wide = absurd wide
+store_reversed_row e wide = (record { is = refl }, refl)
 
 -- the leftmost element of a float register
 load_word_left : IndexedRows (Some opcodes.LE) (Some opcodes.LEY) (Row.LoadLeft Word)
@@ -220,14 +209,11 @@ store_doubleword_left = ((record { is = refl }, refl), (record { is = refl }, re
 -- ---- an element's row
 
 lane_allowed : (n opcode d lane : ℕ) → lane < n → is_allowed (FirstMask 0 (n - 1)) (vrx opcode d 0 0 lane 0).slots ≡ true
-lane_allowed n opcode d lane lt = ap (λ t. (t && nat_le lane (n - 1)) && true && true) (at_most 0 lane (omega arith)) ∙ ap (λ t. (true && t) && true && true) (at_most lane (n - 1) (omega (arith, lt)))
+lane_allowed n opcode d lane lt = ap (λ t. (t && nat_le lane (n - 1)) && true && true) (le-leb 0 lane (omega arith)) ∙ ap (λ t. (true && t) && true && true) (le-leb lane (n - 1) (omega (arith, lt)))
 
 lane_few : (e : ElementSize) (lane : ℕ) → lane < lane_count e → lane < 16
 lane_few Byte lane lt = lt
-lane_few Halfword lane lt = omega (arith, lt)
-lane_few Word lane lt = omega (arith, lt)
-lane_few Doubleword lane lt = omega (arith, lt)
-lane_few Quadword lane lt = omega (arith, lt)
+lane_few e lane lt = omega (arith, lt)
 
 load_lane_form : (e : ElementSize) (backwards : Bool) (opcode lane known d : ℕ) → Meant Vrx (FirstMask 0 (lane_count e - 1)) opcode (Row.LoadVector (VectorStorage.Element e backwards)) → lane < lane_count e → bit_and all_bits known ≡ known → d < 32 → VectorForm d opcode lane (loads_vector (VectorLayout.Element e lane backwards) known d)
 load_lane_form e backwards opcode lane known d row lt within few =

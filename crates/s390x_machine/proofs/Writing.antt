@@ -6,8 +6,8 @@ use Rattle.std.specs.Option.{unwrap_or}
 use Rattle.std.specs.Ordering.{nat_cmp}
 use Rattle.std.specs.Vec.{with_item, with_items}
 use Rattle.std.proofs.lemmas.List.{get_or-set_same, length-set, set-set, with_items_is}
-use Rattle.s390x_operations.specs.State.{bytes_to, update, wrapping_add64, write_get}
-use Rattle.s390x_machine.specs.Regions.{byte_by, byte_in, contains, has_address, held_in, with_number, HoldsAll, IsHolder}
+use Rattle.s390x_operations.specs.State.{Write, bytes_to, update, wrapping_add64, write_get}
+use Rattle.s390x_machine.specs.Regions.{byte_by, byte_in, contains, has_address, held_in, write_bytes, HoldsAll, IsHolder}
 use Rattle.s390x_machine.specs.declared.flat.Region.{Region}
 use Rattle.s390x_machine.proofs.Folding.{byte_replaced}
 use Rattle.s390x_machine.proofs.Regions.{byte_after, held_after, held_here, holder_after, IsChanged}
@@ -15,7 +15,7 @@ use Rattle.s390x_machine.proofs.Regions.{byte_after, held_after, held_here, hold
 -- a region, with n of its bytes from an address on those of a number
 pub record IsWritten (r new : Region) (a n v : ℕ) : Type 0 where
   pub start : new.start ≡ r.start
-  pub bytes : new.bytes.items ≡ with_number r.start r.bytes.items a n v
+  pub bytes : new.bytes.items ≡ write_bytes r.start (bytes_to a n v) r.bytes.items
 
 -- regions whose bytes are those of others, but for n of them from an address on
 pub record AreWritten (rs ss : List Region) (older : BTreeMap ℕ ℕ) (a n v : ℕ) : Type 0 where
@@ -42,11 +42,9 @@ byte_same (r ∷ rs) (suc i) z new b start bytes = ap (λ x. if contains r b the
 
 -- an address is contained in region k as before
 contains_at : (rs : List Region) (i : ℕ) (z new : Region) (b k : ℕ) (y : Region) → new.start ≡ (get_or rs i z).start → new.bytes.items ≡ (get_or rs i z).bytes.items → i < length rs → contains (get_or (slice_set rs i new) k y) b ≡ contains (get_or rs k y) b
-contains_at [] i z new b k y start bytes lt = refl
 contains_at (r ∷ rs) zero z new b zero y start bytes lt = contains_same r new b start bytes
-contains_at (r ∷ rs) zero z new b (suc k) y start bytes lt = refl
-contains_at (r ∷ rs) (suc i) z new b zero y start bytes lt = refl
 contains_at (r ∷ rs) (suc i) z new b (suc k) y start bytes lt = contains_at rs i z new b k y start bytes (omega (arith, lt))
+contains_at rs i z new b k y start bytes lt = refl
 
 holder_same : (rs : List Region) (i : ℕ) (z new : Region) → new.start ≡ (get_or rs i z).start → new.bytes.items ≡ (get_or rs i z).bytes.items → i < length rs → (b k : ℕ) → IsHolder rs b k → IsHolder (slice_set rs i new) b k
 holder_same rs i z new start bytes lt b k h = (
@@ -92,7 +90,7 @@ same_set : (bs cs : List ℕ) (p x y : ℕ) → bs ≡ cs → x ≡ y → slice_
 same_set bs cs p x y e h = ap₂ (λ (u : List ℕ) (z : ℕ). slice_set u p z) e h
 
 -- eight bytes hold a number's low 64 bits
-pub low_bits : (start : ℕ) (bytes : List ℕ) (a v : ℕ) → with_number start bytes a 8 (v % 18446744073709551616) ≡ with_number start bytes a 8 v
+pub low_bits : (start : ℕ) (bytes : List ℕ) (a v : ℕ) → write_bytes start (bytes_to a 8 (v % 18446744073709551616)) bytes ≡ write_bytes start (bytes_to a 8 v) bytes
 low_bits start bytes a v =
     let w = v % 18446744073709551616 in
     let b0 : w % 256 ≡ v % 256 = omega arith in
@@ -105,17 +103,17 @@ low_bits start bytes a v =
     let b7 : w / 256 / 256 / 256 / 256 / 256 / 256 / 256 % 256 ≡ v / 256 / 256 / 256 / 256 / 256 / 256 / 256 % 256 = omega arith in
     same_set _ _ _ _ _ (same_set _ _ _ _ _ (same_set _ _ _ _ _ (same_set _ _ _ _ _ (same_set _ _ _ _ _ (same_set _ _ _ _ _ (same_set _ _ _ _ _ (same_set bytes bytes _ _ _ refl b0) b1) b2) b3) b4) b5) b6) b7
 
-number_length : (start : ℕ) (bytes : List ℕ) (a n v : ℕ) → length (with_number start bytes a n v) ≡ length bytes
-number_length start bytes a zero v = refl
-number_length start bytes a (suc n) v = number_length start (slice_set bytes (wrapping_add64 a n - start) (v % 256)) a n (v / 256) ∙ length-set bytes (wrapping_add64 a n - start) (v % 256)
+written_length : (start : ℕ) (ws : List Write) (bytes : List ℕ) → length (write_bytes start ws bytes) ≡ length bytes
+written_length start [] bytes = refl
+written_length start (w ∷ ws) bytes = written_length start ws (slice_set bytes (w.address - start) w.byte) ∙ length-set bytes (w.address - start) w.byte
 
 -- a region whose bytes were written, eight of them
-pub is_written : (r z : Region) (old new : List ℕ) (a v : ℕ) → z ≡ r → old ≡ z.bytes.items → new ≡ with_number z.start old a 8 (v % 18446744073709551616) →
+pub is_written : (r z : Region) (old new : List ℕ) (a v : ℕ) → z ≡ r → old ≡ z.bytes.items → new ≡ write_bytes z.start (bytes_to a 8 (v % 18446744073709551616)) old →
     IsWritten r (record { start = z.start; bytes = with_items z.bytes new }) a 8 v
 is_written r z old new a v e at is =
-    let whole : new ≡ with_number z.start z.bytes.items a 8 v = is ∙ low_bits z.start old a v ∙ ap (λ (bs : List ℕ). with_number z.start bs a 8 v) at in
-    let long : length new ≡ z.bytes.len = ap (λ (bs : List ℕ). length bs) whole ∙ number_length z.start z.bytes.items a 8 v ∙ sym z.bytes.ok.0 in
+    let whole : new ≡ write_bytes z.start (bytes_to a 8 v) z.bytes.items = is ∙ low_bits z.start old a v ∙ ap (λ (bs : List ℕ). write_bytes z.start (bytes_to a 8 v) bs) at in
+    let long : length new ≡ z.bytes.len = ap (λ (bs : List ℕ). length bs) whole ∙ written_length z.start (bytes_to a 8 v) z.bytes.items ∙ sym z.bytes.ok.0 in
     record {
       start = ap (λ (q : Region). q.start) e;
-      bytes = with_items_is z.bytes new long ∙ whole ∙ ap (λ (q : Region). with_number q.start q.bytes.items a 8 v) e;
+      bytes = with_items_is z.bytes new long ∙ whole ∙ ap (λ (q : Region). write_bytes q.start (bytes_to a 8 v) q.bytes.items) e;
     }

@@ -5,7 +5,7 @@ use Rattle.s390x_buffer.specs.State.{is_alignment}
 use Rattle.s390x_base.specs.declared.ir.ExternalName.{ExternalName}
 use Rattle.s390x_base.specs.declared.ir.MachLabel.{MachLabel}
 use Rattle.s390x_inst.specs.declared.inst.Inst.{Inst}
-use Rattle.s390x_inst.specs.declared.inst.Inst.TheVariants.{Jump, CondBr, IndirectBr, Ret, JTSequence, Nop0, LabelAddress, LoadSymbolReloc, Trap, TrapIf, Debugtrap, Args, Rets, DummyUse, SequencePoint, Vector}
+use Rattle.s390x_inst.specs.declared.inst.Inst.TheVariants as I
 use Rattle.s390x_typed_steps.specs.SingleInstruction.{SingleInstruction, single_instruction}
 use Rattle.s390x_typed_steps.specs.General.{is_general, is_nonzero, is_scratch}
 use Rattle.s390x_typed_steps.specs.Calls.{is_target}
@@ -36,23 +36,23 @@ AreBlocks L (l ∷ ls) = IsBlock L l.0 × AreBlocks L ls
 -- what emission has checked of an instruction that names a place, goes elsewhere or ends the run: its register is a real general one, that of a branch none
 -- of `%r0`, that of a table's index neither `%r0` nor `%r1`, its blocks are there, and its mask is one of a condition
 abbrev pub IsValidBranch : Layout → Inst → Type 0
-IsValidBranch L (Jump dest) = IsBlock L dest.0
-IsValidBranch L (CondBr taken not_taken mask) = IsBlock L taken.0 × IsBlock L not_taken.0 × IsConditionMask mask
-IsValidBranch L (IndirectBr rn targets) = IsTrue (is_general rn) × IsTrue (is_nonzero rn) × AreBlocks L targets.items
-IsValidBranch L (Ret link) = IsTrue (is_general link) × IsTrue (is_nonzero link)
-IsValidBranch L (JTSequence ridx other mask targets) =
+IsValidBranch L (I.Jump dest) = IsBlock L dest.0
+IsValidBranch L (I.CondBr taken not_taken mask) = IsBlock L taken.0 × IsBlock L not_taken.0 × IsConditionMask mask
+IsValidBranch L (I.IndirectBr rn targets) = IsTrue (is_general rn) × IsTrue (is_nonzero rn) × AreBlocks L targets.items
+IsValidBranch L (I.Ret link) = IsTrue (is_general link) × IsTrue (is_nonzero link)
+IsValidBranch L (I.JTSequence ridx other mask targets) =
     IsTrue (is_general ridx) × IsTrue (is_nonzero ridx) × IsTrue (not (is_scratch ridx)) × IsBlock L other.0 × AreBlocks L targets.items × IsConditionMask mask
-IsValidBranch L Nop0 = Unit {0}
-IsValidBranch L (Args args) = Unit {0}
-IsValidBranch L (Rets rets) = Unit {0}
-IsValidBranch L (DummyUse reg) = Unit {0}
-IsValidBranch L SequencePoint = Unit {0}
-IsValidBranch L (LabelAddress dst label) = IsTrue (is_general dst) × IsBlock L label.0
-IsValidBranch L (LoadSymbolReloc rd reloc) = IsTrue (is_general rd)
-IsValidBranch L (Trap code) = Unit {0}
-IsValidBranch L (TrapIf mask code) = IsConditionMask mask
-IsValidBranch L Debugtrap = Unit {0}
-IsValidBranch L (Vector v) = composite_cause v ≡ None
+IsValidBranch L I.Nop0 = Unit {0}
+IsValidBranch L (I.Args args) = Unit {0}
+IsValidBranch L (I.Rets rets) = Unit {0}
+IsValidBranch L (I.DummyUse reg) = Unit {0}
+IsValidBranch L I.SequencePoint = Unit {0}
+IsValidBranch L (I.LabelAddress dst label) = IsTrue (is_general dst) × IsBlock L label.0
+IsValidBranch L (I.LoadSymbolReloc rd reloc) = IsTrue (is_general rd)
+IsValidBranch L (I.Trap code) = Unit {0}
+IsValidBranch L (I.TrapIf mask code) = IsConditionMask mask
+IsValidBranch L I.Debugtrap = Unit {0}
+IsValidBranch L (I.Vector v) = composite_cause v ≡ None
 IsValidBranch L _ = ⊥
 
 -- of an instruction that is one machine instruction, that its registers may stand there; of another one, what is asked of it
@@ -95,9 +95,9 @@ IsValidStep L (TailJumpStep target) = IsTrue (is_target target)
 
 -- the branches that the end of a block left away lead to the next step, and what is left does what the others did
 abbrev pub LeadsOn : Layout → (k : ℕ) → Remainder → Inst → Type 0
-LeadsOn L k NothingLeft (Jump dest) = L.first_step dest.0 ≡ suc k
-LeadsOn L k NothingLeft (CondBr taken not_taken mask) = (L.first_step taken.0 ≡ suc k) × (L.first_step not_taken.0 ≡ suc k)
-LeadsOn L k (BranchLeft m b) (CondBr taken not_taken mask) =
+LeadsOn L k NothingLeft (I.Jump dest) = L.first_step dest.0 ≡ suc k
+LeadsOn L k NothingLeft (I.CondBr taken not_taken mask) = (L.first_step taken.0 ≡ suc k) × (L.first_step not_taken.0 ≡ suc k)
+LeadsOn L k (BranchLeft m b) (I.CondBr taken not_taken mask) =
     ((m ≡ mask) × (b ≡ taken.0) × (L.first_step not_taken.0 ≡ suc k)) ⊎ ((m ≡ 15 - mask) × (b ≡ not_taken.0) × (L.first_step taken.0 ≡ suc k))
 LeadsOn L k r i = ⊥
 

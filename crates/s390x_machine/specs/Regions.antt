@@ -1,9 +1,9 @@
 -- A memory of regions, the last one added first, and of bytes of older ones.
-use Rattle.std.specs.Prelude.{◌≡◌, ℕ, zero, suc, ◌+◌, ◌-◌, ◌/◌, ◌%◌, ◌^◌, ◌<◌, Bool, true, false, ◌&&◌, ◌||◌, nat_le, nat_lt, if◌then◌else◌, List, [], ◌∷◌, length, get_or, slice_index, slice_set, Option, Some, None}
+use Rattle.std.specs.Prelude.{◌≡◌, ℕ, ◌+◌, ◌-◌, ◌^◌, ◌<◌, Bool, true, false, ◌&&◌, ◌||◌, nat_le, nat_lt, if◌then◌else◌, List, [], ◌∷◌, length, get_or, slice_index, slice_set, Option, Some, None}
 use Rattle.std.specs.Option.{is_some, unwrap_or}
 use Rattle.std.specs.BTreeMap.{BTreeMap, get}
 use Rattle.std.specs.Ordering.{nat_cmp}
-use Rattle.s390x_operations.specs.State.{wrapping_add64}
+use Rattle.s390x_operations.specs.State.{Write, wrapping_add64}
 use Rattle.s390x_machine.specs.declared.flat.Region.{Region}
 use Rattle.s390x_machine.specs.declared.flat.FlatMemory.{FlatMemory}
 
@@ -15,10 +15,10 @@ covers start bytes a = nat_le start a && nat_lt (a - start) (length bytes)
 abbrev pub has_address : ℕ → List ℕ → ℕ → Bool
 has_address start bytes a = covers start bytes a && nat_lt a (2 ^ 64)
 
--- the bytes from a start on, where n of them from an address on are the low bytes of a number, the most significant first
-abbrev pub with_number : ℕ → List ℕ → ℕ → ℕ → ℕ → List ℕ
-with_number start bytes a zero v = bytes
-with_number start bytes a (suc n) v = with_number start (slice_set bytes (wrapping_add64 a n - start) (v % 256)) a n (v / 256)
+-- the bytes from a start on after the writes, in order
+abbrev pub write_bytes : ℕ → List Write → List ℕ → List ℕ
+write_bytes start [] bytes = bytes
+write_bytes start (w ∷ ws) bytes = write_bytes start ws (slice_set bytes (w.address - start) w.byte)
 
 -- the address is one of the region's
 abbrev pub contains : Region → ℕ → Bool

@@ -1,17 +1,18 @@
 -- What a step of the machine as a program answers.
-use Rattle.std.specs.Prelude.{◌≡◌, ℕ, false, IsTrue, Option, Some, None}
+use Rattle.std.specs.Prelude.{◌≡◌, ℕ, true, false, IsTrue, Option, Some, None}
 use Rattle.s390x_format.specs.declared.decoder.Decoded.{Decoded}
 use Rattle.s390x_format.specs.declared.fields.Fields.{Fields}
 use Rattle.s390x_lanes.specs.Relation.{divides_by_zero, division_overflows}
 use Rattle.s390x_lanes.specs.Rows.{is_operation, is_computed, operation_of}
 use Rattle.s390x_lanes.specs.declared.operators.VectorOperation.{VectorOperation}
 use Rattle.s390x_lanes.specs.declared.row.VectorRow.{VectorRow}
-use Rattle.s390x_operations.specs.Access.{fault, store_event}
+use Rattle.s390x_operations.specs.Access.{fault, is_misaligned, store_event}
 use Rattle.s390x_operations.specs.Bits.{bytes}
 use Rattle.s390x_operations.specs.State.{Registers, State, Memory, Core, StoreEvent}
 use Rattle.s390x_operations.specs.Effects.{access, source_access, MayExecute, MayInterrupt, MayRefuse}
 use Rattle.s390x_operations.specs.Values.{raw}
 use Rattle.s390x_operations.specs.declared.operand.Source.{Source}
+use Rattle.s390x_operations.specs.declared.operand.Source.TheVariants.{Value, Memory as InMemory, AlignedMemory}
 use Rattle.s390x_operations.specs.declared.size.Width.{Width}
 use Rattle.s390x_operations.specs.declared.stop.StopKind.{StopKind}
 use Rattle.s390x_operations.specs.declared.stop.StopKind.TheVariants.{Divide}
@@ -42,6 +43,12 @@ ExecutesOperation op c (Some kind) t = MayInterrupt op c.memory.has kind × (t �
 pub record IsRead (operand : Source) (width : Width) (m : Memory) (bits : ℕ) : Type 0 where
   pub reached : fault (source_access operand (bytes width)) m.has ≡ None
   pub is : bits ≡ raw operand width m
+
+-- the operand is so many bytes in memory, from this address on, and they are aligned where they have to be
+abbrev pub StandsAt : Source → ℕ → ℕ → Type 0
+StandsAt (Value x) address n = ⊥
+StandsAt (InMemory a) address n = a ≡ address
+StandsAt (AlignedMemory a) address n = (a ≡ address) × (is_misaligned true a n ≡ false)
 
 -- the condition code that the machine has after a value, by the rule of its operation: a code that isn't stated stays
 abbrev pub code_under : CodeRule → ConditionCode → ConditionCode → ConditionCode

@@ -6,9 +6,7 @@ use Rattle.s390x_base.specs.declared.ir.MachLabel.{MachLabel}
 use Rattle.s390x_base.specs.declared.trap.TrapKind.{TrapKind}
 use Rattle.s390x_base.specs.declared.trap.TrapKind.TheVariants.{IntegerDivisionByZero}
 use Rattle.s390x_inst.specs.declared.inst.Inst.{Inst}
-use Rattle.s390x_inst.specs.declared.inst.Inst.TheVariants.{AluRRR, AluRR, AluRRSImm16, AluRSImm16, AluRSImm32, AluRUImm32, AluRUImm16Shifted, AluRUImm32Shifted, SMulWide, UMulWide, Flogr, ShiftRR, RxSBG, RxSBGTest, UnaryRR, CmpRR, CmpRSImm16, CmpRSImm32, CmpRUImm32}
-use Rattle.s390x_inst.specs.declared.inst.Inst.TheVariants.{Mov64, MovPReg, Mov32, Mov32Imm, Mov32SImm16, Mov64SImm16, Mov64SImm32, Mov64UImm16Shifted, Mov64UImm32Shifted, Insert64UImm16Shifted, Insert64UImm32Shifted, CMov32, CMov64, CMov32SImm16, CMov64SImm16, Extend, LoadAR, InsertAR, LoadIndexedAddr, LoadLogicalIndexedAddr, Fence, Nop0, Nop2}
-use Rattle.s390x_inst.specs.declared.inst.Inst.TheVariants.{Jump, CondBr, IndirectBr, Ret, JTSequence, LabelAddress, LoadSymbolReloc, Trap, TrapIf, Debugtrap, SDivMod32, SDivMod64, UDivMod32, UDivMod64, CmpTrapRR, CmpTrapRSImm16, CmpTrapRUImm16, AllocateArgs, Args, Rets, DummyUse, SequencePoint}
+use Rattle.s390x_inst.specs.declared.inst.Inst.TheVariants as I
 use Rattle.s390x_inst.specs.declared.vec_inst.VecInst.{VecInst}
 use Rattle.s390x_inst.specs.declared.vec_inst.VecInst.TheVariants.{VecInt128SCmpHi, VecInt128UCmpHi}
 use Rattle.s390x_lanes.specs.declared.operators.Signedness.{Signedness}
@@ -31,7 +29,6 @@ use Rattle.s390x_inst.specs.declared.calls.CallInstDest.TheVariants.{Direct, Ind
 use Rattle.s390x_inst.specs.declared.calls.SymbolReloc.{SymbolReloc}
 use Rattle.s390x_typed_steps.specs.Parts.{name_in, offset_in}
 use Rattle.s390x_typed_steps.specs.General.{low_halfword, low_word, low_byte, four_bits, rotation}
-use Rattle.s390x_inst.specs.declared.inst.Inst.TheVariants.{Vector}
 use Rattle.s390x_typed_steps.specs.VectorInstruction.{divides}
 use Rattle.s390x_machine.specs.VectorSteps.{ConditionalOperation, conditional_operation, vector_operation}
 use Rattle.s390x_machine.specs.Layout.{Layout, block_address}
@@ -125,58 +122,58 @@ called_address L (Indirect reg) r = r.general (number_of reg)
 
 -- the instructions that are one operation; a move has no first operand. The layout tells the addresses of blocks and of symbols
 abbrev pub single_operation : Layout → Inst → Option Performed
-single_operation L (AluRRR op rd rn rm) = on_registers (computes (alu_three_rule op) (alu_computation op) (number_of rd) (number_of rn) (number_of rm))
-single_operation L (AluRR op rd ri rm) = on_registers (computes (alu_two_rule op) (alu_computation op) (number_of rd) (number_of rd) (number_of rm))
-single_operation L (UnaryRR op rd rn) = on_registers (computes (unary_rule op) (unary_computation op) (number_of rd) (number_of rd) (number_of rn))
-single_operation L (CmpRR op rn rm) = on_registers (compares (comparison op) (number_of rn) (number_of rm))
-single_operation L (Mov64 rd rm) = on_registers (computes Kept (on_doublewords Move) (number_of rd) (number_of rd) (number_of rm))
-single_operation L (MovPReg rd rm) = on_registers (computes Kept (on_doublewords Move) (number_of rd) (number_of rd) (number_of (Real rm)))
-single_operation L (Mov32 rd rm) = on_registers (computes Kept (on_words Move) (number_of rd) (number_of rd) (number_of rm))
-single_operation L (AluRRSImm16 op rd rn imm) = on_registers (computes_immediate (alu_two_rule op) (on_immediate (alu_computation op) signed_halfword) (number_of rd) (number_of rn) (low_halfword imm))
-single_operation L (AluRSImm16 op rd ri imm) = on_registers (computes_immediate (alu_two_rule op) (on_immediate (alu_computation op) signed_halfword) (number_of rd) (number_of rd) (low_halfword imm))
-single_operation L (AluRSImm32 op rd ri imm) = on_registers (computes_immediate (alu_two_rule op) (on_immediate (alu_computation op) signed_word) (number_of rd) (number_of rd) (low_word imm))
-single_operation L (AluRUImm32 op rd ri imm) = on_registers (computes_immediate (alu_two_rule op) (on_immediate (alu_computation op) unsigned_word) (number_of rd) (number_of rd) (low_word (pos imm)))
-single_operation L (CmpRSImm16 op rn imm) = on_registers (compares_immediate (compares_on_immediate (comparison op) signed_halfword) (number_of rn) (low_halfword imm))
-single_operation L (CmpRSImm32 op rn imm) = on_registers (compares_immediate (compares_on_immediate (comparison op) signed_word) (number_of rn) (low_word imm))
-single_operation L (CmpRUImm32 op rn imm) = on_registers (compares_immediate (compares_on_immediate (comparison op) unsigned_word) (number_of rn) (low_word (pos imm)))
-single_operation L (Mov32Imm rd imm) = on_registers (computes_immediate Kept (on_words Move) (number_of rd) (number_of rd) (low_word (pos imm)))
-single_operation L (Mov32SImm16 rd imm) = on_registers (computes_immediate Kept (on_immediate (on_words Move) signed_halfword) (number_of rd) (number_of rd) (low_halfword imm))
-single_operation L (Mov64SImm16 rd imm) = on_registers (computes_immediate Kept (on_immediate (on_doublewords Move) signed_halfword) (number_of rd) (number_of rd) (low_halfword imm))
-single_operation L (Mov64SImm32 rd imm) = on_registers (computes_immediate Kept (on_immediate (on_doublewords Move) signed_word) (number_of rd) (number_of rd) (low_word imm))
-single_operation L (AluRUImm16Shifted op rd ri imm) = on_registers (computes_immediate Set (on_selected (part_operator op) (part_mask imm.shift)) (number_of rd) (number_of rd) (at_part imm.shift (low_halfword (pos imm.bits))))
-single_operation L (AluRUImm32Shifted op rd ri imm) = on_registers (computes_immediate Set (on_selected (part_operator op) (half_mask imm.shift)) (number_of rd) (number_of rd) (at_half imm.shift (low_word (pos imm.bits))))
-single_operation L (Mov64UImm16Shifted rd imm) = on_registers (computes_immediate Kept (on_doublewords Move) (number_of rd) (number_of rd) (at_part imm.shift (low_halfword (pos imm.bits))))
-single_operation L (Mov64UImm32Shifted rd imm) = on_registers (computes_immediate Kept (on_doublewords Move) (number_of rd) (number_of rd) (at_half imm.shift (low_word (pos imm.bits))))
-single_operation L (Insert64UImm16Shifted rd ri imm) = on_registers (computes_immediate Kept (on_selected Select.Insert (part_mask imm.shift)) (number_of rd) (number_of rd) (at_part imm.shift (low_halfword (pos imm.bits))))
-single_operation L (Insert64UImm32Shifted rd ri imm) = on_registers (computes_immediate Kept (inserts_half imm.shift) (number_of rd) (number_of rd) (at_half imm.shift (low_word (pos imm.bits))))
-single_operation L (Extend rd rn signed from to) = on_registers (computes Kept (extension signed from to) (number_of rd) (number_of rd) (number_of rn))
-single_operation L (LoadAR rd ar) = on_registers (copies_access (number_of rd) (four_bits ar))
-single_operation L (InsertAR rd ri ar) = on_registers (copies_access (number_of rd) (four_bits ar))
-single_operation L (ShiftRR op rd rn amount register) = on_registers (shifts op (number_of rd) (number_of rn) (number_of register) (low_byte amount))
-single_operation L (RxSBG op rd ri rn first last amount) = on_registers (rotates_into op (number_of rd) (number_of rn) first last (rotation amount))
-single_operation L (RxSBGTest op rd rn first last amount) = on_registers (rotates_to_test op (number_of rd) (number_of rn) first last (rotation amount))
-single_operation L (SMulWide rd rn rm) = on_registers (multiplies_signed (number_of rd.hi) (number_of rn) (number_of rm))
-single_operation L (UMulWide rd ri rn) = on_registers (multiplies_logical (number_of rd.hi) (number_of rn))
-single_operation L (Flogr rd rn) = on_registers (finds_leftmost (number_of rd.hi) (number_of rn))
-single_operation L (SDivMod32 rd ri rn) = may_stop division_code (divides_signed Bits32 (number_of rd.hi) (number_of rn))
-single_operation L (SDivMod64 rd ri rn) = may_stop division_code (divides_signed Bits64 (number_of rd.hi) (number_of rn))
-single_operation L (UDivMod32 rd ri rn) = may_stop division_code (divides_logical Word (number_of rd.hi) (number_of rn))
-single_operation L (UDivMod64 rd ri rn) = may_stop division_code (divides_logical Doubleword (number_of rd.hi) (number_of rn))
-single_operation L (CmpTrapRR op rn rm mask code) = may_stop (comparison_code code) (compares_and_traps (comparison op) (number_of rn) (number_of rm) (four_bits mask))
-single_operation L (CmpTrapRSImm16 op rn imm mask code) = may_stop (comparison_code code) (compares_immediate_and_traps (comparison op) (number_of rn) (low_halfword imm) (four_bits mask))
-single_operation L (CmpTrapRUImm16 op rn imm mask code) = may_stop (comparison_code code) (compares_immediate_and_traps (comparison op) (number_of rn) (low_halfword (pos imm)) (four_bits mask))
-single_operation L (CMov32 rd mask ri rm) = on_registers (moves_where Word unsigned_word (four_bits mask) (number_of rd) (number_of rm))
-single_operation L (CMov64 rd mask ri rm) = on_registers (moves_where Doubleword doubleword (four_bits mask) (number_of rd) (number_of rm))
-single_operation L (CMov32SImm16 rd mask ri imm) = on_registers (moves_immediate_where Word (four_bits mask) (number_of rd) (low_halfword imm))
-single_operation L (CMov64SImm16 rd mask ri imm) = on_registers (moves_immediate_where Doubleword (four_bits mask) (number_of rd) (low_halfword imm))
-single_operation L (LoadIndexedAddr rd base index offset size) = on_registers (havocs (number_of rd))
-single_operation L (LoadLogicalIndexedAddr rd base index offset size) = on_registers (havocs (number_of rd))
-single_operation L (AllocateArgs size) = on_registers (takes_from_stack size)
-single_operation L Fence = on_registers idles
-single_operation L Nop2 = on_registers idles
-single_operation L (LabelAddress dst label) = on_registers (computes_immediate Kept (on_doublewords Move) (number_of dst) (number_of dst) (block_address L label.0))
-single_operation L (LoadSymbolReloc rd reloc) = by_scratch (computes_immediate Kept (on_doublewords Move) (number_of rd) (number_of rd) (linked_value L reloc))
-single_operation L (Vector v) = on_vectors (divides v) (vector_operation v)
+single_operation L (I.AluRRR op rd rn rm) = on_registers (computes (alu_three_rule op) (alu_computation op) (number_of rd) (number_of rn) (number_of rm))
+single_operation L (I.AluRR op rd ri rm) = on_registers (computes (alu_two_rule op) (alu_computation op) (number_of rd) (number_of rd) (number_of rm))
+single_operation L (I.UnaryRR op rd rn) = on_registers (computes (unary_rule op) (unary_computation op) (number_of rd) (number_of rd) (number_of rn))
+single_operation L (I.CmpRR op rn rm) = on_registers (compares (comparison op) (number_of rn) (number_of rm))
+single_operation L (I.Mov64 rd rm) = on_registers (computes Kept (on_doublewords Move) (number_of rd) (number_of rd) (number_of rm))
+single_operation L (I.MovPReg rd rm) = on_registers (computes Kept (on_doublewords Move) (number_of rd) (number_of rd) (number_of (Real rm)))
+single_operation L (I.Mov32 rd rm) = on_registers (computes Kept (on_words Move) (number_of rd) (number_of rd) (number_of rm))
+single_operation L (I.AluRRSImm16 op rd rn imm) = on_registers (computes_immediate (alu_two_rule op) (on_immediate (alu_computation op) signed_halfword) (number_of rd) (number_of rn) (low_halfword imm))
+single_operation L (I.AluRSImm16 op rd ri imm) = on_registers (computes_immediate (alu_two_rule op) (on_immediate (alu_computation op) signed_halfword) (number_of rd) (number_of rd) (low_halfword imm))
+single_operation L (I.AluRSImm32 op rd ri imm) = on_registers (computes_immediate (alu_two_rule op) (on_immediate (alu_computation op) signed_word) (number_of rd) (number_of rd) (low_word imm))
+single_operation L (I.AluRUImm32 op rd ri imm) = on_registers (computes_immediate (alu_two_rule op) (on_immediate (alu_computation op) unsigned_word) (number_of rd) (number_of rd) (low_word (pos imm)))
+single_operation L (I.CmpRSImm16 op rn imm) = on_registers (compares_immediate (compares_on_immediate (comparison op) signed_halfword) (number_of rn) (low_halfword imm))
+single_operation L (I.CmpRSImm32 op rn imm) = on_registers (compares_immediate (compares_on_immediate (comparison op) signed_word) (number_of rn) (low_word imm))
+single_operation L (I.CmpRUImm32 op rn imm) = on_registers (compares_immediate (compares_on_immediate (comparison op) unsigned_word) (number_of rn) (low_word (pos imm)))
+single_operation L (I.Mov32Imm rd imm) = on_registers (computes_immediate Kept (on_words Move) (number_of rd) (number_of rd) (low_word (pos imm)))
+single_operation L (I.Mov32SImm16 rd imm) = on_registers (computes_immediate Kept (on_immediate (on_words Move) signed_halfword) (number_of rd) (number_of rd) (low_halfword imm))
+single_operation L (I.Mov64SImm16 rd imm) = on_registers (computes_immediate Kept (on_immediate (on_doublewords Move) signed_halfword) (number_of rd) (number_of rd) (low_halfword imm))
+single_operation L (I.Mov64SImm32 rd imm) = on_registers (computes_immediate Kept (on_immediate (on_doublewords Move) signed_word) (number_of rd) (number_of rd) (low_word imm))
+single_operation L (I.AluRUImm16Shifted op rd ri imm) = on_registers (computes_immediate Set (on_selected (part_operator op) (part_mask imm.shift)) (number_of rd) (number_of rd) (at_part imm.shift (low_halfword (pos imm.bits))))
+single_operation L (I.AluRUImm32Shifted op rd ri imm) = on_registers (computes_immediate Set (on_selected (part_operator op) (half_mask imm.shift)) (number_of rd) (number_of rd) (at_half imm.shift (low_word (pos imm.bits))))
+single_operation L (I.Mov64UImm16Shifted rd imm) = on_registers (computes_immediate Kept (on_doublewords Move) (number_of rd) (number_of rd) (at_part imm.shift (low_halfword (pos imm.bits))))
+single_operation L (I.Mov64UImm32Shifted rd imm) = on_registers (computes_immediate Kept (on_doublewords Move) (number_of rd) (number_of rd) (at_half imm.shift (low_word (pos imm.bits))))
+single_operation L (I.Insert64UImm16Shifted rd ri imm) = on_registers (computes_immediate Kept (on_selected Select.Insert (part_mask imm.shift)) (number_of rd) (number_of rd) (at_part imm.shift (low_halfword (pos imm.bits))))
+single_operation L (I.Insert64UImm32Shifted rd ri imm) = on_registers (computes_immediate Kept (inserts_half imm.shift) (number_of rd) (number_of rd) (at_half imm.shift (low_word (pos imm.bits))))
+single_operation L (I.Extend rd rn signed from to) = on_registers (computes Kept (extension signed from to) (number_of rd) (number_of rd) (number_of rn))
+single_operation L (I.LoadAR rd ar) = on_registers (copies_access (number_of rd) (four_bits ar))
+single_operation L (I.InsertAR rd ri ar) = on_registers (copies_access (number_of rd) (four_bits ar))
+single_operation L (I.ShiftRR op rd rn amount register) = on_registers (shifts op (number_of rd) (number_of rn) (number_of register) (low_byte amount))
+single_operation L (I.RxSBG op rd ri rn first last amount) = on_registers (rotates_into op (number_of rd) (number_of rn) first last (rotation amount))
+single_operation L (I.RxSBGTest op rd rn first last amount) = on_registers (rotates_to_test op (number_of rd) (number_of rn) first last (rotation amount))
+single_operation L (I.SMulWide rd rn rm) = on_registers (multiplies_signed (number_of rd.hi) (number_of rn) (number_of rm))
+single_operation L (I.UMulWide rd ri rn) = on_registers (multiplies_logical (number_of rd.hi) (number_of rn))
+single_operation L (I.Flogr rd rn) = on_registers (finds_leftmost (number_of rd.hi) (number_of rn))
+single_operation L (I.SDivMod32 rd ri rn) = may_stop division_code (divides_signed Bits32 (number_of rd.hi) (number_of rn))
+single_operation L (I.SDivMod64 rd ri rn) = may_stop division_code (divides_signed Bits64 (number_of rd.hi) (number_of rn))
+single_operation L (I.UDivMod32 rd ri rn) = may_stop division_code (divides_logical Word (number_of rd.hi) (number_of rn))
+single_operation L (I.UDivMod64 rd ri rn) = may_stop division_code (divides_logical Doubleword (number_of rd.hi) (number_of rn))
+single_operation L (I.CmpTrapRR op rn rm mask code) = may_stop (comparison_code code) (compares_and_traps (comparison op) (number_of rn) (number_of rm) (four_bits mask))
+single_operation L (I.CmpTrapRSImm16 op rn imm mask code) = may_stop (comparison_code code) (compares_immediate_and_traps (comparison op) (number_of rn) (low_halfword imm) (four_bits mask))
+single_operation L (I.CmpTrapRUImm16 op rn imm mask code) = may_stop (comparison_code code) (compares_immediate_and_traps (comparison op) (number_of rn) (low_halfword (pos imm)) (four_bits mask))
+single_operation L (I.CMov32 rd mask ri rm) = on_registers (moves_where Word unsigned_word (four_bits mask) (number_of rd) (number_of rm))
+single_operation L (I.CMov64 rd mask ri rm) = on_registers (moves_where Doubleword doubleword (four_bits mask) (number_of rd) (number_of rm))
+single_operation L (I.CMov32SImm16 rd mask ri imm) = on_registers (moves_immediate_where Word (four_bits mask) (number_of rd) (low_halfword imm))
+single_operation L (I.CMov64SImm16 rd mask ri imm) = on_registers (moves_immediate_where Doubleword (four_bits mask) (number_of rd) (low_halfword imm))
+single_operation L (I.LoadIndexedAddr rd base index offset size) = on_registers (havocs (number_of rd))
+single_operation L (I.LoadLogicalIndexedAddr rd base index offset size) = on_registers (havocs (number_of rd))
+single_operation L (I.AllocateArgs size) = on_registers (takes_from_stack size)
+single_operation L I.Fence = on_registers idles
+single_operation L I.Nop2 = on_registers idles
+single_operation L (I.LabelAddress dst label) = on_registers (computes_immediate Kept (on_doublewords Move) (number_of dst) (number_of dst) (block_address L label.0))
+single_operation L (I.LoadSymbolReloc rd reloc) = by_scratch (computes_immediate Kept (on_doublewords Move) (number_of rd) (number_of rd) (linked_value L reloc))
+single_operation L (I.Vector v) = on_vectors (divides v) (vector_operation v)
 single_operation L _ = None
 
 -- the code of an access's faults: that of its flags, if there is one. What accesses nothing has none
@@ -211,20 +208,20 @@ composite_kind v = where_kind (conditional_operation v)
 
 -- one that goes elsewhere or ends the run, or is several operations
 abbrev pub branch_kind : Inst → StepKind
-branch_kind (Jump dest) = GoesTo dest.0
-branch_kind (CondBr taken not_taken mask) = Chooses mask taken.0 not_taken.0
-branch_kind (IndirectBr rn targets) = GoesByAddress (number_of rn) targets.items
-branch_kind (Ret link) = Returns (number_of link)
-branch_kind (JTSequence ridx other mask targets) = GoesByTable (number_of ridx) mask other.0 targets.items
-branch_kind Nop0 = Silent
-branch_kind (Args args) = Silent
-branch_kind (Rets rets) = Silent
-branch_kind (DummyUse reg) = Silent
-branch_kind SequencePoint = Silent
-branch_kind (Trap code) = TrapsAlways code
-branch_kind (TrapIf mask code) = TrapsWhere mask code
-branch_kind Debugtrap = DebugStops
-branch_kind (Vector v) = composite_kind v
+branch_kind (I.Jump dest) = GoesTo dest.0
+branch_kind (I.CondBr taken not_taken mask) = Chooses mask taken.0 not_taken.0
+branch_kind (I.IndirectBr rn targets) = GoesByAddress (number_of rn) targets.items
+branch_kind (I.Ret link) = Returns (number_of link)
+branch_kind (I.JTSequence ridx other mask targets) = GoesByTable (number_of ridx) mask other.0 targets.items
+branch_kind I.Nop0 = Silent
+branch_kind (I.Args args) = Silent
+branch_kind (I.Rets rets) = Silent
+branch_kind (I.DummyUse reg) = Silent
+branch_kind I.SequencePoint = Silent
+branch_kind (I.Trap code) = TrapsAlways code
+branch_kind (I.TrapIf mask code) = TrapsWhere mask code
+branch_kind I.Debugtrap = DebugStops
+branch_kind (I.Vector v) = composite_kind v
 branch_kind _ = Unsupported
 
 -- an instruction that is one operation performs it; another one has its own kind

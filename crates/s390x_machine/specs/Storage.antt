@@ -9,8 +9,7 @@ use Rattle.s390x_inst.specs.declared.ops.ALUOp.{ALUOp}
 use Rattle.s390x_inst.specs.declared.ops.CmpOp.{CmpOp}
 use Rattle.s390x_inst.specs.declared.ops.CmpOp.TheVariants as C
 use Rattle.s390x_inst.specs.declared.inst.Inst.{Inst}
-use Rattle.s390x_inst.specs.declared.inst.Inst.TheVariants.{AluRX, CmpRX}
-use Rattle.s390x_inst.specs.declared.inst.Inst.TheVariants.{StoreImm8, StoreImm16, StoreImm32SExt16, StoreImm64SExt16, LoadMultiple64, StoreMultiple64, LoadAddr, AtomicRmw, AtomicCas32, AtomicCas64, Vector}
+use Rattle.s390x_inst.specs.declared.inst.Inst.TheVariants as I
 use Rattle.s390x_inst.specs.declared.load.Load.{Load}
 use Rattle.s390x_inst.specs.declared.load.LoadOp.{LoadOp}
 use Rattle.s390x_inst.specs.declared.load.LoadOp.TheVariants as LoadOps
@@ -24,7 +23,7 @@ use Rattle.s390x_inst.specs.declared.whole.WholeLayout.{WholeLayout}
 use Rattle.s390x_inst.specs.declared.whole.WholeLayout.TheVariants as W
 use Rattle.s390x_inst.specs.Wholes.{as_whole, by_whole, by_direction}
 use Rattle.s390x_inst.specs.declared.vec_inst.VecInst.{VecInst}
-use Rattle.s390x_inst.specs.declared.vec_inst.VecInst.TheVariants.{VecLoadReplicate, VecLoadReplicateRev, VecLoadLane, VecLoadLaneRev, VecLoadLaneUndef, VecLoadLaneRevUndef, VecStoreLane, VecStoreLaneRev}
+use Rattle.s390x_inst.specs.declared.vec_inst.VecInst.TheVariants as V
 use Rattle.s390x_lanes.specs.declared.size.ElementSize.{ElementSize}
 use Rattle.s390x_lanes.specs.declared.operators.Signedness.TheVariants.{Signed, Unsigned}
 use Rattle.s390x_typed_steps.specs.General.{low_byte, low_halfword}
@@ -238,18 +237,18 @@ takes_address mem operation =
 
 -- loads and stores of one element of a vector register
 abbrev pub lane_operand_step : VecInst → Option OperandStep
-lane_operand_step (VecLoadLane size rd ri mem lane) = accesses_at vector_forms mem (loads_vector (VectorLayout.Element (elements_of size) lane false) all_bits (number_of rd))
-lane_operand_step (VecLoadLaneRev size rd ri mem lane) = accesses_at vector_forms mem (loads_vector (VectorLayout.Element (elements_of size) lane true) all_bits (number_of rd))
-lane_operand_step (VecLoadLaneUndef size rd mem lane) = accesses_at (lane_forms size lane (number_of rd)) mem (loads_vector (VectorLayout.Element (elements_of size) lane false) (lane_bits (elements_of size) lane) (number_of rd))
-lane_operand_step (VecLoadLaneRevUndef size rd mem lane) = accesses_at vector_forms mem (loads_vector (VectorLayout.Element (elements_of size) lane true) (lane_bits (elements_of size) lane) (number_of rd))
-lane_operand_step (VecStoreLane size rd mem lane) = accesses_at (lane_forms size lane (number_of rd)) mem (stores_vector (VectorLayout.Element (elements_of size) lane false) (number_of rd))
-lane_operand_step (VecStoreLaneRev size rd mem lane) = accesses_at vector_forms mem (stores_vector (VectorLayout.Element (elements_of size) lane true) (number_of rd))
+lane_operand_step (V.VecLoadLane size rd ri mem lane) = accesses_at vector_forms mem (loads_vector (VectorLayout.Element (elements_of size) lane false) all_bits (number_of rd))
+lane_operand_step (V.VecLoadLaneRev size rd ri mem lane) = accesses_at vector_forms mem (loads_vector (VectorLayout.Element (elements_of size) lane true) all_bits (number_of rd))
+lane_operand_step (V.VecLoadLaneUndef size rd mem lane) = accesses_at (lane_forms size lane (number_of rd)) mem (loads_vector (VectorLayout.Element (elements_of size) lane false) (lane_bits (elements_of size) lane) (number_of rd))
+lane_operand_step (V.VecLoadLaneRevUndef size rd mem lane) = accesses_at vector_forms mem (loads_vector (VectorLayout.Element (elements_of size) lane true) (lane_bits (elements_of size) lane) (number_of rd))
+lane_operand_step (V.VecStoreLane size rd mem lane) = accesses_at (lane_forms size lane (number_of rd)) mem (stores_vector (VectorLayout.Element (elements_of size) lane false) (number_of rd))
+lane_operand_step (V.VecStoreLaneRev size rd mem lane) = accesses_at vector_forms mem (stores_vector (VectorLayout.Element (elements_of size) lane true) (number_of rd))
 lane_operand_step _ = None
 
 -- those of elements, one of which may go to all
 abbrev pub part_operand_step : VecInst → Option OperandStep
-part_operand_step (VecLoadReplicate size rd mem) = accesses_at vector_forms mem (loads_vector (VectorLayout.Replicated (elements_of size) false) all_bits (number_of rd))
-part_operand_step (VecLoadReplicateRev size rd mem) = accesses_at vector_forms mem (loads_vector (VectorLayout.Replicated (elements_of size) true) all_bits (number_of rd))
+part_operand_step (V.VecLoadReplicate size rd mem) = accesses_at vector_forms mem (loads_vector (VectorLayout.Replicated (elements_of size) false) all_bits (number_of rd))
+part_operand_step (V.VecLoadReplicateRev size rd mem) = accesses_at vector_forms mem (loads_vector (VectorLayout.Replicated (elements_of size) true) all_bits (number_of rd))
 part_operand_step v = lane_operand_step v
 
 -- how a whole register lies in memory
@@ -316,19 +315,19 @@ store_step s = accesses_at (stored_value s.op).forms s.mem (stores_at (stored_va
 
 -- what an instruction does with its operand in storage, where it is neither a load nor a store of one register
 abbrev pub rest_operand_step : Inst → Option OperandStep
-rest_operand_step (AluRX op rd ri mem) = accesses_at (alu_forms op) mem (computes_at (alu_two_rule op) (alu_computation op) (number_of rd))
-rest_operand_step (CmpRX op rn mem) = accesses_at (cmp_forms op) mem (compares_at (comparison op) (number_of rn))
-rest_operand_step (LoadAddr rd mem) = takes_address mem (loads_address (number_of rd))
-rest_operand_step (StoreImm8 imm mem) = accesses_at (based_forms true true) mem (stores_value Bits8 (low_byte imm))
-rest_operand_step (StoreImm16 imm mem) = accesses_at (based_forms true false) mem (stores_value Bits16 (signed_immediate (low_halfword imm)))
-rest_operand_step (StoreImm32SExt16 imm mem) = accesses_at (based_forms true false) mem (stores_value Bits32 (signed_immediate (low_halfword imm)))
-rest_operand_step (StoreImm64SExt16 imm mem) = accesses_at (based_forms true false) mem (stores_value Bits64 (signed_immediate (low_halfword imm)))
-rest_operand_step (LoadMultiple64 rt rt2 mem) = accesses_at (based_forms false true) mem (loads_multiple (number_of rt) (number_of rt2))
-rest_operand_step (StoreMultiple64 rt rt2 mem) = accesses_at (based_forms false true) mem (stores_multiple (number_of rt) (number_of rt2))
-rest_operand_step (AtomicRmw op rd rn mem) = accesses_at (based_forms false true) mem (operates_at (alu_computation op) (number_of rd) (number_of rn))
-rest_operand_step (AtomicCas32 rd ri rn mem) = accesses_at (based_forms true true) mem (swaps_at Word (number_of rd) (number_of rn))
-rest_operand_step (AtomicCas64 rd ri rn mem) = accesses_at (based_forms false true) mem (swaps_at Doubleword (number_of rd) (number_of rn))
-rest_operand_step (Vector v) = vector_operand_step v
+rest_operand_step (I.AluRX op rd ri mem) = accesses_at (alu_forms op) mem (computes_at (alu_two_rule op) (alu_computation op) (number_of rd))
+rest_operand_step (I.CmpRX op rn mem) = accesses_at (cmp_forms op) mem (compares_at (comparison op) (number_of rn))
+rest_operand_step (I.LoadAddr rd mem) = takes_address mem (loads_address (number_of rd))
+rest_operand_step (I.StoreImm8 imm mem) = accesses_at (based_forms true true) mem (stores_value Bits8 (low_byte imm))
+rest_operand_step (I.StoreImm16 imm mem) = accesses_at (based_forms true false) mem (stores_value Bits16 (signed_immediate (low_halfword imm)))
+rest_operand_step (I.StoreImm32SExt16 imm mem) = accesses_at (based_forms true false) mem (stores_value Bits32 (signed_immediate (low_halfword imm)))
+rest_operand_step (I.StoreImm64SExt16 imm mem) = accesses_at (based_forms true false) mem (stores_value Bits64 (signed_immediate (low_halfword imm)))
+rest_operand_step (I.LoadMultiple64 rt rt2 mem) = accesses_at (based_forms false true) mem (loads_multiple (number_of rt) (number_of rt2))
+rest_operand_step (I.StoreMultiple64 rt rt2 mem) = accesses_at (based_forms false true) mem (stores_multiple (number_of rt) (number_of rt2))
+rest_operand_step (I.AtomicRmw op rd rn mem) = accesses_at (based_forms false true) mem (operates_at (alu_computation op) (number_of rd) (number_of rn))
+rest_operand_step (I.AtomicCas32 rd ri rn mem) = accesses_at (based_forms true true) mem (swaps_at Word (number_of rd) (number_of rn))
+rest_operand_step (I.AtomicCas64 rd ri rn mem) = accesses_at (based_forms false true) mem (swaps_at Doubleword (number_of rd) (number_of rn))
+rest_operand_step (I.Vector v) = vector_operand_step v
 rest_operand_step _ = None
 
 -- what an instruction does with its operand in storage, where it is no load of one register

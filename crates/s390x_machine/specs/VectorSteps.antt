@@ -3,8 +3,7 @@
 use Rattle.std.specs.Prelude.{ℕ, ◌+◌, ◌*◌, ◌/◌, ◌%◌, ◌^◌, ◌-◌, pos, true, false, cond, if◌then◌else◌, nat_eq, nat_lt, Option, Some, None}
 use Rattle.s390x_base.specs.Regs.{number_of}
 use Rattle.s390x_inst.specs.declared.vec_inst.VecInst.{VecInst}
-use Rattle.s390x_inst.specs.declared.vec_inst.VecInst.TheVariants.{VecRRR, VecRR, VecSelect, VecPermute, VecBlend, VecIntCmp, VecIntCmpS, VecIntEltCmp, VecMov, VecShiftRR, VecEvaluate, VecPermuteDWImm, MovToVec128, VecImmByteMask, VecImmReplicate, VecImmBitMask, VecReplicateLane, VecInsertLaneImm, VecInsertLaneImmUndef, VecInsertLane, VecInsertLaneUndef, VecExtractLane, FpuMove32, FpuMove64}
-use Rattle.s390x_inst.specs.declared.vec_inst.VecInst.TheVariants.{FpuCMov32, FpuCMov64, VecCMov, VecEltRev}
+use Rattle.s390x_inst.specs.declared.vec_inst.VecInst.TheVariants as V
 use Rattle.s390x_lanes.specs.declared.operators.ShiftOperator.{ShiftOperator}
 use Rattle.s390x_lanes.specs.declared.operators.VectorOperation.{VectorOperation}
 use Rattle.s390x_lanes.specs.declared.operators.VectorOperation.TheVariants.{Select, Permute, Blend, Move, ShiftElements, Evaluate, PermuteDoublewords, ByteMask, ReplicateImmediate, BitMask, Replicate, InsertImmediate}
@@ -100,31 +99,31 @@ reverses_elements size d n r = with_rule Kept (Effect.PutVector d all_bits (with
 
 -- the instructions that are one operation
 abbrev pub vector_operation : VecInst → Option (Registers → Operation)
-vector_operation (VecRRR op rd rn rm) = Some (computes_two_vectors (binary_operation op) (number_of rd) (number_of rn) (number_of rm))
-vector_operation (VecRR op rd rn) = Some (computes_one_vector (unary_operation op) (number_of rd) (number_of rn))
-vector_operation (VecSelect rd rn rm ra) = Some (computes_three_vectors Select (number_of rd) (number_of rn) (number_of rm) (number_of ra))
-vector_operation (VecPermute rd rn rm ra) = Some (computes_three_vectors Permute (number_of rd) (number_of rn) (number_of rm) (number_of ra))
-vector_operation (VecBlend rd rn rm ra) = Some (computes_three_vectors Blend (number_of rd) (number_of rn) (number_of rm) (number_of ra))
-vector_operation (VecIntCmp op rd rn rm) = Some (computes_two_vectors (comparison_operation op false) (number_of rd) (number_of rn) (number_of rm))
-vector_operation (VecIntCmpS op rd rn rm) = Some (computes_two_vectors (comparison_operation op true) (number_of rd) (number_of rn) (number_of rm))
-vector_operation (VecIntEltCmp op rn rm) = Some (compares_vectors (element_comparison op) (number_of rn) (number_of rm))
-vector_operation (VecMov rd rn) = Some (computes_one_vector Move (number_of rd) (number_of rn))
-vector_operation (VecShiftRR op rd rn amount register) = Some (shifts_vector (shift_operator op) (shifted_elements op) (number_of rd) (number_of rn) (number_of register) (low_byte amount))
-vector_operation (VecEvaluate imm rd rn rm ra) = Some (computes_three_vectors (Evaluate (low_byte imm)) (number_of rd) (number_of rn) (number_of rm) (number_of ra))
-vector_operation (VecPermuteDWImm rd rn rm first second) = Some (computes_two_vectors (PermuteDoublewords first second) (number_of rd) (number_of rn) (number_of rm))
-vector_operation (MovToVec128 rd rn rm) = Some (joins_registers (number_of rd) (number_of rn) (number_of rm))
-vector_operation (VecImmByteMask rd mask) = Some (generates_vector (ByteMask (low_halfword (pos mask))) (number_of rd))
-vector_operation (VecImmReplicate size rd imm) = Some (generates_vector (ReplicateImmediate (elements_of size) (low_halfword imm)) (number_of rd))
-vector_operation (VecImmBitMask size rd start end) = Some (generates_vector (BitMask (elements_of size) start end) (number_of rd))
-vector_operation (VecReplicateLane size rd rn lane) = Some (computes_one_vector (Replicate (elements_of size) lane) (number_of rd) (number_of rn))
-vector_operation (VecInsertLaneImm size rd ri imm lane) = Some (generates_vector (InsertImmediate (elements_of size) (low_halfword imm) lane) (number_of rd))
-vector_operation (VecInsertLaneImmUndef size rd imm lane) = Some (inserts_immediate_alone (elements_of size) (number_of rd) (low_halfword imm) lane)
-vector_operation (VecInsertLane size rd ri rn lane base) = Some (inserts_lane (elements_of size) (number_of rd) (number_of rn) (number_of base) lane)
-vector_operation (VecInsertLaneUndef size rd rn lane base) = Some (inserts_lane_alone (elements_of size) (number_of rd) (number_of rn) (number_of base) lane)
-vector_operation (VecExtractLane size rd rn lane base) = Some (extracts_lane (elements_of size) (number_of rd) (number_of rn) (number_of base) lane)
-vector_operation (FpuMove32 rd rn) = Some (moves_left Word (number_of rd) (number_of rn))
-vector_operation (FpuMove64 rd rn) = Some (moves_left Doubleword (number_of rd) (number_of rn))
-vector_operation (VecEltRev count rd rn) = Some (reverses_elements (elements_of (128 / count)) (number_of rd) (number_of rn))
+vector_operation (V.VecRRR op rd rn rm) = Some (computes_two_vectors (binary_operation op) (number_of rd) (number_of rn) (number_of rm))
+vector_operation (V.VecRR op rd rn) = Some (computes_one_vector (unary_operation op) (number_of rd) (number_of rn))
+vector_operation (V.VecSelect rd rn rm ra) = Some (computes_three_vectors Select (number_of rd) (number_of rn) (number_of rm) (number_of ra))
+vector_operation (V.VecPermute rd rn rm ra) = Some (computes_three_vectors Permute (number_of rd) (number_of rn) (number_of rm) (number_of ra))
+vector_operation (V.VecBlend rd rn rm ra) = Some (computes_three_vectors Blend (number_of rd) (number_of rn) (number_of rm) (number_of ra))
+vector_operation (V.VecIntCmp op rd rn rm) = Some (computes_two_vectors (comparison_operation op false) (number_of rd) (number_of rn) (number_of rm))
+vector_operation (V.VecIntCmpS op rd rn rm) = Some (computes_two_vectors (comparison_operation op true) (number_of rd) (number_of rn) (number_of rm))
+vector_operation (V.VecIntEltCmp op rn rm) = Some (compares_vectors (element_comparison op) (number_of rn) (number_of rm))
+vector_operation (V.VecMov rd rn) = Some (computes_one_vector Move (number_of rd) (number_of rn))
+vector_operation (V.VecShiftRR op rd rn amount register) = Some (shifts_vector (shift_operator op) (shifted_elements op) (number_of rd) (number_of rn) (number_of register) (low_byte amount))
+vector_operation (V.VecEvaluate imm rd rn rm ra) = Some (computes_three_vectors (Evaluate (low_byte imm)) (number_of rd) (number_of rn) (number_of rm) (number_of ra))
+vector_operation (V.VecPermuteDWImm rd rn rm first second) = Some (computes_two_vectors (PermuteDoublewords first second) (number_of rd) (number_of rn) (number_of rm))
+vector_operation (V.MovToVec128 rd rn rm) = Some (joins_registers (number_of rd) (number_of rn) (number_of rm))
+vector_operation (V.VecImmByteMask rd mask) = Some (generates_vector (ByteMask (low_halfword (pos mask))) (number_of rd))
+vector_operation (V.VecImmReplicate size rd imm) = Some (generates_vector (ReplicateImmediate (elements_of size) (low_halfword imm)) (number_of rd))
+vector_operation (V.VecImmBitMask size rd start end) = Some (generates_vector (BitMask (elements_of size) start end) (number_of rd))
+vector_operation (V.VecReplicateLane size rd rn lane) = Some (computes_one_vector (Replicate (elements_of size) lane) (number_of rd) (number_of rn))
+vector_operation (V.VecInsertLaneImm size rd ri imm lane) = Some (generates_vector (InsertImmediate (elements_of size) (low_halfword imm) lane) (number_of rd))
+vector_operation (V.VecInsertLaneImmUndef size rd imm lane) = Some (inserts_immediate_alone (elements_of size) (number_of rd) (low_halfword imm) lane)
+vector_operation (V.VecInsertLane size rd ri rn lane base) = Some (inserts_lane (elements_of size) (number_of rd) (number_of rn) (number_of base) lane)
+vector_operation (V.VecInsertLaneUndef size rd rn lane base) = Some (inserts_lane_alone (elements_of size) (number_of rd) (number_of rn) (number_of base) lane)
+vector_operation (V.VecExtractLane size rd rn lane base) = Some (extracts_lane (elements_of size) (number_of rd) (number_of rn) (number_of base) lane)
+vector_operation (V.FpuMove32 rd rn) = Some (moves_left Word (number_of rd) (number_of rn))
+vector_operation (V.FpuMove64 rd rn) = Some (moves_left Doubleword (number_of rd) (number_of rn))
+vector_operation (V.VecEltRev count rd rn) = Some (reverses_elements (elements_of (128 / count)) (number_of rd) (number_of rn))
 vector_operation _ = None
 
 -- an operation that is done where the mask selects the condition code
@@ -134,7 +133,7 @@ pub record ConditionalOperation : Type 0 where
 
 -- the instructions that are one operation under a condition
 abbrev pub conditional_operation : VecInst → Option ConditionalOperation
-conditional_operation (FpuCMov32 rd mask ri rm) = Some (record { mask = four_bits mask; operation = moves_left Word (number_of rd) (number_of rm) })
-conditional_operation (FpuCMov64 rd mask ri rm) = Some (record { mask = four_bits mask; operation = moves_left Doubleword (number_of rd) (number_of rm) })
-conditional_operation (VecCMov rd mask ri rm) = Some (record { mask = four_bits mask; operation = computes_one_vector Move (number_of rd) (number_of rm) })
+conditional_operation (V.FpuCMov32 rd mask ri rm) = Some (record { mask = four_bits mask; operation = moves_left Word (number_of rd) (number_of rm) })
+conditional_operation (V.FpuCMov64 rd mask ri rm) = Some (record { mask = four_bits mask; operation = moves_left Doubleword (number_of rd) (number_of rm) })
+conditional_operation (V.VecCMov rd mask ri rm) = Some (record { mask = four_bits mask; operation = computes_one_vector Move (number_of rd) (number_of rm) })
 conditional_operation _ = None

@@ -1,6 +1,6 @@
 //! Numbers in memory, and the faults of accesses.
 
-ghost use Rattle.std.specs.Prelude.{◌≡◌, ℕ, ◌<◌, ◌≤◌, ◌*◌, ◌^◌, true, IsTrue, Option, Some};
+ghost use Rattle.std.specs.Prelude.{◌≡◌, ℕ, ◌<◌, ◌≤◌, ◌*◌, ◌^◌, true, IsTrue, IfSome, Option, Some};
 ghost use Rattle.s390x_operations.specs.Bits.{bytes};
 ghost use Rattle.s390x_operations.specs.Numbers.{modulus};
 ghost use Rattle.s390x_operations.specs.State.{number_at, bytes_to, write_get, reaches};
@@ -9,6 +9,7 @@ ghost use Rattle.s390x_operations.specs.Values.{width_of};
 ghost use Rattle.s390x_operations.specs.Effects.{source_access, store_access, access, number_in_memory, joined_doublewords};
 ghost use Rattle.s390x_machine.specs.State.{memory_of};
 ghost use Rattle.s390x_machine.specs.Sound.{IsSound};
+ghost use Rattle.s390x_machine.specs.Step.{StandsAt};
 
 use crate::memory::Memory;
 use s390x_operations::{Effect, Size, Source, StopKind, bytes, layout_bytes};
@@ -85,8 +86,25 @@ fn reach_fault<M: Memory>(memory: &M, misaligned: bool, address: u64, n: u64) ->
     }
 }
 
+/// The address of an operand of so many bytes in memory; `None` where it has to be aligned and isn't, and where it isn't in memory.
+pub fn operand_address(operand: Source, n: u64) -> Option<u64>
+    requires { 0 < n }
+    ensures { IfSome result (λ address. StandsAt operand address n) }
+{
+    match operand {
+        Source::Value(_) => None,
+        Source::Memory(address) => Some(address),
+        Source::AlignedMemory(address) => {
+            if is_misaligned(address, n) {
+                return None;
+            }
+            Some(address)
+        }
+    }
+}
+
 /// The fault of an operand of so many bytes, whether it is read or stored.
-pub fn operand_fault<M: Memory>(memory: &M, operand: Source, n: u64) -> Option<StopKind>
+fn operand_fault<M: Memory>(memory: &M, operand: Source, n: u64) -> Option<StopKind>
     requires { 0 < n }
     ensures read { result ≡ fault (source_access operand n) (M.held memory.now) }
     ensures stored { (value : ℕ)

@@ -39,6 +39,15 @@ pub fn plain_operation(
     Some(operation)
 }
 
+/// What the vector registers hold that a row's fields name, in the order of the fields.
+#[derive(Clone, Copy)]
+struct FieldVectors {
+    first: u128,
+    second: u128,
+    third: u128,
+    fourth: u128,
+}
+
 /// The sums of the doublewords of two registers.
 fn sum_of_doublewords(x: u128, y: u128) -> u128
     ensures { (first fourth : ℕ)
@@ -51,101 +60,74 @@ fn sum_of_doublewords(x: u128, y: u128) -> u128
     high as u128 * 18446744073709551616 + low as u128
 }
 
-/// The result of an operator on doublewords. The most frequent one is made without lanes.
-fn doublewords_value(
-    operator: BinaryOperator,
-    first: u128,
-    second: u128,
-    third: u128,
-    fourth: u128,
-) -> u128
+/// The result of an operation, made lane by lane.
+fn lanes_value(operation: VectorOperation, vectors: FieldVectors) -> u128
+    requires is_operation { IsTrue (is_operation operation) }
+    requires is_computed { IsTrue (is_computed operation) }
     ensures { result
-        ≡ vector_result (VectorOperation.Binary operator ElementSize.Doubleword) first second third
-        fourth }
+        ≡ vector_result operation vectors.first vectors.second vectors.third vectors.fourth }
+{
+    result(
+        operation,
+        vectors.first,
+        vectors.second,
+        vectors.third,
+        vectors.fourth,
+    )
+}
+
+/// The result of an operator on doublewords. The most frequent one is made without lanes.
+fn doublewords_value(operator: BinaryOperator, vectors: FieldVectors) -> u128
+    ensures { result
+        ≡ vector_result (VectorOperation.Binary operator ElementSize.Doubleword) vectors.first
+        vectors.second vectors.third vectors.fourth }
 {
     let size = ElementSize::Doubleword;
     match operator {
-        BinaryOperator::Add => sum_of_doublewords(second, third),
-        _ => result(
-            VectorOperation::Binary { operator, size },
-            first,
-            second,
-            third,
-            fourth,
-        ),
+        BinaryOperator::Add => sum_of_doublewords(vectors.second, vectors.third),
+        _ => lanes_value(VectorOperation::Binary { operator, size }, vectors),
     }
 }
 
 /// The result of an operator on all bits. The most frequent ones are made without lanes.
-fn whole_value(
-    operator: BinaryOperator,
-    first: u128,
-    second: u128,
-    third: u128,
-    fourth: u128,
-) -> u128
+fn whole_value(operator: BinaryOperator, vectors: FieldVectors) -> u128
     ensures { result
-        ≡ vector_result (VectorOperation.Binary operator ElementSize.Quadword) first second third
-        fourth }
+        ≡ vector_result (VectorOperation.Binary operator ElementSize.Quadword) vectors.first
+        vectors.second vectors.third vectors.fourth }
 {
     let size = ElementSize::Quadword;
     match operator {
-        BinaryOperator::And => second & third,
-        BinaryOperator::Or => second | third,
-        BinaryOperator::Xor => second ^ third,
-        _ => result(
-            VectorOperation::Binary { operator, size },
-            first,
-            second,
-            third,
-            fourth,
-        ),
+        BinaryOperator::And => vectors.second & vectors.third,
+        BinaryOperator::Or => vectors.second | vectors.third,
+        BinaryOperator::Xor => vectors.second ^ vectors.third,
+        _ => lanes_value(VectorOperation::Binary { operator, size }, vectors),
     }
 }
 
 /// The result of an operator on two registers.
-fn binary_value(
-    operator: BinaryOperator,
-    size: ElementSize,
-    first: u128,
-    second: u128,
-    third: u128,
-    fourth: u128,
-) -> u128
+fn binary_value(operator: BinaryOperator, size: ElementSize, vectors: FieldVectors) -> u128
     ensures { result
-        ≡ vector_result (VectorOperation.Binary operator size) first second third fourth }
+        ≡ vector_result (VectorOperation.Binary operator size) vectors.first vectors.second
+        vectors.third vectors.fourth }
 {
     match size {
-        ElementSize::Doubleword => doublewords_value(operator, first, second, third, fourth),
-        ElementSize::Quadword => whole_value(operator, first, second, third, fourth),
-        _ => result(
-            VectorOperation::Binary { operator, size },
-            first,
-            second,
-            third,
-            fourth,
-        ),
+        ElementSize::Doubleword => doublewords_value(operator, vectors),
+        ElementSize::Quadword => whole_value(operator, vectors),
+        _ => lanes_value(VectorOperation::Binary { operator, size }, vectors),
     }
 }
 
 /// The result of an operation. Inlined, it would make every other step longer.
 #[inline(never)]
-fn value_of(
-    operation: VectorOperation,
-    first: u128,
-    second: u128,
-    third: u128,
-    fourth: u128,
-) -> u128
+fn value_of(operation: VectorOperation, vectors: FieldVectors) -> u128
     requires is_operation { IsTrue (is_operation operation) }
     requires is_computed { IsTrue (is_computed operation) }
-    ensures { result ≡ vector_result operation first second third fourth }
+    ensures { result
+        ≡ vector_result operation vectors.first vectors.second vectors.third vectors.fourth }
 {
     match operation {
-        VectorOperation::Binary { operator, size } => {
-            binary_value(operator, size, first, second, third, fourth)
-        }
-        _ => result(operation, first, second, third, fourth),
+        VectorOperation::Binary { operator, size } => binary_value(operator, size, vectors),
+        _ => lanes_value(operation, vectors),
     }
 }
 
@@ -170,7 +152,13 @@ pub fn elements_step(
     let fourth = machine.vector(regs[3]);
     let number = code(operation, first, second, third);
     let code = vector_code(machine.condition_code(), number);
-    let value = value_of(operation, first, second, third, fourth);
+    let vectors = FieldVectors {
+        first,
+        second,
+        third,
+        fourth,
+    };
+    let value = value_of(operation, vectors);
     machine.put_vector(regs[0], value);
     machine.set_condition_code(code);
     machine.place = machine

@@ -3,7 +3,7 @@
 ghost use Rattle.std.specs.Prelude.{◌≡◌, ℕ, ◌+◌, ◌-◌, ◌<◌, ◌≤◌, ◌^◌, ◌||◌, ◌∷◌, ◌==◌, Some, IsSome, IsTrue, if◌then◌else◌, true, false, length, get_or, slice_index, IfOk, IfErr, OnOk, MatchResult, MatchOption};
 ghost use Rattle.std.specs.BTreeMap.{get};
 ghost use Rattle.std.specs.Ordering.{nat_cmp};
-ghost use Rattle.s390x_machine.specs.Regions.{contains, held_in, covers, has_address, is_held, byte_of, with_number, ContainsAll, ContainsNone, Holds, HoldsAll, IsFolded, IsHolder, IsInFirst};
+ghost use Rattle.s390x_machine.specs.Regions.{contains, held_in, covers, has_address, is_held, byte_of, write_bytes, ContainsAll, ContainsNone, Holds, HoldsAll, IsFolded, IsHolder, IsInFirst};
 ghost use Rattle.s390x_machine.specs.State.{AreBytes};
 ghost use Rattle.s390x_operations.specs.State.{bytes_to, number_at, reaches, update, wrapping_add64, write_get};
 
@@ -126,7 +126,7 @@ fn put_bytes(older: &mut BTreeMap<u64, u8>, start: u64, bytes: &[u8]) -> Result<
 fn put_eight(bytes: &mut [u8], start: u64, address: u64, value: u64)
     requires { (k : ℕ) → k < 8
         → has_address start bytes.old (wrapping_add64 address k) ≡ true }
-    ensures { bytes.new ≡ with_number start bytes.old address 8 value }
+    ensures { bytes.new ≡ write_bytes start (bytes_to address 8 value) bytes.old }
 {
     let mut rest = value;
     for k in (0..8).rev() {
@@ -537,6 +537,19 @@ impl Memory for FlatMemory {
         }
     }
 
+    #[tactic(auto, using(crate::proofs::Numbers::room))]
+    fn reached_number(&self, address: u64, n: u64) -> Option<u64> {
+        match self.holder_of_all(address, n) {
+            Some(i) => Some(self.region_number(i, address, n) as u64),
+            None => {
+                if !self.has_one_by_one(address, n) {
+                    return None;
+                }
+                Some(self.number_one_by_one(address, n) as u64)
+            }
+        }
+    }
+
     fn set(&mut self, address: u64, value: u8) {
         self.put_byte(address, value);
     }
@@ -545,6 +558,22 @@ impl Memory for FlatMemory {
         match self.holder_of_all(address, n) {
             Some(i) => self.put_region_number(i, address, n, value),
             None => self.put_one_by_one(address, n, value),
+        }
+    }
+
+    fn put_reached(&mut self, address: u64, n: u64, value: u128) -> bool {
+        match self.holder_of_all(address, n) {
+            Some(i) => {
+                self.put_region_number(i, address, n, value);
+                true
+            }
+            None => {
+                if !self.has_one_by_one(address, n) {
+                    return false;
+                }
+                self.put_one_by_one(address, n, value);
+                true
+            }
         }
     }
 }

@@ -1,5 +1,5 @@
 //! Memory, as the machine sees it.
-ghost use Rattle.std.specs.Prelude.{◌≡◌, ℕ, Bool, true, false, ◌<◌, ◌≤◌, ◌^◌, IsTrue, MatchOption};
+ghost use Rattle.std.specs.Prelude.{◌≡◌, ℕ, Bool, true, false, if◌then◌else◌, ◌<◌, ◌≤◌, ◌^◌, IsTrue, MatchOption};
 ghost use Rattle.s390x_operations.specs.State.{bytes_to, number_at, reaches, update, write_get};
 ghost use Rattle.s390x_machine.specs.State.{AreBytes};
 
@@ -42,6 +42,20 @@ pub trait Memory {
         ensures value { result ≡ number_at (byte self.now) address n }
         ensures below { result < 256 ^ n };
 
+    /// The number in so many bytes from an address on, at most 8, the most significant first; `None` exactly where one of them isn't accessible.
+    #[tactic(auto, using(crate::proofs::Numbers::room))]
+    fn reached_number(&self, address: u64, n: u64) -> Option<u64>
+        requires { n ≤ 8 }
+        ensures { MatchOption result (reaches (held self.now) address n ≡ false)
+            (λ x. (reaches (held self.now) address n ≡ true)
+            × (x ≡ number_at (byte self.now) address n)) }
+    {
+        if !self.has_all(address, n) {
+            return None;
+        }
+        Some(self.number(address, n) as u64)
+    }
+
     /// The byte at an accessible address becomes this one; every other byte and what is accessible stay.
     fn set(&mut self, address: u64, value: u8)
         requires { IsTrue (held self.old address) }
@@ -54,4 +68,20 @@ pub trait Memory {
         requires { IsTrue (reaches (held self.old) address n) }
         ensures same { held self.new ≡ held self.old }
         ensures written { byte self.new ≡ write_get (bytes_to address n value) (byte self.old) };
+
+    /// What `put_number` does where so many bytes from an address on are accessible; `false` exactly where one of them isn't, and then every byte
+    /// stays.
+    fn put_reached(&mut self, address: u64, n: u64, value: u128) -> bool
+        ensures reached { result ≡ reaches (held self.old) address n }
+        ensures same { held self.new ≡ held self.old }
+        ensures written { byte self.new
+            ≡ (if result then write_get (bytes_to address n value) (byte self.old)
+            else byte self.old) }
+    {
+        if !self.has_all(address, n) {
+            return false;
+        }
+        self.put_number(address, n, value);
+        true
+    }
 }

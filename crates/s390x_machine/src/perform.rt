@@ -36,7 +36,7 @@ pub fn is_selected(mask: u8, code: ConditionCode) -> bool
 }
 
 /// The bits of an operand.
-pub fn raw<M: Memory>(memory: &M, source: Source, width: Width) -> u64
+fn raw<M: Memory>(memory: &M, source: Source, width: Width) -> u64
     requires { IsTrue (is_reached (source_access source (bytes width)) (M.held memory.now)) }
     ensures { result ≡ raw source width (memory_of (M.held memory.now) (M.byte memory.now)) }
 {
@@ -382,7 +382,7 @@ fn new_code<M: Memory>(machine: &Machine, memory: &M, op: &Operation) -> Conditi
 }
 
 /// The low bytes of a value go to a place in memory.
-pub fn store_value<M: Memory>(memory: &mut M, destination: Source, width: Width, value: u64)
+fn store_value<M: Memory>(memory: &mut M, destination: Source, width: Width, value: u64)
     requires { IsTrue
         (is_reached (store_access destination (bytes width) value) (M.held memory.old)) }
     ensures same { M.held memory.new ≡ M.held memory.old }

@@ -11,7 +11,7 @@ ghost use Rattle.s390x_machine.specs.State.{AreBytes, memory_of, registers_of, s
 ghost use Rattle.s390x_machine.specs.Sound.{HasRegisters, IsSoundAction, is_free, is_uncomputed};
 ghost use Rattle.s390x_machine.specs.Step.{Executes, Steps};
 
-use crate::access::operand_fault;
+use crate::access::operand_address;
 use crate::action_type::Action;
 use crate::elements_step::{elements_step, plain_operation};
 use crate::field_values::{relative_address, source};
@@ -142,16 +142,16 @@ fn execute<M: Memory>(machine: &mut Machine, memory: &mut M, action: &Action, si
     }
 }
 
-/// The step at an instruction that was fetched, whose row means this.
+/// The step at an instruction that was fetched, whose row means this. It gets a copy, so that the more frequent steps keep theirs in no place.
 fn semantics_step<M: Memory>(
     machine: &mut Machine,
     memory: &mut M,
-    decoded: &Decoded,
+    decoded: Decoded,
     semantics: &RowSemantics,
 ) -> StepEnd
     requires found { IsFound (memory_of (M.held memory.old) (M.byte memory.old)) machine.old.place
-        decoded.now }
-    requires is { semantics_of decoded.now.row.opcode ≡ Some semantics.now }
+        decoded }
+    requires is { semantics_of decoded.row.opcode ≡ Some semantics.now }
     ensures { Steps (state_of machine.old (M.held memory.old) (M.byte memory.old)) result
         (state_of machine.new (M.held memory.new) (M.byte memory.new)) }
 {
@@ -189,10 +189,10 @@ fn operator_step<M: Memory>(
                     };
                     value_step(machine, decoded, computation, *second, bits)
                 }
-                None => semantics_step(machine, memory, decoded, semantics),
+                None => semantics_step(machine, memory, *decoded, semantics),
             }
         }
-        _ => semantics_step(machine, memory, decoded, semantics),
+        _ => semantics_step(machine, memory, *decoded, semantics),
     }
 }
 
@@ -213,14 +213,14 @@ fn comparison_step<M: Memory>(
         RowSemantics::Compare(sign, size, second) => {
             match operand_bits(machine, memory, *second, &decoded.fields) {
                 Some(bits) => compare_step(machine, decoded, *sign, *size, *second, bits),
-                None => semantics_step(machine, memory, decoded, semantics),
+                None => semantics_step(machine, memory, *decoded, semantics),
             }
         }
-        _ => semantics_step(machine, memory, decoded, semantics),
+        _ => semantics_step(machine, memory, *decoded, semantics),
     }
 }
 
-/// The step at a store of a register that was fetched. Where its access has no fault, it builds no operation.
+/// The step at a store of a register that was fetched. Where its operand is aligned as it has to be, it builds no operation.
 fn storing_step<M: Memory>(
     machine: &mut Machine,
     memory: &mut M,
@@ -236,13 +236,12 @@ fn storing_step<M: Memory>(
     match semantics {
         RowSemantics::Store(second) => {
             let destination = source(machine, second.operand_source, &decoded.fields);
-            let fault = operand_fault(memory, destination, bytes(second.width) as u64);
-            if fault.is_some() {
-                return semantics_step(machine, memory, decoded, semantics);
+            match operand_address(destination, bytes(second.width) as u64) {
+                Some(address) => store_step(machine, memory, decoded, *second, address),
+                None => semantics_step(machine, memory, *decoded, semantics),
             }
-            store_step(machine, memory, decoded, *second, destination)
         }
-        _ => semantics_step(machine, memory, decoded, semantics),
+        _ => semantics_step(machine, memory, *decoded, semantics),
     }
 }
 
@@ -262,9 +261,9 @@ fn vectors_step<M: Memory>(
     match semantics {
         RowSemantics::Elements(row) => match plain_operation(machine, *row, &decoded.fields) {
             Some(operation) => elements_step(machine, decoded, *row, operation),
-            None => semantics_step(machine, memory, decoded, semantics),
+            None => semantics_step(machine, memory, *decoded, semantics),
         },
-        _ => semantics_step(machine, memory, decoded, semantics),
+        _ => semantics_step(machine, memory, *decoded, semantics),
     }
 }
 
@@ -301,7 +300,7 @@ fn row_step<M: Memory>(machine: &mut Machine, memory: &mut M, located: &Located)
         RowSemantics::StoreVector(storage) => {
             vector_store_step(machine, memory, &located.decoded, *storage)
         }
-        _ => semantics_step(machine, memory, &located.decoded, semantics),
+        _ => semantics_step(machine, memory, located.decoded, semantics),
     }
 }
 

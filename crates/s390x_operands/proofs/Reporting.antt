@@ -11,13 +11,10 @@ use Rattle.s390x_operands.specs.Requests.{items_of, first_operand_cause, cause_o
 first-none : (c d : Option OperandError) → c ≡ None → d ≡ None → first_operand_cause c d ≡ None
 first-none c d p q = (ap (λ x. first_operand_cause x d) p) ∙ q
 
-first-later : (c d : Option OperandError) (e : OperandError) → c ≡ None → d ≡ Some e → first_operand_cause c d ≡ Some e
-first-later c d e p q = (ap (λ x. first_operand_cause x d) p) ∙ q
-
 first-some : (c d : Option OperandError) (e : OperandError) → c ≡ Some e → first_operand_cause c d ≡ Some e
 first-some c d e p = ap (λ x. first_operand_cause x d) p
 
-items-append : (xs ys : List (Option Reported)) → items_of (xs ++ ys) ≡ items_of xs ++ items_of ys
+pub items-append : (xs ys : List (Option Reported)) → items_of (xs ++ ys) ≡ items_of xs ++ items_of ys
 items-append [] ys = refl
 items-append (None ∷ xs) ys = items-append xs ys
 items-append (Some x ∷ xs) ys = ap (λ zs. x ∷ zs) (items-append xs ys)

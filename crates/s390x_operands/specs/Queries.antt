@@ -12,7 +12,7 @@ use Rattle.s390x_inst.specs.declared.calls.CallConv.{CallConv}
 use Rattle.s390x_inst.specs.declared.calls.CallConv.TheVariants.{Fast, Tail, SystemV}
 use Rattle.s390x_inst.specs.declared.calls.CallInfo.{CallInfo}
 use Rattle.s390x_inst.specs.declared.inst.Inst.{Inst}
-use Rattle.s390x_inst.specs.declared.inst.Inst.TheVariants.{Mov32, Mov64, Nop0, Nop2, Trap, Args, Rets, Jump, CondBr, IndirectBr, JTSequence, Call, ReturnCall, Vector}
+use Rattle.s390x_inst.specs.declared.inst.Inst.TheVariants as I
 use Rattle.s390x_inst.specs.declared.vec_inst.VecInst.{VecInst}
 use Rattle.s390x_inst.specs.declared.vec_inst.VecInst.TheVariants.{FpuMove32, FpuMove64, VecMov}
 use Rattle.s390x_operands.specs.declared.mach_inst.CallType.{CallType}
@@ -31,27 +31,27 @@ vector_move_of _ = None
 
 -- output and input of a move
 abbrev pub move_of : Inst → Option (Reg × Reg)
-move_of (Mov32 rd rm) = Some (rd, rm)
-move_of (Mov64 rd rm) = Some (rd, rm)
-move_of (Vector v) = vector_move_of v
+move_of (I.Mov32 rd rm) = Some (rd, rm)
+move_of (I.Mov64 rd rm) = Some (rd, rm)
+move_of (I.Vector v) = vector_move_of v
 move_of _ = None
 
 abbrev pub is_trap : Inst → Bool
-is_trap (Trap code) = true
+is_trap (I.Trap code) = true
 is_trap _ = false
 
 abbrev pub is_args : Inst → Bool
-is_args (Args args) = true
+is_args (I.Args args) = true
 is_args _ = false
 
 abbrev pub is_safepoint : Inst → Bool
-is_safepoint (Call link info) = true
+is_safepoint (I.Call link info) = true
 is_safepoint _ = false
 
 -- whether an instruction calls, and how
 abbrev pub call_type_of : Inst → CallType
-call_type_of (Call link info) = Regular
-call_type_of (ReturnCall info) = TailCall
+call_type_of (I.Call link info) = Regular
+call_type_of (I.ReturnCall info) = TailCall
 call_type_of _ = NoCall
 
 -- two calling conventions are the same
@@ -67,19 +67,19 @@ has_handlers info = is_some info.try_call_info
 
 -- what it overwrites counts for the function: not that of its arguments, nor of a call of equal conventions without handlers
 abbrev pub is_included_in_clobbers : Inst → Bool
-is_included_in_clobbers (Args args) = false
-is_included_in_clobbers (Call link info) = not (is_same_convention info.caller_conv info.callee_conv) || has_handlers info
+is_included_in_clobbers (I.Args args) = false
+is_included_in_clobbers (I.Call link info) = not (is_same_convention info.caller_conv info.callee_conv) || has_handlers info
 is_included_in_clobbers _ = true
 
 -- whether an instruction ends a block, and how
 abbrev pub terminator_of : Inst → MachTerminator
-terminator_of (Rets rets) = Returns
-terminator_of (ReturnCall info) = RetCall
-terminator_of (Jump dest) = Branch
-terminator_of (CondBr taken not_taken mask) = Branch
-terminator_of (IndirectBr rn targets) = Branch
-terminator_of (JTSequence ridx default mask targets) = Branch
-terminator_of (Call link info) = cond (has_handlers info) Branch NoEnd
+terminator_of (I.Rets rets) = Returns
+terminator_of (I.ReturnCall info) = RetCall
+terminator_of (I.Jump dest) = Branch
+terminator_of (I.CondBr taken not_taken mask) = Branch
+terminator_of (I.IndirectBr rn targets) = Branch
+terminator_of (I.JTSequence ridx default mask targets) = Branch
+terminator_of (I.Call link info) = cond (has_handlers info) Branch NoEnd
 terminator_of _ = NoEnd
 
 -- up to 64 bits the registers are of one class, above both are Float
@@ -88,11 +88,11 @@ CanMove to from ty = (bits_of ty ≤ 64 → class_of to ≡ class_of from) × (6
 
 -- the move of a value of a type
 abbrev pub move_of_type : (to from : Reg) → ValueType → Inst
-move_of_type to from ty = cond (nat_le (bits_of ty) 32) (move32_of to from) (cond (nat_le (bits_of ty) 64) (move64_of to from) (Vector (VecMov to from)))
+move_of_type to from ty = cond (nat_le (bits_of ty) 32) (move32_of to from) (cond (nat_le (bits_of ty) 64) (move64_of to from) (I.Vector (VecMov to from)))
 
 -- what does nothing, for a wanted size in bytes
 abbrev pub nop_of : ℕ → Inst
-nop_of n = cond (nat_eq n 0) Nop0 Nop2
+nop_of n = cond (nat_eq n 0) I.Nop0 I.Nop2
 
 -- the bytes of the one that has two
 abbrev pub two_byte_nop : List ℕ

@@ -1,7 +1,7 @@
 -- A step's end by its number.
 use Rattle.std.proofs.Common.{◌≡◌, ℕ, refl, sym, ap₂, subst}
 use Rattle.s390x_operations.specs.State.{State}
-use Rattle.s390x_operations.specs.declared.stop.StopKind.TheVariants.{Access, Specification, Operation, Divide, CompareTrap}
+use Rattle.s390x_operations.specs.declared.stop.StopKind.TheVariants.{Access}
 use Rattle.s390x_machine.specs.State.{memory_of, registers_of, state_of}
 use Rattle.s390x_machine.specs.Step.{Steps}
 use Rattle.s390x_machine.specs.declared.machine.Machine.{Machine}
@@ -15,10 +15,7 @@ pub ends : (s t : State) (end : StepEnd) → Steps s end t → Steps s (end_numb
 ends s t Went h = h
 ends s t NoRow h = h
 ends s t (Stopped Access place) h = (h.0, h.1, refl)
-ends s t (Stopped Specification place) h = (h.0, h.1, refl)
-ends s t (Stopped Operation place) h = (h.0, h.1, refl)
-ends s t (Stopped Divide place) h = (h.0, h.1, refl)
-ends s t (Stopped CompareTrap place) h = (h.0, h.1, refl)
+ends s t end h = (h.0, h.1, refl)
 
 -- a machine with the page's registers is in the page's state
 same_state : (m : Machine) (r : page.Registers) (s : Storage) → registers_of m ≡ registers_in r → m.place ≡ r.place → state_of m (is_held s) (byte_of s) ≡ state_in r s

@@ -1,5 +1,5 @@
 -- From block to block.
-use Rattle.std.proofs.Common.{◌≡◌, ◌≢◌, ℕ, ◌+◌, ◌<◌, List, [], ◌∷◌, ◌++◌, true, ◌&&◌, nat_eq, Option, Some, None, length, take, drop, get_or, refl, sym, ap, ◌∙◌, arith}
+use Rattle.std.proofs.Common.{◌≡◌, ℕ, ◌+◌, ◌<◌, List, [], ◌∷◌, ◌++◌, true, ◌&&◌, nat_eq, Option, Some, None, length, take, drop, get_or, refl, sym, ap, ◌∙◌, arith}
 use Rattle.std.proofs.lemmas.List.{length-map, take-append-drop, take_more}
 use Rattle.s390x_base.specs.declared.error.EmitError.{EmitError}
 use Rattle.s390x_base.specs.declared.error.EmitError.TheVariants.{BadStackState}
@@ -67,27 +67,12 @@ emission_parts flags e f =
     ap (λ m. first_emit_cause (start_cause e) (first_emit_cause (new_cause m cs) (first_emit_cause (blocks_cause flags D (m + length cs) ts) last))) (count_same flags e f)
     ∙ first_assoc (start_cause e) (new_cause (length f.blocks.items) cs) (first_emit_cause (blocks_cause flags D (first_labels f) ts) last)
 
--- a cause of the opening is the first one
-first_is : (a b : Option EmitError) (error : EmitError) → (a ≢ None) → first_emit_cause a b ≡ Some error → a ≡ Some error
-first_is None b error some h = absurd (some refl)
-first_is (Some e) b error some h = h
-
-pub opening_first : (flags : IsaFlags) (e : Emission) (f : AllocatedFunction) (error : EmitError) → opening_cause e f ≢ None → emission_cause flags e f ≡ Some error → opening_cause e f ≡ Some error
-opening_first flags e f error some h = first_is (opening_cause e f) _ error some (sym (emission_parts flags e f) ∙ h)
-
 -- behind an opening without a cause, a cause of the blocks is the first one
 pub blocks_first : (flags : IsaFlags) (e : Emission) (f : AllocatedFunction) (error : EmitError) → opening_cause e f ≡ None → blocks_cause flags (declared_by flags e f) (first_labels f) (trees_of flags e f) ≡ Some error → emission_cause flags e f ≡ Some error
 blocks_first flags e f error none some =
     let last = code_length_cause (trees_of flags e f) (constants_of f) in
     let blocks = blocks_cause flags (declared_by flags e f) (first_labels f) (trees_of flags e f) in
     emission_parts flags e f ∙ ap (λ o. first_emit_cause o (first_emit_cause blocks last)) none ∙ ap (λ o. first_emit_cause o last) some
-
--- where the blocks have none either, it is that of the length
-pub length_last : (flags : IsaFlags) (e : Emission) (f : AllocatedFunction) → opening_cause e f ≡ None → blocks_cause flags (declared_by flags e f) (first_labels f) (trees_of flags e f) ≡ None → emission_cause flags e f ≡ code_length_cause (trees_of flags e f) (constants_of f)
-length_last flags e f none free =
-    let last = code_length_cause (trees_of flags e f) (constants_of f) in
-    let blocks = blocks_cause flags (declared_by flags e f) (first_labels f) (trees_of flags e f) in
-    emission_parts flags e f ∙ ap (λ o. first_emit_cause o (first_emit_cause blocks last)) none ∙ ap (λ o. first_emit_cause o last) free
 
 -- what a buffer for the function declares
 pub declared_fresh : (flags : IsaFlags) (e : Emission) (f : AllocatedFunction) (s : BufferState) → s ≡ fresh_buffer (length f.blocks.items) (constants_of f) → declared_in s ≡ declared_by flags e f

@@ -1,9 +1,8 @@
 -- From a loop to its members.
-use Rattle.std.proofs.Common.{◌≡◌, ◌≢◌, ℕ, zero, suc, ◌+◌, List, [], ◌∷◌, Option, Some, None, refl, sym, ap, ap₂, ◌∙◌, subst, Vec, Global, add-one}
+use Rattle.std.proofs.Common.{◌≡◌, ℕ, ◌+◌, List, [], ◌∷◌, Option, Some, None, refl, sym, ap, ap₂, ◌∙◌, subst, Vec, Global, add-one}
 use Rattle.s390x_base.specs.declared.error.EmitError.{EmitError}
 use Rattle.s390x_inst.specs.Emission.{Emission}
-use Rattle.s390x_inst.specs.declared.inst.Inst.{Inst, items_hidden-the_row-Inst-0, roll-out-Inst}
-use Rattle.s390x_inst.specs.declared.inst.Inst.TheVariants.{Loop'}
+use Rattle.s390x_inst.specs.declared.inst.Inst.{Inst, items_hidden-the_row-Inst-0}
 use Rattle.s390x_inst.specs.declared.inst.Inst.TheViews as V
 use Rattle.s390x_inst.specs.declared.state.IsaFlags.{IsaFlags}
 use Rattle.s390x_typed_steps.specs.Baseline.{tree_for}
@@ -13,13 +12,8 @@ use Rattle.s390x_typed_steps.specs.Tree.{empty}
 use Rattle.s390x_typed_steps.proofs.Causes.{first_none}
 use Rattle.s390x_typed_steps.proofs.Trees.{prepend_loop}
 use Rattle.s390x_emit_int.specs.Members.{members_of}
-use Rattle.s390x_refusal.specs.Members.{IsReached, IsRefusedAmong, IsRefusedAt, Point, with_safepoint, member_cause, members_at, members_cause, members_in, nth_member, nth_point, own_cause, point_inside}
+use Rattle.s390x_refusal.specs.Members.{IsReached, IsRefusedAmong, IsRefusedAt, Point, member_cause, members_at, members_cause, members_in, nth_member, nth_point, own_cause, point_inside}
 use Rattle.s390x_refusal.specs.Search.{IsPathAmong, IsPathTo}
-
--- inside of loops no call is a safepoint
-pub unmarked : (depth : ℕ) (e : Emission) (i : Inst) → depth ≢ 0 → with_safepoint depth e i ≡ e
-unmarked zero e i h = absurd (h refl)
-unmarked (suc depth) e i h = refl
 
 in_loop : (flags : IsaFlags) (depth : ℕ) (e : Emission) (is : List Inst) → members_at flags (depth + 1) e is ≡ members_of flags e is
 in_loop flags depth e is = ap (λ d. members_at flags d e is) (add-one depth)
@@ -46,12 +40,6 @@ loop_cause flags D p i mask v is =
     ∙ ap (λ js. first_emit_cause own (members_cause flags D (point_inside p) js)) (sym (members_are i mask v is))
     ∙ ap (λ o. first_emit_cause o (members_cause flags D (point_inside p) (members_in i))) (sym (own_of_loop flags D p i mask v is))
 
--- an instruction that is no loop has its cause itself
-pub own_of_other : (flags : IsaFlags) (D : Declared) (p : Point) (i : Inst) → ((mask : ℕ) (v : Vec Inst Global) → i ≡ V.Loop mask v → ⊥) → own_cause flags D p i ≡ member_cause flags D p i
-unfolding V.roll-Inst denote.Hole.Carrier.roll V.out-Inst denote.Hole.Carrier.out
-own_of_other flags D p (Loop' mask body all) h = absurd (h mask _ (sym (roll-out-Inst (Loop' mask body all))))
-own_of_other flags D p i h = refl
-
 -- where a loop itself has no cause, it is refused by its members
 pub through_loop : (flags : IsaFlags) (D : Declared) (p : Point) (i : Inst) (error : EmitError) (path : List ℕ) → own_cause flags D p i ≡ None → IsRefusedAmong flags D (point_inside p) (members_in i) error path → IsRefusedAt flags D p i error path
 through_loop flags D p i error [] none h = absurd h
@@ -71,13 +59,6 @@ pub path_of_member : (flags : IsaFlags) (D : Declared) (p q : Point) (is : List 
 path_of_member flags D p q is k i error path reached at same some h =
     (reached, subst (λ j. IsRefusedAt flags D (nth_point flags p is k) j error path) same (subst (λ r. IsRefusedAt flags D r i error path) at (h error (ap₂ (member_cause flags D) at same ∙ some))))
 
--- a loop that is refused itself
-pub path_to_loop : (flags : IsaFlags) (D : Declared) (p : Point) (i : Inst) (mask : ℕ) (v : Vec Inst Global) (own : EmitError) → i ≡ V.Loop mask v → first_emit_cause (nesting_cause p.depth) (numbers_cause p.labels 2) ≡ Some own → IsPathTo flags D p i []
-path_to_loop flags D p i mask v own is some error cause =
-    let here = own_of_loop flags D p i mask v is ∙ some in
-    let all : member_cause flags D p i ≡ Some own = loop_cause flags D p i mask v is ∙ ap (λ o. first_emit_cause o (members_cause flags D (point_inside p) (members_in i))) here in
-    here ∙ ap Some (same_error (member_cause flags D p i) own error all cause)
-
 -- one that is refused by its members
 pub path_through : (flags : IsaFlags) (D : Declared) (p q : Point) (i : Inst) (mask : ℕ) (v : Vec Inst Global) (is : List Inst) (path : Vec ℕ Global) → i ≡ V.Loop mask v → first_emit_cause (nesting_cause p.depth) (numbers_cause p.labels 2) ≡ None → q ≡ point_inside p → is ≡ v.items → IsPathAmong flags D q is (Some path) → IsPathTo flags D p i path.items
 path_through flags D p q i mask v is path loop free at same h error cause =
@@ -94,7 +75,3 @@ path_of_none flags D p q i mask v path js loop free at same none error cause =
     let all : member_cause flags D p i ≡ None = loop_cause flags D p i mask v loop ∙ ap (λ o. first_emit_cause o (members_cause flags D (point_inside p) (members_in i))) own ∙ inside in
     let clash = sym all ∙ cause in
     absurd cc
-
--- an instruction that is no loop
-pub path_to_other : (flags : IsaFlags) (D : Declared) (p : Point) (i : Inst) → ((mask : ℕ) (v : Vec Inst Global) → i ≡ V.Loop mask v → ⊥) → IsPathTo flags D p i []
-path_to_other flags D p i other error cause = own_of_other flags D p i other ∙ cause

@@ -1,9 +1,8 @@
 -- The search among blocks, one after another.
-use Rattle.std.proofs.Common.{◌≡◌, ◌≢◌, ℕ, ◌+◌, ◌<◌, ◌≤◌, List, [], Option, Some, None, Bool, true, false, cond, nat_lt, length, take, get_or, refl, sym, ap, ◌∙◌, subst, arith, Vec, Global}
-use Rattle.std.proofs.lemmas.List.{get_or-map, length-map, take_all}
+use Rattle.std.proofs.Common.{◌≡◌, ℕ, ◌+◌, ◌<◌, ◌≤◌, List, [], Option, Some, None, length, take, get_or, refl, sym, ap, ◌∙◌, subst, arith, Vec, Global}
+use Rattle.std.proofs.lemmas.List.{get_or-map, length-map}
 use Rattle.s390x_base.specs.declared.error.EmitError.{EmitError}
-use Rattle.s390x_base.specs.declared.error.EmitError.TheVariants.{BadAlignment, LabelOutOfRange}
-use Rattle.s390x_buffer.specs.State.{Constant, all_aligned, constant_of, label_limit, new_cause}
+use Rattle.s390x_buffer.specs.State.{label_limit}
 use Rattle.s390x_inst.specs.Emission.{Emission}
 use Rattle.s390x_inst.specs.declared.function.AllocatedFunction.{AllocatedFunction}
 use Rattle.s390x_inst.specs.declared.function.Block.{Block}
@@ -11,14 +10,13 @@ use Rattle.s390x_inst.specs.declared.inst.Inst.{Inst}
 use Rattle.s390x_inst.specs.declared.state.IsaFlags.{IsaFlags}
 use Rattle.s390x_typed_steps.specs.Causes.{Declared, block_cause, blocks_cause, first_emit_cause, fresh_labels}
 use Rattle.s390x_typed_steps.specs.Tree.{empty}
-use Rattle.s390x_typed_steps.proofs.Causes.{first_right}
-use Rattle.s390x_emit_int.specs.Function.{constants_of, start_cause, tree_of, trees_of}
+use Rattle.s390x_emit_int.specs.Function.{tree_of, trees_of}
 use Rattle.s390x_emit_int.specs.Members.{block_members_of}
 use Rattle.s390x_refusal.specs.Members.{IsRefusedAmong, members_cause}
 use Rattle.s390x_refusal.specs.Refusal.{IsBlockReached, block_insts, block_point, declared_by, emission_cause, ending_cause, first_labels, labels_behind, opening_cause}
 use Rattle.s390x_refusal.specs.Search.{IsPathAmong, IsPositionIn}
-use Rattle.s390x_refusal.specs.declared.position.Position.TheVariants.{Start, Instruction, BlockEnd, Length}
-use Rattle.s390x_refusal.proofs.Counting.{begins_at_zero, block_parts, blocks_first, labels_more_block, length_last, of_first_block, one_more_block, opening_first}
+use Rattle.s390x_refusal.specs.declared.position.Position.TheVariants.{Instruction, BlockEnd}
+use Rattle.s390x_refusal.proofs.Counting.{begins_at_zero, block_parts, blocks_first, labels_more_block, of_first_block, one_more_block}
 use Rattle.s390x_refusal.proofs.Nesting.{same_error}
 
 -- so many blocks have no cause, and so many labels are in use behind them
@@ -26,20 +24,6 @@ pub record BlocksWalked (flags : IsaFlags) (e : Emission) (f : AllocatedFunction
   pub labels_are : labels ≡ labels_behind (first_labels f) (take k (trees_of flags e f))
   pub few : labels ≤ label_limit
   pub none : blocks_cause flags (declared_by flags e f) (first_labels f) (take k (trees_of flags e f)) ≡ None
-
-few_labels : (n : ℕ) (cs : List Constant) → new_cause n cs ≡ None → n + length cs < label_limit
-few_labels n cs none = go (all_aligned cs) (nat_lt (n + length cs) label_limit) refl none
-  where
-    go : (a b : Bool) → b ≡ nat_lt (n + length cs) label_limit → cond a (cond b None (Some LabelOutOfRange)) (Some BadAlignment) ≡ None → n + length cs < label_limit
-    go true true is h = grind (arith, is)
-    go true false is h = absurd cc
-    go false b is h = absurd cc
-
-pub blocks_start : (flags : IsaFlags) (e : Emission) (f : AllocatedFunction) (labels : ℕ) → opening_cause e f ≡ None → labels ≡ length f.blocks.items + length f.constants.items → BlocksWalked flags e f 0 labels
-blocks_start flags e f labels none is =
-    let same : labels ≡ first_labels f = is ∙ ap (λ n. length f.blocks.items + n) (sym (length-map f.constants.items constant_of)) in
-    let few = few_labels (length f.blocks.items) (constants_of f) (first_right (start_cause e) _ none) in
-    record { labels_are = same; few = omega (arith, same, few); none = refl }
 
 -- a block's tree and its instructions, by its number
 tree_at : (flags : IsaFlags) (e : Emission) (f : AllocatedFunction) (k : ℕ) (v : Block) → k < length f.blocks.items → v ≡ get_or f.blocks.items k v → get_or (trees_of flags e f) k empty ≡ tree_of flags e v
@@ -123,15 +107,3 @@ at_end flags e f k labels v D error is opening lt at declared w some same h othe
     let all : error ≡ other = same_error _ error other b.function cause in
     let ending = ending_cause flags (block_point flags e f k) (block_insts f k) in
     (b.place, none, subst (λ x. ending ≡ Some x) all (ap (λ o. first_emit_cause o ending) (sym none) ∙ b.parts))
-
--- no block has a cause
-pub at_length : (flags : IsaFlags) (e : Emission) (f : AllocatedFunction) (k labels : ℕ) → opening_cause e f ≡ None → length f.blocks.items ≤ k → BlocksWalked flags e f k labels → IsPositionIn flags e f Length
-at_length flags e f k labels opening all w other cause =
-    let ts = trees_of flags e f in
-    let every : take k ts ≡ ts = take_all k ts (omega (arith, all, length-map f.blocks.items (tree_of flags e))) in
-    let none = ap (blocks_cause flags (declared_by flags e f) (first_labels f)) (sym every) ∙ w.none in
-    (opening, none, sym (length_last flags e f opening none) ∙ cause)
-
--- the function is refused before its blocks
-pub at_start : (flags : IsaFlags) (e : Emission) (f : AllocatedFunction) → opening_cause e f ≢ None → IsPositionIn flags e f Start
-at_start flags e f some other cause = opening_first flags e f other some cause

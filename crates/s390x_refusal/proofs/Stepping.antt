@@ -1,7 +1,6 @@
 -- The search among members, one after another.
-use Rattle.std.proofs.Common.{◌≡◌, ℕ, ◌+◌, ◌<◌, ◌≤◌, List, Some, None, length, take, get_or, refl, sym, ap, ap₂, ◌∙◌, arith}
-use Rattle.std.proofs.lemmas.List.{get_or_default, take_all}
-use Rattle.s390x_base.specs.declared.error.EmitError.{EmitError}
+use Rattle.std.proofs.Common.{◌≡◌, ℕ, ◌+◌, ◌<◌, ◌≤◌, List, None, length, take, get_or, refl, sym, ap, ap₂, ◌∙◌, arith}
+use Rattle.std.proofs.lemmas.List.{get_or_default}
 use Rattle.s390x_buffer.specs.State.{label_limit}
 use Rattle.s390x_inst.specs.Emission.{Emission}
 use Rattle.s390x_inst.specs.declared.inst.Inst.{Inst}
@@ -11,8 +10,8 @@ use Rattle.s390x_typed_steps.specs.Causes.{Declared, fresh_labels}
 use Rattle.s390x_typed_steps.specs.Stack.{state_after}
 use Rattle.s390x_emit_int.specs.Members.{member_of}
 use Rattle.s390x_refusal.specs.Members.{Point, with_safepoint, member_cause, members_at, members_cause, nth_member, nth_point, state_behind}
-use Rattle.s390x_refusal.specs.Search.{IsChecked, IsFirstMember, point_of}
-use Rattle.s390x_refusal.specs.declared.members.Checked.TheVariants.{Passed, Refused}
+use Rattle.s390x_refusal.specs.Search.{IsChecked, point_of}
+use Rattle.s390x_refusal.specs.declared.members.Checked.TheVariants.{Passed}
 use Rattle.s390x_refusal.specs.declared.members.Scope.{Scope}
 use Rattle.s390x_refusal.proofs.Walking.{cause_none, labels_more, labels_none, one_more, state_more}
 
@@ -53,17 +52,3 @@ walk_on flags D s e is k state state' labels depth behind i lt at w checked =
       few = checked.2;
       none = one_more flags D (point_of s e) is k lt w.none ∙ sym (ap₂ (member_cause flags D) point same) ∙ checked.0;
     }
-
-pub walk_stops : (flags : IsaFlags) (D : Declared) (s : Scope) (e : Emission) (is : List Inst) (k : ℕ) (state state' : Emission) (labels depth : ℕ) (error : EmitError) (i : Inst) → k < length is → i ≡ get_or is k i → Walked flags D s e is k state labels depth
-    → IsChecked flags D (record { labels = labels; depth = depth }) state state' i (Refused error) → IsFirstMember flags D s e state' is (Some (record { index = k; labels = labels; error = error }))
-walk_stops flags D s e is k state state' labels depth error i lt at w checked =
-    let same = same_member is k i lt at in
-    let point = next_point flags D s e is k state labels depth i w same in (
-      record { there = lt; before = w.none },
-      ap (point_of (record { labels = labels; depth = s.depth })) checked.1 ∙ point s.depth refl,
-      w.few,
-      sym (ap₂ (member_cause flags D) (point depth w.around) same) ∙ checked.0,
-    )
-
-pub walk_ends : (flags : IsaFlags) (D : Declared) (s : Scope) (e : Emission) (is : List Inst) (k : ℕ) (state : Emission) (labels depth : ℕ) → length is ≤ k → Walked flags D s e is k state labels depth → members_cause flags D (point_of s e) is ≡ None
-walk_ends flags D s e is k state labels depth all w = ap (members_cause flags D (point_of s e)) (sym (take_all k is all)) ∙ w.none

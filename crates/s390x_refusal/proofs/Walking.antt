@@ -4,7 +4,7 @@ use Rattle.std.proofs.lemmas.List.{take-append-drop, take_more}
 use Rattle.s390x_base.specs.declared.error.EmitError.{EmitError}
 use Rattle.s390x_inst.specs.Emission.{Emission}
 use Rattle.s390x_inst.specs.declared.inst.Inst.{Inst}
-use Rattle.s390x_inst.specs.declared.inst.Inst.TheVariants.{AllocateArgs, Call, Nop0}
+use Rattle.s390x_inst.specs.declared.inst.Inst.TheVariants.{AllocateArgs, Nop0}
 use Rattle.s390x_inst.specs.declared.state.IsaFlags.{IsaFlags}
 use Rattle.s390x_typed_steps.specs.Calls.{safepoint}
 use Rattle.s390x_typed_steps.specs.Causes.{Declared, first_emit_cause, fresh_labels, nominal_behind, stack_cause, tree_cause}
@@ -16,6 +16,7 @@ use Rattle.s390x_typed_steps.proofs.Trees.{joined, joined_behind, joined_fresh_l
 use Rattle.s390x_emit_int.specs.Members.{member_of}
 use Rattle.s390x_emit_int.proofs.Members.{member_nominal}
 use Rattle.s390x_refusal.specs.Members.{Point, with_safepoint, member_cause, members_at, members_cause, nth_member, nth_point, state_behind}
+use Rattle.s390x_emit_int.proofs.Trees.{safepoint_after, safepoint_nominal}
 
 joined_assoc : (t u v : Tree) → joined (joined t u) v ≡ joined t (joined u v)
 joined_assoc empty u v = refl
@@ -62,14 +63,6 @@ state_append e (i ∷ xs) ys = state_append (state_after e i) xs ys
 pub alone : (flags : IsaFlags) (depth : ℕ) (e : Emission) (i : Inst) → members_at flags depth e (i ∷ []) ≡ member_of flags (with_safepoint depth e i) i
 alone flags zero e i = refl
 alone flags (suc depth) e i = refl
-
-safepoint_nominal : (e : Emission) (i : Inst) → (safepoint e i).nominal ≡ e.nominal
-safepoint_nominal e (Call link info) = refl
-safepoint_nominal e i = refl
-
-safepoint_after : (e : Emission) (i : Inst) → state_after (safepoint e i) i ≡ state_after e i
-safepoint_after e (Call link info) = refl
-safepoint_after e i = refl
 
 -- the state behind a member is the same, whether it was a safepoint or not
 pub marked_after : (depth : ℕ) (e : Emission) (i : Inst) → state_after (with_safepoint depth e i) i ≡ state_after e i

@@ -216,18 +216,16 @@ run = (
 -- 8192 is no return place of the first function, whose only call returns to 4106, nor of the second one, which has none
 not_in_caller : (k : ℕ) (c : Calling) → slice_get caller.steps k ≡ Some (CallingStep c) → 8192 ≡ return_address caller k c → ⊥
 unfolding length_of
-not_in_caller zero c at is = absurd (cc)
 not_in_caller (suc zero) c at is =
     let same : calls ≡ c = cc in
     let e : 8192 ≡ return_address caller 1 calls = subst (λ d. 8192 ≡ return_address caller 1 d) (sym same) is in
     absurd (omega (arith, e))
 not_in_caller (suc (suc zero)) c at is = absurd (cc)
-not_in_caller (suc (suc (suc k))) c at is = absurd (cc)
+not_in_caller k c at is = absurd (cc)
 
 not_in_callee : (k : ℕ) (c : Calling) → slice_get callee.steps k ≡ Some (CallingStep c) → ⊥
-not_in_callee zero c at = absurd (cc)
 not_in_callee (suc zero) c at = absurd (cc)
-not_in_callee (suc (suc k)) c at = absurd (cc)
+not_in_callee k c at = absurd (cc)
 
 no_return : (m k : ℕ) (L : Layout) (c : Calling) → slice_get members m ≡ Some L → slice_get L.steps k ≡ Some (CallingStep c) → 8192 ≡ return_address L k c → ⊥
 no_return zero k L c listed at is =

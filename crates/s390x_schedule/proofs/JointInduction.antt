@@ -9,13 +9,13 @@ use Rattle.s390x_machine.specs.OneStep.{Runs, waits, silent, goes, stops, ends, 
 use Rattle.s390x_machine.specs.Typed.{Ending, Returned, Called, TailCalled, Trapped, DebugStopped, Position, At, Ended, TypedStep, kind_of_step, kind_at}
 use Rattle.s390x_machine.proofs.Calls.{returns_to}
 use Rattle.s390x_machine.proofs.Standing.{block_at}
-use Rattle.s390x_machine.proofs.Induction.{after_append}
+use Rattle.s390x_machine.proofs.Induction.{after_append, form_into, apart_form}
 use Rattle.s390x_machine.proofs.Instructions.{step_runs_placed}
 use Rattle.s390x_schedule.specs.Schedule.{LeavesImage}
 use Rattle.s390x_schedule.specs.Joint.{AreMembers, Running, Finished, GoesOn, Continues, KindWrongIn, WrongIn}
 use Rattle.s390x_schedule.specs.JointMatch.{JointEndsMatch, JointlyAllowed, EveryJointRun, EveryJointBlockRun, EveryJointReturnRun, EveryJointRunFrom}
 use Rattle.s390x_schedule.proofs.Parts.{loaded_part}
-use Rattle.s390x_schedule.proofs.Loaded.{run_part, run_front, run_behind, loaded_behind, loaded_behind_all, form_into, wrong_into, apart_form, wrong_in_whole}
+use Rattle.s390x_schedule.proofs.Loaded.{run_part, run_front, run_behind, loaded_behind, loaded_behind_all, wrong_into, wrong_in_whole}
 use Rattle.s390x_schedule.proofs.Continuing.{goes_on_or_ends}
 
 -- A machine run from the address of a member's step is allowed by at most that step; or the step has no bytes and goes on to the next one; or the run begins
@@ -67,11 +67,9 @@ finishes whole members m L listed k c trace g rest split e t step group nowhere 
 
 -- behind a call, a tail call or a return at least one transition was taken
 took_some : (members : List Layout) (L : Layout) (k : ℕ) (e : Ending) (g : List Transition) (s : State) (n j : ℕ) → GoesOn members e n j → EndsAt L k e g s → 1 ≤ length g
-took_some members L k (Returned a) g s n j leads at = at
-took_some members L k (Called a) g s n j leads at = at
-took_some members L k (TailCalled a) g s n j leads at = at
 took_some members L k (Trapped code) g s n j leads at = absurd leads
 took_some members L k DebugStopped g s n j leads at = absurd leads
+took_some members L k e g s n j leads at = at
 
 module _ (whole : CodeImage) (members : List Layout) (are : AreMembers whole members) where
   -- a member's start is its first step's address

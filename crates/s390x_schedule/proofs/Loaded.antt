@@ -1,14 +1,14 @@
 -- The whole image stays in memory, and a run past it is one past each part.
-use Rattle.std.proofs.Common.{List, [], ◌∷◌, ◌++◌, Option, Some, None, Bool, false, IsTrue, IsFalse, sym, subst, true≢false}
-use Rattle.s390x_operations.specs.State.{Core, State, Write, CodeImage, core_after_writes, IsLoaded, IsDisjoint}
-use Rattle.s390x_operations.specs.Access.{stores_into}
+use Rattle.std.proofs.Common.{List, [], ◌∷◌, ◌++◌, Option, Some, None, IsTrue, sym, subst, true≢false}
+use Rattle.s390x_operations.specs.State.{Core, State, CodeImage, core_after_writes, IsLoaded}
 use Rattle.s390x_operations.specs.Effects.{access}
 use Rattle.s390x_machine.specs.Layout.{Layout}
 use Rattle.s390x_machine.specs.Machine.{Event, Executed, Interrupted, Transition, TransitionStep, Run, after_writes, after_all}
 use Rattle.s390x_machine.specs.Match.{StoreNothing}
 use Rattle.s390x_machine.specs.StepKinds.{StepKind, Performs}
-use Rattle.s390x_machine.specs.Typed.{faults_uncoded, touches_image, KindWrong, store_event_of_kind}
-use Rattle.s390x_machine.proofs.Frame.{apart_of, lies_written, loaded_after_store}
+use Rattle.s390x_machine.specs.Typed.{faults_uncoded, touches_image, KindWrong}
+use Rattle.s390x_machine.proofs.Frame.{lies_written, loaded_after_store}
+use Rattle.s390x_machine.proofs.Induction.{form_into}
 use Rattle.s390x_schedule.specs.Schedule.{LeavesImage}
 use Rattle.s390x_schedule.proofs.Storing.{StoresAs, step_stores}
 use Rattle.s390x_schedule.specs.Joint.{KindWrongIn}
@@ -49,20 +49,10 @@ loaded_behind_all image s (t ∷ g) loaded run nothing =
 
 -- ---- wrong steps
 
--- the step's operation stores into the image
-abbrev pub form_into : CodeImage → Option StepKind → Core → Bool
-form_into image (Some (Performs needs operation code)) c = stores_into image (access (operation c.registers).effect)
-form_into image _ c = false
-
 pub wrong_into : (whole : CodeImage) (L : Layout) (o : Option StepKind) (c : Core) → IsTrue (form_into whole o c) → KindWrongIn whole L o c
 wrong_into whole L (Some (Performs needs operation code)) c e = touches_image e
 wrong_into whole L (Some _) c e = absurd (true≢false (sym e))
 wrong_into whole L None c e = tt
-
-pub apart_form : (image : CodeImage) (o : Option StepKind) (c : Core) (ws : List Write) → IsFalse (form_into image o c) → IsDisjoint image (store_event_of_kind o (core_after_writes ws c))
-apart_form image (Some (Performs needs operation code)) c ws e = apart_of image (access (operation c.registers).effect) (core_after_writes ws c).memory e
-apart_form image (Some _) c ws e = tt
-apart_form image None c ws e = tt
 
 -- what is wrong in a member alone is wrong in the whole
 pub wrong_in_whole : (whole : CodeImage) (L : Layout) → IsPart whole L.image → (o : Option StepKind) (c : Core) → KindWrong L o c → KindWrongIn whole L o c

@@ -23,11 +23,9 @@ replaced_itself (n ∷ ms) zero m lt = refl
 replaced_itself (n ∷ ms) (suc p) m lt = replaced_itself ms p m (omega (arith, lt))
 
 others_stand : (ms : List Machine) (p : ℕ) (m : Machine) (q : ℕ) → (q ≡ p → ⊥) → processors_of (slice_set ms p m) q ≡ processors_of ms q
-others_stand [] p m q other = refl
 others_stand (n ∷ ms) zero m zero other = absurd (other refl)
-others_stand (n ∷ ms) zero m (suc q) other = refl
-others_stand (n ∷ ms) (suc p) m zero other = refl
 others_stand (n ∷ ms) (suc p) m (suc q) other = others_stand ms p m q (λ e. other (ap suc e))
+others_stand ms p m q other = refl
 
 replaced_at : (ms : List Machine) (p : ℕ) (m : Machine) → p < length ms → (q : ℕ) → processors_of (slice_set ms p m) q ≡ cond (q == p) (processor_of m) (processors_of ms q)
 replaced_at ms p m lt q = go (q == p) refl
@@ -37,7 +35,7 @@ replaced_at ms p m lt q = go (q == p) refl
     go false e = others_stand ms p m q (eqb-false q p e)
 
 -- the machine of a number is the processor of that number
-at_number : (ms : List Machine) (p : ℕ) (d : Machine) → p < length ms → processors_of ms p ≡ processor_of (get_or ms p d)
+pub at_number : (ms : List Machine) (p : ℕ) (d : Machine) → p < length ms → processors_of ms p ≡ processor_of (get_or ms p d)
 at_number [] p d lt = absurd (omega (arith, lt))
 at_number (m ∷ ms) zero d lt = refl
 at_number (m ∷ ms) (suc p) d lt = at_number ms p d (omega (arith, lt))

@@ -1,10 +1,8 @@
 -- What was drawn so far, and what is drawn behind it.
-use Rattle.std.proofs.Common.{◌≡◌, ℕ, zero, suc, ◌+◌, ◌-◌, ◌/◌, ◌%◌, ◌<◌, List, [], ◌∷◌, ◌++◌, length, get_or, drop, sym, ap, ◌∙◌, refl, arith, append_assoc}
-use Rattle.std.proofs.lemmas.List.{drop_more}
+use Rattle.std.proofs.Common.{◌≡◌, ℕ, zero, suc, ◌+◌, ◌-◌, ◌/◌, ◌%◌, ◌<◌, List, [], ◌∷◌, ◌++◌, length, sym, ap, ◌∙◌, refl, arith, append_assoc}
 use Rattle.std.proofs.lemmas.Nat.{mod_below}
 use Rattle.s390x_schedule.specs.Schedule.{NameMachines}
 use Rattle.s390x_smp.specs.Drawn.{addends_to, drawn_numbers, next_number}
-use Rattle.s390x_smp.specs.Report.{count_line, count_lines}
 
 -- one more number of a schedule
 pub drawn_more : (n steps i x y : ℕ) (ps pushed all : List ℕ) → i < steps → y ≡ next_number x → pushed ≡ ps ++ (y / 65536 % n) ∷ [] → ps ++ drawn_numbers n (steps - i) x ≡ all → pushed ++ drawn_numbers n (steps - (i + 1)) y ≡ all
@@ -34,13 +32,3 @@ drawn_named n (suc steps) x some = (mod_below (next_number x / 65536) n some, dr
 pub addends_count : (k count : ℕ) → length (addends_to k count) ≡ count
 addends_count k zero = refl
 addends_count k (suc count) = ap suc (addends_count (k + 1) count)
-
--- one more line
-pub line_more : (stores : List ℕ) (i d : ℕ) (old out new : List ℕ) → i < length stores → d ≡ get_or stores i d → new ≡ out ++ count_line i d → out ++ count_lines i (drop i stores) ≡ old → new ++ count_lines (i + 1) (drop (i + 1) stores) ≡ old
-line_more stores i d old out new lt is put h =
-    let rest = count_lines (i + 1) (drop (i + 1) stores) in
-    ap (λ t. t ++ rest) put
-    ∙ append_assoc out (count_line i d) rest
-    ∙ ap (λ k. out ++ (count_line i k ++ rest)) is
-    ∙ ap (λ xs. out ++ count_lines i xs) (sym (drop_more stores i d lt))
-    ∙ h

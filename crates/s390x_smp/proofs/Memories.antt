@@ -15,10 +15,7 @@ pub record Usable (base word : ℕ) : Type 0 where
 
 parts : (a b c d : Bool) → cond a (cond b (cond (c && not d) None (Some BadWord)) (Some ImageTooHigh)) (Some MisalignedBase) ≡ None → (a ≡ true) × (b ≡ true) × (c ≡ true) × (d ≡ false)
 parts true true true false e = (refl, refl, refl, refl)
-parts true true true true e = absurd (cc)
-parts true true false d e = absurd (cc)
-parts true false c d e = absurd (cc)
-parts false b c d e = absurd (cc)
+parts a b c d e = absurd (cc)
 
 pub usable : (base word : ℕ) → start_cause base word ≡ None → Usable base word
 usable base word e =

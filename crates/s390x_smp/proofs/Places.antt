@@ -35,12 +35,14 @@ use Rattle.s390x_machine.specs.declared.action_type.Action.TheVariants.{Perform,
 use Rattle.s390x_format.specs.declared.semantics.RowSemantics.TheVariants as Row
 use Rattle.s390x_format.specs.declared.semantics.TheConstants.{THREE_WORD_REGISTERS}
 use Rattle.s390x_machine.proofs.Addresses.{lands, unmoved}
+use Rattle.s390x_machine.proofs.Stepping.{not_open}
+use Rattle.s390x_machine.proofs.Branches.{selected_always}
 use Rattle.s390x_schedule.specs.Schedule.{Processor}
 use Rattle.s390x_smp.specs.Image.{HasImage, is_in_word}
 use Rattle.s390x_smp.specs.Simulation.{IsAdding, is_placed, start_offset}
 use Rattle.s390x_smp.specs.Stores.{CompletesStore, has_stored}
 use Rattle.s390x_smp.proofs.Memories.{Usable, loaded, word_reached}
-use Rattle.s390x_smp.proofs.Rows.{StandsInCode, acts_as, add_return_there, add_row, add_there, back_row, back_there, found_in_code, loop_return_there, not_open, not_row, return_row, row_found, sum_row, sum_there, swap_row, swap_there}
+use Rattle.s390x_smp.proofs.Rows.{StandsInCode, acts_as, add_return_there, add_row, add_there, back_row, back_there, found_in_code, loop_return_there, not_row, return_row, row_found, sum_row, sum_there, swap_row, swap_there}
 use Rattle.s390x_smp.proofs.Words.{number_stored, others_stored}
 
 -- ---- places
@@ -132,24 +134,14 @@ sum_low x y lx ly = go (nat_lt x 2147483648) (nat_lt y 2147483648)
 
 -- ---- codes
 
-all_selected : (c : ConditionCode) → is_selected 15 c ≡ true
-all_selected Code0 = refl
-all_selected Code1 = refl
-all_selected Code2 = refl
-all_selected Code3 = refl
-
 add_stores : (c : ConditionCode) → has_stored 16 c ≡ true
 add_stores Code0 = refl
-add_stores Code1 = refl
-add_stores Code2 = refl
-add_stores Code3 = refl
+add_stores c = refl
 
 -- elsewhere nothing is stored
 none_stored : (o : ℕ) → (o == 4) ≡ false → (o == 16) ≡ false → (c : ConditionCode) → has_stored o c ≡ false
 none_stored o four sixteen Code0 = or_from (o == 4) (o == 16) four sixteen
-none_stored o four sixteen Code1 = sixteen
-none_stored o four sixteen Code2 = sixteen
-none_stored o four sixteen Code3 = sixteen
+none_stored o four sixteen c = sixteen
 
 -- ---- stops
 
@@ -350,7 +342,7 @@ module _ (base word addend : ℕ) (even : Bool) (u : Usable base word) (below : 
   return_progress : (o : ℕ) → StandsInCode return_row o → (o == 4) ≡ false → (o == 16) ≡ false → s.address ≡ base + o → (x : Option StoreEvent) (t : State) → ActionStep (Branch 15 (s.core.registers.general 14)) 2 s (Executed x) t → Progress base word addend even s t
   return_progress o there four sixteen at x t h =
       let register = λ (k : ℕ). ap (λ (c : Core). c.registers.general k) h.0 in
-      let to : t.address ≡ s.core.registers.general 14 = h.1 ∙ ap (λ b. cond b (s.core.registers.general 14) (wrapping_add64 s.address 2)) (all_selected s.core.registers.code) in
+      let to : t.address ≡ s.core.registers.general 14 = h.1 ∙ ap (λ b. cond b (s.core.registers.general 14) (wrapping_add64 s.address 2)) (selected_always s.core.registers.code) in
       record {
         offset = o;
         at = at;

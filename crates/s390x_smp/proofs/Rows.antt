@@ -1,5 +1,5 @@
 -- The rows of the code at their offsets, and what the machine does there.
-use Rattle.std.proofs.Common.{◌≡◌, ℕ, ◌+◌, ◌%◌, ◌^◌, ◌<◌, ◌≤◌, [], ◌∷◌, length, Option, Some, None, false, refl, sym, ap, ap₂, ◌∙◌, subst, arith, true≢false}
+use Rattle.std.proofs.Common.{◌≡◌, ℕ, ◌+◌, ◌%◌, ◌^◌, ◌<◌, ◌≤◌, [], ◌∷◌, length, refl, sym, ap, ◌∙◌, subst, arith}
 use Rattle.s390x_format.specs.declared.kind.FormatKind.TheVariants.{RrfAb, Rs, Rsy}
 use Rattle.s390x_format.specs.declared.decoder.Decoded.{Decoded}
 use Rattle.s390x_format.specs.Layout.{number, bits, SlotsFit}
@@ -12,16 +12,12 @@ use Rattle.s390x_format.proofs.Encoding.{listed}
 use Rattle.s390x_rows.specs.declared.opcodes.TheConstants as opcodes
 use Rattle.s390x_typed_steps.specs.MachineInstruction.{MachineInstruction, bytes_of, rr, rrf_ab, ril_c, rs, rsy}
 use Rattle.s390x_operations.specs.State.{Memory, State, IsLoaded, wrapping_add64}
-use Rattle.s390x_machine.specs.declared.instruction_fetch.Fetched.{Fetched}
 use Rattle.s390x_machine.specs.declared.instruction_fetch.Fetched.TheVariants.{Misplaced, Missing, Unknown, Found}
 use Rattle.s390x_machine.specs.Fetch.{IsFound}
 use Rattle.s390x_machine.specs.Machine.{Event, FetchedStep, MachineStep}
-use Rattle.s390x_machine.specs.Semantics.{semantics_of}
-use Rattle.s390x_machine.specs.Sound.{is_free}
-use Rattle.s390x_machine.specs.Step.{IsOpen}
-use Rattle.s390x_format.specs.declared.semantics.RowSemantics.{RowSemantics}
 use Rattle.s390x_machine.proofs.Fetching.{StandsAt, found_at, one_thing}
 use Rattle.s390x_machine.proofs.Rows.{fits_rr, fits_rrf_ab, fits_ril_c, fits_rs, fits_rsy, bcr_listed, brcl_listed}
+use Rattle.s390x_machine.proofs.Stepping.{found_alike}
 use Rattle.s390x_smp.specs.Image.{code, image_at}
 use Rattle.s390x_smp.specs.Stores.{IsRow}
 
@@ -123,25 +119,8 @@ found_in_code base o m memory address aligned fits there loaded at =
 pub acts_as : (s t : State) (event : Event) (d : Decoded) → IsFound s.core.memory s.address d → MachineStep s event t → FetchedStep (Found d) s event t
 acts_as s t event d found step = subst (λ f. FetchedStep f s event t) (one_thing s.core.memory s.address step.fetched (Found d) step.fetches found) step.acts
 
-abbrev decoded_or : Decoded → Fetched → Decoded
-decoded_or z Misplaced = z
-decoded_or z Missing = z
-decoded_or z Unknown = z
-decoded_or z (Found d) = d
-
-abbrev semantics_or : RowSemantics → Option RowSemantics → RowSemantics
-semantics_or z None = z
-semantics_or z (Some r) = r
-
 one_row : (s : State) (d e : Decoded) → IsFound s.core.memory s.address d → IsFound s.core.memory s.address e → d ≡ e
-one_row s d e f g = ap (decoded_or d) (one_thing s.core.memory s.address (Found d) (Found e) f g)
-
--- it isn't open, where its semantics isn't
-pub not_open : (s : State) (d : Decoded) (r : RowSemantics) → IsFound s.core.memory s.address d → semantics_of d.row.opcode ≡ Some r → is_free r d.fields s.core.registers ≡ false → IsOpen s → ⊥
-not_open s d r found means bound h =
-    let same = one_row s d h.found found h.at in
-    let semantics : r ≡ h.semantics = ap (semantics_or r) (sym means ∙ ap (λ (x : Decoded). semantics_of x.row.opcode) same ∙ h.means) in
-    true≢false (sym h.says_nothing ∙ sym (ap₂ (λ (x : RowSemantics) (y : Decoded). is_free x y.fields s.core.registers) semantics same) ∙ bound)
+one_row s d e f g = found_alike d e (one_thing s.core.memory s.address (Found d) (Found e) f g)
 
 -- it has no other opcode
 pub not_row : (s : State) (d : Decoded) (o p : ℕ) → IsFound s.core.memory s.address d → d.row.opcode ≡ o → (o ≡ p → ⊥) → IsRow p s → ⊥

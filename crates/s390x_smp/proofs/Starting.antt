@@ -39,11 +39,8 @@ unheld m a e =
     none (Some x) e = absurd (cc)
 
 zero_there : (i : ℕ) → slice_index (0 ∷ 0 ∷ 0 ∷ 0 ∷ []) i ≡ 0
-zero_there zero = refl
-zero_there (suc zero) = refl
-zero_there (suc (suc zero)) = refl
 zero_there (suc (suc (suc zero))) = refl
-zero_there (suc (suc (suc (suc i)))) = refl
+zero_there i = refl
 
 -- what the two regions leave
 pub record Regions (base word : ℕ) (empty first second : FlatMemory) : Type 0 where

@@ -12,6 +12,7 @@ use Rattle.s390x_machine.specs.declared.step.StepEnd.TheVariants as step
 use Rattle.s390x_schedule.specs.declared.schedule.ScheduleEnd.{ScheduleEnd}
 use Rattle.s390x_schedule.specs.declared.schedule.ScheduleEnd.TheVariants.{Done, Stopped, NoRow}
 use Rattle.s390x_schedule.specs.Schedule.{Processor, World, Tick, AllGo, EndsAs, Scheduled, after_tick, after_ticks, processor_of, processors_of, view, world_of}
+use Rattle.s390x_schedule.proofs.Worlds.{at_number}
 use Rattle.s390x_smp.specs.Image.{HasImage}
 use Rattle.s390x_smp.specs.Simulation.{IsAdding, IsSimulation, Simulation, total, word_of, world}
 use Rattle.s390x_smp.specs.Stores.{AllWent, CompletesStore, Counts, HasStores, RunsAs, has_stored}
@@ -32,11 +33,9 @@ set_at (x ∷ xs) zero n lt = refl
 set_at (x ∷ xs) (suc p) n lt = set_at xs p n (omega (arith, lt))
 
 set_other : (xs : List ℕ) (p n q : ℕ) → (q ≡ p → ⊥) → get_or (slice_set xs p n) q 0 ≡ get_or xs q 0
-set_other [] p n q other = refl
 set_other (x ∷ xs) zero n zero other = absurd (other refl)
-set_other (x ∷ xs) zero n (suc q) other = refl
-set_other (x ∷ xs) (suc p) n zero other = refl
 set_other (x ∷ xs) (suc p) n (suc q) other = set_other xs p n q (λ e. other (ap suc e))
+set_other xs p n q other = refl
 
 -- the counts after a step that completes a store, or not
 abbrev pub counted : Bool → List ℕ → ℕ → List ℕ
@@ -199,11 +198,6 @@ same_or [] p d e lt = absurd (omega (arith, lt))
 same_or (x ∷ xs) zero d e lt = refl
 same_or (x ∷ xs) (suc p) d e lt = same_or xs p d e (omega (arith, lt))
 
-at_number : (ms : List Machine) (p : ℕ) (d : Machine) → p < length ms → processors_of ms p ≡ processor_of (get_or ms p d)
-at_number [] p d lt = absurd (omega (arith, lt))
-at_number (m ∷ ms) zero d lt = refl
-at_number (m ∷ ms) (suc p) d lt = at_number ms p d (omega (arith, lt))
-
 -- the machine at an index
 pub machine_is : (ms : List Machine) (p : ℕ) (m : Machine) → p < length ms → m ≡ get_or ms p m → processors_of ms p ≡ processor_of m
 machine_is ms p m lt e = at_number ms p m lt ∙ ap processor_of (sym e)
@@ -235,21 +229,6 @@ pub one_counted : (ns : List ℕ) (p n : ℕ) → p < length ns → n ≡ get_or
 one_counted ns p n lt e = ap (λ k. slice_set ns p ((k + 1) % 2 ^ 64)) (e ∙ same_or ns p n 0 lt)
 
 -- ---- one run after another
-
--- no step
-pub runs_none : (a : Simulation) → IsSimulation a → RunsAs a [] a
-runs_none a ok = record {
-  base_is = refl;
-  word_is = refl;
-  addends_are = refl;
-  machines = refl;
-  stores = refl;
-  ticks = [];
-  scheduled = refl;
-  went = tt;
-  ends = refl;
-  counts = λ p few. record { number = 0; is = refl; rises = let g = ok.bounded p in omega (arith, g) };
-}
 
 scheduled_append : (w : World) (ps qs : List ℕ) (ts us : List Tick) → Scheduled w ps ts → AllWent ts → Scheduled (after_ticks w ts) qs us → Scheduled w (ps ++ qs) (ts ++ us)
 scheduled_append w [] qs [] us h went k = k

@@ -10,7 +10,7 @@ use Rattle.s390x_inst.specs.declared.args.MemArg.{MemArg}
 use Rattle.s390x_inst.specs.declared.args.MemArg.TheVariants.{Label, Constant, Symbol}
 use Rattle.s390x_inst.specs.declared.function.Block.{Block}
 use Rattle.s390x_inst.specs.declared.inst.Inst.{Inst}
-use Rattle.s390x_inst.specs.declared.inst.Inst.TheVariants.{AluRX, CmpRX, AtomicRmw, CondBreak, Jump, CondBr, Vector}
+use Rattle.s390x_inst.specs.declared.inst.Inst.TheVariants as I
 use Rattle.s390x_inst.specs.declared.load.LoadOp.{LoadOp}
 use Rattle.s390x_inst.specs.declared.load.LoadOp.TheVariants as LoadOps
 use Rattle.s390x_inst.specs.declared.store.Store.{Store}
@@ -79,10 +79,10 @@ store_or_none L i (Some s) e = relative_store L s.op s.rd s.mem e
 
 -- the last clause is a copy for each store, and for each without such a row, loads among them
 relative_other : (L : Layout) (i : Inst) → accesses_relative (other_memory i) ≡ true → IsRelativeStep L i
-relative_other L (CmpRX op rn mem) e = record { x = _; is = refl; alone = refl; relative = relative_here (other_memory (CmpRX op rn mem)) mem refl e }
-relative_other L (AluRX op rd ri mem) e = absurd (none_relative (other_memory (AluRX op rd ri mem)) (alu_none (is_some (alu_rx op) || is_some (alu_rxy op)) (alu_rx op) (alu_rxy op) rd ri mem) e)
-relative_other L (AtomicRmw op rd rn mem) e = absurd (none_relative (other_memory (AtomicRmw op rd rn mem)) (locked_none (atomic_rsy op) rd rn mem) e)
-relative_other L (Vector v) e = absurd (none_relative (other_memory (Vector v)) (vector_none v) e)
+relative_other L (I.CmpRX op rn mem) e = record { x = _; is = refl; alone = refl; relative = relative_here (other_memory (I.CmpRX op rn mem)) mem refl e }
+relative_other L (I.AluRX op rd ri mem) e = absurd (none_relative (other_memory (I.AluRX op rd ri mem)) (alu_none (is_some (alu_rx op) || is_some (alu_rxy op)) (alu_rx op) (alu_rxy op) rd ri mem) e)
+relative_other L (I.AtomicRmw op rd rn mem) e = absurd (none_relative (other_memory (I.AtomicRmw op rd rn mem)) (locked_none (atomic_rsy op) rd rn mem) e)
+relative_other L (I.Vector v) e = absurd (none_relative (other_memory (I.Vector v)) (vector_none v) e)
 relative_other L i e = store_or_none L i (as_store i) e
 
 relative_step : (L : Layout) (i : Inst) → accesses_relative (memory i) ≡ true → IsRelativeStep L i
@@ -138,7 +138,7 @@ whole_as_given flags L after i plain = go (accesses_relative (memory i)) flags.n
 
 -- the last clause on instructions is a copy for each
 body_as_given : (flags : IsaFlags) (L : Layout) (after : ℕ) (b : StepBody) → DoesAsGiven flags L (step_of after (body_for flags b)) (step_of after b)
-body_as_given flags L after (Whole (CondBreak mask)) = same refl
+body_as_given flags L after (Whole (I.CondBreak mask)) = same refl
 body_as_given flags L after (Whole i) = whole_as_given flags L after i refl
 body_as_given flags L after b = same refl
 
@@ -190,18 +190,18 @@ tree_as_given flags L k after (loop_node mask members rest) =
 
 -- ---- the ends of blocks
 
-jump_kept : (L : Layout) (after : ℕ) (o : Option Remainder) (d : MachLabel) → step_kind L (step_of after (body_with_remainder o (Jump d))) ≡ step_kind L (step_of after (Whole (Jump d)))
+jump_kept : (L : Layout) (after : ℕ) (o : Option Remainder) (d : MachLabel) → step_kind L (step_of after (body_with_remainder o (I.Jump d))) ≡ step_kind L (step_of after (Whole (I.Jump d)))
 jump_kept L after None d = refl
 jump_kept L after (Some r) d = refl
 
-choice_kept : (L : Layout) (after : ℕ) (o : Option Remainder) (t n : MachLabel) (m : ℕ) → step_kind L (step_of after (body_with_remainder o (CondBr t n m))) ≡ step_kind L (step_of after (Whole (CondBr t n m)))
+choice_kept : (L : Layout) (after : ℕ) (o : Option Remainder) (t n : MachLabel) (m : ℕ) → step_kind L (step_of after (body_with_remainder o (I.CondBr t n m))) ≡ step_kind L (step_of after (Whole (I.CondBr t n m)))
 choice_kept L after None t n m = refl
 choice_kept L after (Some r) t n m = refl
 
 -- what is left of branches has the kind of the whole; the last clause is a copy for each
 fold_kept : (L : Layout) (after next : ℕ) (b : StepBody) → step_kind L (step_of after (fold next b)) ≡ step_kind L (step_of after b)
-fold_kept L after next (Whole (Jump d)) = jump_kept L after (remainder next (branches_of (Jump d))) d
-fold_kept L after next (Whole (CondBr t n m)) = choice_kept L after (remainder next (branches_of (CondBr t n m))) t n m
+fold_kept L after next (Whole (I.Jump d)) = jump_kept L after (remainder next (branches_of (I.Jump d))) d
+fold_kept L after next (Whole (I.CondBr t n m)) = choice_kept L after (remainder next (branches_of (I.CondBr t n m))) t n m
 fold_kept L after next b = refl
 
 folded_kept : (L : Layout) (next k after : ℕ) (t : Tree) → SameKinds L (steps_of k after (folded_members next t)) (steps_of k after t)

@@ -14,14 +14,13 @@ use Rattle.s390x_inst.specs.declared.calls.CallInstDest.{CallInstDest}
 use Rattle.s390x_inst.specs.declared.calls.CallInstDest.TheVariants.{Direct, Indirect}
 use Rattle.s390x_inst.specs.declared.function.Block.{Block}
 use Rattle.s390x_inst.specs.declared.inst.Inst.{Inst}
-use Rattle.s390x_inst.specs.declared.inst.Inst.TheVariants.{AluRX, CmpRX, StoreImm8, StoreImm16, StoreImm32SExt16, StoreImm64SExt16, LoadMultiple64, StoreMultiple64, AtomicRmw, AtomicCas32, AtomicCas64}
-use Rattle.s390x_inst.specs.declared.inst.Inst.TheVariants.{LoadAddr, Mov64SImm32, JTSequence, LabelAddress, Jump, CondBr, IndirectBr, Ret, LoadSymbolReloc, Trap, TrapIf, Debugtrap, Vector, CondBreak}
+use Rattle.s390x_inst.specs.declared.inst.Inst.TheVariants as I
 use Rattle.s390x_inst.specs.declared.load.Load.{Load}
 use Rattle.s390x_inst.specs.declared.store.Store.{Store}
 use Rattle.s390x_inst.specs.declared.whole.WholeAccess.{WholeAccess}
 use Rattle.s390x_inst.specs.declared.state.IsaFlags.{IsaFlags}
 use Rattle.s390x_inst.specs.declared.vec_inst.VecInst.{VecInst}
-use Rattle.s390x_inst.specs.declared.vec_inst.VecInst.TheVariants.{VecLoadReplicate, VecLoadReplicateRev, VecLoadLane, VecLoadLaneRev, VecLoadLaneUndef, VecLoadLaneRevUndef, VecStoreLane, VecStoreLaneRev}
+use Rattle.s390x_inst.specs.declared.vec_inst.VecInst.TheVariants as V
 use Rattle.s390x_rows.specs.declared.opcodes.TheConstants as opcodes
 use Rattle.s390x_typed_steps.specs.Baseline.{whole_or_loaded, body_for, tree_for}
 use Rattle.s390x_typed_steps.specs.Folding.{folded_members, fold, body_with_remainder, remainder, branches_of, folded_before, folded_from, next_block}
@@ -93,8 +92,8 @@ address_parts_fine : (rd : Reg) (code : Option TrapKind) (m : MemArg) → Access
 address_parts_fine rd code m = by_operand (address_form rd) code m (λ e. both (trap_here code) (relative_part larl (number_of rd) m) (trap_fine code) (address_fine (number_of rd) m))
 
 helper_fine : (i : Inst) → AccessNothingRelative (helper_parts i)
-helper_fine (Mov64SImm32 rd imm) = (tt, tt)
-helper_fine (LoadAddr rd mem) = address_parts_fine rd None mem
+helper_fine (I.Mov64SImm32 rd imm) = (tt, tt)
+helper_fine (I.LoadAddr rd mem) = address_parts_fine rd None mem
 helper_fine _ = tt
 
 helpers_fine : (is : List Inst) → AccessNothingRelative (helpers_parts is)
@@ -187,16 +186,16 @@ whole_or_none (Some w) = inl refl
 
 -- the last clause is a copy for each load and store of a whole register, and for each that has no operand in memory
 vector_accesses : (v : VecInst) → MayAccess (vector_memory v)
-vector_accesses (VecLoadReplicate size rd mem) = elements opcodes.VLREP rd (element_code size) mem
-vector_accesses (VecLoadReplicateRev size rd mem) = elements opcodes.VLBRREP rd (reversed_code size) mem
-vector_accesses (VecLoadLane size rd ri mem lane) = one_lane (reuses_vector rd ri) load_lane_opcode (number_of rd) (element_code size) size lane mem
-vector_accesses (VecLoadLaneRev size rd ri mem lane) = one_lane (reuses_vector rd ri) load_reversed_opcode (number_of rd) (reversed_code size) size lane mem
-vector_accesses (VecLoadLaneUndef size rd mem lane) =
+vector_accesses (V.VecLoadReplicate size rd mem) = elements opcodes.VLREP rd (element_code size) mem
+vector_accesses (V.VecLoadReplicateRev size rd mem) = elements opcodes.VLBRREP rd (reversed_code size) mem
+vector_accesses (V.VecLoadLane size rd ri mem lane) = one_lane (reuses_vector rd ri) load_lane_opcode (number_of rd) (element_code size) size lane mem
+vector_accesses (V.VecLoadLaneRev size rd ri mem lane) = one_lane (reuses_vector rd ri) load_reversed_opcode (number_of rd) (reversed_code size) size lane mem
+vector_accesses (V.VecLoadLaneUndef size rd mem lane) =
     left_or (is_left_lane size lane (number_of rd)) (is_vector rd) (load_left size (number_of rd)) mem (access_lane (is_vector rd) load_lane_opcode (number_of rd) (element_code size) size lane mem) (one_lane (is_vector rd) load_lane_opcode (number_of rd) (element_code size) size lane mem)
-vector_accesses (VecLoadLaneRevUndef size rd mem lane) = one_lane (is_vector rd) load_reversed_opcode (number_of rd) (reversed_code size) size lane mem
-vector_accesses (VecStoreLane size rd mem lane) =
+vector_accesses (V.VecLoadLaneRevUndef size rd mem lane) = one_lane (is_vector rd) load_reversed_opcode (number_of rd) (reversed_code size) size lane mem
+vector_accesses (V.VecStoreLane size rd mem lane) =
     left_or (is_left_lane size lane (number_of rd)) (is_vector rd) (store_left size (number_of rd)) mem (access_lane (is_vector rd) store_lane_opcode (number_of rd) (element_code size) size lane mem) (one_lane (is_vector rd) store_lane_opcode (number_of rd) (element_code size) size lane mem)
-vector_accesses (VecStoreLaneRev size rd mem lane) = one_lane (is_vector rd) store_reversed_opcode (number_of rd) (reversed_code size) size lane mem
+vector_accesses (V.VecStoreLaneRev size rd mem lane) = one_lane (is_vector rd) store_reversed_opcode (number_of rd) (reversed_code size) size lane mem
 vector_accesses v = whole_or_none (as_whole v)
 
 store_or_none : (o : Option Store) → MayAccess (by_store store_memory None o)
@@ -205,19 +204,19 @@ store_or_none (Some s) = inl refl
 
 -- the last clause is a copy for each store of a register, and for each that has no operand in memory
 other_accesses : (i : Inst) → MayAccess (other_memory i)
-other_accesses (AluRX op rd ri mem) = operates (is_some (alu_rx op) || is_some (alu_rxy op)) (alu_rx op) (alu_rxy op) rd ri mem
-other_accesses (CmpRX op rn mem) = inl refl
-other_accesses (StoreImm8 imm mem) = inl refl
-other_accesses (StoreImm16 imm mem) = inl refl
-other_accesses (StoreImm32SExt16 imm mem) = inl refl
-other_accesses (StoreImm64SExt16 imm mem) = inl refl
-other_accesses (LoadMultiple64 rt rt2 mem) = inl refl
-other_accesses (StoreMultiple64 rt rt2 mem) = inl refl
-other_accesses (LoadAddr rd mem) = inr (rd, refl)
-other_accesses (AtomicRmw op rd rn mem) = locks (atomic_rsy op) rd rn mem
-other_accesses (AtomicCas32 rd ri rn mem) = inl refl
-other_accesses (AtomicCas64 rd ri rn mem) = inl refl
-other_accesses (Vector v) = vector_accesses v
+other_accesses (I.AluRX op rd ri mem) = operates (is_some (alu_rx op) || is_some (alu_rxy op)) (alu_rx op) (alu_rxy op) rd ri mem
+other_accesses (I.CmpRX op rn mem) = inl refl
+other_accesses (I.StoreImm8 imm mem) = inl refl
+other_accesses (I.StoreImm16 imm mem) = inl refl
+other_accesses (I.StoreImm32SExt16 imm mem) = inl refl
+other_accesses (I.StoreImm64SExt16 imm mem) = inl refl
+other_accesses (I.LoadMultiple64 rt rt2 mem) = inl refl
+other_accesses (I.StoreMultiple64 rt rt2 mem) = inl refl
+other_accesses (I.LoadAddr rd mem) = inr (rd, refl)
+other_accesses (I.AtomicRmw op rd rn mem) = locks (atomic_rsy op) rd rn mem
+other_accesses (I.AtomicCas32 rd ri rn mem) = inl refl
+other_accesses (I.AtomicCas64 rd ri rn mem) = inl refl
+other_accesses (I.Vector v) = vector_accesses v
 other_accesses i = store_or_none (as_store i)
 
 may_access : (i : Inst) → MayAccess (memory i)
@@ -231,17 +230,17 @@ may_access i = go (as_load i)
 
 -- the last clause is a copy for each that names no place and goes nowhere
 branch_fine : (i : Inst) → AccessNothingRelative (branch_parts i)
-branch_fine (Jump dest) = (tt, tt)
-branch_fine (CondBr taken not_taken mask) = (tt, (tt, tt))
-branch_fine (IndirectBr rn targets) = (tt, tt)
-branch_fine (Ret link) = (tt, tt)
-branch_fine (JTSequence ridx other mask targets) = (tt, (tt, (tt, (tt, words_fine 0 targets.items))))
-branch_fine (LabelAddress dst label) = (refl, tt)
-branch_fine (LoadSymbolReloc rd reloc) = (tt, (tt, (tt, tt)))
-branch_fine (Trap code) = (tt, tt)
-branch_fine (TrapIf mask code) = (tt, tt)
-branch_fine Debugtrap = (tt, tt)
-branch_fine (Vector v) = rows_fine (composite_rows v)
+branch_fine (I.Jump dest) = (tt, tt)
+branch_fine (I.CondBr taken not_taken mask) = (tt, (tt, tt))
+branch_fine (I.IndirectBr rn targets) = (tt, tt)
+branch_fine (I.Ret link) = (tt, tt)
+branch_fine (I.JTSequence ridx other mask targets) = (tt, (tt, (tt, (tt, words_fine 0 targets.items))))
+branch_fine (I.LabelAddress dst label) = (refl, tt)
+branch_fine (I.LoadSymbolReloc rd reloc) = (tt, (tt, (tt, tt)))
+branch_fine (I.Trap code) = (tt, tt)
+branch_fine (I.TrapIf mask code) = (tt, tt)
+branch_fine I.Debugtrap = (tt, tt)
+branch_fine (I.Vector v) = rows_fine (composite_rows v)
 branch_fine i = tt
 
 row_fine : (m : MachineInstruction) (code : Option TrapKind) → AccessNothingRelative (row_part m code ∷ [])
@@ -296,7 +295,7 @@ tail_fine (Indirect reg) = (tt, sites_fine (AtCall ∷ []))
 
 -- the last clause on instructions is a copy for each
 body_fine : (flags : IsaFlags) (b : StepBody) → flags.no_relative_memory ≡ true → BodyFine (body_for flags b)
-body_fine flags (Whole (CondBreak mask)) lacks after = (tt, tt)
+body_fine flags (Whole (I.CondBreak mask)) lacks after = (tt, tt)
 body_fine flags (Whole i) lacks after = plain_fine flags i lacks after refl
 body_fine flags (Loaded i) lacks after = loaded_fine (memory i)
 body_fine flags (Folded r i) lacks after = remainder_fine r

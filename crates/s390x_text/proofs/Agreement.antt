@@ -8,7 +8,6 @@ use Rattle.s390x_inst.specs.declared.args.MemArg.{MemArg}
 use Rattle.s390x_inst.specs.declared.ops.ALUOp.{ALUOp}
 use Rattle.s390x_inst.specs.declared.ops.ALUOp.TheVariants.{Add32}
 use Rattle.s390x_inst.specs.declared.ops.CmpOp.{CmpOp}
-use Rattle.s390x_inst.specs.declared.ops.RxSBGOp.{RxSBGOp}
 use Rattle.s390x_inst.specs.declared.ops.RxSBGOp.TheVariants.{Insert, And}
 use Rattle.s390x_inst.specs.declared.ops.UnaryOp.TheVariants.{Abs32}
 use Rattle.s390x_inst.specs.declared.load.Load.{Load}
@@ -21,19 +20,15 @@ use Rattle.s390x_inst.specs.declared.store.StoreOp.TheVariants as StoreOps
 use Rattle.s390x_inst.specs.Stores.{as_store, by_store}
 use Rattle.s390x_job_fields.specs.Atoms.{reg_text}
 use Rattle.s390x_inst.specs.declared.inst.Inst.{Inst}
-use Rattle.s390x_inst.specs.declared.inst.Inst.TheVariants.{AluRRR, AluRR, AluRRSImm16, AluRSImm16, AluRSImm32, AluRUImm32, AluRUImm16Shifted, AluRUImm32Shifted, ShiftRR, RxSBG, RxSBGTest, UnaryRR, SMulWide, UMulWide, Flogr, SDivMod32, SDivMod64, UDivMod32, UDivMod64, CmpRR, CmpRSImm16, CmpRSImm32}
-use Rattle.s390x_inst.specs.declared.inst.Inst.TheVariants.{CmpRUImm32, CmpTrapRR, CmpTrapRSImm16, CmpTrapRUImm16, Mov64UImm16Shifted, Mov64UImm32Shifted, Insert64UImm16Shifted, Insert64UImm32Shifted, Extend, LoadIndexedAddr, LoadLogicalIndexedAddr, Mov64, MovPReg, Mov32, Mov32Imm, Mov32SImm16}
-use Rattle.s390x_inst.specs.declared.inst.Inst.TheVariants.{Mov64SImm16, Mov64SImm32, CMov32, CMov64, CMov32SImm16, CMov64SImm16, LoadAR, InsertAR, AluRX, CmpRX, LoadMultiple64, StoreMultiple64, LoadAddr, AtomicRmw, AtomicCas32, AtomicCas64}
-use Rattle.s390x_inst.specs.declared.inst.Inst.TheVariants.{StoreImm8, StoreImm16}
-use Rattle.s390x_inst.specs.declared.inst.Inst.TheVariants.{StoreImm32SExt16, StoreImm64SExt16}
+use Rattle.s390x_inst.specs.declared.inst.Inst.TheVariants as I
 use Rattle.s390x_typed_steps.specs.MachineInstruction.{MachineInstruction}
 use Rattle.s390x_typed_steps.specs.SingleInstruction.{single_instruction, single_with, two_row, three_row, halfword_row, word_row, three_halfword_row, masked_row, masked_halfword_row, indexed_row}
 use Rattle.s390x_typed_steps.specs.Opcodes.{alu_three, alu_two, cmp_two, cmp_trap, cmp_trap_signed, cmp_trap_unsigned, alu_halfword, alu_three_halfword, alu_signed_word, alu_unsigned_word, cmp_halfword, cmp_signed_word, cmp_unsigned_word, alu_part, alu_half, load_part}
-use Rattle.s390x_typed_steps.specs.Opcodes.{load_half, insert_part, insert_half, extend_two, rotate_then_test, indexed_opcode, logical_indexed_opcode}
+use Rattle.s390x_typed_steps.specs.Opcodes.{load_half, insert_part, insert_half, extend_two, indexed_opcode, logical_indexed_opcode}
 use Rattle.s390x_typed_steps.specs.Storage.{alu_rx, alu_rxy, atomic_rsy}
 use Rattle.s390x_typed_steps.specs.Memory.{MemoryInstruction, load_memory, store_memory, other_memory, operate, load_and_operate, memory}
 use Rattle.s390x_text_rows.specs.Texts.{Text, row}
-use Rattle.s390x_base.specs.declared.regs.Reg.TheVariants.{Real, Virtual}
+use Rattle.s390x_base.specs.declared.regs.Reg.TheVariants.{Real}
 use Rattle.std.specs.Option.{option_map}
 use Rattle.s390x_text_rows.specs.Operands.{is_reg, pair_cause}
 use Rattle.s390x_text_rows.specs.Mnemonics.{alu_three_name, alu_two_name, alu_halfword_name, alu_three_halfword_name, alu_signed_word_name, alu_unsigned_word_name, alu_short_name, alu_long_name, atomic_name, cmp_short_name, cmp_long_name, cmp_relative_name, cmp_two_name, cmp_halfword_name}
@@ -102,9 +97,6 @@ cmp_trap_unsigned_same : (op : CmpOp) → is_some (cmp_trap_unsigned_name op) �
 unfolding cmp_trap_unsigned_name
 cmp_trap_unsigned_same op = stem_same _ (cmp_trap_unsigned op)
 
-rotate_test_same : (op : RxSBGOp) → is_some (rotate_test_name op) ≡ is_some (rotate_then_test op)
-rotate_test_same op = stem_same _ (rotate_then_test op)
-
 atomic_same : (op : ALUOp) → is_some (atomic_name op) ≡ is_some (atomic_rsy op)
 unfolding atomic_name
 atomic_same op = stem_same _ (atomic_rsy op)
@@ -132,80 +124,59 @@ logical_same n = stem_same _ (logical_indexed_opcode n)
 -- ---- rows
 
 two_agrees : (n : Option (List ℕ)) (o : Option ℕ) (xs : List (List ℕ)) (fine : Bool) (d m : ℕ) → is_some n ≡ is_some o → has_row_text (row n xs).cause ≡ is_some (single_with fine (two_row o d m))
-two_agrees None None xs fine d m h = refl
 two_agrees None (Some o) xs fine d m h = h
 two_agrees (Some n) None xs fine d m h = h
-two_agrees (Some n) (Some o) xs fine d m h = refl
+two_agrees n o xs fine d m h = refl
 
 halfword_agrees : (n : Option (List ℕ)) (o : Option ℕ) (xs : List (List ℕ)) (fine : Bool) (d bits : ℕ) → is_some n ≡ is_some o → has_row_text (row n xs).cause ≡ is_some (single_with fine (halfword_row o d bits))
-halfword_agrees None None xs fine d bits h = refl
 halfword_agrees None (Some o) xs fine d bits h = h
 halfword_agrees (Some n) None xs fine d bits h = h
-halfword_agrees (Some n) (Some o) xs fine d bits h = refl
+halfword_agrees n o xs fine d bits h = refl
 
 word_agrees : (n : Option (List ℕ)) (o : Option ℕ) (xs : List (List ℕ)) (fine : Bool) (d bits : ℕ) → is_some n ≡ is_some o → has_row_text (row n xs).cause ≡ is_some (single_with fine (word_row o d bits))
-word_agrees None None xs fine d bits h = refl
 word_agrees None (Some o) xs fine d bits h = h
 word_agrees (Some n) None xs fine d bits h = h
-word_agrees (Some n) (Some o) xs fine d bits h = refl
+word_agrees n o xs fine d bits h = refl
 
 indexed_agrees : (n : Option (List ℕ)) (o : Option ℕ) (xs : List (List ℕ)) (fine : Bool) (d base index displacement : ℕ) → is_some n ≡ is_some o → has_row_text (row n xs).cause ≡ is_some (single_with fine (indexed_row o d base index displacement))
-indexed_agrees None None xs fine d base index displacement h = refl
 indexed_agrees None (Some o) xs fine d base index displacement h = h
 indexed_agrees (Some n) None xs fine d base index displacement h = h
-indexed_agrees (Some n) (Some o) xs fine d base index displacement h = refl
+indexed_agrees n o xs fine d base index displacement h = refl
 
 masked_agrees : (n : Option (List ℕ)) (o : Option ℕ) (xs : List (List ℕ)) (fine : Bool) (a m k : ℕ) (mask : ℕ) → is_some n ≡ is_some o → has_row_text (conditional_row n mask xs).cause ≡ is_some (single_with fine (masked_row o a m k))
-masked_agrees None None xs fine a m k mask h = refl
 masked_agrees None (Some o) xs fine a m k mask h = h
 masked_agrees (Some n) None xs fine a m k mask h = h
-masked_agrees (Some n) (Some o) xs fine a m k mask h = refl
+masked_agrees n o xs fine a m k mask h = refl
 
 masked_halfword_agrees : (n : Option (List ℕ)) (o : Option ℕ) (xs : List (List ℕ)) (fine : Bool) (a bits k : ℕ) (mask : ℕ) → is_some n ≡ is_some o → has_row_text (conditional_row n mask xs).cause ≡ is_some (single_with fine (masked_halfword_row o a bits k))
-masked_halfword_agrees None None xs fine a bits k mask h = refl
 masked_halfword_agrees None (Some o) xs fine a bits k mask h = h
 masked_halfword_agrees (Some n) None xs fine a bits k mask h = h
-masked_halfword_agrees (Some n) (Some o) xs fine a bits k mask h = refl
+masked_halfword_agrees n o xs fine a bits k mask h = refl
 
 chosen : (b : Bool) (t u : Text) → has_row_text t.cause ≡ true → has_row_text u.cause ≡ true → has_row_text (cond b t u).cause ≡ true
 chosen true t u p q = p
 chosen false t u p q = q
 
+three_named : (n w : Option (List ℕ)) (rd rn : Reg) (last : List ℕ) → has_row_text (three_text n w rd rn last).cause ≡ is_some n
+three_named None w rd rn last = refl
+three_named (Some n) None rd rn last = refl
+three_named (Some n) (Some w) rd rn last = chosen (is_reg rd rn) _ _ refl refl
+
+three_some : (o p : Option ℕ) (fine : Bool) (d k m : ℕ) → is_some o ≡ is_some (single_with fine (three_row o p d k m))
+three_some None p fine d k m = refl
+three_some (Some o) None fine d k m = refl
+three_some (Some o) (Some p) fine d k m = refl
+
 three_agrees : (n w : Option (List ℕ)) (o p : Option ℕ) (rd rn : Reg) (last : List ℕ) (fine : Bool) (d k m : ℕ) → is_some n ≡ is_some o → has_row_text (three_text n w rd rn last).cause ≡ is_some (single_with fine (three_row o p d k m))
-three_agrees None None None None rd rn last fine d k m h = refl
-three_agrees None None None (Some p) rd rn last fine d k m h = refl
-three_agrees None None (Some o) None rd rn last fine d k m h = h
-three_agrees None None (Some o) (Some p) rd rn last fine d k m h = h
-three_agrees None (Some w) None None rd rn last fine d k m h = refl
-three_agrees None (Some w) None (Some p) rd rn last fine d k m h = refl
-three_agrees None (Some w) (Some o) None rd rn last fine d k m h = h
-three_agrees None (Some w) (Some o) (Some p) rd rn last fine d k m h = h
-three_agrees (Some n) None None None rd rn last fine d k m h = h
-three_agrees (Some n) None None (Some p) rd rn last fine d k m h = h
-three_agrees (Some n) None (Some o) None rd rn last fine d k m h = refl
-three_agrees (Some n) None (Some o) (Some p) rd rn last fine d k m h = refl
-three_agrees (Some n) (Some w) None None rd rn last fine d k m h = chosen (is_reg rd rn) _ _ refl refl ∙ h
-three_agrees (Some n) (Some w) None (Some p) rd rn last fine d k m h = chosen (is_reg rd rn) _ _ refl refl ∙ h
-three_agrees (Some n) (Some w) (Some o) None rd rn last fine d k m h = chosen (is_reg rd rn) _ _ refl refl
-three_agrees (Some n) (Some w) (Some o) (Some p) rd rn last fine d k m h = chosen (is_reg rd rn) _ _ refl refl
+three_agrees n w o p rd rn last fine d k m h = three_named n w rd rn last ∙ h ∙ three_some o p fine d k m
+
+three_halfword_some : (o p : Option ℕ) (fine : Bool) (d k bits : ℕ) → is_some o ≡ is_some (single_with fine (three_halfword_row o p d k bits))
+three_halfword_some None p fine d k bits = refl
+three_halfword_some (Some o) None fine d k bits = refl
+three_halfword_some (Some o) (Some p) fine d k bits = refl
 
 three_halfword_agrees : (n w : Option (List ℕ)) (o p : Option ℕ) (rd rn : Reg) (last : List ℕ) (fine : Bool) (d k bits : ℕ) → is_some n ≡ is_some o → has_row_text (three_text n w rd rn last).cause ≡ is_some (single_with fine (three_halfword_row o p d k bits))
-three_halfword_agrees None None None None rd rn last fine d k bits h = refl
-three_halfword_agrees None None None (Some p) rd rn last fine d k bits h = refl
-three_halfword_agrees None None (Some o) None rd rn last fine d k bits h = h
-three_halfword_agrees None None (Some o) (Some p) rd rn last fine d k bits h = h
-three_halfword_agrees None (Some w) None None rd rn last fine d k bits h = refl
-three_halfword_agrees None (Some w) None (Some p) rd rn last fine d k bits h = refl
-three_halfword_agrees None (Some w) (Some o) None rd rn last fine d k bits h = h
-three_halfword_agrees None (Some w) (Some o) (Some p) rd rn last fine d k bits h = h
-three_halfword_agrees (Some n) None None None rd rn last fine d k bits h = h
-three_halfword_agrees (Some n) None None (Some p) rd rn last fine d k bits h = h
-three_halfword_agrees (Some n) None (Some o) None rd rn last fine d k bits h = refl
-three_halfword_agrees (Some n) None (Some o) (Some p) rd rn last fine d k bits h = refl
-three_halfword_agrees (Some n) (Some w) None None rd rn last fine d k bits h = chosen (is_reg rd rn) _ _ refl refl ∙ h
-three_halfword_agrees (Some n) (Some w) None (Some p) rd rn last fine d k bits h = chosen (is_reg rd rn) _ _ refl refl ∙ h
-three_halfword_agrees (Some n) (Some w) (Some o) None rd rn last fine d k bits h = chosen (is_reg rd rn) _ _ refl refl
-three_halfword_agrees (Some n) (Some w) (Some o) (Some p) rd rn last fine d k bits h = chosen (is_reg rd rn) _ _ refl refl
+three_halfword_agrees n w o p rd rn last fine d k bits h = three_named n w rd rn last ∙ h ∙ three_halfword_some o p fine d k bits
 
 -- selected bits, by whether they lie below 64
 picked : (b : Bool) (n : Option (List ℕ)) (xs : List (List ℕ)) (fine : Bool) (m : MachineInstruction) → is_some n ≡ true → has_row_text (row (cond b n None) xs).cause ≡ is_some (single_with fine (cond b (Some m) None))
@@ -218,7 +189,7 @@ unpicked true xs = refl
 unpicked false xs = refl
 
 -- one with an operand in memory, by whether there is a row
-address_row : (c : Option EmitError) → has_row_text (address_cause c) ≡ true
+pub address_row : (c : Option EmitError) → has_row_text (address_cause c) ≡ true
 address_row None = refl
 address_row (Some e) = refl
 
@@ -250,69 +221,68 @@ chosen_cause false = refl
 -- ---- instructions
 
 arithmetic : (i : Inst) → Agrees (arithmetic_text i) (is_some (single_instruction i))
-arithmetic (AluRRR op rd rn rm) = three_agrees (alu_three_name op) (alu_two_name op) (alu_three op) (alu_two op) _ _ _ _ _ _ _ (alu_three_same op)
-arithmetic (AluRRSImm16 op rd rn imm) = three_halfword_agrees (alu_three_halfword_name op) (alu_halfword_name op) (alu_three_halfword op) (alu_halfword op) _ _ _ _ _ _ _ (alu_three_halfword_same op)
-arithmetic (AluRR op rd ri rm) = two_agrees (alu_two_name op) (alu_two op) _ _ _ _ (alu_two_same op)
-arithmetic (AluRSImm16 op rd ri imm) = halfword_agrees (alu_halfword_name op) (alu_halfword op) _ _ _ _ (alu_halfword_same op)
-arithmetic (AluRSImm32 op rd ri imm) = word_agrees (alu_signed_word_name op) (alu_signed_word op) _ _ _ _ (alu_signed_word_same op)
-arithmetic (AluRUImm32 op rd ri imm) = word_agrees (alu_unsigned_word_name op) (alu_unsigned_word op) _ _ _ _ (alu_unsigned_word_same op)
-arithmetic (AluRUImm16Shifted op rd ri imm) = halfword_agrees (alu_part_name op imm.shift) (alu_part op imm.shift) _ _ _ _ (part_same op imm.shift)
-arithmetic (AluRUImm32Shifted op rd ri imm) = word_agrees (alu_half_name op imm.shift) (alu_half op imm.shift) _ _ _ _ (half_same op imm.shift)
-arithmetic (UnaryRR Abs32 rd rn) = refl
-arithmetic (UnaryRR op rd rn) = refl
-arithmetic (RxSBG op rd ri rn start end amount) = picked (nat_lt start 64 && nat_lt end 64) (Some (rotate_name op)) _ _ _ refl
-arithmetic (RxSBGTest Insert rd rn start end amount) = unpicked (nat_lt start 64 && nat_lt end 64) _
-arithmetic (RxSBGTest And rd rn start end amount) = picked (nat_lt start 64 && nat_lt end 64) (rotate_test_name And) _ _ _ refl
-arithmetic (RxSBGTest op rd rn start end amount) = picked (nat_lt start 64 && nat_lt end 64) (rotate_test_name op) _ _ _ refl
-arithmetic (ShiftRR op rd rn amount register) = refl
+arithmetic (I.AluRRR op rd rn rm) = three_agrees (alu_three_name op) (alu_two_name op) (alu_three op) (alu_two op) _ _ _ _ _ _ _ (alu_three_same op)
+arithmetic (I.AluRRSImm16 op rd rn imm) = three_halfword_agrees (alu_three_halfword_name op) (alu_halfword_name op) (alu_three_halfword op) (alu_halfword op) _ _ _ _ _ _ _ (alu_three_halfword_same op)
+arithmetic (I.AluRR op rd ri rm) = two_agrees (alu_two_name op) (alu_two op) _ _ _ _ (alu_two_same op)
+arithmetic (I.AluRSImm16 op rd ri imm) = halfword_agrees (alu_halfword_name op) (alu_halfword op) _ _ _ _ (alu_halfword_same op)
+arithmetic (I.AluRSImm32 op rd ri imm) = word_agrees (alu_signed_word_name op) (alu_signed_word op) _ _ _ _ (alu_signed_word_same op)
+arithmetic (I.AluRUImm32 op rd ri imm) = word_agrees (alu_unsigned_word_name op) (alu_unsigned_word op) _ _ _ _ (alu_unsigned_word_same op)
+arithmetic (I.AluRUImm16Shifted op rd ri imm) = halfword_agrees (alu_part_name op imm.shift) (alu_part op imm.shift) _ _ _ _ (part_same op imm.shift)
+arithmetic (I.AluRUImm32Shifted op rd ri imm) = word_agrees (alu_half_name op imm.shift) (alu_half op imm.shift) _ _ _ _ (half_same op imm.shift)
+arithmetic (I.UnaryRR Abs32 rd rn) = refl
+arithmetic (I.UnaryRR op rd rn) = refl
+arithmetic (I.RxSBG op rd ri rn start end amount) = picked (nat_lt start 64 && nat_lt end 64) (Some (rotate_name op)) _ _ _ refl
+arithmetic (I.RxSBGTest Insert rd rn start end amount) = unpicked (nat_lt start 64 && nat_lt end 64) _
+arithmetic (I.RxSBGTest And rd rn start end amount) = picked (nat_lt start 64 && nat_lt end 64) (rotate_test_name And) _ _ _ refl
+arithmetic (I.RxSBGTest op rd rn start end amount) = picked (nat_lt start 64 && nat_lt end 64) (rotate_test_name op) _ _ _ refl
+arithmetic (I.ShiftRR op rd rn amount register) = refl
 arithmetic i = tt
 
 is_row_pair : (hi lo : Reg) → has_row_text (pair_cause hi lo) ≡ true
 is_row_pair (Real h) (Real l) = chosen_cause (nat_eq l.number (h.number + 1))
-is_row_pair (Real h) (Virtual n c) = refl
-is_row_pair (Virtual n c) lo = refl
+is_row_pair hi lo = refl
 
 pairs : (i : Inst) → Agrees (pair_instruction_text i) (is_some (single_instruction i))
-pairs (SMulWide rd rn rm) = is_row_pair rd.hi rd.lo
-pairs (Flogr rd rn) = is_row_pair rd.hi rd.lo
-pairs (UMulWide rd ri rn) = refl
-pairs (SDivMod32 rd ri rn) = refl
-pairs (SDivMod64 rd ri rn) = refl
-pairs (UDivMod32 rd ri rn) = refl
-pairs (UDivMod64 rd ri rn) = refl
+pairs (I.SMulWide rd rn rm) = is_row_pair rd.hi rd.lo
+pairs (I.Flogr rd rn) = is_row_pair rd.hi rd.lo
+pairs (I.UMulWide rd ri rn) = refl
+pairs (I.SDivMod32 rd ri rn) = refl
+pairs (I.SDivMod64 rd ri rn) = refl
+pairs (I.UDivMod32 rd ri rn) = refl
+pairs (I.UDivMod64 rd ri rn) = refl
 pairs i = tt
 
 comparisons : (i : Inst) → Agrees (compare_text i) (is_some (single_instruction i))
-comparisons (CmpRR op rn rm) = two_agrees (cmp_two_name op) (cmp_two op) _ _ _ _ (cmp_two_same op)
-comparisons (CmpRSImm16 op rn imm) = halfword_agrees (cmp_halfword_name op) (cmp_halfword op) _ _ _ _ (cmp_halfword_same op)
-comparisons (CmpRSImm32 op rn imm) = word_agrees (cmp_signed_word_name op) (cmp_signed_word op) _ _ _ _ (cmp_signed_word_same op)
-comparisons (CmpRUImm32 op rn imm) = word_agrees (cmp_unsigned_word_name op) (cmp_unsigned_word op) _ _ _ _ (cmp_unsigned_word_same op)
-comparisons (CmpTrapRR op rn rm mask code) = masked_agrees (cmp_trap_name op) (cmp_trap op) _ _ _ _ _ mask (cmp_trap_same op)
-comparisons (CmpTrapRSImm16 op rn imm mask code) = masked_halfword_agrees (cmp_trap_signed_name op) (cmp_trap_signed op) _ _ _ _ _ mask (cmp_trap_signed_same op)
-comparisons (CmpTrapRUImm16 op rn imm mask code) = masked_halfword_agrees (cmp_trap_unsigned_name op) (cmp_trap_unsigned op) _ _ _ _ _ mask (cmp_trap_unsigned_same op)
+comparisons (I.CmpRR op rn rm) = two_agrees (cmp_two_name op) (cmp_two op) _ _ _ _ (cmp_two_same op)
+comparisons (I.CmpRSImm16 op rn imm) = halfword_agrees (cmp_halfword_name op) (cmp_halfword op) _ _ _ _ (cmp_halfword_same op)
+comparisons (I.CmpRSImm32 op rn imm) = word_agrees (cmp_signed_word_name op) (cmp_signed_word op) _ _ _ _ (cmp_signed_word_same op)
+comparisons (I.CmpRUImm32 op rn imm) = word_agrees (cmp_unsigned_word_name op) (cmp_unsigned_word op) _ _ _ _ (cmp_unsigned_word_same op)
+comparisons (I.CmpTrapRR op rn rm mask code) = masked_agrees (cmp_trap_name op) (cmp_trap op) _ _ _ _ _ mask (cmp_trap_same op)
+comparisons (I.CmpTrapRSImm16 op rn imm mask code) = masked_halfword_agrees (cmp_trap_signed_name op) (cmp_trap_signed op) _ _ _ _ _ mask (cmp_trap_signed_same op)
+comparisons (I.CmpTrapRUImm16 op rn imm mask code) = masked_halfword_agrees (cmp_trap_unsigned_name op) (cmp_trap_unsigned op) _ _ _ _ _ mask (cmp_trap_unsigned_same op)
 comparisons i = tt
 
 moves : (i : Inst) → Agrees (move_text i) (is_some (single_instruction i))
-moves (Mov64UImm16Shifted rd imm) = halfword_agrees (load_part_name imm.shift) (load_part imm.shift) _ _ _ _ (stem_same _ (load_part imm.shift))
-moves (Mov64UImm32Shifted rd imm) = word_agrees (load_half_name imm.shift) (load_half imm.shift) _ _ _ _ (stem_same _ (load_half imm.shift))
-moves (Insert64UImm16Shifted rd ri imm) = halfword_agrees (insert_part_name imm.shift) (insert_part imm.shift) _ _ _ _ (stem_same _ (insert_part imm.shift))
-moves (Insert64UImm32Shifted rd ri imm) = word_agrees (insert_half_name imm.shift) (insert_half imm.shift) _ _ _ _ (stem_same _ (insert_half imm.shift))
-moves (Extend rd rn signed from to) = two_agrees (extend_name signed from to) (extend_two signed from to) _ _ _ _ (extend_same signed from to)
-moves (LoadIndexedAddr rd base index offset size) = indexed_agrees (indexed_name size) (indexed_opcode size) _ _ _ _ _ _ (indexed_same size)
-moves (LoadLogicalIndexedAddr rd base index offset size) = indexed_agrees (logical_indexed_name size) (logical_indexed_opcode size) _ _ _ _ _ _ (logical_same size)
-moves (Mov64 rd rm) = refl
-moves (MovPReg rd rm) = refl
-moves (Mov32 rd rm) = refl
-moves (Mov32Imm rd imm) = refl
-moves (Mov32SImm16 rd imm) = refl
-moves (Mov64SImm16 rd imm) = refl
-moves (Mov64SImm32 rd imm) = refl
-moves (CMov32 rd mask ri rm) = refl
-moves (CMov64 rd mask ri rm) = refl
-moves (CMov32SImm16 rd mask ri imm) = refl
-moves (CMov64SImm16 rd mask ri imm) = refl
-moves (LoadAR rd ar) = refl
-moves (InsertAR rd ri ar) = refl
+moves (I.Mov64UImm16Shifted rd imm) = halfword_agrees (load_part_name imm.shift) (load_part imm.shift) _ _ _ _ (stem_same _ (load_part imm.shift))
+moves (I.Mov64UImm32Shifted rd imm) = word_agrees (load_half_name imm.shift) (load_half imm.shift) _ _ _ _ (stem_same _ (load_half imm.shift))
+moves (I.Insert64UImm16Shifted rd ri imm) = halfword_agrees (insert_part_name imm.shift) (insert_part imm.shift) _ _ _ _ (stem_same _ (insert_part imm.shift))
+moves (I.Insert64UImm32Shifted rd ri imm) = word_agrees (insert_half_name imm.shift) (insert_half imm.shift) _ _ _ _ (stem_same _ (insert_half imm.shift))
+moves (I.Extend rd rn signed from to) = two_agrees (extend_name signed from to) (extend_two signed from to) _ _ _ _ (extend_same signed from to)
+moves (I.LoadIndexedAddr rd base index offset size) = indexed_agrees (indexed_name size) (indexed_opcode size) _ _ _ _ _ _ (indexed_same size)
+moves (I.LoadLogicalIndexedAddr rd base index offset size) = indexed_agrees (logical_indexed_name size) (logical_indexed_opcode size) _ _ _ _ _ _ (logical_same size)
+moves (I.Mov64 rd rm) = refl
+moves (I.MovPReg rd rm) = refl
+moves (I.Mov32 rd rm) = refl
+moves (I.Mov32Imm rd imm) = refl
+moves (I.Mov32SImm16 rd imm) = refl
+moves (I.Mov64SImm16 rd imm) = refl
+moves (I.Mov64SImm32 rd imm) = refl
+moves (I.CMov32 rd mask ri rm) = refl
+moves (I.CMov64 rd mask ri rm) = refl
+moves (I.CMov32SImm16 rd mask ri imm) = refl
+moves (I.CMov64SImm16 rd mask ri imm) = refl
+moves (I.LoadAR rd ar) = refl
+moves (I.InsertAR rd ri ar) = refl
 moves i = tt
 
 -- each load has a row: the last clause is a copy for each
@@ -336,22 +306,22 @@ store_agrees has e None other = tt
 store_agrees has e (Some s) other = access_row (has_row (store_mnemonics s.op)) _ ∙ store_has_row s.op
 
 stores : (has : Bool) (e : Emission) (i : Inst) → Agrees (store_text has e i) (is_some (memory i))
-stores has e (StoreImm8 imm mem) = address_row _
-stores has e (StoreImm16 imm mem) = address_row _
-stores has e (StoreImm32SExt16 imm mem) = address_row _
-stores has e (StoreImm64SExt16 imm mem) = address_row _
+stores has e (I.StoreImm8 imm mem) = address_row _
+stores has e (I.StoreImm16 imm mem) = address_row _
+stores has e (I.StoreImm32SExt16 imm mem) = address_row _
+stores has e (I.StoreImm64SExt16 imm mem) = address_row _
 stores has e i = store_agrees has e (as_store i) (memory i)
 
 operators : (has : Bool) (e : Emission) (i : Inst) → Agrees (storage_operator_text has e i) (is_some (memory i))
-operators has e (AluRX op rd ri mem) =
+operators has e (I.AluRX op rd ri mem) =
     access_row (has_row (rx (alu_short_name op) (alu_long_name op) None)) _ ∙ storage_same op ∙ sym (operate_some (is_some (alu_rx op) || is_some (alu_rxy op)) (alu_rx op) (alu_rxy op) rd ri mem)
-operators has e (CmpRX op rn mem) = compared (cmp_short_name op) (cmp_long_name op) (cmp_relative_name op) _
-operators has e (AtomicRmw op rd rn mem) = atomic_row (atomic_name op) (atomic_rsy op) rd rn mem _ (atomic_same op)
-operators has e (LoadMultiple64 rt rt2 mem) = address_row _
-operators has e (StoreMultiple64 rt rt2 mem) = address_row _
-operators has e (LoadAddr rd mem) = address_row _
-operators has e (AtomicCas32 rd ri rn mem) = address_row _
-operators has e (AtomicCas64 rd ri rn mem) = address_row _
+operators has e (I.CmpRX op rn mem) = compared (cmp_short_name op) (cmp_long_name op) (cmp_relative_name op) _
+operators has e (I.AtomicRmw op rd rn mem) = atomic_row (atomic_name op) (atomic_rsy op) rd rn mem _ (atomic_same op)
+operators has e (I.LoadMultiple64 rt rt2 mem) = address_row _
+operators has e (I.StoreMultiple64 rt rt2 mem) = address_row _
+operators has e (I.LoadAddr rd mem) = address_row _
+operators has e (I.AtomicCas32 rd ri rn mem) = address_row _
+operators has e (I.AtomicCas64 rd ri rn mem) = address_row _
 operators has e i = tt
 
 pub rows_agree : (has : Bool) (e : Emission) (i : Inst) → RowsAgree has e i

@@ -21,7 +21,7 @@ use Rattle.s390x_inst.specs.declared.calls.RetLocation.{RetLocation}
 use Rattle.s390x_inst.specs.declared.calls.RetLocation.TheVariants.{Stack}
 use Rattle.s390x_inst.specs.declared.calls.ReturnCallInfo.{ReturnCallInfo}
 use Rattle.s390x_inst.specs.declared.inst.Inst.{Inst}
-use Rattle.s390x_inst.specs.declared.inst.Inst.TheVariants.{Load64, Load64ZExt8, Load64ZExt16, Load64ZExt32, LoadAddr, LoadMultiple64, Mov64, Vector}
+use Rattle.s390x_inst.specs.declared.inst.Inst.TheVariants as I
 use Rattle.s390x_inst.specs.declared.state.FrameLayout.{FrameLayout}
 use Rattle.s390x_inst.specs.declared.state.IsaFlags.{IsaFlags}
 use Rattle.s390x_inst.specs.declared.vec_inst.VecInst.TheVariants.{VecLoad, VecLoadLaneUndef}
@@ -54,15 +54,15 @@ takes_all blocks nominal depth c h =
 -- the load of a result has a text
 load_fine : (flags : IsaFlags) (D : Declared) (n depth : ℕ) (e : Emission) (map : Option ℕ) (rd : Reg) (off : ℤ) (ty : ValueType)
     → body_cause flags D n e.nominal depth (load_or (mapped e map) (load_of rd (OutgoingArgOffset off) ty)) ≡ None → (loaded_text e (load_of rd (OutgoingArgOffset off) ty)).cause ≡ None
-load_fine flags D n depth e map rd off I8 h = whole_fine flags D n depth e (Load64ZExt8 rd (OutgoingArgOffset off)) h
-load_fine flags D n depth e map rd off I16 h = whole_fine flags D n depth e (Load64ZExt16 rd (OutgoingArgOffset off)) h
-load_fine flags D n depth e map rd off I32 h = whole_fine flags D n depth e (Load64ZExt32 rd (OutgoingArgOffset off)) h
-load_fine flags D n depth e map rd off I64 h = whole_fine flags D n depth e (Load64 rd (OutgoingArgOffset off)) h
-load_fine flags D n depth e map rd off F16 h = whole_fine flags D n depth e (Vector (VecLoadLaneUndef 16 rd (OutgoingArgOffset off) 0)) h
-load_fine flags D n depth e map rd off F32 h = whole_fine flags D n depth e (Vector (VecLoadLaneUndef 32 rd (OutgoingArgOffset off) 0)) h
-load_fine flags D n depth e map rd off F64 h = whole_fine flags D n depth e (Vector (VecLoadLaneUndef 64 rd (OutgoingArgOffset off) 0)) h
+load_fine flags D n depth e map rd off I8 h = whole_fine flags D n depth e (I.Load64ZExt8 rd (OutgoingArgOffset off)) h
+load_fine flags D n depth e map rd off I16 h = whole_fine flags D n depth e (I.Load64ZExt16 rd (OutgoingArgOffset off)) h
+load_fine flags D n depth e map rd off I32 h = whole_fine flags D n depth e (I.Load64ZExt32 rd (OutgoingArgOffset off)) h
+load_fine flags D n depth e map rd off I64 h = whole_fine flags D n depth e (I.Load64 rd (OutgoingArgOffset off)) h
+load_fine flags D n depth e map rd off F16 h = whole_fine flags D n depth e (I.Vector (VecLoadLaneUndef 16 rd (OutgoingArgOffset off) 0)) h
+load_fine flags D n depth e map rd off F32 h = whole_fine flags D n depth e (I.Vector (VecLoadLaneUndef 32 rd (OutgoingArgOffset off) 0)) h
+load_fine flags D n depth e map rd off F64 h = whole_fine flags D n depth e (I.Vector (VecLoadLaneUndef 64 rd (OutgoingArgOffset off) 0)) h
 load_fine flags D n depth e map rd off I8X8 h = absurd (cc)
-load_fine flags D n depth e map rd off ty h = whole_fine flags D n depth e (Vector (VecLoad rd (OutgoingArgOffset off))) h
+load_fine flags D n depth e map rd off ty h = whole_fine flags D n depth e (I.Vector (VecLoad rd (OutgoingArgOffset off))) h
 
 load_keeps : (e : Emission) (rd : Reg) (off : ℤ) (ty : ValueType) (m : ℕ) → body_nominal_after m (load_or e (load_of rd (OutgoingArgOffset off) ty)) ≡ m
 load_keeps e rd off I8X8 m = refl
@@ -141,8 +141,8 @@ texts_fine flags D n depth e map (i ∷ is) a h =
     first_fine _ _ (a.0.text flags D n depth (first_left _ _ h))
     (texts_fine flags D k depth e map is a.1 (subst (λ m. tree_cause flags D k m depth (leaves (wholes (mapped e map) is) empty) ≡ None) a.0.kept behind))
 
-copied_alone : (e : Emission) (map : Option ℕ) (reg : Reg) (t : Bool) → AllAlone e map (cond t (Mov64 (Real (general 1)) reg ∷ []) [])
-copied_alone e map reg true = (record { text = λ flags D n depth h. whole_fine flags D n depth e (Mov64 (Real (general 1)) reg) h; kept = refl }, tt)
+copied_alone : (e : Emission) (map : Option ℕ) (reg : Reg) (t : Bool) → AllAlone e map (cond t (I.Mov64 (Real (general 1)) reg ∷ []) [])
+copied_alone e map reg true = (record { text = λ flags D n depth h. whole_fine flags D n depth e (I.Mov64 (Real (general 1)) reg) h; kept = refl }, tt)
 copied_alone e map reg false = tt
 
 copy_alone : (e : Emission) (map : Option ℕ) (dest : CallInstDest) → AllAlone e map (target_copy dest)
@@ -156,7 +156,7 @@ floats_alone e map start k (n ∷ ns) = (record { text = λ flags D l depth h. w
 general_alone : (e : Emission) (map : Option ℕ) (caller : ℕ) (o : Option ℕ) → AllAlone e map (general_load caller o)
 general_alone e map caller None = tt
 general_alone e map caller (Some g) =
-    (record { text = λ flags D n depth h. whole_fine flags D n depth e (LoadMultiple64 (Real (general g)) (Real (general 14)) (above_stack (pos (caller + 8 * g)))) h; kept = refl }, tt)
+    (record { text = λ flags D n depth h. whole_fine flags D n depth e (I.LoadMultiple64 (Real (general g)) (Real (general 14)) (above_stack (pos (caller + 8 * g)))) h; kept = refl }, tt)
 
 epilogue_alone : (e : Emission) (map : Option ℕ) (layout : FrameLayout) (popped : ℕ) (dest : CallInstDest) → AllAlone e map (epilogue layout popped dest)
 epilogue_alone e map layout popped dest =
@@ -164,10 +164,10 @@ epilogue_alone e map layout popped dest =
     let generals = general_load (caller_at layout) layout.first_saved_gpr in
     let above = above_stack (pos (caller_at layout + layout.tail_args_size) -ℤ pos popped) in
     let copy = target_copy dest in
-    alone_append e map (copy ++ floats ++ generals) (LoadAddr (Real (general 15)) above ∷ [])
+    alone_append e map (copy ++ floats ++ generals) (I.LoadAddr (Real (general 15)) above ∷ [])
     (alone_append e map (copy ++ floats) generals
     (alone_append e map copy floats (copy_alone e map dest) (floats_alone e map (floats_at layout) 0 (saved_floats layout.saved_fprs))) (general_alone e map (caller_at layout) layout.first_saved_gpr))
-    (record { text = λ flags D n depth h. whole_fine flags D n depth e (LoadAddr (Real (general 15)) above) h; kept = refl }, tt)
+    (record { text = λ flags D n depth h. whole_fine flags D n depth e (I.LoadAddr (Real (general 15)) above) h; kept = refl }, tt)
 
 same_first : (o : Option ℕ) → is_first_saved o ≡ has_epilogue o
 same_first None = refl

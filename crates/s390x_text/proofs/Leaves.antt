@@ -14,10 +14,7 @@ use Rattle.s390x_inst.proofs.Transfers.{Transfer, LoadOf, StoreOf, as_transfer, 
 use Rattle.s390x_base.specs.declared.regs.Reg.{Reg}
 use Rattle.s390x_inst.specs.declared.args.MemArg.{MemArg}
 use Rattle.s390x_inst.specs.declared.inst.Inst.{Inst}
-use Rattle.s390x_inst.specs.declared.inst.Inst.TheVariants.{AluRRR, AluRR, AluRRSImm16, AluRSImm16, AluRSImm32, AluRUImm32, AluRUImm16Shifted, AluRUImm32Shifted, RxSBG, RxSBGTest, SMulWide, Flogr, CmpRR, CmpRSImm16, CmpRSImm32, CmpRUImm32, CmpTrapRR, CmpTrapRSImm16, CmpTrapRUImm16}
-use Rattle.s390x_inst.specs.declared.inst.Inst.TheVariants.{Mov64UImm16Shifted, Mov64UImm32Shifted, Insert64UImm16Shifted, Insert64UImm32Shifted, Extend, LoadIndexedAddr, LoadLogicalIndexedAddr, AluRX, CmpRX, LoadMultiple64, StoreMultiple64, LoadAddr, AtomicRmw, AtomicCas32, AtomicCas64}
-use Rattle.s390x_inst.specs.declared.inst.Inst.TheVariants.{StoreImm8, StoreImm16}
-use Rattle.s390x_inst.specs.declared.inst.Inst.TheVariants.{StoreImm32SExt16, StoreImm64SExt16, Loop', Call, ReturnCall, Vector}
+use Rattle.s390x_inst.specs.declared.inst.Inst.TheVariants as I
 use Rattle.s390x_typed_steps.proofs.Causes.{first_left, first_right}
 use Rattle.s390x_typed_steps.proofs.RelativeRows.{alu_none, locked_none, vector_none}
 use Rattle.s390x_typed_steps.specs.Baseline.{body_for, whole_or_loaded}
@@ -76,49 +73,49 @@ transfer_or_refused e i (Some (StoreOf x)) s t = store_fine false e x.op x.rd x.
 
 -- on a machine that has accesses relative to the instruction, or where this one is none
 fine : (has : Bool) (e : Emission) (D : Declared) (depth : ℕ) (i : Inst) → RowsAgree has e i → own_cause D depth (resolved_instruction e i) ≡ None → access_refusal (memory (resolved_instruction e i)) ≡ None → refusal_there has (memory (resolved_instruction e i)) ≡ None → (alone_text has e i).cause ≡ None
-fine has e D depth (AluRRR op rd rn rm) a h m t = three_fine (alu_three_name op) (alu_two_name op) _ _ _ _ _ a.arithmetic h
-fine has e D depth (AluRRSImm16 op rd rn imm) a h m t = three_fine (alu_three_halfword_name op) (alu_halfword_name op) _ _ _ _ _ a.arithmetic h
-fine has e D depth (AluRR op rd ri rm) a h m t = row_fine (alu_two_name op) _ _ _ a.arithmetic h
-fine has e D depth (AluRSImm16 op rd ri imm) a h m t = row_fine (alu_halfword_name op) _ _ _ a.arithmetic h
-fine has e D depth (AluRSImm32 op rd ri imm) a h m t = row_fine (alu_signed_word_name op) _ _ _ a.arithmetic h
-fine has e D depth (AluRUImm32 op rd ri imm) a h m t = row_fine (alu_unsigned_word_name op) _ _ _ a.arithmetic h
-fine has e D depth (AluRUImm16Shifted op rd ri imm) a h m t = row_fine (alu_part_name op imm.shift) _ _ _ a.arithmetic h
-fine has e D depth (AluRUImm32Shifted op rd ri imm) a h m t = row_fine (alu_half_name op imm.shift) _ _ _ a.arithmetic h
-fine has e D depth (RxSBG op rd ri rn start end amount) a h m t = row_fine (selected_name (Some (rotate_name op)) start end) _ _ _ a.arithmetic h
-fine has e D depth (RxSBGTest op rd rn start end amount) a h m t = row_fine (selected_name (rotate_test_name op) start end) _ _ _ a.arithmetic h
-fine has e D depth (SMulWide rd rn rm) a h m t = pair_with_two_fine rd.hi rd.lo (is_general rn) (is_general rm) _ h
-fine has e D depth (Flogr rd rn) a h m t = pair_fine rd.hi rd.lo (is_general rn) _ h
-fine has e D depth (CmpRR op rn rm) a h m t = row_fine (cmp_two_name op) _ _ _ a.comparisons h
-fine has e D depth (CmpRSImm16 op rn imm) a h m t = row_fine (cmp_halfword_name op) _ _ _ a.comparisons h
-fine has e D depth (CmpRSImm32 op rn imm) a h m t = row_fine (cmp_signed_word_name op) _ _ _ a.comparisons h
-fine has e D depth (CmpRUImm32 op rn imm) a h m t = row_fine (cmp_unsigned_word_name op) _ _ _ a.comparisons h
-fine has e D depth (CmpTrapRR op rn rm mask code) a h m t = conditional_fine (cmp_trap_name op) mask _ _ _ a.comparisons h
-fine has e D depth (CmpTrapRSImm16 op rn imm mask code) a h m t = conditional_fine (cmp_trap_signed_name op) mask _ _ _ a.comparisons h
-fine has e D depth (CmpTrapRUImm16 op rn imm mask code) a h m t = conditional_fine (cmp_trap_unsigned_name op) mask _ _ _ a.comparisons h
-fine has e D depth (Mov64UImm16Shifted rd imm) a h m t = row_fine (load_part_name imm.shift) _ _ _ a.moves h
-fine has e D depth (Mov64UImm32Shifted rd imm) a h m t = row_fine (load_half_name imm.shift) _ _ _ a.moves h
-fine has e D depth (Insert64UImm16Shifted rd ri imm) a h m t = row_fine (insert_part_name imm.shift) _ _ _ a.moves h
-fine has e D depth (Insert64UImm32Shifted rd ri imm) a h m t = row_fine (insert_half_name imm.shift) _ _ _ a.moves h
-fine has e D depth (Extend rd rn signed from to) a h m t = row_fine (extend_name signed from to) _ _ _ a.moves h
-fine has e D depth (LoadIndexedAddr rd base index offset size) a h m t = row_fine (indexed_name size) _ _ _ a.moves h
-fine has e D depth (LoadLogicalIndexedAddr rd base index offset size) a h m t = row_fine (logical_indexed_name size) _ _ _ a.moves h
-fine has e D depth (StoreImm8 imm mem) a h m t = address_fine _ t
-fine has e D depth (StoreImm16 imm mem) a h m t = address_fine _ t
-fine has e D depth (StoreImm32SExt16 imm mem) a h m t = address_fine _ t
-fine has e D depth (StoreImm64SExt16 imm mem) a h m t = address_fine _ t
-fine has e D depth (AluRX op rd ri mem) a h m t = operator_fine D has op rd ri mem (resolved_operand e mem) _ a.operators h t
-fine has e D depth (CmpRX op rn mem) a h m t = comparison_fine has op (resolved_operand e mem) t
-fine has e D depth (LoadMultiple64 rt rt2 mem) a h m t = address_fine _ t
-fine has e D depth (StoreMultiple64 rt rt2 mem) a h m t = address_fine _ t
-fine has e D depth (LoadAddr rd mem) a h m t = address_fine _ t
-fine has e D depth (AtomicRmw op rd rn mem) a h m t = atomic_fine D has (atomic_name op) (atomic_rsy op) rd rn mem (resolved_operand e mem) _ a.operators h t
-fine has e D depth (AtomicCas32 rd ri rn mem) a h m t = address_fine _ t
-fine has e D depth (AtomicCas64 rd ri rn mem) a h m t = address_fine _ t
-fine has e D depth (Vector v) a h m t = vector_fine e D v h m
+fine has e D depth (I.AluRRR op rd rn rm) a h m t = three_fine (alu_three_name op) (alu_two_name op) _ _ _ _ _ a.arithmetic h
+fine has e D depth (I.AluRRSImm16 op rd rn imm) a h m t = three_fine (alu_three_halfword_name op) (alu_halfword_name op) _ _ _ _ _ a.arithmetic h
+fine has e D depth (I.AluRR op rd ri rm) a h m t = row_fine (alu_two_name op) _ _ _ a.arithmetic h
+fine has e D depth (I.AluRSImm16 op rd ri imm) a h m t = row_fine (alu_halfword_name op) _ _ _ a.arithmetic h
+fine has e D depth (I.AluRSImm32 op rd ri imm) a h m t = row_fine (alu_signed_word_name op) _ _ _ a.arithmetic h
+fine has e D depth (I.AluRUImm32 op rd ri imm) a h m t = row_fine (alu_unsigned_word_name op) _ _ _ a.arithmetic h
+fine has e D depth (I.AluRUImm16Shifted op rd ri imm) a h m t = row_fine (alu_part_name op imm.shift) _ _ _ a.arithmetic h
+fine has e D depth (I.AluRUImm32Shifted op rd ri imm) a h m t = row_fine (alu_half_name op imm.shift) _ _ _ a.arithmetic h
+fine has e D depth (I.RxSBG op rd ri rn start end amount) a h m t = row_fine (selected_name (Some (rotate_name op)) start end) _ _ _ a.arithmetic h
+fine has e D depth (I.RxSBGTest op rd rn start end amount) a h m t = row_fine (selected_name (rotate_test_name op) start end) _ _ _ a.arithmetic h
+fine has e D depth (I.SMulWide rd rn rm) a h m t = pair_with_two_fine rd.hi rd.lo (is_general rn) (is_general rm) _ h
+fine has e D depth (I.Flogr rd rn) a h m t = pair_fine rd.hi rd.lo (is_general rn) _ h
+fine has e D depth (I.CmpRR op rn rm) a h m t = row_fine (cmp_two_name op) _ _ _ a.comparisons h
+fine has e D depth (I.CmpRSImm16 op rn imm) a h m t = row_fine (cmp_halfword_name op) _ _ _ a.comparisons h
+fine has e D depth (I.CmpRSImm32 op rn imm) a h m t = row_fine (cmp_signed_word_name op) _ _ _ a.comparisons h
+fine has e D depth (I.CmpRUImm32 op rn imm) a h m t = row_fine (cmp_unsigned_word_name op) _ _ _ a.comparisons h
+fine has e D depth (I.CmpTrapRR op rn rm mask code) a h m t = conditional_fine (cmp_trap_name op) mask _ _ _ a.comparisons h
+fine has e D depth (I.CmpTrapRSImm16 op rn imm mask code) a h m t = conditional_fine (cmp_trap_signed_name op) mask _ _ _ a.comparisons h
+fine has e D depth (I.CmpTrapRUImm16 op rn imm mask code) a h m t = conditional_fine (cmp_trap_unsigned_name op) mask _ _ _ a.comparisons h
+fine has e D depth (I.Mov64UImm16Shifted rd imm) a h m t = row_fine (load_part_name imm.shift) _ _ _ a.moves h
+fine has e D depth (I.Mov64UImm32Shifted rd imm) a h m t = row_fine (load_half_name imm.shift) _ _ _ a.moves h
+fine has e D depth (I.Insert64UImm16Shifted rd ri imm) a h m t = row_fine (insert_part_name imm.shift) _ _ _ a.moves h
+fine has e D depth (I.Insert64UImm32Shifted rd ri imm) a h m t = row_fine (insert_half_name imm.shift) _ _ _ a.moves h
+fine has e D depth (I.Extend rd rn signed from to) a h m t = row_fine (extend_name signed from to) _ _ _ a.moves h
+fine has e D depth (I.LoadIndexedAddr rd base index offset size) a h m t = row_fine (indexed_name size) _ _ _ a.moves h
+fine has e D depth (I.LoadLogicalIndexedAddr rd base index offset size) a h m t = row_fine (logical_indexed_name size) _ _ _ a.moves h
+fine has e D depth (I.StoreImm8 imm mem) a h m t = address_fine _ t
+fine has e D depth (I.StoreImm16 imm mem) a h m t = address_fine _ t
+fine has e D depth (I.StoreImm32SExt16 imm mem) a h m t = address_fine _ t
+fine has e D depth (I.StoreImm64SExt16 imm mem) a h m t = address_fine _ t
+fine has e D depth (I.AluRX op rd ri mem) a h m t = operator_fine D has op rd ri mem (resolved_operand e mem) _ a.operators h t
+fine has e D depth (I.CmpRX op rn mem) a h m t = comparison_fine has op (resolved_operand e mem) t
+fine has e D depth (I.LoadMultiple64 rt rt2 mem) a h m t = address_fine _ t
+fine has e D depth (I.StoreMultiple64 rt rt2 mem) a h m t = address_fine _ t
+fine has e D depth (I.LoadAddr rd mem) a h m t = address_fine _ t
+fine has e D depth (I.AtomicRmw op rd rn mem) a h m t = atomic_fine D has (atomic_name op) (atomic_rsy op) rd rn mem (resolved_operand e mem) _ a.operators h t
+fine has e D depth (I.AtomicCas32 rd ri rn mem) a h m t = address_fine _ t
+fine has e D depth (I.AtomicCas64 rd ri rn mem) a h m t = address_fine _ t
+fine has e D depth (I.Vector v) a h m t = vector_fine e D v h m
 -- loops and calls are no steps by themselves
-fine has e D depth (Loop' mask body all) a h m t = absurd (cc)
-fine has e D depth (Call link info) a h m t = absurd (cc)
-fine has e D depth (ReturnCall info) a h m t = absurd (cc)
+fine has e D depth (I.Loop' mask body all) a h m t = absurd (cc)
+fine has e D depth (I.Call link info) a h m t = absurd (cc)
+fine has e D depth (I.ReturnCall info) a h m t = absurd (cc)
 fine has e D depth i a h m t = transfer_or_fine has e i (as_transfer i) refl t
 
 there : (lacks : Bool) (flags : IsaFlags) (D : Declared) (n depth : ℕ) (e : Emission) (i : Inst) → (accesses_relative (memory (resolved_instruction e i)) && lacks) ≡ false → leaf_cause flags D n e.nominal depth (resolved_instruction e i) ≡ None → (alone_text (not lacks) e i).cause ≡ None
@@ -139,12 +136,12 @@ not_there None e s = absurd (cc)
 not_there (Some x) e s = absurd (cc)
 
 loaded_fine : (e : Emission) (i : Inst) → is_some (loaded_memory (resolved_instruction e i)) ≡ true → refusal_there false (memory (resolved_instruction e i)) ≡ None → (alone_text false e i).cause ≡ None
-loaded_fine e (CmpRX op rn mem) s t = comparison_fine false op (resolved_operand e mem) t
+loaded_fine e (I.CmpRX op rn mem) s t = comparison_fine false op (resolved_operand e mem) t
 -- the others have no such row
-loaded_fine e (AluRX op rd ri mem) s t =
-    absurd (not_there (loaded_memory (AluRX op rd ri (resolved_operand e mem))) (alu_none (is_some (alu_rx op) || is_some (alu_rxy op)) (alu_rx op) (alu_rxy op) rd ri (resolved_operand e mem)) s)
-loaded_fine e (AtomicRmw op rd rn mem) s t = absurd (not_there (loaded_memory (AtomicRmw op rd rn (resolved_operand e mem))) (locked_none (atomic_rsy op) rd rn (resolved_operand e mem)) s)
-loaded_fine e (Vector v) s t = absurd (not_there (loaded_memory (Vector (resolved_vector e v))) (vector_none (resolved_vector e v)) s)
+loaded_fine e (I.AluRX op rd ri mem) s t =
+    absurd (not_there (loaded_memory (I.AluRX op rd ri (resolved_operand e mem))) (alu_none (is_some (alu_rx op) || is_some (alu_rxy op)) (alu_rx op) (alu_rxy op) rd ri (resolved_operand e mem)) s)
+loaded_fine e (I.AtomicRmw op rd rn mem) s t = absurd (not_there (loaded_memory (I.AtomicRmw op rd rn (resolved_operand e mem))) (locked_none (atomic_rsy op) rd rn (resolved_operand e mem)) s)
+loaded_fine e (I.Vector v) s t = absurd (not_there (loaded_memory (I.Vector (resolved_vector e v))) (vector_none (resolved_vector e v)) s)
 loaded_fine e i s t = transfer_or_refused e i (as_transfer i) s t
 
 -- ---- on each machine

@@ -14,16 +14,13 @@ use denote.Hole.Carrier
 use Rattle.s390x_text_rows.proofs.Joined.{more_texts}
 use Rattle.s390x_text_rows.specs.Texts.{Text, first_cause, both, RefusedBy}
 use Rattle.s390x_text_rows.specs.declared.error.TextError.{TextError}
-use Rattle.s390x_text_rows.specs.declared.error.TextError.TheVariants.{NoRow, Virtual, BadPair, Address, NoMemory}
+use Rattle.s390x_text_rows.specs.declared.error.TextError.TheVariants.{NoMemory}
 use Rattle.s390x_text.specs.Instructions.{leaf_text, leaf_after, after, row_after, insts_after, with_semicolon_between, has_none, inst_text, row_text, insts_text, text_of_loop}
 
 -- what is blamed on a text is blamed on it and what follows
 pub refused_first : (a b : Option TextError) (e : TextError) → RefusedBy a e → RefusedBy (first_cause a b) e
-refused_first a b NoRow h = ap (λ q. first_cause q b) h
-refused_first a b Virtual h = ap (λ q. first_cause q b) h
-refused_first a b BadPair h = ap (λ q. first_cause q b) h
-refused_first a b (Address c) h = ap (λ q. first_cause q b) h
 refused_first a b NoMemory h = tt
+refused_first a b e h = ap (λ q. first_cause q b) h
 
 -- a loop that prints the text of each element of a list
 pub more_bytes : {X : Type 0} (F : List X → Text) (g : X → Text) → ((x : X) (xs : List X) → F (x ∷ xs) ≡ both (g x) (F xs)) → (xs : List X) (i : ℕ) (z d : X) (old out new : List ℕ) → i < length xs → d ≡ get_or xs i z → new ≡ out ++ (g d).bytes → out ++ (F (drop i xs)).bytes ≡ old → new ++ (F (drop (i + 1) xs)).bytes ≡ old

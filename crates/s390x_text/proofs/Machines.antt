@@ -6,7 +6,7 @@ use Rattle.s390x_base.specs.declared.error.EmitError.{EmitError}
 use Rattle.s390x_base.specs.declared.error.EmitError.TheVariants.{BadOperator, OffsetOutOfRange, ScratchConflict}
 use Rattle.s390x_inst.specs.declared.args.MemArg.{MemArg}
 use Rattle.s390x_typed_steps.specs.Causes.{Declared, first_emit_cause, memory_cause_or, operand_cause, unless}
-use Rattle.s390x_typed_steps.specs.Memory.{MemoryInstruction, StorageForm, RxForm, RsForm, SiForm, SilForm, VrxForm, FloatForm, accesses_relative, has_relative_row, other_rows, type_of, with_rows, without_relative}
+use Rattle.s390x_typed_steps.specs.Memory.{MemoryInstruction, StorageForm, RxForm, accesses_relative, has_relative_row, other_rows, type_of, with_rows, without_relative}
 use Rattle.s390x_typed_steps.specs.Operands.{is_relative, loses_base, needs_address, offset_fits}
 use Rattle.s390x_typed_steps.specs.declared.mem_inst_type.MemInstType.{MemInstType}
 use Rattle.s390x_text.proofs.Rows.{access_refusal, operand_fine, refusal_there, type_there}
@@ -16,12 +16,7 @@ use Rattle.s390x_text.proofs.Rows.{access_refusal, operand_fine, refusal_there, 
 -- a machine that has all rows
 all_forms : (form : StorageForm) (accesses : Bool) → type_there true accesses (type_of form accesses) ≡ type_of form accesses
 all_forms (RxForm register short long None) accesses = refl
-all_forms (RxForm register short long (Some opcode)) accesses = refl
-all_forms (RsForm first second short long) accesses = refl
-all_forms (SiForm imm short long) accesses = refl
-all_forms (SilForm bits opcode) accesses = refl
-all_forms (VrxForm register opcode mask) accesses = refl
-all_forms (FloatForm register short long) accesses = refl
+all_forms form accesses = refl
 
 -- the causes of an operand that isn't relative don't depend on whether there is a row for one that is
 not_asked : (t : MemInstType) (b : Bool) (m : MemArg) → is_relative m ≡ false → operand_cause (record t { have_pcrel = b }) m ≡ operand_cause t m
@@ -32,14 +27,8 @@ not_asked t b m e =
 
 -- a machine that lacks those of accesses
 other_forms : (form : StorageForm) (accesses : Bool) (m : MemArg) → (has_relative_row form && accesses && is_relative m) ≡ false → operand_cause (type_there false accesses (type_of form accesses)) m ≡ operand_cause (type_of form accesses) m
-other_forms (RxForm register short long None) accesses m e = refl
 other_forms (RxForm register short long (Some opcode)) true m e = not_asked (type_of (RxForm register short long (Some opcode)) true) false m e
-other_forms (RxForm register short long (Some opcode)) false m e = refl
-other_forms (RsForm first second short long) accesses m e = refl
-other_forms (SiForm imm short long) accesses m e = refl
-other_forms (SilForm bits opcode) accesses m e = refl
-other_forms (VrxForm register opcode mask) accesses m e = refl
-other_forms (FloatForm register short long) accesses m e = refl
+other_forms form accesses m e = refl
 
 and_true : (b : Bool) → (b && true) ≡ b
 and_true true = refl
@@ -56,13 +45,7 @@ whole_there false (Some x) e h = ap (λ t. operand_cause t x.operand) (all_forms
 -- the causes of an operand are among those of its access by the other rows
 by_others : (D : Declared) (x : MemoryInstruction) (form : StorageForm) (accesses : Bool) → memory_cause_or D (option_map (with_rows x) (other_rows form accesses)) (Some BadOperator) ≡ None → operand_cause (type_there false accesses (type_of form accesses)) x.operand ≡ None
 by_others D x (RxForm register short long (Some opcode)) true h = operand_fine D (with_rows x (RxForm register short long None)) h
-by_others D x (RxForm register short long (Some opcode)) false h = absurd (cc)
-by_others D x (RxForm register short long None) accesses h = absurd (cc)
-by_others D x (RsForm first second short long) accesses h = absurd (cc)
-by_others D x (SiForm imm short long) accesses h = absurd (cc)
-by_others D x (SilForm bits opcode) accesses h = absurd (cc)
-by_others D x (VrxForm register opcode mask) accesses h = absurd (cc)
-by_others D x (FloatForm register short long) accesses h = absurd (cc)
+by_others D x form accesses h = absurd (cc)
 
 pub loaded_there : (D : Declared) (o : Option MemoryInstruction) → memory_cause_or D (without_relative o) (Some BadOperator) ≡ None → refusal_there false o ≡ None
 loaded_there D None h = refl

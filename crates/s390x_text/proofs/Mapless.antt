@@ -9,10 +9,9 @@ use Rattle.s390x_inst.specs.declared.whole.WholeAccess.{WholeAccess}
 use Rattle.s390x_inst.specs.Wholes.{as_whole, by_whole, whole_instruction}
 use Rattle.s390x_inst.proofs.Transfers.{Transfer, LoadOf, StoreOf, as_transfer, by_transfer}
 use Rattle.s390x_inst.specs.declared.inst.Inst.{Inst}
-use Rattle.s390x_inst.specs.declared.inst.Inst.TheVariants.{AluRX, CmpRX}
-use Rattle.s390x_inst.specs.declared.inst.Inst.TheVariants.{StoreImm8, StoreImm16, StoreImm32SExt16, StoreImm64SExt16, LoadMultiple64, StoreMultiple64, LoadAddr, AtomicRmw, AtomicCas32, AtomicCas64, Vector}
+use Rattle.s390x_inst.specs.declared.inst.Inst.TheVariants as I
 use Rattle.s390x_inst.specs.declared.vec_inst.VecInst.{VecInst}
-use Rattle.s390x_inst.specs.declared.vec_inst.VecInst.TheVariants.{VecLoadReplicate, VecLoadReplicateRev, VecLoadLane, VecLoadLaneRev, VecLoadLaneUndef, VecLoadLaneRevUndef, VecStoreLane, VecStoreLaneRev}
+use Rattle.s390x_inst.specs.declared.vec_inst.VecInst.TheVariants as V
 use Rattle.s390x_typed_steps.specs.Operands.{resolved_operand}
 use Rattle.s390x_typed_steps.specs.Resolved.{resolved_instruction, resolved_vector}
 
@@ -29,14 +28,14 @@ same_whole e map v None = refl
 same_whole e map v (Some w) = ap (whole_instruction w.direction w.layout w.rd) (same_operand e map w.mem)
 
 same_vector : (e : Emission) (map : Option ℕ) (v : VecInst) → resolved_vector (mapped e map) v ≡ resolved_vector e v
-same_vector e map (VecLoadReplicate size rd mem) = ap (VecLoadReplicate size rd) (same_operand e map mem)
-same_vector e map (VecLoadReplicateRev size rd mem) = ap (VecLoadReplicateRev size rd) (same_operand e map mem)
-same_vector e map (VecLoadLane size rd ri mem lane) = ap (λ m. VecLoadLane size rd ri m lane) (same_operand e map mem)
-same_vector e map (VecLoadLaneRev size rd ri mem lane) = ap (λ m. VecLoadLaneRev size rd ri m lane) (same_operand e map mem)
-same_vector e map (VecLoadLaneUndef size rd mem lane) = ap (λ m. VecLoadLaneUndef size rd m lane) (same_operand e map mem)
-same_vector e map (VecLoadLaneRevUndef size rd mem lane) = ap (λ m. VecLoadLaneRevUndef size rd m lane) (same_operand e map mem)
-same_vector e map (VecStoreLane size rd mem lane) = ap (λ m. VecStoreLane size rd m lane) (same_operand e map mem)
-same_vector e map (VecStoreLaneRev size rd mem lane) = ap (λ m. VecStoreLaneRev size rd m lane) (same_operand e map mem)
+same_vector e map (V.VecLoadReplicate size rd mem) = ap (V.VecLoadReplicate size rd) (same_operand e map mem)
+same_vector e map (V.VecLoadReplicateRev size rd mem) = ap (V.VecLoadReplicateRev size rd) (same_operand e map mem)
+same_vector e map (V.VecLoadLane size rd ri mem lane) = ap (λ m. V.VecLoadLane size rd ri m lane) (same_operand e map mem)
+same_vector e map (V.VecLoadLaneRev size rd ri mem lane) = ap (λ m. V.VecLoadLaneRev size rd ri m lane) (same_operand e map mem)
+same_vector e map (V.VecLoadLaneUndef size rd mem lane) = ap (λ m. V.VecLoadLaneUndef size rd m lane) (same_operand e map mem)
+same_vector e map (V.VecLoadLaneRevUndef size rd mem lane) = ap (λ m. V.VecLoadLaneRevUndef size rd m lane) (same_operand e map mem)
+same_vector e map (V.VecStoreLane size rd mem lane) = ap (λ m. V.VecStoreLane size rd m lane) (same_operand e map mem)
+same_vector e map (V.VecStoreLaneRev size rd mem lane) = ap (λ m. V.VecStoreLaneRev size rd m lane) (same_operand e map mem)
 same_vector e map v = same_whole e map v (as_whole v)
 
 same_transfer : (e : Emission) (map : Option ℕ) (i : Inst) (o : Option Transfer) → by_transfer (λ l. load_instruction l.op l.rd (resolved_operand (mapped e map) l.mem)) (λ s. store_instruction s.op s.rd (resolved_operand (mapped e map) s.mem)) i o ≡ by_transfer (λ l. load_instruction l.op l.rd (resolved_operand e l.mem)) (λ s. store_instruction s.op s.rd (resolved_operand e s.mem)) i o
@@ -46,17 +45,17 @@ same_transfer e map i (Some (StoreOf s)) = ap (store_instruction s.op s.rd) (sam
 
 -- an instruction with its operand resolved is the same one whatever the stack map is
 pub same_resolved : (e : Emission) (map : Option ℕ) (i : Inst) → resolved_instruction (mapped e map) i ≡ resolved_instruction e i
-same_resolved e map (AluRX op rd ri mem) = ap (AluRX op rd ri) (same_operand e map mem)
-same_resolved e map (CmpRX op rn mem) = ap (CmpRX op rn) (same_operand e map mem)
-same_resolved e map (StoreImm8 imm mem) = ap (StoreImm8 imm) (same_operand e map mem)
-same_resolved e map (StoreImm16 imm mem) = ap (StoreImm16 imm) (same_operand e map mem)
-same_resolved e map (StoreImm32SExt16 imm mem) = ap (StoreImm32SExt16 imm) (same_operand e map mem)
-same_resolved e map (StoreImm64SExt16 imm mem) = ap (StoreImm64SExt16 imm) (same_operand e map mem)
-same_resolved e map (LoadMultiple64 rt rt2 mem) = ap (LoadMultiple64 rt rt2) (same_operand e map mem)
-same_resolved e map (StoreMultiple64 rt rt2 mem) = ap (StoreMultiple64 rt rt2) (same_operand e map mem)
-same_resolved e map (LoadAddr rd mem) = ap (LoadAddr rd) (same_operand e map mem)
-same_resolved e map (AtomicRmw op rd rn mem) = ap (AtomicRmw op rd rn) (same_operand e map mem)
-same_resolved e map (AtomicCas32 rd ri rn mem) = ap (AtomicCas32 rd ri rn) (same_operand e map mem)
-same_resolved e map (AtomicCas64 rd ri rn mem) = ap (AtomicCas64 rd ri rn) (same_operand e map mem)
-same_resolved e map (Vector v) = ap Vector (same_vector e map v)
+same_resolved e map (I.AluRX op rd ri mem) = ap (I.AluRX op rd ri) (same_operand e map mem)
+same_resolved e map (I.CmpRX op rn mem) = ap (I.CmpRX op rn) (same_operand e map mem)
+same_resolved e map (I.StoreImm8 imm mem) = ap (I.StoreImm8 imm) (same_operand e map mem)
+same_resolved e map (I.StoreImm16 imm mem) = ap (I.StoreImm16 imm) (same_operand e map mem)
+same_resolved e map (I.StoreImm32SExt16 imm mem) = ap (I.StoreImm32SExt16 imm) (same_operand e map mem)
+same_resolved e map (I.StoreImm64SExt16 imm mem) = ap (I.StoreImm64SExt16 imm) (same_operand e map mem)
+same_resolved e map (I.LoadMultiple64 rt rt2 mem) = ap (I.LoadMultiple64 rt rt2) (same_operand e map mem)
+same_resolved e map (I.StoreMultiple64 rt rt2 mem) = ap (I.StoreMultiple64 rt rt2) (same_operand e map mem)
+same_resolved e map (I.LoadAddr rd mem) = ap (I.LoadAddr rd) (same_operand e map mem)
+same_resolved e map (I.AtomicRmw op rd rn mem) = ap (I.AtomicRmw op rd rn) (same_operand e map mem)
+same_resolved e map (I.AtomicCas32 rd ri rn mem) = ap (I.AtomicCas32 rd ri rn) (same_operand e map mem)
+same_resolved e map (I.AtomicCas64 rd ri rn mem) = ap (I.AtomicCas64 rd ri rn) (same_operand e map mem)
+same_resolved e map (I.Vector v) = ap I.Vector (same_vector e map v)
 same_resolved e map i = same_transfer e map i (as_transfer i)

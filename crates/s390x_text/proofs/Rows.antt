@@ -6,12 +6,12 @@ use Rattle.s390x_base.specs.Regs.{is_pair}
 use Rattle.s390x_base.specs.declared.error.EmitError.{EmitError}
 use Rattle.s390x_base.specs.declared.error.EmitError.TheVariants.{BadOperator, ScratchConflict, OffsetOutOfRange}
 use Rattle.s390x_base.specs.declared.regs.Reg.{Reg}
-use Rattle.s390x_base.specs.declared.regs.Reg.TheVariants.{Real, Virtual}
+use Rattle.s390x_base.specs.declared.regs.Reg.TheVariants.{Real}
 use Rattle.s390x_inst.specs.declared.args.MemArg.{MemArg}
 use Rattle.s390x_inst.specs.declared.inst.Inst.{Inst}
-use Rattle.s390x_inst.specs.declared.inst.Inst.TheVariants.{AluRX, AtomicRmw, Vector}
+use Rattle.s390x_inst.specs.declared.inst.Inst.TheVariants.{Vector}
 use Rattle.s390x_inst.specs.declared.vec_inst.VecInst.{VecInst}
-use Rattle.s390x_inst.specs.declared.vec_inst.VecInst.TheVariants.{VecLoadReplicate, VecLoadReplicateRev, VecLoadLane, VecLoadLaneRev, VecLoadLaneUndef, VecLoadLaneRevUndef, VecStoreLane, VecStoreLaneRev}
+use Rattle.s390x_inst.specs.declared.vec_inst.VecInst.TheVariants as V
 use Rattle.s390x_inst.specs.declared.ops.ALUOp.{ALUOp}
 use Rattle.s390x_inst.specs.declared.ops.ALUOp.TheVariants.{Add32}
 use Rattle.s390x_inst.specs.declared.ops.CmpOp.{CmpOp}
@@ -63,8 +63,7 @@ three_fine (Some three) (Some two) rd rn last o c same fine = chosen (is_reg rd 
 
 next_fine : (h l : Reg) → is_pair h l ≡ true → pair_cause h l ≡ None
 next_fine (Real h) (Real l) p = ap (λ b. cond b None (Some BadPair)) (and_parts _ (nat_eq l.number (h.number + 1)) p).1
-next_fine (Real h) (Virtual n c) p = refl
-next_fine (Virtual n c) l p = refl
+next_fine h l p = refl
 
 -- a pair that may stand there has a text, whatever else is asked of the instruction
 pub pair_fine : (hi lo : Reg) (others : Bool) (e : EmitError) → unless (is_even_pair hi lo && others) e ≡ None → pair_cause hi lo ≡ None
@@ -114,9 +113,8 @@ memory_allows D (Some x) c fine = operand_fine D x fine
 
 -- whether there are both
 have_both : Option MemoryInstruction → Option SingleInstruction → Bool
-have_both None a = false
-have_both (Some x) None = false
 have_both (Some x) (Some y) = true
+have_both _ _ = false
 
 not_single : (o : Option MemoryInstruction) → have_both o None ≡ false
 unfolding have_both
@@ -125,22 +123,13 @@ not_single (Some x) = refl
 
 vector_never_both : (v : VecInst) → have_both (vector_memory v) (single_with (vector_operands_valid v) (vector_row v)) ≡ false
 unfolding have_both
-vector_never_both (VecLoadReplicate size rd mem) = not_single (vector_memory (VecLoadReplicate size rd mem))
-vector_never_both (VecLoadReplicateRev size rd mem) = not_single (vector_memory (VecLoadReplicateRev size rd mem))
-vector_never_both (VecLoadLane size rd ri mem lane) = not_single (vector_memory (VecLoadLane size rd ri mem lane))
-vector_never_both (VecLoadLaneRev size rd ri mem lane) = not_single (vector_memory (VecLoadLaneRev size rd ri mem lane))
-vector_never_both (VecLoadLaneUndef size rd mem lane) = not_single (vector_memory (VecLoadLaneUndef size rd mem lane))
-vector_never_both (VecLoadLaneRevUndef size rd mem lane) = not_single (vector_memory (VecLoadLaneRevUndef size rd mem lane))
-vector_never_both (VecStoreLane size rd mem lane) = not_single (vector_memory (VecStoreLane size rd mem lane))
-vector_never_both (VecStoreLaneRev size rd mem lane) = not_single (vector_memory (VecStoreLaneRev size rd mem lane))
-vector_never_both v = refl
+vector_never_both (V.VecLoadReplicate size rd mem) = not_single (vector_memory (V.VecLoadReplicate size rd mem))
+vector_never_both v = not_single (vector_memory v)
 
 never_both : (i : Inst) → have_both (memory i) (single_instruction i) ≡ false
 unfolding have_both
-never_both (AluRX op rd ri mem) = not_single (memory (AluRX op rd ri mem))
-never_both (AtomicRmw op rd rn mem) = not_single (memory (AtomicRmw op rd rn mem))
 never_both (Vector v) = vector_never_both v
-never_both i = refl
+never_both i = not_single (memory i)
 
 one_of : (D : Declared) (o : Option MemoryInstruction) (a : Option SingleInstruction) (c : Option EmitError) → have_both o a ≡ false → cause_or a (memory_cause_or D o c) ≡ None → access_refusal o ≡ None
 unfolding have_both
@@ -191,8 +180,7 @@ operator_fine D has op rd ri given m c same fine allowed =
 -- a comparison always has one
 comparison_row : (a b : Option (List ℕ)) (r : List ℕ) → has_row (rx a b (Some r)) ≡ true
 comparison_row None None r = refl
-comparison_row None (Some b) r = refl
-comparison_row (Some a) b r = refl
+comparison_row a b r = refl
 
 pub comparison_fine : (has : Bool) (op : CmpOp) (m : MemArg) → operand_cause (type_there has true (type_of (RxForm 0 (cmp_rx op) (cmp_rxy op) (Some (cmp_ril op))) true)) m ≡ None → access_cause has (rx (cmp_short_name op) (cmp_long_name op) (Some (cmp_relative_name op))) m ≡ None
 comparison_fine has op m fine =
@@ -205,6 +193,5 @@ comparison_fine has op m fine =
 pub atomic_fine : (D : Declared) (has : Bool) (name : Option (List ℕ)) (o : Option ℕ) (rd rn : Reg) (given m : MemArg) (c : EmitError) → has_row_text (access_cause has (rs None name) m) ≡ is_some (load_and_operate o rd rn given)
     → memory_cause_or D (load_and_operate o rd rn m) (Some c) ≡ None → refusal_there has (load_and_operate o rd rn m) ≡ None → access_cause has (rs None name) m ≡ None
 atomic_fine D has None None rd rn given m c same fine allowed = absurd (cc)
-atomic_fine D has None (Some x) rd rn given m c same fine allowed = absurd (cc)
-atomic_fine D has (Some name) None rd rn given m c same fine allowed = absurd (cc)
 atomic_fine D has (Some name) (Some x) rd rn given m c same fine allowed = address_fine _ allowed
+atomic_fine D has name o rd rn given m c same fine allowed = absurd (cc)

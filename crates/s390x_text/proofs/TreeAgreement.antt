@@ -14,7 +14,7 @@ use Rattle.s390x_inst.specs.declared.calls.RetLocation.TheVariants.{Stack}
 use Rattle.s390x_inst.specs.declared.calls.ReturnCallInfo.{ReturnCallInfo}
 use Rattle.s390x_inst.specs.declared.calls.TryCallInfo.{TryCallInfo}
 use Rattle.s390x_inst.specs.declared.inst.Inst.{Inst, Row_of-Inst, end_of-Inst, more_of-Inst}
-use Rattle.s390x_inst.specs.declared.inst.Inst.TheVariants.{AllocateArgs, Call, Loop', ReturnCall}
+use Rattle.s390x_inst.specs.declared.inst.Inst.TheVariants.{Call, Loop', ReturnCall}
 use Rattle.s390x_inst.specs.declared.state.IsaFlags.{IsaFlags}
 use Rattle.s390x_typed_steps.specs.Calls.{behind_call, call_bodies, continuation_bodies, is_first_saved, jump_target, load_before, load_bodies, load_or, result_bodies, tail_bodies, without_map, wholes}
 use Rattle.s390x_typed_steps.specs.Resolved.{resolved_instruction}
@@ -156,8 +156,6 @@ module _ (blocks depth : ℕ) where
 mutual
   after_layout : (e : Emission) (i : Inst) → (after e i).layout ≡ e.layout
   after_layout e (Loop' mask body all) = row_layout e all
-  after_layout e (Call link info) = refl
-  after_layout e (AllocateArgs size) = refl
   after_layout e i = refl
 
   row_layout : (e : Emission) {m : _} (r : Row_of-Inst m) → (row_after e r).layout ≡ e.layout

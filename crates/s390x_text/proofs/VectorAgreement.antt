@@ -16,8 +16,7 @@ use Rattle.s390x_inst.specs.declared.whole.WholeLayout.{WholeLayout}
 use Rattle.s390x_inst.specs.declared.whole.WholeLayout.TheVariants.{Straight}
 use Rattle.s390x_inst.specs.Wholes.{as_whole, by_whole, whole_instruction}
 use Rattle.s390x_inst.specs.declared.vec_inst.VecInst.{VecInst}
-use Rattle.s390x_inst.specs.declared.vec_inst.VecInst.TheVariants.{VecMov, VecPermuteDWImm, VecImmReplicate, VecImmBitMask, VecReplicateLane, VecInsertLaneImm, VecInsertLaneImmUndef, VecInsertLane, VecInsertLaneUndef, VecExtractLane, FpuCMov32, FpuCMov64, VecCMov, VecEltRev, VecInt128SCmpHi, VecInt128UCmpHi}
-use Rattle.s390x_inst.specs.declared.vec_inst.VecInst.TheVariants.{VecLoadReplicate, VecLoadReplicateRev, VecLoadLane, VecLoadLaneRev, VecLoadLaneUndef, VecLoadLaneRevUndef, VecStoreLane, VecStoreLaneRev}
+use Rattle.s390x_inst.specs.declared.vec_inst.VecInst.TheVariants as V
 use Rattle.s390x_rows.specs.declared.opcodes.TheConstants as opcodes
 use Rattle.s390x_typed_steps.specs.MachineInstruction.{MachineInstruction}
 use Rattle.s390x_typed_steps.specs.Memory.{MemoryInstruction, StorageForm, VrxForm, access_elements, access_lane, access_vector, is_left_lane, load_left, store_left, load_lane_opcode, load_reversed_opcode, store_lane_opcode, store_reversed_opcode, reversed_code}
@@ -34,6 +33,8 @@ use Rattle.s390x_text_rows.specs.declared.error.TextError.TheVariants.{NoRow}
 use Rattle.s390x_text.specs.Agreement.{has_row_text}
 use Rattle.s390x_text.specs.Rows.{has_rows, names_row}
 use Rattle.s390x_text.proofs.Elements.{IsSize}
+use Rattle.s390x_text.proofs.Agreement.{address_row}
+use Rattle.s390x_job_fields.proofs.Members.{or-false}
 
 -- ---- truth values
 
@@ -128,10 +129,9 @@ first_reversed_agrees h f g size = reversed_agrees h f g size 0 ∙ and_true (is
 -- ---- rows on registers and immediates
 
 row_agrees : (name : Option (List ℕ)) (o : Option MachineInstruction) (xs : List (List ℕ)) (valid : Bool) → is_some name ≡ is_some o → has_row_text (row name xs).cause ≡ (is_some (single_with valid o) || false || false)
-row_agrees None None xs valid h = refl
-row_agrees (Some name) (Some m) xs valid h = refl
 row_agrees None (Some m) xs valid h = h
 row_agrees (Some name) None xs valid h = h
+row_agrees name o xs valid h = refl
 
 tested_same : {X Y : Type 0} (t : Bool) (x : X) (y : Y) → is_some (cond t (Some x) None) ≡ is_some (cond t (Some y) None)
 tested_same true x y = refl
@@ -168,9 +168,8 @@ mask_agrees b h f g size d start end =
 
 -- a doubleword that goes alone is an element too
 either_text : (t : Bool) (s : List ℕ) (name : Option (List ℕ)) (xs : List (List ℕ)) → (t ≡ true → is_some name ≡ true) → has_row_text (cond t (fixed_text s) (row name xs)).cause ≡ has_row_text (row name xs).cause
-either_text true s (Some name) xs h = refl
 either_text true s None xs h = absurd (true≢false (sym (h refl)))
-either_text false s name xs h = refl
+either_text t s name xs h = refl
 
 either_row : {X : Type 0} (t : Bool) (m : X) (o : Option X) → (t ≡ true → is_some o ≡ true) → is_some (cond t (Some m) o) ≡ is_some o
 either_row true m o h = sym (h refl)
@@ -206,17 +205,10 @@ valid_row false = refl
 
 reversal_agrees : (a b c d valid : Bool) (p q r s : List ℕ) (w x y z : List MachineInstruction) →
     has_row_text (cond a (fixed_text p) (cond b (fixed_text q) (cond c (fixed_text r) (cond d (fixed_text s) (row None []))))).cause ≡ names_row (rows_cause (cond a (Some w) (cond b (Some x) (cond c (Some y) (cond d (Some z) None)))) valid)
-reversal_agrees true b c d valid p q r s w x y z = sym (valid_row valid)
-reversal_agrees false true c d valid p q r s w x y z = sym (valid_row valid)
-reversal_agrees false false true d valid p q r s w x y z = sym (valid_row valid)
-reversal_agrees false false false true valid p q r s w x y z = sym (valid_row valid)
 reversal_agrees false false false false valid p q r s w x y z = refl
+reversal_agrees a b c d valid p q r s w x y z = sym (valid_row valid)
 
 -- ---- operands in memory
-
-address_row : (c : Option EmitError) → has_row_text (address_cause c) ≡ true
-address_row None = refl
-address_row (Some e) = refl
 
 access_agrees : {X : Type 0} (name : Option X) (o : Option MemoryInstruction) (c : Option EmitError) → is_some name ≡ is_some o → has_row_text (cond (is_some name || false || false) (address_cause c) (Some NoRow)) ≡ (is_some o || false)
 access_agrees None None c h = refl
@@ -268,10 +260,6 @@ float_doubleword rd size lane e =
     let parts = and_parts (is_float rd && nat_eq lane 0) (nat_eq size 64) e in
     left_doubleword size lane (eqb-true size 64 parts.1) (eqb-true lane 0 (and_parts (is_float rd) (nat_eq lane 0) parts.0).1)
 
-or_false : (a : Bool) → (a || false) ≡ a
-or_false true = refl
-or_false false = refl
-
 named_access : {X : Type 0} (name : Option X) (c : Option EmitError) → has_row_text (cond (is_some name || false || false) (address_cause c) (Some NoRow)) ≡ is_some name
 named_access None c = refl
 named_access (Some name) c = address_row c
@@ -282,7 +270,7 @@ left_agrees : (b h f g : List ℕ) (rd : Reg) (valid other : Bool) (form : Stora
     ≡ (is_some (cond (is_left_lane size lane (number_of rd)) (access_vector valid form m) (access_lane other opcode (number_of rd) (element_code size) size lane m)) || false)
 left_agrees b h f g rd valid other form opcode size lane m x y z p q r =
     one_of_texts (is_float rd && nat_eq lane 0 && nat_eq size 32) (is_float rd && nat_eq lane 0 && nat_eq size 64) (has_lane size lane) x y z (float_word rd size lane) (float_doubleword rd size lane) p q (r ∙ name_agrees b h f g size lane)
-    ∙ sym (left_lane_some valid other form opcode (number_of rd) size lane m) ∙ sym (or_false _)
+    ∙ sym (left_lane_some valid other form opcode (number_of rd) size lane m) ∙ sym (or-false _)
 
 -- ---- instructions
 
@@ -299,32 +287,32 @@ whole_or_row e bs k v None plain = plain
 whole_or_row e bs k v (Some w) plain = whole_row e bs k w.direction w.layout w.rd w.mem
 
 pub vector_rows : (e : Emission) (blocks depth : ℕ) (v : VecInst) → has_row_text (vector_text e v).cause ≡ has_rows blocks depth (Vector v)
-vector_rows e bs k (VecPermuteDWImm rd rn rm first second) = row_agrees (cond (nat_lt first 2 && nat_lt second 2) (Some (codes "vpdi")) None) _ _ _ (tested_same (nat_lt first 2 && nat_lt second 2) _ _)
-vector_rows e bs k (VecImmReplicate size rd imm) = row_agrees _ _ _ _ (first_agrees _ _ _ _ size ∙ sym (replicate_some (element_code size) _ _))
-vector_rows e bs k (VecImmBitMask size rd start end) = row_agrees (mask_name size start end) _ _ _ (mask_agrees _ _ _ _ size (number_of rd) start end)
-vector_rows e bs k (VecReplicateLane size rd rn lane) = row_agrees _ _ _ _ (name_agrees _ _ _ _ size lane ∙ sym (lane_row_some _ (element_code size) size lane))
-vector_rows e bs k (VecInsertLaneImm size rd ri imm lane) = row_agrees _ _ _ _ (name_agrees _ _ _ _ size lane ∙ sym (lane_row_some _ (element_code size) size lane))
-vector_rows e bs k (VecInsertLaneImmUndef size rd imm lane) = row_agrees _ _ _ _ (name_agrees _ _ _ _ size lane ∙ sym (lane_row_some _ (element_code size) size lane))
-vector_rows e bs k (VecInsertLane size rd ri rn lane base) = row_agrees _ _ _ _ (name_agrees _ _ _ _ size lane ∙ sym (lane_row_some _ (element_code size) size lane))
-vector_rows e bs k (VecInsertLaneUndef size rd rn lane base) =
+vector_rows e bs k (V.VecPermuteDWImm rd rn rm first second) = row_agrees (cond (nat_lt first 2 && nat_lt second 2) (Some (codes "vpdi")) None) _ _ _ (tested_same (nat_lt first 2 && nat_lt second 2) _ _)
+vector_rows e bs k (V.VecImmReplicate size rd imm) = row_agrees _ _ _ _ (first_agrees _ _ _ _ size ∙ sym (replicate_some (element_code size) _ _))
+vector_rows e bs k (V.VecImmBitMask size rd start end) = row_agrees (mask_name size start end) _ _ _ (mask_agrees _ _ _ _ size (number_of rd) start end)
+vector_rows e bs k (V.VecReplicateLane size rd rn lane) = row_agrees _ _ _ _ (name_agrees _ _ _ _ size lane ∙ sym (lane_row_some _ (element_code size) size lane))
+vector_rows e bs k (V.VecInsertLaneImm size rd ri imm lane) = row_agrees _ _ _ _ (name_agrees _ _ _ _ size lane ∙ sym (lane_row_some _ (element_code size) size lane))
+vector_rows e bs k (V.VecInsertLaneImmUndef size rd imm lane) = row_agrees _ _ _ _ (name_agrees _ _ _ _ size lane ∙ sym (lane_row_some _ (element_code size) size lane))
+vector_rows e bs k (V.VecInsertLane size rd ri rn lane base) = row_agrees _ _ _ _ (name_agrees _ _ _ _ size lane ∙ sym (lane_row_some _ (element_code size) size lane))
+vector_rows e bs k (V.VecInsertLaneUndef size rd rn lane base) =
     either_text (is_float_lane size rd lane base) _ _ _ (λ t. name_agrees _ _ _ _ size lane ∙ float_lane_left size lane rd base t) ∙ row_agrees _ _ _ _ (alone_agrees _ _ _ _ _ _ size (number_of rd) (number_of base) lane)
-vector_rows e bs k (VecExtractLane size rd rn lane base) =
+vector_rows e bs k (V.VecExtractLane size rd rn lane base) =
     either_text (is_float_lane size rn lane base) _ _ _ (λ t. name_agrees _ _ _ _ size lane ∙ float_lane_left size lane rn base t) ∙ row_agrees _ _ _ _ (alone_agrees _ _ _ _ _ _ size (number_of rn) (number_of base) lane)
-vector_rows e bs k (FpuCMov32 rd mask ri rm) = sym (valid_row (reuses_vector rd ri && is_vector rm))
-vector_rows e bs k (FpuCMov64 rd mask ri rm) = sym (valid_row (reuses_vector rd ri && is_vector rm))
-vector_rows e bs k (VecCMov rd mask ri rm) = sym (valid_row (reuses_vector rd ri && is_vector rm))
-vector_rows e bs k (VecInt128SCmpHi tmp rn rm) = sym (valid_row (is_vector tmp && is_vector rn && is_vector rm))
-vector_rows e bs k (VecInt128UCmpHi tmp rn rm) = sym (valid_row (is_vector tmp && is_vector rn && is_vector rm))
-vector_rows e bs k (VecEltRev count rd rn) = reversal_agrees (nat_eq count 2) (nat_eq count 4) (nat_eq count 8) (nat_eq count 16) (is_vector rd && is_vector rn) _ _ _ _ _ _ _ _
-vector_rows e bs k (VecLoadReplicate size rd mem) = access_agrees _ _ _ (first_agrees _ _ _ _ size ∙ sym (elements_some opcodes.VLREP rd (element_code size) mem))
-vector_rows e bs k (VecLoadReplicateRev size rd mem) = access_agrees _ _ _ (first_reversed_agrees _ _ _ size ∙ sym (elements_some opcodes.VLBRREP rd (reversed_code size) mem))
-vector_rows e bs k (VecLoadLane size rd ri mem lane) = access_agrees _ _ _ (name_agrees _ _ _ _ size lane ∙ sym (lane_some (reuses_vector rd ri) load_lane_opcode (number_of rd) (element_code size) size lane mem))
-vector_rows e bs k (VecLoadLaneRev size rd ri mem lane) = access_agrees _ _ _ (reversed_agrees _ _ _ size lane ∙ sym (lane_some (reuses_vector rd ri) load_reversed_opcode (number_of rd) (reversed_code size) size lane mem))
-vector_rows e bs k (VecLoadLaneRevUndef size rd mem lane) = access_agrees _ _ _ (reversed_agrees _ _ _ size lane ∙ sym (lane_some (is_vector rd) load_reversed_opcode (number_of rd) (reversed_code size) size lane mem))
-vector_rows e bs k (VecStoreLaneRev size rd mem lane) = access_agrees _ _ _ (reversed_agrees _ _ _ size lane ∙ sym (lane_some (is_vector rd) store_reversed_opcode (number_of rd) (reversed_code size) size lane mem))
-vector_rows e bs k (VecLoadLaneUndef size rd mem lane) =
+vector_rows e bs k (V.FpuCMov32 rd mask ri rm) = sym (valid_row (reuses_vector rd ri && is_vector rm))
+vector_rows e bs k (V.FpuCMov64 rd mask ri rm) = sym (valid_row (reuses_vector rd ri && is_vector rm))
+vector_rows e bs k (V.VecCMov rd mask ri rm) = sym (valid_row (reuses_vector rd ri && is_vector rm))
+vector_rows e bs k (V.VecInt128SCmpHi tmp rn rm) = sym (valid_row (is_vector tmp && is_vector rn && is_vector rm))
+vector_rows e bs k (V.VecInt128UCmpHi tmp rn rm) = sym (valid_row (is_vector tmp && is_vector rn && is_vector rm))
+vector_rows e bs k (V.VecEltRev count rd rn) = reversal_agrees (nat_eq count 2) (nat_eq count 4) (nat_eq count 8) (nat_eq count 16) (is_vector rd && is_vector rn) _ _ _ _ _ _ _ _
+vector_rows e bs k (V.VecLoadReplicate size rd mem) = access_agrees _ _ _ (first_agrees _ _ _ _ size ∙ sym (elements_some opcodes.VLREP rd (element_code size) mem))
+vector_rows e bs k (V.VecLoadReplicateRev size rd mem) = access_agrees _ _ _ (first_reversed_agrees _ _ _ size ∙ sym (elements_some opcodes.VLBRREP rd (reversed_code size) mem))
+vector_rows e bs k (V.VecLoadLane size rd ri mem lane) = access_agrees _ _ _ (name_agrees _ _ _ _ size lane ∙ sym (lane_some (reuses_vector rd ri) load_lane_opcode (number_of rd) (element_code size) size lane mem))
+vector_rows e bs k (V.VecLoadLaneRev size rd ri mem lane) = access_agrees _ _ _ (reversed_agrees _ _ _ size lane ∙ sym (lane_some (reuses_vector rd ri) load_reversed_opcode (number_of rd) (reversed_code size) size lane mem))
+vector_rows e bs k (V.VecLoadLaneRevUndef size rd mem lane) = access_agrees _ _ _ (reversed_agrees _ _ _ size lane ∙ sym (lane_some (is_vector rd) load_reversed_opcode (number_of rd) (reversed_code size) size lane mem))
+vector_rows e bs k (V.VecStoreLaneRev size rd mem lane) = access_agrees _ _ _ (reversed_agrees _ _ _ size lane ∙ sym (lane_some (is_vector rd) store_reversed_opcode (number_of rd) (reversed_code size) size lane mem))
+vector_rows e bs k (V.VecLoadLaneUndef size rd mem lane) =
     left_agrees _ _ _ _ rd (is_vector rd) (is_vector rd) (load_left size (number_of rd)) load_lane_opcode size lane mem _ _ _ (address_row _) (address_row _) (named_access _ _)
-vector_rows e bs k (VecStoreLane size rd mem lane) =
+vector_rows e bs k (V.VecStoreLane size rd mem lane) =
     left_agrees _ _ _ _ rd (is_vector rd) (is_vector rd) (store_left size (number_of rd)) store_lane_opcode size lane mem _ _ _ (address_row _) (address_row _) (named_access _ _)
 -- the others are loads and stores of a whole register, and one machine instruction at any values; the clause is a copy for each
 vector_rows e bs k v = whole_or_row e bs k v (as_whole v) refl
@@ -332,15 +320,14 @@ vector_rows e bs k v = whole_or_row e bs k v (as_whole v) refl
 -- ---- operands of the frame
 
 pub operands_stay : (e : Emission) (blocks depth : ℕ) (v : VecInst) → has_rows blocks depth (Vector (resolved_vector e v)) ≡ has_rows blocks depth (Vector v)
-operands_stay e bs k (VecLoadReplicate size rd mem) = ap (λ s. s || false) (elements_some opcodes.VLREP rd (element_code size) (resolved_operand e mem) ∙ sym (elements_some opcodes.VLREP rd (element_code size) mem))
-operands_stay e bs k (VecLoadReplicateRev size rd mem) = ap (λ s. s || false) (elements_some opcodes.VLBRREP rd (reversed_code size) (resolved_operand e mem) ∙ sym (elements_some opcodes.VLBRREP rd (reversed_code size) mem))
-operands_stay e bs k (VecLoadLane size rd ri mem lane) = ap (λ s. s || false) (lane_some (reuses_vector rd ri) load_lane_opcode (number_of rd) (element_code size) size lane (resolved_operand e mem) ∙ sym (lane_some (reuses_vector rd ri) load_lane_opcode (number_of rd) (element_code size) size lane mem))
-operands_stay e bs k (VecLoadLaneRev size rd ri mem lane) = ap (λ s. s || false) (lane_some (reuses_vector rd ri) load_reversed_opcode (number_of rd) (reversed_code size) size lane (resolved_operand e mem) ∙ sym (lane_some (reuses_vector rd ri) load_reversed_opcode (number_of rd) (reversed_code size) size lane mem))
-operands_stay e bs k (VecLoadLaneRevUndef size rd mem lane) = ap (λ s. s || false) (lane_some (is_vector rd) load_reversed_opcode (number_of rd) (reversed_code size) size lane (resolved_operand e mem) ∙ sym (lane_some (is_vector rd) load_reversed_opcode (number_of rd) (reversed_code size) size lane mem))
-operands_stay e bs k (VecStoreLaneRev size rd mem lane) = ap (λ s. s || false) (lane_some (is_vector rd) store_reversed_opcode (number_of rd) (reversed_code size) size lane (resolved_operand e mem) ∙ sym (lane_some (is_vector rd) store_reversed_opcode (number_of rd) (reversed_code size) size lane mem))
-operands_stay e bs k (VecLoadLaneUndef size rd mem lane) =
+operands_stay e bs k (V.VecLoadReplicate size rd mem) = ap (λ s. s || false) (elements_some opcodes.VLREP rd (element_code size) (resolved_operand e mem) ∙ sym (elements_some opcodes.VLREP rd (element_code size) mem))
+operands_stay e bs k (V.VecLoadReplicateRev size rd mem) = ap (λ s. s || false) (elements_some opcodes.VLBRREP rd (reversed_code size) (resolved_operand e mem) ∙ sym (elements_some opcodes.VLBRREP rd (reversed_code size) mem))
+operands_stay e bs k (V.VecLoadLane size rd ri mem lane) = ap (λ s. s || false) (lane_some (reuses_vector rd ri) load_lane_opcode (number_of rd) (element_code size) size lane (resolved_operand e mem) ∙ sym (lane_some (reuses_vector rd ri) load_lane_opcode (number_of rd) (element_code size) size lane mem))
+operands_stay e bs k (V.VecLoadLaneRev size rd ri mem lane) = ap (λ s. s || false) (lane_some (reuses_vector rd ri) load_reversed_opcode (number_of rd) (reversed_code size) size lane (resolved_operand e mem) ∙ sym (lane_some (reuses_vector rd ri) load_reversed_opcode (number_of rd) (reversed_code size) size lane mem))
+operands_stay e bs k (V.VecLoadLaneRevUndef size rd mem lane) = ap (λ s. s || false) (lane_some (is_vector rd) load_reversed_opcode (number_of rd) (reversed_code size) size lane (resolved_operand e mem) ∙ sym (lane_some (is_vector rd) load_reversed_opcode (number_of rd) (reversed_code size) size lane mem))
+operands_stay e bs k (V.VecStoreLaneRev size rd mem lane) = ap (λ s. s || false) (lane_some (is_vector rd) store_reversed_opcode (number_of rd) (reversed_code size) size lane (resolved_operand e mem) ∙ sym (lane_some (is_vector rd) store_reversed_opcode (number_of rd) (reversed_code size) size lane mem))
+operands_stay e bs k (V.VecLoadLaneUndef size rd mem lane) =
     ap (λ s. s || false) (left_lane_some (is_vector rd) (is_vector rd) (load_left size (number_of rd)) load_lane_opcode (number_of rd) size lane (resolved_operand e mem) ∙ sym (left_lane_some (is_vector rd) (is_vector rd) (load_left size (number_of rd)) load_lane_opcode (number_of rd) size lane mem))
-operands_stay e bs k (VecStoreLane size rd mem lane) =
+operands_stay e bs k (V.VecStoreLane size rd mem lane) =
     ap (λ s. s || false) (left_lane_some (is_vector rd) (is_vector rd) (store_left size (number_of rd)) store_lane_opcode (number_of rd) size lane (resolved_operand e mem) ∙ sym (left_lane_some (is_vector rd) (is_vector rd) (store_left size (number_of rd)) store_lane_opcode (number_of rd) size lane mem))
-operands_stay e bs k (VecMov rd rn) = refl
 operands_stay e bs k v = refl

@@ -1,6 +1,6 @@
 -- A vector instruction with an operand in memory that emission lets pass has a text.
 use Rattle.std.proofs.Common.{◌≡◌, ◌⊎◌, inl, inr, ℕ, ◌*◌, ◌<◌, Bool, true, false, Option, Some, None, List, refl, sym, ap, subst, ◌∙◌, is_some, ◌&&◌, ◌||◌, arith}
-use Rattle.std.proofs.lemmas.Bool.{and_parts, lt-ltb, ltb-true}
+use Rattle.std.proofs.lemmas.Bool.{and_parts, lt-ltb, ltb-true, and_right}
 use Rattle.std.specs.Prelude.{cond, nat_eq, nat_lt}
 use Rattle.s390x_base.specs.Regs.{number_of}
 use Rattle.s390x_base.specs.declared.error.EmitError.{EmitError}
@@ -130,10 +130,6 @@ float_forms : (t : Bool) (r a b c d : ℕ) → type_of (cond t (FloatForm r a b)
 float_forms true r a b c d = refl
 float_forms false r a b c d = refl
 
-and_false : (t : Bool) → (t && false) ≡ false
-and_false true = refl
-and_false false = refl
-
 -- one of three texts, by whether it is a float register's
 one_of_three : (b l s t : Bool) (x y z : Text) → (((s || t) && l && b) ≡ true → (x.cause ≡ None) × (y.cause ≡ None)) → (((s || t) && l && b) ≡ false → z.cause ≡ None) → (cond (b && l && s) x (cond (b && l && t) y z)).cause ≡ None
 one_of_three true true true t x y z p q = (p refl).0
@@ -142,7 +138,7 @@ one_of_three true true false false x y z p q = q refl
 one_of_three true false true t x y z p q = q refl
 one_of_three true false false true x y z p q = q refl
 one_of_three true false false false x y z p q = q refl
-one_of_three false l s t x y z p q = q (and_false ((s || t) && l))
+one_of_three false l s t x y z p q = q (and_right ((s || t) && l) false refl)
 
 -- what is known of two accesses, by which of them it is
 left_known : (D : Declared) (t : Bool) (x y : Option MemoryInstruction) (c : EmitError) → memory_cause_or D (cond t x y) (Some c) ≡ None → access_refusal (cond t x y) ≡ None → t ≡ true

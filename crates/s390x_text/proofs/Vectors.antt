@@ -15,8 +15,7 @@ use Rattle.s390x_inst.specs.declared.whole.WholeLayout.{WholeLayout}
 use Rattle.s390x_inst.specs.declared.whole.WholeLayout.TheVariants.{Straight}
 use Rattle.s390x_inst.specs.Wholes.{as_whole, by_whole, whole_instruction}
 use Rattle.s390x_inst.specs.declared.vec_inst.VecInst.{VecInst}
-use Rattle.s390x_inst.specs.declared.vec_inst.VecInst.TheVariants.{VecPermuteDWImm, VecImmReplicate, VecImmBitMask, VecReplicateLane, VecInsertLaneImm, VecInsertLaneImmUndef, VecInsertLane, VecInsertLaneUndef, VecExtractLane, FpuCMov32, FpuCMov64, VecCMov, VecEltRev, VecInt128SCmpHi, VecInt128UCmpHi}
-use Rattle.s390x_inst.specs.declared.vec_inst.VecInst.TheVariants.{VecLoadReplicate, VecLoadReplicateRev, VecLoadLane, VecLoadLaneRev, VecLoadLaneUndef, VecLoadLaneRevUndef, VecStoreLane, VecStoreLaneRev}
+use Rattle.s390x_inst.specs.declared.vec_inst.VecInst.TheVariants as V
 use Rattle.s390x_rows.specs.declared.opcodes.TheConstants as opcodes
 use Rattle.s390x_typed_steps.specs.Causes.{Declared, cause_or, memory_cause_or}
 use Rattle.s390x_typed_steps.specs.MachineInstruction.{MachineInstruction}
@@ -99,26 +98,23 @@ mask_named size d start end h =
 -- ---- instructions
 
 has_text : (e : Emission) (v : VecInst) → is_some (vector_row v) ≡ true → (vector_text e v).cause ≡ None
-has_text e (VecPermuteDWImm rd rn rm first second) h = allowed (nat_lt first 2 && nat_lt second 2) (Some (codes "vpdi")) _ _ refl h
-has_text e (VecImmReplicate size rd imm) h = row_named _ _ (first_named _ _ _ _ size (replicate_code (element_code size) _ _ h))
-has_text e (VecImmBitMask size rd start end) h = row_named _ _ (mask_named size _ start end h)
-has_text e (VecReplicateLane size rd rn lane) h = row_named _ _ (lane_named _ _ _ _ _ size lane h)
-has_text e (VecInsertLaneImm size rd ri imm lane) h = row_named _ _ (lane_named _ _ _ _ _ size lane h)
-has_text e (VecInsertLaneImmUndef size rd imm lane) h = row_named _ _ (lane_named _ _ _ _ _ size lane h)
-has_text e (VecInsertLane size rd ri rn lane base) h = row_named _ _ (lane_named _ _ _ _ _ size lane h)
-has_text e (VecInsertLaneUndef size rd rn lane base) h =
+has_text e (V.VecPermuteDWImm rd rn rm first second) h = allowed (nat_lt first 2 && nat_lt second 2) (Some (codes "vpdi")) _ _ refl h
+has_text e (V.VecImmReplicate size rd imm) h = row_named _ _ (first_named _ _ _ _ size (replicate_code (element_code size) _ _ h))
+has_text e (V.VecImmBitMask size rd start end) h = row_named _ _ (mask_named size _ start end h)
+has_text e (V.VecReplicateLane size rd rn lane) h = row_named _ _ (lane_named _ _ _ _ _ size lane h)
+has_text e (V.VecInsertLaneImm size rd ri imm lane) h = row_named _ _ (lane_named _ _ _ _ _ size lane h)
+has_text e (V.VecInsertLaneImmUndef size rd imm lane) h = row_named _ _ (lane_named _ _ _ _ _ size lane h)
+has_text e (V.VecInsertLane size rd ri rn lane base) h = row_named _ _ (lane_named _ _ _ _ _ size lane h)
+has_text e (V.VecInsertLaneUndef size rd rn lane base) h =
     either (is_float_lane size rd lane base) _ _ _ (alone_named _ _ _ _ _ _ size (number_of rd) (number_of base) lane _ refl h)
-has_text e (VecExtractLane size rd rn lane base) h =
+has_text e (V.VecExtractLane size rd rn lane base) h =
     either (is_float_lane size rn lane base) _ _ _ (alone_named _ _ _ _ _ _ size (number_of rn) (number_of base) lane _ refl h)
 has_text e v h = cc
 
 -- elements in reverse order, by tests of their count
 reversal_fine : (a b c d valid : Bool) (p q r s : List ℕ) (w x y z : List MachineInstruction) → rows_cause (cond a (Some w) (cond b (Some x) (cond c (Some y) (cond d (Some z) None)))) valid ≡ None → (cond a (fixed_text p) (cond b (fixed_text q) (cond c (fixed_text r) (cond d (fixed_text s) (row None []))))).cause ≡ None
-reversal_fine true b c d valid p q r s w x y z h = refl
-reversal_fine false true c d valid p q r s w x y z h = refl
-reversal_fine false false true d valid p q r s w x y z h = refl
-reversal_fine false false false true valid p q r s w x y z h = refl
 reversal_fine false false false false valid p q r s w x y z h = absurd (cc)
+reversal_fine a b c d valid p q r s w x y z h = refl
 
 -- an access or one machine instruction
 found : (D : Declared) (valid : Bool) (o : Option MachineInstruction) (x : Option MemoryInstruction) (c : EmitError) → cause_or (single_with valid o) (memory_cause_or D x (Some c)) ≡ None → (is_some x || is_some o) ≡ true
@@ -142,21 +138,21 @@ whole_or_row e v (Some w) some m = whole_fine e w.direction w.layout w.rd w.mem 
 pub vector_fine : (e : Emission) (D : Declared) (v : VecInst)
     → cause_or (single_with (vector_operands_valid (resolved_vector e v)) (vector_row (resolved_vector e v))) (memory_cause_or D (vector_memory (resolved_vector e v)) (composite_cause (resolved_vector e v))) ≡ None
     → access_refusal (vector_memory (resolved_vector e v)) ≡ None → (vector_text e v).cause ≡ None
-vector_fine e D (VecLoadReplicate size rd mem) h m = replicated_fine D _ _ _ _ opcodes.VLREP rd size (resolved_operand e mem) BadOperator h m
-vector_fine e D (VecLoadReplicateRev size rd mem) h m = reversed_replicated_fine D _ _ _ opcodes.VLBRREP rd size (resolved_operand e mem) BadOperator h m
-vector_fine e D (VecLoadLane size rd ri mem lane) h m = lane_fine D _ _ _ _ (reuses_vector rd ri) load_lane_opcode (number_of rd) size lane (resolved_operand e mem) BadOperator h m
-vector_fine e D (VecLoadLaneRev size rd ri mem lane) h m = reversed_lane_fine D _ _ _ (reuses_vector rd ri) load_reversed_opcode (number_of rd) size lane (resolved_operand e mem) BadOperator h m
-vector_fine e D (VecLoadLaneRevUndef size rd mem lane) h m = reversed_lane_fine D _ _ _ (is_vector rd) load_reversed_opcode (number_of rd) size lane (resolved_operand e mem) BadOperator h m
-vector_fine e D (VecStoreLaneRev size rd mem lane) h m = reversed_lane_fine D _ _ _ (is_vector rd) store_reversed_opcode (number_of rd) size lane (resolved_operand e mem) BadOperator h m
-vector_fine e D (VecLoadLaneUndef size rd mem lane) h m =
+vector_fine e D (V.VecLoadReplicate size rd mem) h m = replicated_fine D _ _ _ _ opcodes.VLREP rd size (resolved_operand e mem) BadOperator h m
+vector_fine e D (V.VecLoadReplicateRev size rd mem) h m = reversed_replicated_fine D _ _ _ opcodes.VLBRREP rd size (resolved_operand e mem) BadOperator h m
+vector_fine e D (V.VecLoadLane size rd ri mem lane) h m = lane_fine D _ _ _ _ (reuses_vector rd ri) load_lane_opcode (number_of rd) size lane (resolved_operand e mem) BadOperator h m
+vector_fine e D (V.VecLoadLaneRev size rd ri mem lane) h m = reversed_lane_fine D _ _ _ (reuses_vector rd ri) load_reversed_opcode (number_of rd) size lane (resolved_operand e mem) BadOperator h m
+vector_fine e D (V.VecLoadLaneRevUndef size rd mem lane) h m = reversed_lane_fine D _ _ _ (is_vector rd) load_reversed_opcode (number_of rd) size lane (resolved_operand e mem) BadOperator h m
+vector_fine e D (V.VecStoreLaneRev size rd mem lane) h m = reversed_lane_fine D _ _ _ (is_vector rd) store_reversed_opcode (number_of rd) size lane (resolved_operand e mem) BadOperator h m
+vector_fine e D (V.VecLoadLaneUndef size rd mem lane) h m =
     left_lane_fine D _ _ _ _ rd opcodes.LE opcodes.LEY opcodes.LD opcodes.LDY load_lane_opcode size lane (resolved_operand e mem) BadOperator _ _ _ h m (λ fine. (address_fine _ fine, address_fine _ fine)) refl
-vector_fine e D (VecStoreLane size rd mem lane) h m =
+vector_fine e D (V.VecStoreLane size rd mem lane) h m =
     left_lane_fine D _ _ _ _ rd opcodes.STE opcodes.STEY opcodes.STD opcodes.STDY store_lane_opcode size lane (resolved_operand e mem) BadOperator _ _ _ h m (λ fine. (address_fine _ fine, address_fine _ fine)) refl
 -- moves under a condition and comparisons have a text at any values, elements in reverse order at the counts that have machine instructions
-vector_fine e D (FpuCMov32 rd mask ri rm) h m = refl
-vector_fine e D (FpuCMov64 rd mask ri rm) h m = refl
-vector_fine e D (VecCMov rd mask ri rm) h m = refl
-vector_fine e D (VecInt128SCmpHi tmp rn rm) h m = refl
-vector_fine e D (VecInt128UCmpHi tmp rn rm) h m = refl
-vector_fine e D (VecEltRev count rd rn) h m = reversal_fine (nat_eq count 2) (nat_eq count 4) (nat_eq count 8) (nat_eq count 16) (is_vector rd && is_vector rn) _ _ _ _ _ _ _ _ h
+vector_fine e D (V.FpuCMov32 rd mask ri rm) h m = refl
+vector_fine e D (V.FpuCMov64 rd mask ri rm) h m = refl
+vector_fine e D (V.VecCMov rd mask ri rm) h m = refl
+vector_fine e D (V.VecInt128SCmpHi tmp rn rm) h m = refl
+vector_fine e D (V.VecInt128UCmpHi tmp rn rm) h m = refl
+vector_fine e D (V.VecEltRev count rd rn) h m = reversal_fine (nat_eq count 2) (nat_eq count 4) (nat_eq count 8) (nat_eq count 16) (is_vector rd && is_vector rn) _ _ _ _ _ _ _ _ h
 vector_fine e D v h m = whole_or_row e v (as_whole v) (found D (vector_operands_valid v) (vector_row v) (vector_memory (resolved_vector e v)) BadOperator h) m

@@ -7,8 +7,7 @@ ghost use Rattle.s390x_text.specs.Instructions.{leaf_text, leaf_after, after, in
 use crate::calls::put_call;
 use s390x_base::Cond;
 use s390x_inst::{EmitInfo, EmitState, Inst, IsaFlags};
-use s390x_job_fields::number::put;
-use s390x_text_rows::{TextError, cond_name, put_simple};
+use s390x_text_rows::{TextError, cond_name, put, put_simple};
 use std::alloc::{AllocError, Global};
 
 /// What stands around instructions: the machine's facilities, and how many loops they stand in.
@@ -115,7 +114,7 @@ fn put_member(
     Ok(())
 }
 
-// Appends the text of a loop.
+// Appends the text of a loop, apart from that of other instructions, which needs less room.
 #[cycle(members)]
 #[inline(never)]
 fn put_loop(

@@ -1,3 +1,4 @@
 pub mod Joined
 mod Digits
 mod Near
+mod OneHelper

@@ -155,9 +155,8 @@ near_in mi e (Symbol name offset flags) operand h =
 near_in mi e m operand h = absurd (cc)
 
 there : (a b c : Bool) → (a || (b && c)) ≡ true → (a || b) ≡ true
-there true b c h = refl
-there false true c h = refl
 there false false c h = absurd (cc)
+there a b c h = refl
 
 -- nothing is appended, and the access is that of the operand
 pub near_opens : (has : Bool) (r : Rows) (e : Emission) (m operand : MemArg) (mi : MemInstType) (old : List ℕ) → mi ≡ type_of_rows has r → Some operand ≡ near_operand mi m → Opens (Ok operand) old old has r (resolved_operand e m)

@@ -8,7 +8,7 @@ use Rattle.s390x_inst.specs.declared.calls.RetPair.{RetPair}
 use Rattle.s390x_inst.specs.declared.calls.SymbolReloc.{SymbolReloc}
 use Rattle.s390x_inst.specs.declared.calls.SymbolReloc.TheVariants.{Absolute}
 use Rattle.s390x_inst.specs.declared.inst.Inst.{Inst}
-use Rattle.s390x_inst.specs.declared.inst.Inst.TheVariants.{Fence, Nop0, Nop2, Debugtrap, Trap, TrapIf, Jump, CondBr, IndirectBr, Ret, JTSequence, CondBreak, AllocateArgs, LoadSymbolReloc, LabelAddress, Args, Rets, DummyUse, SequencePoint}
+use Rattle.s390x_inst.specs.declared.inst.Inst.TheVariants as I
 use Rattle.s390x_job_fields.specs.Atoms.{reg_text, trap_text}
 use Rattle.s390x_text_rows.specs.Texts.{Text, fixed_text, instruction_text}
 use Rattle.s390x_text_rows.specs.Operands.{cond_text, label_text, name_text}
@@ -55,23 +55,23 @@ table_text index other mask targets = branch_text mask other ++ (table_sum_text 
 
 -- control instructions and those without bytes
 abbrev pub control_text : Inst → Option Text
-control_text Fence = Some (fixed_text (codes "bcr 14, 0"))
-control_text Nop0 = Some (fixed_text (codes "nop-zero-len"))
-control_text Nop2 = Some (fixed_text (codes "nop"))
-control_text Debugtrap = Some (fixed_text (codes ".word 0x0001 # debugtrap"))
-control_text (Trap code) = Some (fixed_text (codes ".word 0x0000 # trap=" ++ trap_text code))
-control_text (TrapIf mask code) = Some (fixed_text ((codes "jg" ++ (cond_text mask ++ codes " .+2 # trap=")) ++ trap_text code))
-control_text (Jump dest) = Some (fixed_text (instruction_text (codes "jg") (label_text dest.0 ∷ [])))
-control_text (CondBr taken not_taken mask) = Some (fixed_text (branch_text mask taken.0 ++ (codes " ; " ++ instruction_text (codes "jg") (label_text not_taken.0 ∷ []))))
-control_text (IndirectBr rn targets) = Some (fixed_text (instruction_text (codes "br") (reg_text rn ∷ [])))
-control_text (Ret link) = Some (fixed_text (instruction_text (codes "br") (reg_text link ∷ [])))
-control_text (JTSequence ridx other mask targets) = Some (fixed_text (table_text ridx other.0 mask targets.items))
-control_text (CondBreak mask) = Some (fixed_text (codes "jg" ++ (cond_text mask ++ codes " 1f")))
-control_text (AllocateArgs size) = Some (fixed_text (allocate_text size))
-control_text (LoadSymbolReloc rd reloc) = Some (fixed_text (codes "bras %r1, 12 ; data " ++ (reloc_text reloc ++ (codes " ; lg " ++ (reg_text rd ++ codes ", 0(%r1)")))))
-control_text (LabelAddress dst label) = Some (fixed_text (instruction_text (codes "label_address") (reg_text dst ∷ label_text label.0 ∷ [])))
-control_text (Args args) = Some (fixed_text (codes "args" ++ args_text args.items))
-control_text (Rets rets) = Some (fixed_text (codes "rets" ++ rets_text rets.items))
-control_text (DummyUse reg) = Some (fixed_text (instruction_text (codes "dummy_use") (reg_text reg ∷ [])))
-control_text SequencePoint = Some (fixed_text (codes "sequence_point"))
+control_text I.Fence = Some (fixed_text (codes "bcr 14, 0"))
+control_text I.Nop0 = Some (fixed_text (codes "nop-zero-len"))
+control_text I.Nop2 = Some (fixed_text (codes "nop"))
+control_text I.Debugtrap = Some (fixed_text (codes ".word 0x0001 # debugtrap"))
+control_text (I.Trap code) = Some (fixed_text (codes ".word 0x0000 # trap=" ++ trap_text code))
+control_text (I.TrapIf mask code) = Some (fixed_text ((codes "jg" ++ (cond_text mask ++ codes " .+2 # trap=")) ++ trap_text code))
+control_text (I.Jump dest) = Some (fixed_text (instruction_text (codes "jg") (label_text dest.0 ∷ [])))
+control_text (I.CondBr taken not_taken mask) = Some (fixed_text (branch_text mask taken.0 ++ (codes " ; " ++ instruction_text (codes "jg") (label_text not_taken.0 ∷ []))))
+control_text (I.IndirectBr rn targets) = Some (fixed_text (instruction_text (codes "br") (reg_text rn ∷ [])))
+control_text (I.Ret link) = Some (fixed_text (instruction_text (codes "br") (reg_text link ∷ [])))
+control_text (I.JTSequence ridx other mask targets) = Some (fixed_text (table_text ridx other.0 mask targets.items))
+control_text (I.CondBreak mask) = Some (fixed_text (codes "jg" ++ (cond_text mask ++ codes " 1f")))
+control_text (I.AllocateArgs size) = Some (fixed_text (allocate_text size))
+control_text (I.LoadSymbolReloc rd reloc) = Some (fixed_text (codes "bras %r1, 12 ; data " ++ (reloc_text reloc ++ (codes " ; lg " ++ (reg_text rd ++ codes ", 0(%r1)")))))
+control_text (I.LabelAddress dst label) = Some (fixed_text (instruction_text (codes "label_address") (reg_text dst ∷ label_text label.0 ∷ [])))
+control_text (I.Args args) = Some (fixed_text (codes "args" ++ args_text args.items))
+control_text (I.Rets rets) = Some (fixed_text (codes "rets" ++ rets_text rets.items))
+control_text (I.DummyUse reg) = Some (fixed_text (instruction_text (codes "dummy_use") (reg_text reg ∷ [])))
+control_text I.SequencePoint = Some (fixed_text (codes "sequence_point"))
 control_text _ = None

@@ -4,9 +4,7 @@ use Rattle.std.specs.Fmt.{decimal, signed_decimal}
 use Rattle.s390x_base.specs.declared.regs.Reg.{Reg}
 use Rattle.s390x_base.specs.declared.regs.WritableRegPair.{WritableRegPair}
 use Rattle.s390x_inst.specs.declared.inst.Inst.{Inst}
-use Rattle.s390x_inst.specs.declared.inst.Inst.TheVariants.{AluRRR, AluRR, AluRRSImm16, AluRSImm16, AluRSImm32, AluRUImm32, AluRUImm16Shifted, AluRUImm32Shifted, SMulWide, UMulWide, Flogr, ShiftRR, RxSBG, RxSBGTest, UnaryRR, CmpRR, CmpRSImm16, CmpRSImm32, CmpRUImm32, Mov64, MovPReg, Mov32, Mov32Imm}
-use Rattle.s390x_inst.specs.declared.inst.Inst.TheVariants.{Mov32SImm16, Mov64SImm16, Mov64SImm32, Mov64UImm16Shifted, Mov64UImm32Shifted, Insert64UImm16Shifted, Insert64UImm32Shifted, CMov32, CMov64, CMov32SImm16, CMov64SImm16, Extend, LoadAR, InsertAR, LoadIndexedAddr, LoadLogicalIndexedAddr}
-use Rattle.s390x_inst.specs.declared.inst.Inst.TheVariants.{SDivMod32, SDivMod64, UDivMod32, UDivMod64, CmpTrapRR, CmpTrapRSImm16, CmpTrapRUImm16}
+use Rattle.s390x_inst.specs.declared.inst.Inst.TheVariants as I
 use Rattle.s390x_inst.specs.declared.ops.ALUOp.{ALUOp}
 use Rattle.std.specs.Option.{option_map}
 use Rattle.s390x_format.specs.Stems.{stem_of}
@@ -91,64 +89,64 @@ conditional_row (Some name) mask xs = conditional_text name mask xs
 
 -- operators on registers and immediates
 abbrev pub arithmetic_text : Inst → Option Text
-arithmetic_text (AluRRR op rd rn rm) = Some (three_text (alu_three_name op) (alu_two_name op) rd rn (reg_text rm))
-arithmetic_text (AluRRSImm16 op rd rn imm) = Some (three_text (alu_three_halfword_name op) (alu_halfword_name op) rd rn (signed_decimal imm))
-arithmetic_text (AluRR op rd ri rm) = Some (row (alu_two_name op) (reused_text rd ri ∷ reg_text rm ∷ []))
-arithmetic_text (AluRSImm16 op rd ri imm) = Some (row (alu_halfword_name op) (reused_text rd ri ∷ signed_decimal imm ∷ []))
-arithmetic_text (AluRSImm32 op rd ri imm) = Some (row (alu_signed_word_name op) (reused_text rd ri ∷ signed_decimal imm ∷ []))
-arithmetic_text (AluRUImm32 op rd ri imm) = Some (row (alu_unsigned_word_name op) (reused_text rd ri ∷ decimal imm ∷ []))
-arithmetic_text (AluRUImm16Shifted op rd ri imm) = Some (row (alu_part_name op imm.shift) (reused_text rd ri ∷ decimal imm.bits ∷ []))
-arithmetic_text (AluRUImm32Shifted op rd ri imm) = Some (row (alu_half_name op imm.shift) (reused_text rd ri ∷ decimal imm.bits ∷ []))
-arithmetic_text (UnaryRR op rd rn) = Some (fixed_text (instruction_text (unary_name op) (unary_operands op rd rn)))
-arithmetic_text (ShiftRR op rd rn amount register) = Some (fixed_text (instruction_text (shift_name op) (reg_text rd ∷ reg_text rn ∷ amount_text amount register ∷ [])))
-arithmetic_text (RxSBG op rd ri rn start end amount) =
+arithmetic_text (I.AluRRR op rd rn rm) = Some (three_text (alu_three_name op) (alu_two_name op) rd rn (reg_text rm))
+arithmetic_text (I.AluRRSImm16 op rd rn imm) = Some (three_text (alu_three_halfword_name op) (alu_halfword_name op) rd rn (signed_decimal imm))
+arithmetic_text (I.AluRR op rd ri rm) = Some (row (alu_two_name op) (reused_text rd ri ∷ reg_text rm ∷ []))
+arithmetic_text (I.AluRSImm16 op rd ri imm) = Some (row (alu_halfword_name op) (reused_text rd ri ∷ signed_decimal imm ∷ []))
+arithmetic_text (I.AluRSImm32 op rd ri imm) = Some (row (alu_signed_word_name op) (reused_text rd ri ∷ signed_decimal imm ∷ []))
+arithmetic_text (I.AluRUImm32 op rd ri imm) = Some (row (alu_unsigned_word_name op) (reused_text rd ri ∷ decimal imm ∷ []))
+arithmetic_text (I.AluRUImm16Shifted op rd ri imm) = Some (row (alu_part_name op imm.shift) (reused_text rd ri ∷ decimal imm.bits ∷ []))
+arithmetic_text (I.AluRUImm32Shifted op rd ri imm) = Some (row (alu_half_name op imm.shift) (reused_text rd ri ∷ decimal imm.bits ∷ []))
+arithmetic_text (I.UnaryRR op rd rn) = Some (fixed_text (instruction_text (unary_name op) (unary_operands op rd rn)))
+arithmetic_text (I.ShiftRR op rd rn amount register) = Some (fixed_text (instruction_text (shift_name op) (reg_text rd ∷ reg_text rn ∷ amount_text amount register ∷ [])))
+arithmetic_text (I.RxSBG op rd ri rn start end amount) =
     Some (row (selected_name (Some (rotate_name op)) start end) (reused_text rd ri ∷ reg_text rn ∷ rotated_text start end (rotation amount) ∷ []))
-arithmetic_text (RxSBGTest op rd rn start end amount) =
+arithmetic_text (I.RxSBGTest op rd rn start end amount) =
     Some (row (selected_name (rotate_test_name op) start end) (reg_text rd ∷ reg_text rn ∷ rotated_text (start + 128) end (rotation amount) ∷ []))
 arithmetic_text _ = None
 
 -- products, divisions and counts of leading zeros, whose output is a pair
 abbrev pub pair_instruction_text : Inst → Option Text
-pair_instruction_text (SMulWide rd rn rm) = Some (pair_row (codes "mgrk") rd (reg_text rn ∷ reg_text rm ∷ []))
-pair_instruction_text (UMulWide rd ri rn) = Some (fixed_text (instruction_text (codes "mlgr") (reused_low_text rd.hi rd.lo ri ∷ reg_text rn ∷ [])))
-pair_instruction_text (SDivMod32 rd ri rn) = Some (fixed_text (instruction_text (codes "dsgfr") (reused_low_text rd.hi rd.lo ri ∷ reg_text rn ∷ [])))
-pair_instruction_text (SDivMod64 rd ri rn) = Some (fixed_text (instruction_text (codes "dsgr") (reused_low_text rd.hi rd.lo ri ∷ reg_text rn ∷ [])))
-pair_instruction_text (UDivMod32 rd ri rn) = Some (fixed_text (instruction_text (codes "dlr") (reused_pair_text rd.hi rd.lo ri.hi ri.lo ∷ reg_text rn ∷ [])))
-pair_instruction_text (UDivMod64 rd ri rn) = Some (fixed_text (instruction_text (codes "dlgr") (reused_pair_text rd.hi rd.lo ri.hi ri.lo ∷ reg_text rn ∷ [])))
-pair_instruction_text (Flogr rd rn) = Some (pair_row (codes "flogr") rd (reg_text rn ∷ []))
+pair_instruction_text (I.SMulWide rd rn rm) = Some (pair_row (codes "mgrk") rd (reg_text rn ∷ reg_text rm ∷ []))
+pair_instruction_text (I.UMulWide rd ri rn) = Some (fixed_text (instruction_text (codes "mlgr") (reused_low_text rd.hi rd.lo ri ∷ reg_text rn ∷ [])))
+pair_instruction_text (I.SDivMod32 rd ri rn) = Some (fixed_text (instruction_text (codes "dsgfr") (reused_low_text rd.hi rd.lo ri ∷ reg_text rn ∷ [])))
+pair_instruction_text (I.SDivMod64 rd ri rn) = Some (fixed_text (instruction_text (codes "dsgr") (reused_low_text rd.hi rd.lo ri ∷ reg_text rn ∷ [])))
+pair_instruction_text (I.UDivMod32 rd ri rn) = Some (fixed_text (instruction_text (codes "dlr") (reused_pair_text rd.hi rd.lo ri.hi ri.lo ∷ reg_text rn ∷ [])))
+pair_instruction_text (I.UDivMod64 rd ri rn) = Some (fixed_text (instruction_text (codes "dlgr") (reused_pair_text rd.hi rd.lo ri.hi ri.lo ∷ reg_text rn ∷ [])))
+pair_instruction_text (I.Flogr rd rn) = Some (pair_row (codes "flogr") rd (reg_text rn ∷ []))
 pair_instruction_text _ = None
 
 -- comparisons, some of which trap
 abbrev pub compare_text : Inst → Option Text
-compare_text (CmpRR op rn rm) = Some (row (cmp_two_name op) (reg_text rn ∷ reg_text rm ∷ []))
-compare_text (CmpRSImm16 op rn imm) = Some (row (cmp_halfword_name op) (reg_text rn ∷ signed_decimal imm ∷ []))
-compare_text (CmpRSImm32 op rn imm) = Some (row (cmp_signed_word_name op) (reg_text rn ∷ signed_decimal imm ∷ []))
-compare_text (CmpRUImm32 op rn imm) = Some (row (cmp_unsigned_word_name op) (reg_text rn ∷ decimal imm ∷ []))
-compare_text (CmpTrapRR op rn rm mask code) = Some (conditional_row (cmp_trap_name op) mask (reg_text rn ∷ reg_text rm ∷ []))
-compare_text (CmpTrapRSImm16 op rn imm mask code) = Some (conditional_row (cmp_trap_signed_name op) mask (reg_text rn ∷ signed_decimal imm ∷ []))
-compare_text (CmpTrapRUImm16 op rn imm mask code) = Some (conditional_row (cmp_trap_unsigned_name op) mask (reg_text rn ∷ decimal imm ∷ []))
+compare_text (I.CmpRR op rn rm) = Some (row (cmp_two_name op) (reg_text rn ∷ reg_text rm ∷ []))
+compare_text (I.CmpRSImm16 op rn imm) = Some (row (cmp_halfword_name op) (reg_text rn ∷ signed_decimal imm ∷ []))
+compare_text (I.CmpRSImm32 op rn imm) = Some (row (cmp_signed_word_name op) (reg_text rn ∷ signed_decimal imm ∷ []))
+compare_text (I.CmpRUImm32 op rn imm) = Some (row (cmp_unsigned_word_name op) (reg_text rn ∷ decimal imm ∷ []))
+compare_text (I.CmpTrapRR op rn rm mask code) = Some (conditional_row (cmp_trap_name op) mask (reg_text rn ∷ reg_text rm ∷ []))
+compare_text (I.CmpTrapRSImm16 op rn imm mask code) = Some (conditional_row (cmp_trap_signed_name op) mask (reg_text rn ∷ signed_decimal imm ∷ []))
+compare_text (I.CmpTrapRUImm16 op rn imm mask code) = Some (conditional_row (cmp_trap_unsigned_name op) mask (reg_text rn ∷ decimal imm ∷ []))
 compare_text _ = None
 
 -- moves, and addresses that are summed
 abbrev pub move_text : Inst → Option Text
-move_text (Mov64 rd rm) = Some (fixed_text (instruction_text (codes "lgr") (reg_text rd ∷ reg_text rm ∷ [])))
-move_text (MovPReg rd rm) = Some (fixed_text (instruction_text (codes "lgr") (reg_text rd ∷ real_text rm ∷ [])))
-move_text (Mov32 rd rm) = Some (fixed_text (instruction_text (codes "lr") (reg_text rd ∷ reg_text rm ∷ [])))
-move_text (Mov32Imm rd imm) = Some (fixed_text (instruction_text (codes "iilf") (reg_text rd ∷ decimal imm ∷ [])))
-move_text (Mov32SImm16 rd imm) = Some (fixed_text (instruction_text (codes "lhi") (reg_text rd ∷ signed_decimal imm ∷ [])))
-move_text (Mov64SImm16 rd imm) = Some (fixed_text (instruction_text (codes "lghi") (reg_text rd ∷ signed_decimal imm ∷ [])))
-move_text (Mov64SImm32 rd imm) = Some (fixed_text (instruction_text (codes "lgfi") (reg_text rd ∷ signed_decimal imm ∷ [])))
-move_text (Mov64UImm16Shifted rd imm) = Some (row (load_part_name imm.shift) (reg_text rd ∷ decimal imm.bits ∷ []))
-move_text (Mov64UImm32Shifted rd imm) = Some (row (load_half_name imm.shift) (reg_text rd ∷ decimal imm.bits ∷ []))
-move_text (Insert64UImm16Shifted rd ri imm) = Some (row (insert_part_name imm.shift) (reused_text rd ri ∷ decimal imm.bits ∷ []))
-move_text (Insert64UImm32Shifted rd ri imm) = Some (row (insert_half_name imm.shift) (reused_text rd ri ∷ decimal imm.bits ∷ []))
-move_text (CMov32 rd mask ri rm) = Some (conditional_text (codes "locr") mask (reused_text rd ri ∷ reg_text rm ∷ []))
-move_text (CMov64 rd mask ri rm) = Some (conditional_text (codes "locgr") mask (reused_text rd ri ∷ reg_text rm ∷ []))
-move_text (CMov32SImm16 rd mask ri imm) = Some (conditional_text (codes "lochi") mask (reused_text rd ri ∷ signed_decimal imm ∷ []))
-move_text (CMov64SImm16 rd mask ri imm) = Some (conditional_text (codes "locghi") mask (reused_text rd ri ∷ signed_decimal imm ∷ []))
-move_text (Extend rd rn signed from to) = Some (row (extend_name signed from to) (reg_text rd ∷ reg_text rn ∷ []))
-move_text (LoadAR rd ar) = Some (fixed_text (instruction_text (codes "ear") (reg_text rd ∷ access_register_text ar ∷ [])))
-move_text (InsertAR rd ri ar) = Some (fixed_text (instruction_text (codes "ear") (reused_text rd ri ∷ access_register_text ar ∷ [])))
-move_text (LoadIndexedAddr rd base index offset size) = Some (row (indexed_name size) (reg_text rd ∷ indexed_text offset index base ∷ []))
-move_text (LoadLogicalIndexedAddr rd base index offset size) = Some (row (logical_indexed_name size) (reg_text rd ∷ indexed_text offset index base ∷ []))
+move_text (I.Mov64 rd rm) = Some (fixed_text (instruction_text (codes "lgr") (reg_text rd ∷ reg_text rm ∷ [])))
+move_text (I.MovPReg rd rm) = Some (fixed_text (instruction_text (codes "lgr") (reg_text rd ∷ real_text rm ∷ [])))
+move_text (I.Mov32 rd rm) = Some (fixed_text (instruction_text (codes "lr") (reg_text rd ∷ reg_text rm ∷ [])))
+move_text (I.Mov32Imm rd imm) = Some (fixed_text (instruction_text (codes "iilf") (reg_text rd ∷ decimal imm ∷ [])))
+move_text (I.Mov32SImm16 rd imm) = Some (fixed_text (instruction_text (codes "lhi") (reg_text rd ∷ signed_decimal imm ∷ [])))
+move_text (I.Mov64SImm16 rd imm) = Some (fixed_text (instruction_text (codes "lghi") (reg_text rd ∷ signed_decimal imm ∷ [])))
+move_text (I.Mov64SImm32 rd imm) = Some (fixed_text (instruction_text (codes "lgfi") (reg_text rd ∷ signed_decimal imm ∷ [])))
+move_text (I.Mov64UImm16Shifted rd imm) = Some (row (load_part_name imm.shift) (reg_text rd ∷ decimal imm.bits ∷ []))
+move_text (I.Mov64UImm32Shifted rd imm) = Some (row (load_half_name imm.shift) (reg_text rd ∷ decimal imm.bits ∷ []))
+move_text (I.Insert64UImm16Shifted rd ri imm) = Some (row (insert_part_name imm.shift) (reused_text rd ri ∷ decimal imm.bits ∷ []))
+move_text (I.Insert64UImm32Shifted rd ri imm) = Some (row (insert_half_name imm.shift) (reused_text rd ri ∷ decimal imm.bits ∷ []))
+move_text (I.CMov32 rd mask ri rm) = Some (conditional_text (codes "locr") mask (reused_text rd ri ∷ reg_text rm ∷ []))
+move_text (I.CMov64 rd mask ri rm) = Some (conditional_text (codes "locgr") mask (reused_text rd ri ∷ reg_text rm ∷ []))
+move_text (I.CMov32SImm16 rd mask ri imm) = Some (conditional_text (codes "lochi") mask (reused_text rd ri ∷ signed_decimal imm ∷ []))
+move_text (I.CMov64SImm16 rd mask ri imm) = Some (conditional_text (codes "locghi") mask (reused_text rd ri ∷ signed_decimal imm ∷ []))
+move_text (I.Extend rd rn signed from to) = Some (row (extend_name signed from to) (reg_text rd ∷ reg_text rn ∷ []))
+move_text (I.LoadAR rd ar) = Some (fixed_text (instruction_text (codes "ear") (reg_text rd ∷ access_register_text ar ∷ [])))
+move_text (I.InsertAR rd ri ar) = Some (fixed_text (instruction_text (codes "ear") (reused_text rd ri ∷ access_register_text ar ∷ [])))
+move_text (I.LoadIndexedAddr rd base index offset size) = Some (row (indexed_name size) (reg_text rd ∷ indexed_text offset index base ∷ []))
+move_text (I.LoadLogicalIndexedAddr rd base index offset size) = Some (row (logical_indexed_name size) (reg_text rd ∷ indexed_text offset index base ∷ []))
 move_text _ = None

@@ -1,28 +1,20 @@
 -- The operands of texts, but for those in memory (cranelift-codegen, `regs.rs`, `args.rs`).
-use Rattle.std.specs.Prelude.{ℕ, ◌+◌, ℤ, List, [], ◌++◌, codes, Bool, true, false, cond, ◌&&◌, nat_eq, nat_lt, Option, Some, None}
+use Rattle.std.specs.Prelude.{ℕ, ◌+◌, ℤ, List, [], ◌++◌, codes, Bool, false, cond, ◌&&◌, nat_eq, nat_lt, Option, Some, None}
 use Rattle.std.specs.Fmt.{decimal, signed_decimal}
-use Rattle.s390x_base.specs.declared.regs.RegClass.{RegClass}
-use Rattle.s390x_base.specs.declared.regs.RegClass.TheVariants.{Int, Float}
+use Rattle.s390x_base.specs.declared.regs.RegClass.TheVariants.{Int}
 use Rattle.s390x_base.specs.declared.regs.Reg.{Reg}
 use Rattle.s390x_base.specs.declared.regs.Reg.TheVariants.{Real, Virtual}
 use Rattle.s390x_job_fields.specs.Atoms.{reg_text}
+use Rattle.s390x_job_fields.specs.Sets.{same_class}
 use Rattle.s390x_text_rows.specs.Texts.{Text}
 use Rattle.s390x_text_rows.specs.declared.error.TextError.{TextError}
 use Rattle.s390x_text_rows.specs.declared.error.TextError.TheVariants.{BadPair}
 
--- whether two classes are the same
-abbrev pub is_class : RegClass → RegClass → Bool
-is_class Int Int = true
-is_class Int Float = false
-is_class Float Int = false
-is_class Float Float = true
-
 -- whether two registers are the same
 abbrev pub is_reg : Reg → Reg → Bool
-is_reg (Real r) (Real s) = is_class r.class s.class && nat_eq r.number s.number
-is_reg (Real r) (Virtual n c) = false
-is_reg (Virtual n c) (Real r) = false
-is_reg (Virtual n c) (Virtual m d) = nat_eq n m && is_class c d
+is_reg (Real r) (Real s) = same_class r.class s.class && nat_eq r.number s.number
+is_reg (Virtual n c) (Virtual m d) = nat_eq n m && same_class c d
+is_reg _ _ = false
 
 -- an output that is also an input: `R`, or `R<-RI` where they differ
 abbrev pub reused_text : (rd ri : Reg) → List ℕ
@@ -74,7 +66,7 @@ float_of r = cond (is_float r) (Some (float_text r)) None
 
 -- %r0, which counts as zero where an address or an amount is summed
 abbrev pub is_zero : Reg → Bool
-is_zero (Real r) = is_class r.class Int && nat_eq r.number 0
+is_zero (Real r) = same_class r.class Int && nat_eq r.number 0
 is_zero (Virtual n c) = false
 
 -- a register in brackets; nothing for %r0

@@ -3,6 +3,7 @@ use Rattle.std.specs.Prelude.{◌≡◌, ℕ, unsigned_abs, List, [], ◌∷◌,
 use Rattle.std.specs.Fmt.{decimal, signed_decimal}
 use Rattle.std.specs.Option.{option_map}
 use Rattle.s390x_base.specs.declared.error.EmitError.{EmitError}
+use Rattle.s390x_base.specs.AccessFlags.{AccessFlags}
 use Rattle.s390x_base.specs.declared.regs.Reg.{Reg}
 use Rattle.s390x_inst.specs.Emission.{Emission}
 use Rattle.s390x_inst.specs.declared.args.MemArg.{MemArg}
@@ -12,9 +13,9 @@ use Rattle.s390x_inst.specs.Loads.{as_load, by_load}
 use Rattle.s390x_inst.specs.declared.store.StoreOp.{StoreOp}
 use Rattle.s390x_inst.specs.Stores.{as_store, by_store}
 use Rattle.s390x_inst.specs.declared.inst.Inst.{Inst}
-use Rattle.s390x_inst.specs.declared.inst.Inst.TheVariants.{Mov64SImm32, AluRX, CmpRX}
-use Rattle.s390x_inst.specs.declared.inst.Inst.TheVariants.{StoreImm8, StoreImm16, StoreImm32SExt16, StoreImm64SExt16, LoadMultiple64, StoreMultiple64, LoadAddr, AtomicRmw, AtomicCas32, AtomicCas64}
-use Rattle.s390x_typed_steps.specs.Operands.{Finalized, no_register, needs_address, fits_12, fits_20, finalized_operand, resolved_operand}
+use Rattle.s390x_inst.specs.declared.inst.Inst.TheVariants as I
+use Rattle.s390x_inst.specs.Memory.{flags_of}
+use Rattle.s390x_typed_steps.specs.Operands.{Finalized, scratch, no_register, needs_address, is_numbered, is_far, fits_12, fits_20, with_long_displacement, finalized_operand, resolved_operand}
 use Rattle.s390x_typed_steps.specs.Causes.{operand_cause}
 use Rattle.s390x_typed_steps.specs.Memory.{load_rows, store_rows}
 use Rattle.s390x_typed_steps.specs.declared.access_rows.RegisterRows.{RegisterRows}
@@ -117,8 +118,8 @@ name_at r m = []
 
 -- the instructions that come before an access: an offset that is loaded, and an address
 abbrev pub helper_text : Inst → List ℕ
-helper_text (Mov64SImm32 rd imm) = instruction_text (stem_of opcodes.LGFI) (reg_text rd ∷ signed_decimal imm ∷ [])
-helper_text (LoadAddr rd mem) = instruction_text (name_at address_rows mem) (reg_text rd ∷ memory_text mem ∷ [])
+helper_text (I.Mov64SImm32 rd imm) = instruction_text (stem_of opcodes.LGFI) (reg_text rd ∷ signed_decimal imm ∷ [])
+helper_text (I.LoadAddr rd mem) = instruction_text (name_at address_rows mem) (reg_text rd ∷ memory_text mem ∷ [])
 helper_text i = []
 
 -- helpers in order, each followed by a semicolon
@@ -149,6 +150,32 @@ near_operand mi (Label target) = operand_with_form mi (Label target)
 near_operand mi (Constant c) = operand_with_form mi (Constant c)
 near_operand mi (Symbol name offset flags) = operand_with_form mi (Symbol name offset flags)
 near_operand mi m = None
+
+-- the helper of an operand: it loads an offset, or else an address
+abbrev pub helper_of : MemArg → Inst
+helper_of (RegOffset reg off flags) = I.Mov64SImm32 scratch off
+helper_of m = I.LoadAddr scratch m
+
+-- the rows have a displacement
+abbrev pub has_displacement : MemInstType → Bool
+has_displacement mi = mi.have_d12 || mi.have_d20
+
+-- a base and an index at the displacement zero of the rows
+abbrev pub at_zero : MemInstType → (base index : Reg) → AccessFlags → MemArg
+at_zero mi base index flags = with_long_displacement mi (BXD12 base index 0 flags)
+
+-- the operand itself behind the load of its address, where the rows have no form for it
+abbrev pub behind_address : MemInstType → MemArg → Option MemArg
+behind_address mi m = cond (has_displacement mi && needs_address mi m) (Some (at_zero mi scratch no_register (flags_of m))) None
+
+-- the operand in place of an offset that no displacement holds, behind its load as an index, or of one that the rows don't take relative to the
+-- instruction, behind the load of its address; none in place of any other operand
+abbrev pub helped_operand : MemInstType → MemArg → Option MemArg
+helped_operand mi (RegOffset reg off flags) = cond (has_displacement mi && mi.have_index && not (is_numbered 1 reg) && is_far off) (Some (at_zero mi reg scratch flags)) None
+helped_operand mi (Label target) = behind_address mi (Label target)
+helped_operand mi (Constant c) = behind_address mi (Constant c)
+helped_operand mi (Symbol name offset flags) = behind_address mi (Symbol name offset flags)
+helped_operand mi m = None
 
 -- what a call answers that appends the helpers of an operand, and gives the operand of the access
 abbrev pub Opens : Result MemArg TextError → (old new : List ℕ) → (has_relative : Bool) → Rows → MemArg → Type 0
@@ -181,10 +208,10 @@ load_text has e i = by_load (λ l. Some (access_where has (load_mnemonics l.op) 
 
 -- stores of an immediate, which show the operand first
 abbrev pub immediate_store_text : (has_relative : Bool) → Emission → Inst → Option Text
-immediate_store_text has e (StoreImm8 imm mem) = Some (access_where has (rs (Some (stem_of opcodes.MVI)) (Some (stem_of opcodes.MVIY))) e [] mem (decimal imm ∷ []))
-immediate_store_text has e (StoreImm16 imm mem) = Some (access_where has (rs (Some (stem_of opcodes.MVHHI)) None) e [] mem (signed_decimal imm ∷ []))
-immediate_store_text has e (StoreImm32SExt16 imm mem) = Some (access_where has (rs (Some (stem_of opcodes.MVHI)) None) e [] mem (signed_decimal imm ∷ []))
-immediate_store_text has e (StoreImm64SExt16 imm mem) = Some (access_where has (rs (Some (stem_of opcodes.MVGHI)) None) e [] mem (signed_decimal imm ∷ []))
+immediate_store_text has e (I.StoreImm8 imm mem) = Some (access_where has (rs (Some (stem_of opcodes.MVI)) (Some (stem_of opcodes.MVIY))) e [] mem (decimal imm ∷ []))
+immediate_store_text has e (I.StoreImm16 imm mem) = Some (access_where has (rs (Some (stem_of opcodes.MVHHI)) None) e [] mem (signed_decimal imm ∷ []))
+immediate_store_text has e (I.StoreImm32SExt16 imm mem) = Some (access_where has (rs (Some (stem_of opcodes.MVHI)) None) e [] mem (signed_decimal imm ∷ []))
+immediate_store_text has e (I.StoreImm64SExt16 imm mem) = Some (access_where has (rs (Some (stem_of opcodes.MVGHI)) None) e [] mem (signed_decimal imm ∷ []))
 immediate_store_text has e _ = None
 
 -- the mnemonics of a store
@@ -197,12 +224,12 @@ store_text has e i = by_store (λ s. Some (access_where has (store_mnemonics s.o
 
 -- operators with an operand in memory, multiples, addresses, and accesses that are locked
 abbrev pub storage_operator_text : (has_relative : Bool) → Emission → Inst → Option Text
-storage_operator_text has e (AluRX op rd ri mem) = Some (access_where has (rx (alu_short_name op) (alu_long_name op) None) e (reused_text rd ri ∷ []) mem [])
-storage_operator_text has e (CmpRX op rn mem) = Some (access_where has (rx (cmp_short_name op) (cmp_long_name op) (Some (cmp_relative_name op))) e (reg_text rn ∷ []) mem [])
-storage_operator_text has e (LoadMultiple64 rt rt2 mem) = Some (access_where has (rs None (Some (stem_of opcodes.LMG))) e (reg_text rt ∷ reg_text rt2 ∷ []) mem [])
-storage_operator_text has e (StoreMultiple64 rt rt2 mem) = Some (access_where has (rs None (Some (stem_of opcodes.STMG))) e (reg_text rt ∷ reg_text rt2 ∷ []) mem [])
-storage_operator_text has e (LoadAddr rd mem) = Some (access_where has address_rows e (reg_text rd ∷ []) mem [])
-storage_operator_text has e (AtomicRmw op rd rn mem) = Some (access_where has (rs None (atomic_name op)) e (reg_text rd ∷ reg_text rn ∷ []) mem [])
-storage_operator_text has e (AtomicCas32 rd ri rn mem) = Some (access_where has (rs (Some (stem_of opcodes.CS)) (Some (stem_of opcodes.CSY))) e (reused_text rd ri ∷ reg_text rn ∷ []) mem [])
-storage_operator_text has e (AtomicCas64 rd ri rn mem) = Some (access_where has (rs None (Some (stem_of opcodes.CSG))) e (reused_text rd ri ∷ reg_text rn ∷ []) mem [])
+storage_operator_text has e (I.AluRX op rd ri mem) = Some (access_where has (rx (alu_short_name op) (alu_long_name op) None) e (reused_text rd ri ∷ []) mem [])
+storage_operator_text has e (I.CmpRX op rn mem) = Some (access_where has (rx (cmp_short_name op) (cmp_long_name op) (Some (cmp_relative_name op))) e (reg_text rn ∷ []) mem [])
+storage_operator_text has e (I.LoadMultiple64 rt rt2 mem) = Some (access_where has (rs None (Some (stem_of opcodes.LMG))) e (reg_text rt ∷ reg_text rt2 ∷ []) mem [])
+storage_operator_text has e (I.StoreMultiple64 rt rt2 mem) = Some (access_where has (rs None (Some (stem_of opcodes.STMG))) e (reg_text rt ∷ reg_text rt2 ∷ []) mem [])
+storage_operator_text has e (I.LoadAddr rd mem) = Some (access_where has address_rows e (reg_text rd ∷ []) mem [])
+storage_operator_text has e (I.AtomicRmw op rd rn mem) = Some (access_where has (rs None (atomic_name op)) e (reg_text rd ∷ reg_text rn ∷ []) mem [])
+storage_operator_text has e (I.AtomicCas32 rd ri rn mem) = Some (access_where has (rs (Some (stem_of opcodes.CS)) (Some (stem_of opcodes.CSY))) e (reused_text rd ri ∷ reg_text rn ∷ []) mem [])
+storage_operator_text has e (I.AtomicCas64 rd ri rn mem) = Some (access_where has (rs None (Some (stem_of opcodes.CSG))) e (reused_text rd ri ∷ reg_text rn ∷ []) mem [])
 storage_operator_text has e _ = None

@@ -6,10 +6,7 @@ use Rattle.s390x_inst.specs.Emission.{Emission}
 use Rattle.s390x_inst.specs.declared.args.MemArg.{MemArg}
 use Rattle.s390x_inst.specs.Wholes.{as_whole, by_whole}
 use Rattle.s390x_inst.specs.declared.vec_inst.VecInst.{VecInst}
-use Rattle.s390x_inst.specs.declared.vec_inst.VecInst.TheVariants.{VecRRR, VecRR, VecShiftRR, VecSelect, VecPermute, VecBlend, VecEvaluate, VecPermuteDWImm, VecIntCmp, VecIntCmpS, VecIntEltCmp, VecInt128SCmpHi, VecInt128UCmpHi}
-use Rattle.s390x_inst.specs.declared.vec_inst.VecInst.TheVariants.{VecLoadReplicate}
-use Rattle.s390x_inst.specs.declared.vec_inst.VecInst.TheVariants.{VecLoadReplicateRev, VecLoadLane, VecLoadLaneRev, VecLoadLaneUndef, VecLoadLaneRevUndef, VecStoreLane, VecStoreLaneRev, VecMov, FpuMove32, FpuMove64, FpuCMov32, FpuCMov64, VecCMov, MovToVec128, VecImmByteMask, VecImmBitMask}
-use Rattle.s390x_inst.specs.declared.vec_inst.VecInst.TheVariants.{VecImmReplicate, VecInsertLane, VecInsertLaneUndef, VecExtractLane, VecInsertLaneImm, VecInsertLaneImmUndef, VecReplicateLane, VecEltRev}
+use Rattle.s390x_inst.specs.declared.vec_inst.VecInst.TheVariants as V
 use Rattle.s390x_inst.specs.declared.vec_ops.VecBinaryOp.{VecBinaryOp}
 use Rattle.s390x_inst.specs.declared.vec_ops.VecBinaryOp.TheVariants.{UDiv32x4, UDiv64x2, UDiv128, SDiv32x4, SDiv64x2, SDiv128, URem32x4, URem64x2, URem128, SRem32x4, SRem64x2, SRem128}
 use Rattle.s390x_format.specs.Stems.{stem_of}
@@ -128,33 +125,33 @@ store_lane_text e size rd mem lane =
 
 -- operators, and bits and lanes that are chosen
 abbrev pub vec_operator_text : VecInst → Option Text
-vec_operator_text (VecRRR op rd rn rm) = Some (fixed_text (instruction_text (vec_binary_name op) (vec_binary_operands op rd rn rm)))
-vec_operator_text (VecRR op rd rn) = Some (fixed_text (instruction_text (vec_unary_name op) (reg_text rd ∷ reg_text rn ∷ [])))
-vec_operator_text (VecShiftRR op rd rn amount register) = Some (fixed_text (instruction_text (vec_shift_name op) (reg_text rd ∷ reg_text rn ∷ amount_text amount register ∷ [])))
-vec_operator_text (VecSelect rd rn rm ra) = Some (fixed_text (instruction_text (codes "vsel") (reg_text rd ∷ reg_text rn ∷ reg_text rm ∷ reg_text ra ∷ [])))
-vec_operator_text (VecPermute rd rn rm ra) = Some (fixed_text (instruction_text (codes "vperm") (reg_text rd ∷ reg_text rn ∷ reg_text rm ∷ reg_text ra ∷ [])))
-vec_operator_text (VecBlend rd rn rm ra) = Some (fixed_text (instruction_text (codes "vblend") (reg_text rd ∷ reg_text rn ∷ reg_text rm ∷ reg_text ra ∷ [])))
-vec_operator_text (VecEvaluate imm rd rn rm ra) = Some (fixed_text (instruction_text (codes "veval") (reg_text rd ∷ reg_text rn ∷ reg_text rm ∷ reg_text ra ∷ decimal imm ∷ [])))
-vec_operator_text (VecPermuteDWImm rd rn rm idx1 idx2) = Some (doublewords_text rd rn rm idx1 idx2)
-vec_operator_text (VecIntCmp op rd rn rm) = Some (fixed_text (instruction_text (vec_compare_name op) (reg_text rd ∷ reg_text rn ∷ reg_text rm ∷ [])))
-vec_operator_text (VecIntCmpS op rd rn rm) = Some (fixed_text (instruction_text (vec_compare_set_name op) (reg_text rd ∷ reg_text rn ∷ reg_text rm ∷ [])))
-vec_operator_text (VecIntEltCmp op rn rm) = Some (fixed_text (instruction_text (vec_element_compare_name op) (reg_text rn ∷ reg_text rm ∷ [])))
-vec_operator_text (VecInt128SCmpHi tmp rn rm) = Some (fixed_text (wide_compare_text (codes "vecg") tmp rn rm))
-vec_operator_text (VecInt128UCmpHi tmp rn rm) = Some (fixed_text (wide_compare_text (codes "veclg") tmp rn rm))
+vec_operator_text (V.VecRRR op rd rn rm) = Some (fixed_text (instruction_text (vec_binary_name op) (vec_binary_operands op rd rn rm)))
+vec_operator_text (V.VecRR op rd rn) = Some (fixed_text (instruction_text (vec_unary_name op) (reg_text rd ∷ reg_text rn ∷ [])))
+vec_operator_text (V.VecShiftRR op rd rn amount register) = Some (fixed_text (instruction_text (vec_shift_name op) (reg_text rd ∷ reg_text rn ∷ amount_text amount register ∷ [])))
+vec_operator_text (V.VecSelect rd rn rm ra) = Some (fixed_text (instruction_text (codes "vsel") (reg_text rd ∷ reg_text rn ∷ reg_text rm ∷ reg_text ra ∷ [])))
+vec_operator_text (V.VecPermute rd rn rm ra) = Some (fixed_text (instruction_text (codes "vperm") (reg_text rd ∷ reg_text rn ∷ reg_text rm ∷ reg_text ra ∷ [])))
+vec_operator_text (V.VecBlend rd rn rm ra) = Some (fixed_text (instruction_text (codes "vblend") (reg_text rd ∷ reg_text rn ∷ reg_text rm ∷ reg_text ra ∷ [])))
+vec_operator_text (V.VecEvaluate imm rd rn rm ra) = Some (fixed_text (instruction_text (codes "veval") (reg_text rd ∷ reg_text rn ∷ reg_text rm ∷ reg_text ra ∷ decimal imm ∷ [])))
+vec_operator_text (V.VecPermuteDWImm rd rn rm idx1 idx2) = Some (doublewords_text rd rn rm idx1 idx2)
+vec_operator_text (V.VecIntCmp op rd rn rm) = Some (fixed_text (instruction_text (vec_compare_name op) (reg_text rd ∷ reg_text rn ∷ reg_text rm ∷ [])))
+vec_operator_text (V.VecIntCmpS op rd rn rm) = Some (fixed_text (instruction_text (vec_compare_set_name op) (reg_text rd ∷ reg_text rn ∷ reg_text rm ∷ [])))
+vec_operator_text (V.VecIntEltCmp op rn rm) = Some (fixed_text (instruction_text (vec_element_compare_name op) (reg_text rn ∷ reg_text rm ∷ [])))
+vec_operator_text (V.VecInt128SCmpHi tmp rn rm) = Some (fixed_text (wide_compare_text (codes "vecg") tmp rn rm))
+vec_operator_text (V.VecInt128UCmpHi tmp rn rm) = Some (fixed_text (wide_compare_text (codes "veclg") tmp rn rm))
 vec_operator_text _ = None
 
 -- moves and immediates
 abbrev pub vec_move_text : VecInst → Option Text
-vec_move_text (VecMov rd rn) = Some (fixed_text (instruction_text (codes "vlr") (reg_text rd ∷ reg_text rn ∷ [])))
-vec_move_text (FpuMove32 rd rn) = Some (fixed_text (float_move_text (codes "ler") rd rn))
-vec_move_text (FpuMove64 rd rn) = Some (fixed_text (float_move_text (codes "ldr") rd rn))
-vec_move_text (FpuCMov32 rd mask ri rm) = Some (fixed_text (float_cmov_text (codes "ler") rd mask rm))
-vec_move_text (FpuCMov64 rd mask ri rm) = Some (fixed_text (float_cmov_text (codes "ldr") rd mask rm))
-vec_move_text (VecCMov rd mask ri rm) = Some (fixed_text (unless_text mask (codes "10") ++ instruction_text (codes "vlr") (reused_text rd ri ∷ reg_text rm ∷ [])))
-vec_move_text (MovToVec128 rd rn rm) = Some (fixed_text (instruction_text (codes "vlvgp") (reg_text rd ∷ reg_text rn ∷ reg_text rm ∷ [])))
-vec_move_text (VecImmByteMask rd mask) = Some (fixed_text (instruction_text (codes "vgbm") (reg_text rd ∷ decimal mask ∷ [])))
-vec_move_text (VecImmBitMask size rd start end) = Some (row (mask_name size start end) (reg_text rd ∷ decimal start ∷ decimal end ∷ []))
-vec_move_text (VecImmReplicate size rd imm) = Some (row (lane_name (codes "vrepib") (codes "vrepih") (codes "vrepif") (codes "vrepig") size 0) (reg_text rd ∷ signed_decimal imm ∷ []))
+vec_move_text (V.VecMov rd rn) = Some (fixed_text (instruction_text (codes "vlr") (reg_text rd ∷ reg_text rn ∷ [])))
+vec_move_text (V.FpuMove32 rd rn) = Some (fixed_text (float_move_text (codes "ler") rd rn))
+vec_move_text (V.FpuMove64 rd rn) = Some (fixed_text (float_move_text (codes "ldr") rd rn))
+vec_move_text (V.FpuCMov32 rd mask ri rm) = Some (fixed_text (float_cmov_text (codes "ler") rd mask rm))
+vec_move_text (V.FpuCMov64 rd mask ri rm) = Some (fixed_text (float_cmov_text (codes "ldr") rd mask rm))
+vec_move_text (V.VecCMov rd mask ri rm) = Some (fixed_text (unless_text mask (codes "10") ++ instruction_text (codes "vlr") (reused_text rd ri ∷ reg_text rm ∷ [])))
+vec_move_text (V.MovToVec128 rd rn rm) = Some (fixed_text (instruction_text (codes "vlvgp") (reg_text rd ∷ reg_text rn ∷ reg_text rm ∷ [])))
+vec_move_text (V.VecImmByteMask rd mask) = Some (fixed_text (instruction_text (codes "vgbm") (reg_text rd ∷ decimal mask ∷ [])))
+vec_move_text (V.VecImmBitMask size rd start end) = Some (row (mask_name size start end) (reg_text rd ∷ decimal start ∷ decimal end ∷ []))
+vec_move_text (V.VecImmReplicate size rd imm) = Some (row (lane_name (codes "vrepib") (codes "vrepih") (codes "vrepif") (codes "vrepig") size 0) (reg_text rd ∷ signed_decimal imm ∷ []))
 vec_move_text _ = None
 
 -- a register into a lane: the other lanes may change, so lane 0 of 64 bits may be a float register
@@ -171,17 +168,17 @@ extract_lane_text size rd rn lane lane_reg =
 
 -- lanes
 abbrev pub vec_lane_text : VecInst → Option Text
-vec_lane_text (VecInsertLane size rd ri rn lane lane_reg) =
+vec_lane_text (V.VecInsertLane size rd ri rn lane lane_reg) =
     Some (row (lane_name (codes "vlvgb") (codes "vlvgh") (codes "vlvgf") (codes "vlvgg") size lane) (reused_text rd ri ∷ reg_text rn ∷ amount_text lane lane_reg ∷ []))
-vec_lane_text (VecInsertLaneUndef size rd rn lane lane_reg) = Some (insert_lane_text size rd rn lane lane_reg)
-vec_lane_text (VecExtractLane size rd rn lane lane_reg) = Some (extract_lane_text size rd rn lane lane_reg)
-vec_lane_text (VecInsertLaneImm size rd ri imm lane) =
+vec_lane_text (V.VecInsertLaneUndef size rd rn lane lane_reg) = Some (insert_lane_text size rd rn lane lane_reg)
+vec_lane_text (V.VecExtractLane size rd rn lane lane_reg) = Some (extract_lane_text size rd rn lane lane_reg)
+vec_lane_text (V.VecInsertLaneImm size rd ri imm lane) =
     Some (row (lane_name (codes "vleib") (codes "vleih") (codes "vleif") (codes "vleig") size lane) (reused_text rd ri ∷ signed_decimal imm ∷ decimal lane ∷ []))
-vec_lane_text (VecInsertLaneImmUndef size rd imm lane) =
+vec_lane_text (V.VecInsertLaneImmUndef size rd imm lane) =
     Some (row (lane_name (codes "vleib") (codes "vleih") (codes "vleif") (codes "vleig") size lane) (reg_text rd ∷ signed_decimal imm ∷ decimal lane ∷ []))
-vec_lane_text (VecReplicateLane size rd rn lane) =
+vec_lane_text (V.VecReplicateLane size rd rn lane) =
     Some (row (lane_name (codes "vrepb") (codes "vreph") (codes "vrepf") (codes "vrepg") size lane) (reg_text rd ∷ reg_text rn ∷ decimal lane ∷ []))
-vec_lane_text (VecEltRev count rd rn) = Some (reverse_text rd rn count)
+vec_lane_text (V.VecEltRev count rd rn) = Some (reverse_text rd rn count)
 vec_lane_text _ = None
 
 -- loads and stores of whole registers
@@ -190,18 +187,18 @@ vec_whole_text e v = by_whole (λ w. Some (access (rx (Some (whole_name w.direct
 
 -- loads and stores of lanes
 abbrev pub vec_part_text : Emission → VecInst → Option Text
-vec_part_text e (VecLoadReplicate size rd mem) =
+vec_part_text e (V.VecLoadReplicate size rd mem) =
     Some (access (rx (replicated_name (stem_of opcodes.VLREP) size) None None) e (reg_text rd ∷ []) mem [])
-vec_part_text e (VecLoadReplicateRev size rd mem) = Some (access (rx (reversed_replicated_name (stem_of opcodes.VLBRREP) size) None None) e (reg_text rd ∷ []) mem [])
-vec_part_text e (VecLoadLane size rd ri mem lane) =
+vec_part_text e (V.VecLoadReplicateRev size rd mem) = Some (access (rx (reversed_replicated_name (stem_of opcodes.VLBRREP) size) None None) e (reg_text rd ∷ []) mem [])
+vec_part_text e (V.VecLoadLane size rd ri mem lane) =
     Some (access (rx (lane_name (stem_of opcodes.VLEB) (stem_of opcodes.VLEH) (stem_of opcodes.VLEF) (stem_of opcodes.VLEG) size lane) None None) e (reg_text rd ∷ []) mem (decimal lane ∷ []))
-vec_part_text e (VecLoadLaneRev size rd ri mem lane) =
+vec_part_text e (V.VecLoadLaneRev size rd ri mem lane) =
     Some (access (rx (reversed_name (stem_of opcodes.VLEBRH) (stem_of opcodes.VLEBRF) (stem_of opcodes.VLEBRG) size lane) None None) e (reg_text rd ∷ []) mem (decimal lane ∷ []))
-vec_part_text e (VecLoadLaneUndef size rd mem lane) = Some (load_lane_text e size rd mem lane)
-vec_part_text e (VecLoadLaneRevUndef size rd mem lane) =
+vec_part_text e (V.VecLoadLaneUndef size rd mem lane) = Some (load_lane_text e size rd mem lane)
+vec_part_text e (V.VecLoadLaneRevUndef size rd mem lane) =
     Some (access (rx (reversed_name (stem_of opcodes.VLEBRH) (stem_of opcodes.VLEBRF) (stem_of opcodes.VLEBRG) size lane) None None) e (reg_text rd ∷ []) mem (decimal lane ∷ []))
-vec_part_text e (VecStoreLane size rd mem lane) = Some (store_lane_text e size rd mem lane)
-vec_part_text e (VecStoreLaneRev size rd mem lane) =
+vec_part_text e (V.VecStoreLane size rd mem lane) = Some (store_lane_text e size rd mem lane)
+vec_part_text e (V.VecStoreLaneRev size rd mem lane) =
     Some (access (rx (reversed_name (stem_of opcodes.VSTEBRH) (stem_of opcodes.VSTEBRF) (stem_of opcodes.VSTEBRG) size lane) None None) e (reg_text rd ∷ []) mem (decimal lane ∷ []))
 vec_part_text e _ = None
 

@@ -8,6 +8,7 @@ mod error;
 mod memory;
 mod mnemonics;
 mod moves;
+mod one_helper;
 mod operand;
 mod piece;
 mod register_names;
@@ -26,7 +27,8 @@ pub use error::TextError;
 pub use memory::{put_load, put_storage_operator, put_store};
 pub use moves::put_move;
 pub use operand::{Operand, cond_name};
-pub use piece::{put, put_natural};
+pub use piece::{put, put_natural, put_small};
+pub use register_names::put_real;
 pub use regs::{
     alone, maybe_show_fpr, pretty_print_fpr, pretty_print_reg, pretty_print_reg_mod,
     pretty_print_regpair, pretty_print_regpair_mod, pretty_print_regpair_mod_lo, show_reg,

@@ -1,7 +1,5 @@
 //! The texts of integer instructions with an operand in memory.
-ghost use Rattle.std.specs.Prelude.{◌≡◌, ◌∷◌, [], None, Some, MatchOption, string_bytes};
-ghost use Rattle.s390x_inst.specs.Loads.{as_load};
-ghost use Rattle.s390x_inst.specs.Stores.{as_store};
+ghost use Rattle.std.specs.Prelude.{◌≡◌, ◌∷◌, [], None, Some, string_bytes};
 ghost use Rattle.s390x_job_fields.specs.Atoms.{reg_text};
 ghost use Rattle.s390x_text_rows.specs.Texts.{Prints, PrintsWhere};
 ghost use Rattle.s390x_text_rows.specs.Operands.{reused_text};
@@ -11,74 +9,12 @@ ghost use Rattle.s390x_text_rows.specs.Storage.{rx, address_rows, access_where, 
 use crate::arithmetic::reused_operand;
 use crate::error::TextError;
 use crate::operand::Reused;
-use crate::storage::{Place, access2, address_rows, rs_access_then, rs_access3, rx_access};
+use crate::storage::{Place, address_rows, rows_access, rs_access_then, rs_access3, rx_access};
 use s390x_base::{Reg, Writable};
-use s390x_inst::{ALUOp, CmpOp, EmitState, Inst, LoadOp, MemArg, StoreOp};
+use s390x_inst::{ALUOp, CmpOp, EmitState, Inst, MemArg};
 use s390x_rows::opcodes;
 use s390x_typed_steps::{RegisterRows, rows_of_alu, rows_of_cmp, rows_of_load, rows_of_store};
 use std::alloc::Global;
-
-// A load whose operands stand in the instruction.
-#[derive(Clone, Copy)]
-struct BorrowedLoad<'a> {
-    op: LoadOp,
-    rd: &'a Writable<Reg>,
-    mem: &'a MemArg,
-}
-
-// A store whose operands stand in the instruction.
-#[derive(Clone, Copy)]
-struct BorrowedStore<'a> {
-    op: StoreOp,
-    rd: &'a Reg,
-    mem: &'a MemArg,
-}
-
-// The load that an instruction is, which isn't copied.
-#[rattlefmt::skip]
-#[inline(always)]
-fn borrowed_load<'a>(inst: &'a Inst) -> Option<BorrowedLoad<'a>>
-    ensures { MatchOption result (as_load inst.now ≡ None)
-        (λ l. as_load inst.now ≡ Some (record { op = l.op; rd = l.rd.now; mem = l.mem.now })) }
-{
-    match inst {
-        Inst::Load32 { rd, mem } => Some(BorrowedLoad { op: LoadOp::Load32, rd, mem }),
-        Inst::Load32ZExt8 { rd, mem } => Some(BorrowedLoad { op: LoadOp::Load32ZExt8, rd, mem }),
-        Inst::Load32SExt8 { rd, mem } => Some(BorrowedLoad { op: LoadOp::Load32SExt8, rd, mem }),
-        Inst::Load32ZExt16 { rd, mem } => Some(BorrowedLoad { op: LoadOp::Load32ZExt16, rd, mem }),
-        Inst::Load32SExt16 { rd, mem } => Some(BorrowedLoad { op: LoadOp::Load32SExt16, rd, mem }),
-        Inst::Load64 { rd, mem } => Some(BorrowedLoad { op: LoadOp::Load64, rd, mem }),
-        Inst::Load64ZExt8 { rd, mem } => Some(BorrowedLoad { op: LoadOp::Load64ZExt8, rd, mem }),
-        Inst::Load64SExt8 { rd, mem } => Some(BorrowedLoad { op: LoadOp::Load64SExt8, rd, mem }),
-        Inst::Load64ZExt16 { rd, mem } => Some(BorrowedLoad { op: LoadOp::Load64ZExt16, rd, mem }),
-        Inst::Load64SExt16 { rd, mem } => Some(BorrowedLoad { op: LoadOp::Load64SExt16, rd, mem }),
-        Inst::Load64ZExt32 { rd, mem } => Some(BorrowedLoad { op: LoadOp::Load64ZExt32, rd, mem }),
-        Inst::Load64SExt32 { rd, mem } => Some(BorrowedLoad { op: LoadOp::Load64SExt32, rd, mem }),
-        Inst::LoadRev16 { rd, mem } => Some(BorrowedLoad { op: LoadOp::LoadRev16, rd, mem }),
-        Inst::LoadRev32 { rd, mem } => Some(BorrowedLoad { op: LoadOp::LoadRev32, rd, mem }),
-        Inst::LoadRev64 { rd, mem } => Some(BorrowedLoad { op: LoadOp::LoadRev64, rd, mem }),
-        _ => None,
-    }
-}
-
-// The store of a register that an instruction is, which isn't copied.
-#[rattlefmt::skip]
-#[inline(always)]
-fn borrowed_store<'a>(inst: &'a Inst) -> Option<BorrowedStore<'a>>
-    ensures { MatchOption result (as_store inst.now ≡ None)
-        (λ s. as_store inst.now ≡ Some (record { op = s.op; rd = s.rd.now; mem = s.mem.now })) }
-{
-    match inst {
-        Inst::Store8 { rd, mem } => Some(BorrowedStore { op: StoreOp::Store8, rd, mem }),
-        Inst::Store16 { rd, mem } => Some(BorrowedStore { op: StoreOp::Store16, rd, mem }),
-        Inst::Store32 { rd, mem } => Some(BorrowedStore { op: StoreOp::Store32, rd, mem }),
-        Inst::Store64 { rd, mem } => Some(BorrowedStore { op: StoreOp::Store64, rd, mem }),
-        Inst::StoreRev16 { rd, mem } => Some(BorrowedStore { op: StoreOp::StoreRev16, rd, mem }),
-        Inst::StoreRev32 { rd, mem } => Some(BorrowedStore { op: StoreOp::StoreRev32, rd, mem }),
-        Inst::StoreRev64 { rd, mem } => Some(BorrowedStore { op: StoreOp::StoreRev64, rd, mem }),
-        _ => None,
-    }
-}
 
 /// Appends the text of a load, on a machine that has rows relative to the instruction or lacks them; None for another instruction.
 pub fn put_load(
@@ -91,17 +27,17 @@ pub fn put_load(
     ensures { PrintsWhere result (string_bytes out.old) (string_bytes out.new)
         (load_text has_relative state.now inst.now) }
 {
-    match borrowed_load(inst) {
+    match inst.as_load() {
         Some(load) => Some(rx_access(
             out,
             Place {
                 alloc,
                 has_relative,
                 state,
-                mem: load.mem,
+                mem: &load.mem,
             },
             rows_of_load(load.op),
-            load.rd,
+            &load.rd,
         )),
         None => None,
     }
@@ -139,17 +75,17 @@ pub fn put_store(
     ensures { PrintsWhere result (string_bytes out.old) (string_bytes out.new)
         (store_text has_relative state.now inst.now) }
 {
-    match borrowed_store(inst) {
+    match inst.as_store() {
         Some(store) => Some(rx_access(
             out,
             Place {
                 alloc,
                 has_relative,
                 state,
-                mem: store.mem,
+                mem: &store.mem,
             },
             rows_of_store(store.op),
-            store.rd,
+            &store.rd,
         )),
         None => put_immediate_store(alloc, out, has_relative, state, inst),
     }
@@ -206,7 +142,7 @@ pub fn put_address(
         state,
         mem,
     };
-    access2(out, place, &address_rows(), rd)
+    rows_access(out, place, &address_rows(), rd)
 }
 
 /// Appends the text of an operator with an operand in memory, of a multiple, of an address or of a locked access; None for another

@@ -85,6 +85,14 @@ impl Operand for i32 {
     }
 }
 
+impl Operand for i64 {
+    ghost shown = { signed_decimal };
+
+    fn put(&self, out: &mut String) -> Result<(), AllocError> {
+        put_integer(out, *self)
+    }
+}
+
 impl Operand for UImm16Shifted {
     ghost shown = { λ i. decimal i.bits };
 

@@ -95,6 +95,8 @@ pub fn put_simple(
     ensures { Prints result (string_bytes out.old) (string_bytes out.new)
         (simple_text has_relative state.now inst.now) }
 {
+    // Frequent instructions are printed at once, though their arms stand in their groups too: else each would be asked for by group after group,
+    // and put into an answer that may be none.
     match inst {
         Inst::Vector(vector) => put_vector(alloc, out, state, vector),
         Inst::AluRRR { alu_op, rd, rn, rm } => put_alu_three(out, *alu_op, rd, rn, rm),

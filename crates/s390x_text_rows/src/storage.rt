@@ -6,16 +6,17 @@ ghost use Rattle.s390x_typed_steps.specs.Operands.{fits_12, fits_20, resolved_op
 ghost use Rattle.s390x_format.specs.Stems.{stem_of};
 ghost use Rattle.s390x_text_rows.specs.Texts.{Prints, instruction_text};
 ghost use Rattle.s390x_text_rows.specs.VectorMnemonics.{mnemonic_text};
-ghost use Rattle.s390x_text_rows.specs.Storage.{sum_text, memory_text, is_virtual, rx, rs, rx_of, address_rows, rows_of, has_row, type_of_rows, name_at, helper_text, helpers_text, operand_with_form, near_operand, Opens, access_where};
+ghost use Rattle.s390x_text_rows.specs.Storage.{sum_text, memory_text, is_virtual, rx, rs, rx_of, address_rows, rows_of, has_row, type_of_rows, name_at, helper_text, helpers_text, operand_with_form, near_operand, helper_of, Opens, access_where};
 
 use crate::error::TextError;
+use crate::one_helper::helped_operand;
 use crate::operand::{Operand, is_zero};
 use crate::piece::{put, put_integer, put_natural};
 use crate::register_names::put_reg;
 use crate::row::{lettered2, spelled2, spelled3};
 use crate::vector_mnemonics::Mnemonic;
 use s390x_address::{mem_finalize, needs_address};
-use s390x_base::{MachMemFlags, Reg, SImm20, UImm12, zero_reg};
+use s390x_base::{MachMemFlags, Reg, SImm20, UImm12, spilltmp_reg, zero_reg};
 use s390x_format::stem;
 use s390x_inst::{EmitState, Inst, MemArg};
 use s390x_job_fields::atoms::put_name;
@@ -286,9 +287,29 @@ fn near_operand(mi: MemInstType, mem: &MemArg) -> Option<MemArg>
     }
 }
 
+// The helper of an operand that has one.
+fn put_helper_of(out: &mut String, mem: &MemArg) -> Result<(), AllocError>
+    ensures { OnOk result
+        (string_bytes out.new ≡ string_bytes out.old ++ helper_text (helper_of mem.now)) }
+{
+    match mem {
+        MemArg::RegOffset { off, .. } => spelled2(out, stem(opcodes::LGFI), &spilltmp_reg(), off),
+        _ => spelled2(out, address_rows().name_at(mem), &spilltmp_reg(), mem),
+    }
+}
+
+// The helper of an operand that has one, and a semicolon behind it.
+fn put_one_helper(out: &mut String, mem: &MemArg) -> Result<(), AllocError>
+    ensures { OnOk result
+        (string_bytes out.new
+        ≡ string_bytes out.old ++ (helper_text (helper_of mem.now) ++ codes " ; ")) }
+{
+    put_helper_of(out, mem)?;
+    put(out, " ; ")
+}
+
 // Appends the helpers of an operand, and gives the operand of the access, by a list of the helpers.
-#[inline(never)]
-fn open_helped(out: &mut String, place: Place, rows: &Rows) -> Result<MemArg, TextError>
+fn open_listed(out: &mut String, place: Place, rows: &Rows) -> Result<MemArg, TextError>
     ensures { Opens result (string_bytes out.old) (string_bytes out.new) place.entry.has_relative
         (rows_of rows.now) (resolved_operand place.entry.state.now place.entry.mem.now) }
 {
@@ -309,7 +330,23 @@ fn open_helped(out: &mut String, place: Place, rows: &Rows) -> Result<MemArg, Te
     }
 }
 
-// Appends the helpers of an operand, and gives the operand of the access; the list, which is large, isn't made where it is seen at once that there are no helpers.
+// Appends the helpers of an operand, and gives the operand of the access; the list, which is large, isn't made for one helper that is told at once. It
+// stands apart from an access without helpers, which needs less room.
+#[inline(never)]
+fn open_helped(out: &mut String, place: Place, rows: &Rows) -> Result<MemArg, TextError>
+    ensures { Opens result (string_bytes out.old) (string_bytes out.new) place.entry.has_relative
+        (rows_of rows.now) (resolved_operand place.entry.state.now place.entry.mem.now) }
+{
+    match helped_operand(rows.inst_type(place.has_relative), place.mem) {
+        Some(operand) => {
+            put_one_helper(out, place.mem)?;
+            Ok(operand)
+        }
+        None => open_listed(out, place, rows),
+    }
+}
+
+// Appends the helpers of an operand, and gives the operand of the access, where it may be seen at once that there are no helpers.
 #[inline(always)]
 fn open_access(out: &mut String, place: Place, rows: &Rows) -> Result<MemArg, TextError>
     ensures { Opens result (string_bytes out.old) (string_bytes out.new) place.entry.has_relative
@@ -322,7 +359,7 @@ fn open_access(out: &mut String, place: Place, rows: &Rows) -> Result<MemArg, Te
 }
 
 /// Appends the text of an access with one operand before that in memory.
-pub fn access2<A: Operand>(
+pub fn rows_access<A: Operand>(
     out: &mut String,
     place: Place,
     rows: &Rows,
@@ -364,7 +401,7 @@ pub fn rx_access<A: Operand>(
         index: true,
         accesses: true,
     };
-    access2(out, place, &access, a)
+    rows_access(out, place, &access, a)
 }
 
 /// Appends the text of an access by a row of format VRX, with an operand on either side of that in memory.

@@ -1,10 +1,7 @@
 -- Functions that nothing keeps from standing in one image are done, unless memory doesn't suffice.
-use Rattle.std.proofs.Common.{◌≡◌, ℕ, ◌⊎◌, inl, inr, List, [], ◌∷◌, map, refl, sym, ◌∙◌, arith, None, Some}
+use Rattle.std.proofs.Common.{◌≡◌, ℕ, ◌⊎◌, inl, inr, List, map, refl, sym, ◌∙◌, Some}
 use Rattle.std.specs.Prelude.{Option, codes, ◌≢◌}
-use Rattle.s390x_buffer.specs.declared.entries.MachBufferFinalized.{MachBufferFinalized}
 use Rattle.s390x_bundle.specs.Bundled.{HasNoImage}
-use Rattle.s390x_bundle.specs.Emitted.{AreEmitted}
-use Rattle.s390x_bundle.specs.Joined.{misplaced_member}
 use Rattle.s390x_bundle.specs.declared.error.BundleError.{BundleError}
 use Rattle.s390x_bundle.specs.declared.error.BundleError.TheVariants as cause
 use Rattle.s390x_bundle.specs.declared.member.Member.{Member}
@@ -13,7 +10,6 @@ use Rattle.s390x_tool.specs.declared.words.Command.TheVariants.{Bundle}
 use Rattle.s390x_bundle.specs.Members.{member_of}
 use Rattle.s390x_tool.specs.Bundled.{CanBeBundled, IsBundleAccepted, IsBundleAnswer}
 use Rattle.s390x_tool.specs.Causes.{FaultCountRose}
-use Rattle.s390x_tool.specs.Lines.{line}
 use Rattle.s390x_tool.specs.Replies.{CallContext, IsDelivered, IsReply}
 use Rattle.s390x_tool.specs.declared.status.Status.{Status}
 use Rattle.s390x_tool.specs.declared.status.Status.TheVariants as status
@@ -51,20 +47,3 @@ bundled_result f told told' faults faults' s text result reply delivered base in
     (done_reply f s text (Bundle base) reply form (no_more_than f input left accepted.short quiet)
     (λ r. bundled_answer base input s text (answered_whole f s text (Bundle base) input r form left) accepted)
     (λ r. absurd (not_simulation f s text (Bundle base) r form tt)))
-
--- ---- no functions
-
-none_placed : (base : ℕ) (finished : List MachBufferFinalized) → AreEmitted [] finished → misplaced_member base finished ≡ None
-none_placed base [] h = refl
-none_placed base (f ∷ fs) h = absurd h
-
--- the text of none is accepted
-pub none_accepted : (base : ℕ) → IsBundleAccepted base (line (codes "close"))
-none_accepted base =
-    record {
-      short = omega arith;
-      functions = [];
-      are = tt;
-      spelled = refl;
-      bundled = record { names = refl; valid = refl; placed = none_placed base; linked = λ finished h. refl };
-    }

@@ -1,7 +1,6 @@
 -- The answer to words that ask for a job with the registers of a plan.
 use Rattle.std.proofs.Common.{◌≡◌, ℕ, inl, inr, Global, List, String, ◌∙◌}
-use Rattle.std.specs.Prelude.{codes, ◌++◌, ◌≢◌, IfOk, MatchResult, Result, Ok, Err, string_bytes}
-use Rattle.std.specs.Fmt.{decimal}
+use Rattle.std.specs.Prelude.{codes, ◌≢◌, IfOk, MatchResult, Result, Ok, Err, string_bytes}
 use Rattle.s390x_alloc.specs.Answered.{IsAnswered}
 use Rattle.s390x_job_plan.specs.Jobs.{AnsweredIsJob, with_function}
 use Rattle.s390x_alloc.specs.Blocks.{IsFault}
@@ -11,9 +10,7 @@ use Rattle.s390x_alloc.specs.declared.fault.PlanFault.{PlanFault}
 use Rattle.s390x_alloc.specs.declared.fault.PlanFault.TheVariants as fault
 use Rattle.s390x_base.specs.declared.error.NoMemory.{NoMemory}
 use Rattle.s390x_inst.specs.declared.function.AllocatedFunction.{AllocatedFunction}
-use Rattle.s390x_job.specs.Completions.{pieces}
 use Rattle.s390x_job.specs.Jobs.{text_of_job}
-use Rattle.s390x_job_plan.specs.Completions.{IsFirstWrongOfPlanned, IsPlannedText}
 use Rattle.s390x_job_plan.specs.Text.{IsPlannedOf}
 use Rattle.s390x_job_plan.specs.declared.planned_job.PlannedJob.{PlannedJob}
 use Rattle.s390x_tool.specs.Allocated.{IsAllocateAnswer, IsPlanRefusal, fault_line}
@@ -25,12 +22,6 @@ use Rattle.s390x_tool.specs.declared.status.Status.TheVariants as status
 pub refusal_told : (f : PlanFault) (s : Status) (text : List ℕ) → f ≢ fault.NoMemory → IsMade status.PlanRefused (fault_line f) s text → IsPlanRefusal f s text
 refusal_told f s text named (inl made) = inl (named, made.0, made.1)
 refusal_told f s text named (inr short) = inr short
-
--- a syntax error is the answer
-pub answer_of_plan_syntax : (input : List ℕ) (s : Status) (text : List ℕ) (number : ℕ) → (IsPlannedText input → ⊥) → IsFirstWrongOfPlanned (pieces input) number
-    → IsMade status.Syntax (line (codes "syntax " ++ decimal number)) s text → IsAllocateAnswer input s text
-answer_of_plan_syntax input s text number none first (inl made) = rw made.0 (record { none = none; number = number; first = first; spelled = made.1 })
-answer_of_plan_syntax input s text number none first (inr short) = rw short.0 short.1
 
 -- the text of the job with the plan's function is the answer
 pub answer_of_plan : (input : List ℕ) (s : Status) (text : List ℕ) (p : PlannedJob) (function : AllocatedFunction) (printed : Result (String Global) NoMemory) → AnsweredIsJob → IsPlannedOf input p

@@ -1,12 +1,10 @@
 -- From the replies of the parts to the answer.
 use Rattle.std.proofs.Common.{◌≡◌, ℕ, ◌⊎◌, inl, inr, List, Some, None, sym, ◌∙◌, refl, subst, ap, ap₂, arith, Bool, true, false, cond, ◌+◌, ◌≤◌, ◌%◌, ◌^◌, length, string_bytes, Result, Ok, Err}
-use Rattle.std.specs.Prelude.{codes, ◌++◌, Option, IfOk, MatchResult, nat_eq, nat_le}
+use Rattle.std.specs.Prelude.{codes, Option, IfOk, MatchResult, nat_eq, nat_le}
 use Rattle.std.proofs.lemmas.Bool.{leb-true}
-use Rattle.std.specs.Fmt.{decimal}
 use Rattle.hex.specs.Hex.{encode_lower}
 use Rattle.s390x_inst.specs.declared.state.IsaFlags.{IsaFlags}
 use Rattle.s390x_base.specs.declared.error.EmitError.{EmitError}
-use Rattle.s390x_base.specs.declared.error.EmitError.TheVariants as error
 use Rattle.s390x_buffer.specs.declared.entries.MachBufferFinalized.{MachBufferFinalized}
 use Rattle.s390x_buffer.specs.State.{Constant}
 use Rattle.s390x_typed_steps.specs.Causes.{first_emit_cause}
@@ -27,13 +25,12 @@ use Rattle.std.specs.declared.string.String.{String}
 use Rattle.s390x_execution.specs.Text.{IsRunText}
 use Rattle.s390x_job.specs.Jobs.{text_of_job, IsJob}
 use Rattle.s390x_job.specs.Same.{SameJob}
-use Rattle.s390x_job.specs.Completions.{pieces, IsFirstWrong}
 use Rattle.s390x_job.specs.declared.job.Job.{Job}
 use Rattle.s390x_operands.specs.declared.constraint.OperandError.{OperandError}
 use Rattle.s390x_operands.specs.declared.constraint.OperandError.TheVariants as operand
-use Rattle.s390x_tool.specs.Lines.{line, IsMade, IsRefusal, IsLinkRefusal, IsOperandRefusal}
+use Rattle.s390x_tool.specs.Lines.{line, IsMade, IsLinkRefusal, IsOperandRefusal}
 use Rattle.s390x_tool.specs.Emitted.{emit_text}
-use Rattle.s390x_tool.specs.Answers.{IsAnswer, IsCodeOfJob, IsEmitReply, IsImageAt, IsImageReply, IsJobReply, IsLinked, IsOperandsReply, IsRunReply, IsShowReply, job_cause, link_cause_of, operands_cause_of, symbols_of}
+use Rattle.s390x_tool.specs.Answers.{IsAnswer, IsCodeOfJob, IsEmitReply, IsImageAt, IsImageReply, IsJobReply, IsLinked, IsOperandsReply, IsRunReply, link_cause_of, operands_cause_of, symbols_of}
 use Rattle.s390x_tool.proofs.Replying.{of_job}
 use Rattle.s390x_tool.specs.declared.words.JobCommand.{JobCommand}
 use Rattle.s390x_tool.specs.declared.words.JobCommand.TheVariants.{Image}
@@ -48,48 +45,12 @@ answer_of_job command input status.NoMemory text j is spelled only reply = reply
 answer_of_job command input status.Syntax text j is spelled only reply = absurd (of_job command j status.Syntax text reply)
 answer_of_job command input s text j is spelled only reply = record { job = j; is = is; spelled = spelled; one = only; reply = reply }
 
--- a syntax error is the answer
-pub answer_of_syntax : (command : JobCommand) (input : List ℕ) (s : Status) (text : List ℕ) (number : ℕ)
-    → ((j : Job) → IsJob j → text_of_job j ≡ input → ⊥) → IsFirstWrong (pieces input) number
-    → IsMade status.Syntax (line (codes "syntax " ++ decimal number)) s text → IsAnswer command input s text
-answer_of_syntax command input s text number none first_emit_cause (inl made) =
-    rw made.0 (record { no_job = none; number = number; first = first_emit_cause; spelled = made.1 })
-answer_of_syntax command input s text number none first_emit_cause (inr short) = rw short.0 short.1
-
--- a refusal of emission is the reply
-pub reply_of_cause : (base : ℕ) (j : Job) (e : EmitError) (s : Status) (text : List ℕ)
-    → (e ≡ error.NoMemory) ⊎ (job_cause j ≡ Some e) → IsRefusal e s text → IsImageReply base j s text
-reply_of_cause base j e s text (inl short) (inl refusal) = absurd (refusal.0 short)
-reply_of_cause base j e s text (inr cause) (inl refusal) = rw refusal.1 (record { error = e; cause = cause; spelled = refusal.2 })
-reply_of_cause base j e s text cause (inr short) = rw short.1 short.2
-
--- to `emit` too
-pub emit_reply_of_cause : (j : Job) (e : EmitError) (s : Status) (text : List ℕ)
-    → (e ≡ error.NoMemory) ⊎ (job_cause j ≡ Some e) → IsRefusal e s text → IsEmitReply j s text
-emit_reply_of_cause j e s text (inl short) (inl refusal) = absurd (refusal.0 short)
-emit_reply_of_cause j e s text (inr cause) (inl refusal) = rw refusal.1 (record { error = e; cause = cause; spelled = refusal.2 })
-emit_reply_of_cause j e s text cause (inr short) = rw short.1 short.2
-
--- to `run` too
-pub run_reply_of_cause : (base steps : ℕ) (j : Job) (e : EmitError) (s : Status) (text : List ℕ)
-    → (e ≡ error.NoMemory) ⊎ (job_cause j ≡ Some e) → IsRefusal e s text → IsRunReply base steps j s text
-run_reply_of_cause base steps j e s text (inl short) (inl refusal) = absurd (refusal.0 short)
-run_reply_of_cause base steps j e s text (inr cause) (inl refusal) = rw refusal.1 (record { error = e; cause = cause; spelled = refusal.2 })
-run_reply_of_cause base steps j e s text cause (inr short) = rw short.1 short.2
-
 -- a refusal of operands is the reply to `operands`
 pub operands_reply_of_cause : (j : Job) (e : OperandError) (s : Status) (text : List ℕ)
     → (e ≡ operand.NoMemory) ⊎ (operands_cause_of j ≡ Some e) → IsOperandRefusal e s text → IsOperandsReply j s text
 operands_reply_of_cause j e s text (inl short) (inl refusal) = absurd (refusal.0 short)
 operands_reply_of_cause j e s text (inr cause) (inl refusal) = rw refusal.1 (record { error = e; cause = cause; spelled = refusal.2 })
 operands_reply_of_cause j e s text cause (inr short) = rw short.1 short.2
-
--- a refusal of emission is the reply to `show`
-pub show_reply_of_cause : (j : Job) (e : EmitError) (s : Status) (text : List ℕ)
-    → (e ≡ error.NoMemory) ⊎ (job_cause j ≡ Some e) → IsRefusal e s text → IsShowReply j s text
-show_reply_of_cause j e s text (inl short) (inl refusal) = absurd (refusal.0 short)
-show_reply_of_cause j e s text (inr cause) (inl refusal) = rw refusal.1 (record { error = e; cause = cause; spelled = refusal.2 })
-show_reply_of_cause j e s text cause (inr short) = rw short.1 short.2
 
 -- the code with its tables is the reply to `emit`
 pub reply_of_code : (j : Job) (code : MachBufferFinalized) (s : Status) (text : List ℕ)

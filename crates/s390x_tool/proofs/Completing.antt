@@ -42,23 +42,11 @@ read_less (Some xs) (Some ys) input taken is consumed =
 
 -- a job with the lines of one without a cause of refusal isn't refused
 refused_not : (command : JobCommand) (j k : Job) (text : List ℕ) → IsJobReply command j status.Refused text → IsJob j → IsJob k → SameJob j k → IsUnrefused command k → ⊥
-refused_not (Image base) j k text reply a b same valid =
-    let cause = reply.cause in
-    let none = same_cause j k a b same ∙ valid in
-    cc
-refused_not Emit j k text reply a b same valid =
-    let cause = reply.cause in
-    let none = same_cause j k a b same ∙ valid in
-    cc
-refused_not (Run base steps) j k text reply a b same valid =
-    let cause = reply.cause in
-    let none = same_cause j k a b same ∙ valid in
-    cc
 refused_not Operands j k text reply a b same valid =
     let cause = reply.cause in
     let none = same_operands_cause j k a b same ∙ valid in
     cc
-refused_not Show j k text reply a b same valid =
+refused_not command j k text reply a b same valid =
     let cause = reply.cause in
     let none = same_cause j k a b same ∙ valid in
     cc
@@ -68,13 +56,11 @@ linked_not (Image base) j text links reply =
     let cause = reply.cause in
     let none = links reply.code reply.is in
     cc
-linked_not Emit j text links reply = absurd reply
-linked_not Operands j text links reply = absurd reply
-linked_not Show j text links reply = absurd reply
 linked_not (Run base steps) j text links reply =
     let cause = reply.cause in
     let none = links reply.code reply.is in
     cc
+linked_not command j text links reply = absurd reply
 
 -- an input that isn't too long was read whole, where no read fails
 pub no_more_than : (f : CallContext) (input : List ℕ) → f.left ≡ Some input → length input ≤ most_bytes → (FaultCountRose f.faults f.faults' → ⊥) → (IsReadFault f → ⊥) × (IsInputTooLong f → ⊥)

@@ -1,12 +1,8 @@
 -- The text of several lines.
-use Rattle.std.proofs.Common.{◌≡◌, ℕ, List, [], ◌∷◌, ◌++◌, refl, sym, ap, ◌∙◌, append_assoc}
-use Rattle.std.specs.Prelude.{Result, Ok, Err, OnOk}
+use Rattle.std.proofs.Common.{◌≡◌, ℕ, List, [], ◌++◌, refl, sym, ap, ◌∙◌, append_assoc}
 use Rattle.s390x_job.specs.Completions.{text_of_lines}
-
-pub lines_text_append : (a b : List (List ℕ)) → text_of_lines (a ++ b) ≡ text_of_lines a ++ text_of_lines b
-lines_text_append [] b = refl
-lines_text_append (l ∷ a) b =
-    ap (λ t. l ++ (10 ∷ t)) (lines_text_append a b) ∙ sym (append_assoc l (10 ∷ text_of_lines a) (text_of_lines b))
+use Rattle.s390x_job_bundle.proofs.Lines.{joined_append}
+pub use Rattle.s390x_job.proofs.Texts.{on_ok}
 
 -- lines x and y were written after what stood; the code named them x' and y'
 pub two_texts : (x x' y y' : List (List ℕ)) (old a new : List ℕ) → x' ≡ x → y' ≡ y
@@ -14,7 +10,7 @@ pub two_texts : (x x' y y' : List (List ℕ)) (old a new : List ℕ) → x' ≡ 
 two_texts x x' y y' old a new same_x same_y p q =
     q ∙ ap (λ t. t ++ text_of_lines y') p ∙ append_assoc old (text_of_lines x') (text_of_lines y')
     ∙ ap (λ t. old ++ (text_of_lines t ++ text_of_lines y')) same_x ∙ ap (λ t. old ++ (text_of_lines x ++ text_of_lines t)) same_y
-    ∙ ap (λ t. old ++ t) (sym (lines_text_append x y))
+    ∙ ap (λ t. old ++ t) (sym (joined_append x y))
 
 pub three_texts : (x x' y y' z z' : List (List ℕ)) (old a b new : List ℕ) → x' ≡ x → y' ≡ y → z' ≡ z
     → a ≡ old ++ text_of_lines x' → b ≡ a ++ text_of_lines y' → new ≡ b ++ text_of_lines z' → new ≡ old ++ text_of_lines (x ++ (y ++ z))
@@ -28,8 +24,3 @@ pub four_texts : (w x y z : List (List ℕ)) (old a b c new : List ℕ) → old 
 four_texts w x y z old a b c new empty p q r s =
     two_texts w w (x ++ (y ++ z)) (x ++ (y ++ z)) old a new refl refl p (three_texts x x y y z z a b c new refl refl refl q r s)
     ∙ ap (λ t. t ++ text_of_lines (w ++ (x ++ (y ++ z)))) empty
-
--- what holds where a call succeeds
-pub on_ok : {T E : Type 0} (r : Result T E) {P Q : Type 0} → (P → Q) → OnOk r P → OnOk r Q
-on_ok (Ok x) f h = f h
-on_ok (Err e) f h = tt

@@ -12,11 +12,9 @@ use Rattle.s390x_inst.specs.declared.function.Block.{Block}
 use Rattle.s390x_inst.specs.declared.inst.Inst.{Inst, Row_of-Inst, end_of-Inst, more_of-Inst}
 use Rattle.s390x_inst.specs.declared.inst.Inst.TheVariants.{Loop', Call, Jump, Vector}
 use Rattle.s390x_inst.specs.declared.state.FrameLayout.{FrameLayout}
-use Rattle.s390x_inst.specs.declared.vec_inst.VecInst.{VecInst}
 use Rattle.s390x_inst.specs.declared.vec_inst.VecInst.TheVariants.{VecRR}
 use Rattle.s390x_typed_steps.specs.Calls.{behind_call, bodies, call_bodies, handler_of, load_bodies, map_site, patchable_site, return_site, safepoint, continuation_bodies, tail_bodies, without_map}
 use Rattle.s390x_typed_steps.specs.Operands.{resolved_operand}
-use Rattle.s390x_typed_steps.specs.Resolved.{resolved_vector}
 use Rattle.s390x_typed_steps.specs.Stack.{outgoing_after, outgoing_behind, state_after}
 use Rattle.s390x_typed_steps.specs.StepBody.{Site, AtCall, AtTry, Calling}
 use Rattle.s390x_typed_steps.specs.Tree.{StepBody, Tree, block_tree, empty, leaf, leaves, loop_node, prepend, row_tree, Whole, CallStep}
@@ -24,7 +22,7 @@ use Rattle.s390x_emit_int.specs.Function.{tree_of}
 use Rattle.s390x_job_fields.specs.Calls.{TryPart, NoTry, Goes, try_part}
 use Rattle.s390x_job_fields.specs.Fields.{Field, FReg, FTarget, FUses, FDefs, FSet, FNatural, FConvention, FTry, FBool, FOption, FMemory}
 use Rattle.s390x_job_lines.specs.Line.{Line}
-use Rattle.s390x_job_lines.specs.Instructions.{inst_line, vector_line}
+use Rattle.s390x_job_lines.specs.Instructions.{inst_line}
 use Rattle.s390x_job_lines.specs.declared.inst_name.ControlName.TheVariants as ControlIs
 use Rattle.s390x_job_lines.specs.declared.name.LineName.{LineName}
 use Rattle.s390x_job_lines.specs.declared.name.LineName.TheVariants as N
@@ -160,10 +158,6 @@ abbrev IsFlat : Inst → Type 0
 IsFlat (Loop' mask body all) = ⊥
 IsFlat i = Unit {0}
 
-vector_bodies : (e : Emission) (v : VecInst) → of_line (vector_line (resolved_vector e v)) ∷ [] ≡ line_bodies e (vector_line v)
-vector_bodies e (VecRR op rd rn) = refl
-vector_bodies e v = refl
-
 loads_told : (patchable : Bool) (loads : List StepBody) → map body_line (cond patchable [] loads) ≡ cond patchable [] (map body_line loads)
 loads_told true loads = refl
 loads_told false loads = refl
@@ -187,25 +181,17 @@ call_told e link info =
 bodies_told : (e : Emission) (i : Inst) → IsFlat i → map body_line (bodies e i) ≡ line_bodies e (inst_line i)
 bodies_told e (Loop' mask body all) flat = absurd flat
 bodies_told e (Call link info) flat = call_told e link info
-bodies_told e (Vector v) flat = vector_bodies e v
+bodies_told e (Vector (VecRR op rd rn)) flat = refl
 bodies_told e i flat = refl
-
-vector_outgoing : (o : ℕ) (v : VecInst) → o ≡ line_outgoing o (vector_line v)
-vector_outgoing o (VecRR op rd rn) = refl
-vector_outgoing o v = refl
 
 outgoing_told : (o : ℕ) (i : Inst) → IsFlat i → outgoing_after o i ≡ line_outgoing o (inst_line i)
 outgoing_told o (Loop' mask body all) flat = absurd flat
-outgoing_told o (Vector v) flat = vector_outgoing o v
+outgoing_told o (Vector (VecRR op rd rn)) flat = refl
 outgoing_told o i flat = refl
-
-vector_safepoint : (e : Emission) (v : VecInst) → e ≡ line_safepoint e (vector_line v)
-vector_safepoint e (VecRR op rd rn) = refl
-vector_safepoint e v = refl
 
 safepoint_told : (e : Emission) (i : Inst) → IsFlat i → safepoint e i ≡ line_safepoint e (inst_line i)
 safepoint_told e (Loop' mask body all) flat = absurd flat
-safepoint_told e (Vector v) flat = vector_safepoint e v
+safepoint_told e (Vector (VecRR op rd rn)) flat = refl
 safepoint_told e i flat = refl
 
 state_told : (e : Emission) (i : Inst) → IsFlat i → state_after e i ≡ line_after e (inst_line i)

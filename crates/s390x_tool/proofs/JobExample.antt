@@ -20,17 +20,12 @@ two_bytes f h = record { size = ap length h.emitted.bytes; boundary = h.emitted.
 links : (command : JobCommand) → HasRoom command → Links command job
 links (Image base) room = λ f is. can_link base (symbols_of job) f (two_bytes f is) room.0 (omega (arith, room.1))
 links (Run base steps) room = λ f is. can_link base (symbols_of job) f (two_bytes f is) room.0 (omega (arith, room.1))
-links Emit room = tt
-links Operands room = tt
-links Show room = tt
+links command room = tt
 
 valid : (command : JobCommand) → IsUnrefused command job
 unfolding vec plain_job job length_of
 valid (Image base) = refl
-valid (Run base steps) = refl
-valid Emit = refl
-valid Operands = refl
-valid Show = refl
+valid command = refl
 
 pub job_accepted : (command : JobCommand) → HasRoom command → IsAccepted command (text_of_lines one_job)
 job_accepted command room = record { short = omega arith; job = job; is = is_job; spelled = job_text; valid = valid command; links = links command room }

@@ -26,5 +26,4 @@ pub mod SameMembers
 pub mod SameOperands
 pub mod SameTree
 pub mod Showing
-pub mod Simulating
 pub mod Told

@@ -3,7 +3,7 @@ use Rattle.std.proofs.Common.{ℕ, ◌+◌, ◌≤◌, List, [], ◌++◌, lengt
 use Rattle.std.specs.Prelude.{Option}
 use Rattle.std.specs.Io.KnownBytes.{Consumes, Keeps}
 use Rattle.std.proofs.KnownBytes.{Consumes-nil, Consumes-kept, Consumes-trans}
-use Rattle.s390x_tool.specs.Ends.{IsPartRead, IsRead, too_many}
+use Rattle.s390x_tool.specs.Ends.{IsPartRead}
 
 -- nothing was read
 pub nothing_read : (left : Option (List ℕ)) (most : ℕ) → IsPartRead left left most
@@ -33,7 +33,3 @@ part_of_front before here after taken piece room most consumed part few =
 -- one read gave the front of a buffer
 pub front_read : (before after : Option (List ℕ)) (count : ℕ) (buf : List ℕ) → Consumes before after (take count buf) → IsPartRead before after (length buf)
 front_read before after count buf consumed = record { taken = take count buf; consumed = consumed; few = omega (arith, length-take count buf) }
-
--- all was read
-pub whole_part : (before after : Option (List ℕ)) (input : List ℕ) → IsRead before after input → IsPartRead before after too_many
-whole_part before after input read = record { taken = input; consumed = read.taken; few = let short = read.short in omega arith }

@@ -62,13 +62,9 @@ record OneEdit (pairs : List EntryPair) (edits : List Edit) (later : List BlockP
 
 edit_told : (pairs : List EntryPair) (edits : List Edit) (later : List BlockPlan) → ((map pair_line pairs ++ map edit_line edits) ++ blocks_lines later) ++ Closing ∷ [] ≡ Stepping [] ∷ Closing ∷ [] → OneEdit pairs edits later
 edit_told [] (Step regs ∷ []) [] e = record { entry = refl; regs = regs; edit = refl; none = cc; last = refl }
-edit_told [] (Step regs ∷ []) (p ∷ ps) e = absurd cc
 edit_told [] (Step regs ∷ Step more ∷ edits) later e = absurd cc
-edit_told [] (Step regs ∷ Move to from ∷ edits) later e = absurd cc
-edit_told [] (Move to from ∷ edits) later e = absurd cc
 edit_told [] [] [] e = absurd cc
-edit_told [] [] (p ∷ ps) e = absurd cc
-edit_told (x ∷ pairs) edits later e = absurd cc
+edit_told pairs edits later e = absurd cc
 
 step_told : (ps : List BlockPlan) → plan_lines ps ≡ Heading ∷ Opening ∷ Stepping [] ∷ Closing ∷ [] → OneStep ps
 step_told [] e = absurd cc

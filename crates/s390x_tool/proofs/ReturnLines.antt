@@ -3,7 +3,7 @@ use Rattle.std.proofs.Common.{◌≡◌, Bool, true, false, List, [], ◌∷◌,
 use Rattle.std.proofs.lemmas.Bool.{false≢true}
 use Rattle.s390x_inst.specs.declared.function.Block.{Block}
 use Rattle.s390x_inst.specs.declared.inst.Inst.{Inst}
-use Rattle.s390x_inst.specs.declared.inst.Inst.TheVariants.{Args, Call, IndirectBr, JTSequence, Loop', Nop0, Rets, ReturnCall}
+use Rattle.s390x_inst.specs.declared.inst.Inst.TheVariants as I
 use Rattle.s390x_typed_steps.specs.Tree.{Tree}
 use Rattle.s390x_job_lines.specs.Contents.{Contents, Whole, contents}
 use Rattle.s390x_job_lines.specs.Instructions.{inst_line}
@@ -22,17 +22,17 @@ use Rattle.s390x_tool.proofs.SameTree.{LineTree, lines_tree, none, of_line, one}
 -- the instruction that is held whole; some instruction for anything else
 abbrev held : Contents → Inst
 held (Whole i) = i
-held c = Nop0
+held c = I.Nop0
 
 -- what holds no list is told by what it holds
 whole_held : (i j : Inst) → contents i ≡ Whole j → i ≡ j
-whole_held (IndirectBr rn targets) j e = absurd cc
-whole_held (JTSequence index other mask targets) j e = absurd cc
-whole_held (Loop' mask body members) j e = absurd cc
-whole_held (Call link info) j e = absurd cc
-whole_held (ReturnCall info) j e = absurd cc
-whole_held (Args args) j e = absurd cc
-whole_held (Rets rets) j e = absurd cc
+whole_held (I.IndirectBr rn targets) j e = absurd cc
+whole_held (I.JTSequence index other mask targets) j e = absurd cc
+whole_held (I.Loop' mask body members) j e = absurd cc
+whole_held (I.Call link info) j e = absurd cc
+whole_held (I.ReturnCall info) j e = absurd cc
+whole_held (I.Args args) j e = absurd cc
+whole_held (I.Rets rets) j e = absurd cc
 whole_held i j e = ap held e
 
 return_told : (i : Inst) → inst_line i ≡ return_line → i ≡ return_inst
@@ -55,11 +55,11 @@ behind_first (one b rest) = rest
 behind_first t = none
 
 some_ahead : (i : Inst) (t : Tree) → is_none (lines_tree (raw_prepend i t)) ≡ false
-some_ahead (Loop' mask body members) t = refl
+some_ahead (I.Loop' mask body members) t = refl
 some_ahead i t = refl
 
 first_told : (i : Inst) (t : Tree) (l : Line) (rest : LineTree) → IsAhead (lines_tree (raw_prepend i t)) l rest → (inst_line i ≡ l) × (lines_tree t ≡ rest)
-first_told (Loop' mask body members) t l rest e = absurd cc
+first_told (I.Loop' mask body members) t l rest e = absurd cc
 first_told i t l rest e = (ap first_line e, ap behind_first e)
 
 none_told : (is : List Inst) → lines_tree (raw_tree is) ≡ none → is ≡ []
@@ -77,9 +77,8 @@ pub record OneReturn (bs : List Block) : Type 0 where
   pub insts : block.insts.items ≡ return_inst ∷ []
 
 block_told : (bs : List Block) → map lines_tree (map raw_block bs) ≡ one (of_line return_line) none ∷ [] → OneReturn bs
-block_told [] e = absurd cc
 block_told (b ∷ []) e = record { block = b; alone = refl; insts = alone_told b.insts.items cc }
-block_told (b ∷ c ∷ bs) e = absurd cc
+block_told bs e = absurd cc
 
 pub same_return : (j : Job) → IsJob j → SameJob j job → OneReturn j.function.blocks.items
 unfolding vec plain_job job

@@ -143,8 +143,6 @@ same_code j k code a b e h =
 pub same_links : (command : JobCommand) (j k : Job) → IsJob j → IsJob k → SameJob j k → Links command k → Links command j
 same_links (Image base) j k a b e links =
     λ code is. ap (λ ss. link_cause code base (with_lines no_symbols ss)) (same_symbols j k a b e) ∙ links code (same_code j k code a b e is)
-same_links Emit j k a b e links = tt
-same_links Operands j k a b e links = tt
-same_links Show j k a b e links = tt
 same_links (Run base steps) j k a b e links =
     λ code is. ap (λ ss. link_cause code base (with_lines no_symbols ss)) (same_symbols j k a b e) ∙ links code (same_code j k code a b e is)
+same_links command j k a b e links = tt

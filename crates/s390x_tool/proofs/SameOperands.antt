@@ -36,10 +36,9 @@ first_of_three None b c = refl
 first_of_three (Some e) b c = refl
 
 cause_append : (d : Bool) (xs ys : List (Option Reported)) → cause_of d (xs ++ ys) ≡ first_operand_cause (cause_of d xs) (cause_of d ys)
-cause_append d [] ys = refl
-cause_append d (None ∷ xs) ys = refl
 cause_append d (Some x ∷ xs) ys =
     ap (first_operand_cause (item_cause d x)) (cause_append d xs ys) ∙ first_of_three (item_cause d x) (cause_of d xs) (cause_of d ys)
+cause_append d xs ys = refl
 
 cause_behind : (d : Bool) (xs ys zs : List (Option Reported)) → cause_of d ys ≡ cause_of d zs → cause_of d (xs ++ ys) ≡ cause_of d (xs ++ zs)
 cause_behind d xs ys zs e = cause_append d xs ys ∙ ap (first_operand_cause (cause_of d xs)) e ∙ sym (cause_append d xs zs)

@@ -1,5 +1,5 @@
 -- What emission reads of a function stands in the lines of its blocks.
-use Rattle.std.proofs.Common.{◌≡◌, ℕ, zero, suc, ◌+◌, List, [], ◌∷◌, ◌++◌, map, get_or, Option, Some, None, Bool, true, false, cond, ◌&&◌, refl, ap, ◌∙◌, nat_eq}
+use Rattle.std.proofs.Common.{◌≡◌, ℕ, suc, ◌+◌, List, [], ◌∷◌, ◌++◌, map, get_or, Option, Some, None, Bool, true, false, cond, ◌&&◌, refl, ap, ◌∙◌, nat_eq}
 use Rattle.std.proofs.Math.Path.{fun_ext}
 use Rattle.std.proofs.lemmas.List.{map-append}
 use Rattle.s390x_inst.specs.declared.state.IsaFlags.{IsaFlags}
@@ -240,25 +240,21 @@ same_steps_from k (t ∷ ts) =
     ∙ ap (λ n. line_steps k 0 (lines_tree t) ++ line_steps_from (k + n) (map lines_tree ts)) (same_count t)
 
 abbrev pub line_first_step : List LineTree → ℕ → ℕ
-line_first_step [] b = 0
-line_first_step (t ∷ ts) zero = 0
 line_first_step (t ∷ ts) (suc b) = line_count t + line_first_step ts b
+line_first_step _ _ = 0
 
 same_first_step : (ts : List Tree) (b : ℕ) → first_step ts b ≡ line_first_step (map lines_tree ts) b
-same_first_step [] b = refl
-same_first_step (t ∷ ts) zero = refl
 same_first_step (t ∷ ts) (suc b) = let a = same_count t in let c = same_first_step ts b in cc
+same_first_step ts b = refl
 
 -- places
 abbrev pub parts_place : List (List CodePart) → ℕ → ℕ
-parts_place [] k = 0
-parts_place (p ∷ ps) zero = 0
 parts_place (p ∷ ps) (suc k) = parts_size p + parts_place ps k
+parts_place _ _ = 0
 
 same_place : (ss : List Step) (k : ℕ) → step_offset ss k ≡ parts_place (map step_parts ss) k
-same_place [] k = refl
-same_place (s ∷ ss) zero = refl
 same_place (s ∷ ss) (suc k) = ap (λ n. parts_size (step_parts s) + n) (same_place ss k)
+same_place ss k = refl
 
 abbrev pub line_at : List LineTree → ℕ → ℕ
 line_at ts = parts_place (line_steps_from 0 ts)

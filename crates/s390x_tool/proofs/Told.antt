@@ -1,6 +1,6 @@
 -- Words tell their command.
 use Rattle.std.proofs.Common.{◌≡◌, ℕ, ◌^◌, ◌<◌, ◌≤◌, List, [], ◌∷◌, Some, None, refl, sym, ap, ap₂, ◌∙◌, arith, get_or, length, cond}
-use Rattle.std.specs.Prelude.{Option, codes, ◌≢◌}
+use Rattle.std.specs.Prelude.{Option, codes}
 use Rattle.std.specs.Fmt.{decimal}
 use Rattle.std.specs.Str.{bytes_eq}
 use Rattle.std.specs.Str.Parse.{digits_value}
@@ -27,12 +27,9 @@ told words = None
 -- the words of a command tell it
 told_back : (c : Command) → IsInRange c → told (words_of c) ≡ Some c
 told_back (OnJob (Image base)) range = ap (λ n. Some (OnJob (Image n))) (decimal_is_IsNumeral base range).1
-told_back (OnJob Emit) range = refl
 told_back (OnJob (Run base steps)) range =
     let small : steps < 2 ^ 64 = omega (arith, range.1) in
     ap₂ (λ m n. Some (OnJob (Run m n))) (decimal_is_IsNumeral base range.0).1 (decimal_is_IsNumeral steps small).1
-told_back (OnJob Operands) range = refl
-told_back (OnJob Show) range = refl
 told_back (Generate count start) range =
     let few : count < 2 ^ 64 = omega (arith, range.0) in
     let small : start < 2 ^ 64 = omega (arith, range.1) in
@@ -44,8 +41,8 @@ told_back (Simulate base word count steps start) range =
     ap₂ (λ m n. Some (Simulate m n (digits_value 10 (decimal count)) (digits_value 10 (decimal steps)) (digits_value 10 (decimal start)))) (decimal_is_IsNumeral base range.0).1 (decimal_is_IsNumeral word range.1).1
     ∙ ap₂ (λ m n. Some (Simulate base word m n (digits_value 10 (decimal start)))) (decimal_is_IsNumeral count few).1 (decimal_is_IsNumeral steps short).1
     ∙ ap (λ n. Some (Simulate base word count steps n)) (decimal_is_IsNumeral start small).1
-told_back Allocate range = refl
 told_back (Bundle base) range = ap (λ n. Some (Bundle n)) (decimal_is_IsNumeral base range).1
+told_back c range = refl
 
 one_of : (b c : Command) → Some b ≡ Some c → b ≡ c
 one_of b c e = cc
@@ -55,41 +52,9 @@ pub same_command : (words : List (List ℕ)) (b c : Command) → IsForm words b 
 same_command words b c first second =
     one_of b c (sym (told_back b first.range) ∙ ap told (sym first.spelled ∙ second.spelled) ∙ told_back c second.range)
 
--- a word alone that is no command's
-pub none_alone : (w : List ℕ) → w ≢ codes "emit" → w ≢ codes "operands" → w ≢ codes "show" → w ≢ codes "alloc" → IsNoForm (w ∷ [])
-none_alone w no_emit no_operands no_show no_alloc (OnJob Emit) form = no_emit (ap (λ ws. get_or ws 0 []) form.spelled)
-none_alone w no_emit no_operands no_show no_alloc (OnJob Operands) form = no_operands (ap (λ ws. get_or ws 0 []) form.spelled)
-none_alone w no_emit no_operands no_show no_alloc (OnJob Show) form = no_show (ap (λ ws. get_or ws 0 []) form.spelled)
-none_alone w no_emit no_operands no_show no_alloc Allocate form = no_alloc (ap (λ ws. get_or ws 0 []) form.spelled)
-none_alone w no_emit no_operands no_show no_alloc c form = absurd (omega (arith, ap length form.spelled))
-
--- a word with one behind it
-pub none_with_one : (w x : List ℕ) → w ≢ codes "image" → w ≢ codes "bundle" → IsNoForm (w ∷ x ∷ [])
-none_with_one w x no_image no_bundle (OnJob (Image base)) form = no_image (ap (λ ws. get_or ws 0 []) form.spelled)
-none_with_one w x no_image no_bundle (Bundle base) form = no_bundle (ap (λ ws. get_or ws 0 []) form.spelled)
-none_with_one w x no_image no_bundle c form = absurd (omega (arith, ap length form.spelled))
-
--- a word with two behind it
-pub none_with_two : (w x y : List ℕ) → w ≢ codes "run" → w ≢ codes "gen" → IsNoForm (w ∷ x ∷ y ∷ [])
-none_with_two w x y no_run no_gen (OnJob (Run base steps)) form = no_run (ap (λ ws. get_or ws 0 []) form.spelled)
-none_with_two w x y no_run no_gen (Generate count start) form = no_gen (ap (λ ws. get_or ws 0 []) form.spelled)
-none_with_two w x y no_run no_gen c form = absurd (omega (arith, ap length form.spelled))
-
 -- the first letter of the first word
 abbrev letter : List (List ℕ) → ℕ
 letter ws = get_or (get_or ws 0 []) 0 0
-
--- `image` with a word that is no number
-pub none_of_image : (x : List ℕ) → ((n : ℕ) → n < 2 ^ 64 → x ≢ decimal n) → IsNoForm (codes "image" ∷ x ∷ [])
-none_of_image x none (OnJob (Image base)) form = none base form.range (ap (λ ws. get_or ws 1 []) form.spelled)
-none_of_image x none (Bundle base) form = absurd (omega (arith, ap letter form.spelled))
-none_of_image x none c form = absurd (omega (arith, ap length form.spelled))
-
--- `bundle` with a word that is no number
-pub none_of_bundle : (x : List ℕ) → ((n : ℕ) → n < 2 ^ 64 → x ≢ decimal n) → IsNoForm (codes "bundle" ∷ x ∷ [])
-none_of_bundle x none (Bundle base) form = none base form.range (ap (λ ws. get_or ws 1 []) form.spelled)
-none_of_bundle x none (OnJob (Image base)) form = absurd (omega (arith, ap letter form.spelled))
-none_of_bundle x none c form = absurd (omega (arith, ap length form.spelled))
 
 -- `run` with words that aren't its numbers
 pub none_of_run : (x y : List ℕ) → ((m n : ℕ) → m < 2 ^ 64 → n ≤ 1000000 → x ≡ decimal m → y ≡ decimal n → ⊥) → IsNoForm (codes "run" ∷ x ∷ y ∷ [])
@@ -104,12 +69,6 @@ none_of_generate x y none (Generate count start) form =
     none count start form.range.0 form.range.1 (ap (λ ws. get_or ws 1 []) form.spelled) (ap (λ ws. get_or ws 2 []) form.spelled)
 none_of_generate x y none (OnJob (Run base steps)) form = absurd (omega (arith, ap letter form.spelled))
 none_of_generate x y none c form = absurd (omega (arith, ap length form.spelled))
-
--- a word with five behind it
-pub none_with_five : (w b a n s x : List ℕ) → w ≢ codes "smp" → IsNoForm (w ∷ b ∷ a ∷ n ∷ s ∷ x ∷ [])
-none_with_five w b a n s x no_smp (Simulate base word count steps start) form = no_smp (ap (λ ws. get_or ws 0 []) form.spelled)
-none_with_five w b a n s x no_smp (OnJob Emit) form = absurd (omega (arith, ap length form.spelled))
-none_with_five w b a n s x no_smp c form = absurd (omega (arith, ap length form.spelled))
 
 -- `smp` with words that aren't its numbers
 pub none_of_simulation : (b a n s x : List ℕ) → ((base word count steps start : ℕ) → IsInRange (Simulate base word count steps start) → b ≡ decimal base → a ≡ decimal word → n ≡ decimal count → s ≡ decimal steps → x ≡ decimal start → ⊥)
@@ -126,12 +85,3 @@ pub six_words : {Z : Type 0} (ws : List (String Z)) (a b c d e f : String Z) →
 six_words (a ∷ b ∷ c ∷ d ∷ e ∷ f ∷ []) a' b' c' d' e' f' most least p q r s t u = rw p (rw q (rw r (rw s (rw t (rw u refl)))))
 six_words (u ∷ v ∷ x ∷ y ∷ z ∷ w ∷ g ∷ ws) a b c d e f most least p q r s t o = absurd (omega (arith, least))
 six_words ws a b c d e f most least p q r s t u = absurd (omega (arith, most))
-
--- as many words as no command has
-pub none_of_length : (words : List (List ℕ)) → length words ≢ 1 → length words ≢ 2 → length words ≢ 3 → length words ≢ 6 → IsNoForm words
-none_of_length words one two three six (OnJob (Image base)) form = two (ap length form.spelled)
-none_of_length words one two three six (OnJob (Run base steps)) form = three (ap length form.spelled)
-none_of_length words one two three six (Generate count start) form = three (ap length form.spelled)
-none_of_length words one two three six (Simulate base word count steps start) form = six (ap length form.spelled)
-none_of_length words one two three six (Bundle base) form = two (ap length form.spelled)
-none_of_length words one two three six c form = one (ap length form.spelled)

@@ -9,10 +9,8 @@ use Rattle.s390x_alloc.proofs.assigned.put_operand.Goals as goal
 
 -- without a register nothing is given
 nothing_given : (x : Reported) (o : Option Reg) → o ≡ None → given_operand x o ≡ []
-nothing_given (Operand r c k p) None h = refl
 nothing_given (Operand r c k p) (Some q) h = absurd cc
-nothing_given (Fixed p) o h = refl
-nothing_given (Clobbers s) o h = refl
+nothing_given x o h = refl
 
 pub returns-in-None : goal.returns-in-None
 returns-in-None c =

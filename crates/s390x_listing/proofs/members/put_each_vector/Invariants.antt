@@ -7,6 +7,6 @@ use Rattle.s390x_listing.proofs.members.put_each_vector.Given as goal
 
 abbrev pub invariant-loop-n : goal.invariant-loop-n
 invariant-loop-n l = record {
-  first : l.is_first ≡ (l.no_other && no_member (members_below vector (has l.set) l.n));
-  text : string_bytes l.out ≡ string_bytes l.initial.out ++ members_text l.no_other (members_below vector (has l.set) l.n);
+  first : l.is_first ≡ (l.begins_list && no_member (members_below vector (has l.set) l.n));
+  text : string_bytes l.out ≡ string_bytes l.initial.out ++ members_text l.begins_list (members_below vector (has l.set) l.n);
 }

@@ -1,4 +1,4 @@
-use Rattle.std.proofs.Common.{sym, ap, ◌∙◌}
+use Rattle.std.proofs.Common.{sym, ap, ◌∙◌, arith}
 use Rattle.s390x_lanes.specs.Results.{vector_result}
 use Rattle.s390x_lanes.specs.declared.operators.BinaryOperator.{BinaryOperator}
 use Rattle.s390x_lanes.specs.declared.operators.VectorOperation.TheVariants.{Binary}
@@ -7,10 +7,10 @@ use Rattle.s390x_machine.proofs.VectorSums.{ands, ors, xors}
 use Rattle.s390x_machine.proofs.elements_step.whole_value.Goals as goal
 
 pub returns-in-And : goal.returns-in-And
-returns-in-And c = ands c.args.first c.args.second c.args.third c.args.fourth c.ranges.second.fits c.ranges.third.fits ∙ sym (ap (λ (o : BinaryOperator). vector_result (Binary o Quadword) c.args.first c.args.second c.args.third c.args.fourth) c.in-And.is)
+returns-in-And c = ands c.args.vectors.first c.args.vectors.second c.args.vectors.third c.args.vectors.fourth (omega arith) (omega arith) ∙ sym (ap (λ (o : BinaryOperator). vector_result (Binary o Quadword) c.args.vectors.first c.args.vectors.second c.args.vectors.third c.args.vectors.fourth) c.in-And.is)
 
 pub returns-in-Or : goal.returns-in-Or
-returns-in-Or c = ors c.args.first c.args.second c.args.third c.args.fourth c.ranges.second.fits c.ranges.third.fits ∙ sym (ap (λ (o : BinaryOperator). vector_result (Binary o Quadword) c.args.first c.args.second c.args.third c.args.fourth) c.in-Or.is)
+returns-in-Or c = ors c.args.vectors.first c.args.vectors.second c.args.vectors.third c.args.vectors.fourth (omega arith) (omega arith) ∙ sym (ap (λ (o : BinaryOperator). vector_result (Binary o Quadword) c.args.vectors.first c.args.vectors.second c.args.vectors.third c.args.vectors.fourth) c.in-Or.is)
 
 pub returns-in-Xor : goal.returns-in-Xor
-returns-in-Xor c = xors c.args.first c.args.second c.args.third c.args.fourth c.ranges.second.fits c.ranges.third.fits ∙ sym (ap (λ (o : BinaryOperator). vector_result (Binary o Quadword) c.args.first c.args.second c.args.third c.args.fourth) c.in-Xor.is)
+returns-in-Xor c = xors c.args.vectors.first c.args.vectors.second c.args.vectors.third c.args.vectors.fourth (omega arith) (omega arith) ∙ sym (ap (λ (o : BinaryOperator). vector_result (Binary o Quadword) c.args.vectors.first c.args.vectors.second c.args.vectors.third c.args.vectors.fourth) c.in-Xor.is)

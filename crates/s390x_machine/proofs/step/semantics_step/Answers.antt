@@ -12,13 +12,13 @@ returns-then-is_odd_pair g c =
     let s = state_of c.args.machine.now (g.M.Memory.held c.args.memory.now) (g.M.Memory.byte c.args.memory.now) in
     let free = sym c.is_free.ensures ∙ c.if-is_free.false in
     let odd = sym c.is_odd_pair.ensures ∙ c.if-is_odd_pair.true in
-    (not_open s c.args.decoded.now c.args.semantics.now c.requires.found c.requires.is free, odd_pair_stops s c.args.decoded.now c.args.semantics.now c.requires.found c.requires.is odd, refl)
+    (not_open s c.args.decoded c.args.semantics.now c.requires.found c.requires.is free, odd_pair_stops s c.args.decoded c.args.semantics.now c.requires.found c.requires.is odd, refl)
 
 pub returns : goal.returns
 returns g c =
     let s = state_of c.args.machine.now (g.M.Memory.held c.args.memory.now) (g.M.Memory.byte c.args.memory.now) in
     let t = state_of c.execute.new.machine (g.M.Memory.held c.execute.new.memory) (g.M.Memory.byte c.execute.new.memory) in
-    let d = c.args.decoded.now in
+    let d = c.args.decoded in
     let free = sym c.is_free.ensures ∙ c.if-is_free.false in
     let odd = sym c.is_odd_pair.ensures ∙ c.if-is_odd_pair.false in
     let x = subst (λ (a : Action). Executes a c.length.result s c.execute.result t) c.action-action.ensures.value c.execute.ensures in
@@ -26,7 +26,7 @@ returns g c =
     executed s d c.args.semantics.now c.execute.result t c.requires.found c.requires.is free odd y
 
 pub is_free-requires : goal.is_free-requires
-is_free-requires g c = (can_perform _ c.args.decoded.now c.args.semantics.now c.requires.found.row c.requires.is).registers
+is_free-requires g c = (can_perform _ c.args.decoded c.args.semantics.now c.requires.found.row c.requires.is).registers
 
 pub action-action-requires-clause-fit : goal.action-action-requires-clause-fit
-action-action-requires-clause-fit g c = record { can = can_perform _ c.args.decoded.now c.args.semantics.now c.requires.found.row c.requires.is; paired = search rules }
+action-action-requires-clause-fit g c = record { can = can_perform _ c.args.decoded c.args.semantics.now c.requires.found.row c.requires.is; paired = search rules }

@@ -20,10 +20,10 @@ returns c held byte found read =
     let s = state_of c.args.machine.now held byte in
     let d = c.args.decoded.now in
     let y : Operand = operand c.args.second d.fields s.core.registers s.address in
-    let first : c.value_in-first.result ≡ value_in c.args.computation.size s.core.registers (first_register c.args.second.operand_source d.fields) =
-    c.value_in-first.ensures.value ∙ ap (λ (i : ℕ). value_in c.args.computation.size s.core.registers i) c.first_register.ensures.value in
+    let part : ℕ = value_in c.args.computation.size s.core.registers c.first_register-first.result in
+    let first : part ≡ value_in c.args.computation.size s.core.registers (first_register c.args.second.operand_source d.fields) = ap (λ (i : ℕ). value_in c.args.computation.size s.core.registers i) c.first_register-first.ensures.value in
     let bits = c.in_byte_order-bits.ensures ∙ ap (λ (x : ℕ). in_byte_order c.args.second.reversed c.args.second.width x) read.is in
     let other : c.extended_bits-other.result ≡ operand_value c.args.computation.size y s.core.memory = c.extended_bits-other.ensures.value ∙ ap (λ (x : ℕ). extended_bits c.args.second.sign c.args.second.width c.args.computation.size x) bits in
-    let may = computed c.args.computation.operator c.args.computation.size y c.args.computation.rule (slice_index d.fields.regs 0) c.value_in-first.result c.extended_bits-other.result s.core (registers_of c.compute.new.machine) read.reached other c.compute.ensures.registers in
+    let may = computed c.args.computation.operator c.args.computation.size y c.args.computation.rule (slice_index d.fields.regs 0) part c.extended_bits-other.result s.core (registers_of c.compute.new.machine) read.reached other c.compute.ensures.registers in
     let goes = subst (λ (x : ℕ). MayExecute (record { effect = Effect.Compute c.args.computation.operator c.args.computation.size (slice_index d.fields.regs 0) x y; rule = c.args.computation.rule }) s.core (record { registers = registers_of c.compute.new.machine; memory = memory_of held byte })) first may in
     executed s d (Compute c.args.computation.operator c.args.computation.size c.args.second c.args.computation.rule) Went _ found c.requires.is refl refl ((goes, ap₂ wrapping_add64 c.compute.ensures.place c.length.ensures, refl), λ h. h)
