@@ -55,7 +55,7 @@ impl ItemList {
         requires { self.old.others.items.items ≡ [] }
         ensures { Takes false (Reported.Fixed preg) (items_in self.old) (items_in self.new) result }
     {
-        match self.fixed.extend_from_slice(&[preg]) {
+        match self.fixed.push(preg) {
             Ok(()) => Ok(()),
             Err(_) => Err(OperandError::NoMemory),
         }
@@ -78,6 +78,8 @@ impl OperandVisitor for ItemList {
 
     ghost denies = { λ v. false };
 
+    // apart, so that a real register is kept where it is reported
+    #[inline(never)]
     #[tactic(auto, using(crate::proofs::Lines::taken_behind))]
     fn add_operand(
         &mut self,
@@ -89,6 +91,7 @@ impl OperandVisitor for ItemList {
         self.others.add_operand(reg, constraint, kind, pos)
     }
 
+    #[inline(always)]
     fn reg_fixed_nonallocatable(&mut self, preg: PReg) -> Result<(), OperandError> {
         if self.others.items().is_empty() {
             self.take_fixed(preg)

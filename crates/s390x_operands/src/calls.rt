@@ -157,6 +157,7 @@ pub fn report_results<V: OperandVisitor>(
 }
 
 /// Reports the target of a call.
+#[inline(always)]
 pub fn report_destination<V: OperandVisitor>(
     v: &mut V,
     denied: bool,
@@ -172,6 +173,7 @@ pub fn report_destination<V: OperandVisitor>(
 }
 
 /// Reports the registers that a call overwrites, with its link.
+#[inline(always)]
 pub fn report_clobbers<V: OperandVisitor>(
     v: &mut V,
     denied: bool,
@@ -192,10 +194,11 @@ pub fn report_clobbers<V: OperandVisitor>(
 }
 
 /// Reports the operands of a call.
+#[inline(never)]
 pub fn report_call<V: OperandVisitor>(
     v: &mut V,
     denied: bool,
-    link: &Reg,
+    link: &Writable<Reg>,
     info: &CallInfo,
 ) -> Result<(), OperandError>
     ensures { Reports denied (call_requests link.now info.now) (V.items v.old) (V.items v.new)
@@ -204,7 +207,7 @@ pub fn report_call<V: OperandVisitor>(
     report_destination(v, denied, &info.dest)?;
     report_call_arguments(v, denied, &info.uses)?;
     report_call_results(v, denied, &info.defs)?;
-    report_clobbers(v, denied, &info.clobbers, link)
+    report_clobbers(v, denied, &info.clobbers, &link.to_reg())
 }
 
 /// Reports the operands of a tail call.

@@ -23,7 +23,7 @@ pub fn report_control<V: OperandVisitor>(
     match inst {
         Inst::IndirectBr { rn, .. } => report_uses(v, denied, &[*rn]),
         Inst::JTSequence { ridx, .. } => report_use_scratch(v, denied, ridx),
-        Inst::Call { link, info } => report_call(v, denied, &link.to_reg(), info),
+        Inst::Call { link, info } => report_call(v, denied, link, info),
         Inst::ReturnCall { info } => report_return_call(v, denied, info),
         Inst::LoadSymbolReloc { rd, .. } => report_output_scratch(v, denied, rd),
         Inst::LabelAddress { dst, .. } => report_output(v, denied, dst, &[]),

@@ -37,12 +37,12 @@ pub fn report_inst<V: OperandVisitor>(
         Inst::Loop { body, .. } => report_members(v, body),
         // asked first, since they are many and the groups are long
         Inst::Load32 { rd, mem } | Inst::Load64 { rd, mem } => {
-            report_output_from(v, denied, rd, &[], mem)
+            report_output_from(v, denied, rd, mem)
         }
         Inst::Store32 { rd, mem } | Inst::Store64 { rd, mem } => {
             report_input_from(v, denied, rd, mem)
         }
-        Inst::Call { link, info } => report_call(v, denied, &link.to_reg(), info),
+        Inst::Call { link, info } => report_call(v, denied, link, info),
         Inst::Vector(vector) => report_vector(v, denied, vector),
         _ => report_arithmetic(v, denied, inst),
     }

@@ -50,6 +50,7 @@ pub fn report_reuse<V: OperandVisitor>(
 }
 
 /// Reports the register that emission may overwrite.
+#[inline(always)]
 pub fn report_scratch<V: OperandVisitor>(v: &mut V, denied: bool) -> Result<(), OperandError>
     ensures { Reports denied (scratch_request ∷ []) (V.items v.old) (V.items v.new) (V.denies v.old)
         (V.denies v.new) result }
@@ -166,6 +167,7 @@ pub fn report_inputs<V: OperandVisitor>(
 }
 
 /// Reports a register that is read, and a memory operand.
+#[inline(never)]
 pub fn report_input_from<V: OperandVisitor>(
     v: &mut V,
     denied: bool,
@@ -194,20 +196,34 @@ pub fn report_output<V: OperandVisitor>(
     report_uses(v, denied, uses)
 }
 
-/// Reports an output, inputs and a memory operand.
+/// Reports an output and a memory operand.
+#[inline(never)]
 pub fn report_output_from<V: OperandVisitor>(
     v: &mut V,
     denied: bool,
     rd: &Writable<Reg>,
-    uses: &[Reg],
     mem: &MemArg,
 ) -> Result<(), OperandError>
-    ensures { Reports denied
-        (reported_def rd.now ∷ (map reported_use uses.now ++ memory_requests mem.now))
+    ensures { Reports denied (reported_def rd.now ∷ memory_requests mem.now) (V.items v.old)
+        (V.items v.new) (V.denies v.old) (V.denies v.new) result }
+{
+    report_def(v, denied, rd)?;
+    report_memory(v, denied, mem)
+}
+
+/// Reports an output, an input and a memory operand.
+pub fn report_update<V: OperandVisitor>(
+    v: &mut V,
+    denied: bool,
+    rd: &Writable<Reg>,
+    rn: &Reg,
+    mem: &MemArg,
+) -> Result<(), OperandError>
+    ensures { Reports denied (reported_def rd.now ∷ reported_use rn.now ∷ memory_requests mem.now)
         (V.items v.old) (V.items v.new) (V.denies v.old) (V.denies v.new) result }
 {
     report_def(v, denied, rd)?;
-    report_inputs(v, denied, uses, mem)
+    report_input_from(v, denied, rn, mem)
 }
 
 /// Reports an output that has to be the first input, and the inputs.
@@ -345,6 +361,7 @@ pub fn report_output_scratch<V: OperandVisitor>(
 }
 
 /// Reports an input and the register that emission may overwrite.
+#[inline(always)]
 pub fn report_use_scratch<V: OperandVisitor>(
     v: &mut V,
     denied: bool,

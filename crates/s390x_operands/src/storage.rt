@@ -5,7 +5,9 @@ ghost use Rattle.s390x_operands.specs.Operands.{storage_requests, rest_requests}
 use crate::constraint::OperandError;
 use crate::control::report_control;
 use crate::multiple::report_multiple;
-use crate::report::{report_inputs, report_output, report_output_from, report_reused_from};
+use crate::report::{
+    report_inputs, report_output, report_output_from, report_reused_from, report_update,
+};
 use crate::visitor::OperandVisitor;
 use s390x_inst::Inst;
 
@@ -15,7 +17,7 @@ fn report_rest<V: OperandVisitor>(v: &mut V, denied: bool, inst: &Inst) -> Resul
         (V.denies v.old) (V.denies v.new) result }
 {
     match inst {
-        Inst::LoadAddr { rd, mem } => report_output_from(v, denied, rd, &[], mem),
+        Inst::LoadAddr { rd, mem } => report_output_from(v, denied, rd, mem),
         Inst::StoreImm8 { mem, .. }
         | Inst::StoreImm16 { mem, .. }
         | Inst::StoreImm32SExt16 { mem, .. }
@@ -32,7 +34,7 @@ fn report_rest<V: OperandVisitor>(v: &mut V, denied: bool, inst: &Inst) -> Resul
             index,
             ..
         } => { report_output(v, denied, rd, &[*base, *index]) }
-        Inst::AtomicRmw { rd, rn, mem, .. } => { report_output_from(v, denied, rd, &[*rn], mem) }
+        Inst::AtomicRmw { rd, rn, mem, .. } => report_update(v, denied, rd, rn, mem),
         Inst::AtomicCas32 { rd, ri, rn, mem } | Inst::AtomicCas64 { rd, ri, rn, mem } => {
             report_reused_from(v, denied, rd, &[*ri, *rn], mem)
         }
@@ -54,7 +56,7 @@ pub fn report_storage<V: OperandVisitor>(
         (V.denies v.old) (V.denies v.new) result }
 {
     match inst.as_load() {
-        Some(load) => report_output_from(v, denied, &load.rd, &[], &load.mem),
+        Some(load) => report_output_from(v, denied, &load.rd, &load.mem),
         None => match inst.as_store() {
             Some(store) => report_inputs(v, denied, &[store.rd], &store.mem),
             None => report_rest(v, denied, inst),

@@ -23,7 +23,7 @@ fn report_whole<V: OperandVisitor>(
     match whole.direction {
         Direction::Load => {
             let rd = Writable::from_reg(whole.rd);
-            report_output_from(v, denied, &rd, &[], &whole.mem)
+            report_output_from(v, denied, &rd, &whole.mem)
         }
         Direction::Store => report_inputs(v, denied, &[whole.rd], &whole.mem),
     }
@@ -40,24 +40,12 @@ pub fn report_vector<V: OperandVisitor>(
 {
     match inst {
         // asked first, since they are many
-        VecInst::VecLoad { rd, mem } => report_output_from(v, denied, rd, &[], mem),
+        VecInst::VecLoad { rd, mem } => report_output_from(v, denied, rd, mem),
         VecInst::VecStore { rd, mem } => report_input_from(v, denied, rd, mem),
-        _ => report_other(v, denied, inst),
-    }
-}
-
-// Reports the operands of any vector instruction.
-fn report_other<V: OperandVisitor>(
-    v: &mut V,
-    denied: bool,
-    inst: &VecInst,
-) -> Result<(), OperandError>
-    ensures { Reports denied (vector_requests inst.now) (V.items v.old) (V.items v.new)
-        (V.denies v.old) (V.denies v.new) result }
-{
-    match inst.as_whole() {
-        Some(whole) => report_whole(v, denied, &whole),
-        None => report_part(v, denied, inst),
+        _ => match inst.as_whole() {
+            Some(whole) => report_whole(v, denied, &whole),
+            None => report_part(v, denied, inst),
+        },
     }
 }
 
@@ -75,7 +63,7 @@ fn report_part<V: OperandVisitor>(
         | VecInst::VecLoadReplicateRev { rd, mem, .. }
         | VecInst::VecLoadLaneUndef { rd, mem, .. }
         | VecInst::VecLoadLaneRevUndef { rd, mem, .. } => {
-            report_output_from(v, denied, rd, &[], mem)
+            report_output_from(v, denied, rd, mem)
         }
         VecInst::VecStoreLane { rd, mem, .. } | VecInst::VecStoreLaneRev { rd, mem, .. } => {
             report_inputs(v, denied, &[*rd], mem)

@@ -47,6 +47,7 @@ pub trait OperandVisitor {
         ensures denies { denies self.new ≡ denies self.old };
 
     /// Reports a register that is read at the beginning; a real one as fixed.
+    #[inline(always)]
     fn reg_use(&mut self, reg: Reg) -> Result<(), OperandError>
         ensures takes { Takes (denies self.old) (placed_or InRegister Use Early reg)
             (items self.old) (items self.new) result }
@@ -64,6 +65,7 @@ pub trait OperandVisitor {
     }
 
     /// Reports a register that is written at the end; a real one as fixed.
+    #[inline(always)]
     fn reg_def(&mut self, reg: Writable<Reg>) -> Result<(), OperandError>
         ensures takes { Takes (denies self.old) (placed_or InRegister Def Late reg) (items self.old)
             (items self.new) result }
