@@ -60,11 +60,7 @@ fn has_vector(set: &PRegSet) -> bool
 }
 
 // The vector registers of a set, one by one.
-fn put_each_vector(
-    out: &mut String,
-    set: &PRegSet,
-    begins_list: bool,
-) -> Result<bool, AllocError>
+fn put_each_vector(out: &mut String, set: &PRegSet, begins_list: bool) -> Result<bool, AllocError>
     ensures { Listed begins_list (vector_members (has set.now)) (string_bytes out.old)
         (string_bytes out.new) result }
 {

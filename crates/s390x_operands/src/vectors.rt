@@ -62,9 +62,7 @@ fn report_part<V: OperandVisitor>(
         VecInst::VecLoadReplicate { rd, mem, .. }
         | VecInst::VecLoadReplicateRev { rd, mem, .. }
         | VecInst::VecLoadLaneUndef { rd, mem, .. }
-        | VecInst::VecLoadLaneRevUndef { rd, mem, .. } => {
-            report_output_from(v, denied, rd, mem)
-        }
+        | VecInst::VecLoadLaneRevUndef { rd, mem, .. } => { report_output_from(v, denied, rd, mem) }
         VecInst::VecStoreLane { rd, mem, .. } | VecInst::VecStoreLaneRev { rd, mem, .. } => {
             report_inputs(v, denied, &[*rd], mem)
         }
