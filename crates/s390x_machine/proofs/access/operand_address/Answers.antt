@@ -6,5 +6,5 @@ use Rattle.s390x_machine.proofs.access.operand_address.Goals as goal
 pub returns-in-Memory : goal.returns-in-Memory
 returns-in-Memory c = subst (λ (s : Source). StandsAt s c.in-Memory.address c.args.n) (sym c.in-Memory.is) refl
 
-pub returns-in-AlignedMemory : goal.returns-in-AlignedMemory
-returns-in-AlignedMemory c = subst (λ (s : Source). StandsAt s c.in-AlignedMemory.address c.args.n) (sym c.in-AlignedMemory.is) (refl, sym c.is_misaligned.ensures ∙ c.if-is_misaligned.false)
+pub returns-else-is_misaligned : goal.returns-else-is_misaligned
+returns-else-is_misaligned c = subst (λ (s : Source). StandsAt s c.in-AlignedMemory.address c.args.n) (sym c.in-AlignedMemory.is) (refl, sym c.is_misaligned.ensures ∙ c.if-is_misaligned.false)
