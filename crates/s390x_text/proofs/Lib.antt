@@ -2,7 +2,6 @@ pub mod Agreement
 pub mod Blocks
 pub mod CallTexts
 pub mod Elements
-mod Epilogues
 pub mod Leaves
 pub mod Loops
 pub mod Machines
