@@ -78,8 +78,6 @@ impl OperandVisitor for ItemList {
 
     ghost denies = { λ v. false };
 
-    // apart, so that a real register is kept where it is reported
-    #[inline(never)]
     #[tactic(auto, using(crate::proofs::Lines::taken_behind))]
     fn add_operand(
         &mut self,
