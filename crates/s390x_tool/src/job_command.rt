@@ -34,21 +34,6 @@ pub fn answer(alloc: Global, command: JobCommand, input: &[u8]) -> Reply
     }
 }
 
-/// As `answer`, of an input that nothing else needs: its memory is given back once it is read.
-pub fn answer_and_free(alloc: Global, command: JobCommand, input: Vec<u8>) -> Reply
-    requires { length input.items < text_limit }
-    ensures { IsAnswer command input.items result.status (cow_str_bytes result.text) }
-{
-    match read_lines(alloc, &input) {
-        Ok(job) => {
-            drop(input);
-            reply_to_job(alloc, command, &job)
-        }
-        Err(LineError::Syntax { line }) => syntax(alloc, line),
-        Err(LineError::NoMemory) => no_memory(),
-    }
-}
-
 // The command's reply to a job.
 fn reply_to_job(alloc: Global, command: JobCommand, job: &Job) -> Reply
     requires { IsJob job.now }
@@ -91,8 +76,7 @@ fn show(alloc: Global, job: &Job) -> Reply
     ensures { IsShowReply job.now result.status (cow_str_bytes result.text) }
 {
     match emit_function(alloc, &job.function, &job.info, job.state) {
-        Ok(code) => {
-            drop(code);
+        Ok(_) => {
             valid_blocks_have_texts();
             texts(alloc, job)
         }

@@ -92,7 +92,6 @@ fn hex_line(alloc: Global, bytes: &[u8]) -> Result<String, AllocError>
     ensures { IfOk result (λ text. string_bytes text ≡ line (encode_lower bytes.now)) }
 {
     let mut text = hex::encode(alloc, bytes)?;
-    text.reserve_exact(1)?;
     text.push_str("\n")?;
     Ok(text)
 }
