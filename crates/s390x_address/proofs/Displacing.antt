@@ -1,5 +1,6 @@
 -- An instruction whose offset a displacement of its rows holds is behind no helper, and only its registers may refuse it.
-use Rattle.std.proofs.Common.{◌≡◌, ℕ, ◌+◌, ℤ, pos, negsuc, unsigned_abs, List, [], ◌∷◌, ◌++◌, length, Bool, true, false, cond, not, ◌&&◌, ◌||◌, Option, None, Some, option_map, is_some, IfSome, refl, sym, ap, subst, ◌∙◌, arith}
+use Rattle.std.proofs.Common.{◌≡◌, ℕ, ◌+◌, ℤ, pos, negsuc, unsigned_abs, List, [], ◌∷◌, ◌++◌, length, Bool, true, false, cond, not, ◌&&◌, ◌||◌, Option, None, Some, option_map, IfSome, refl, sym, ap, subst, ◌∙◌, arith}
+use Rattle.std.proofs.lemmas.Bool.{and_right, or_right}
 use Rattle.s390x_base.specs.Regs.{number_of}
 use Rattle.s390x_base.specs.declared.error.EmitError.{EmitError}
 use Rattle.s390x_base.specs.declared.error.EmitError.TheVariants.{BadOperator, BadRegister, ScratchConflict, OffsetOutOfRange}
@@ -16,24 +17,13 @@ use Rattle.s390x_typed_steps.specs.MachineInstruction.{MachineInstruction, bytes
 use Rattle.s390x_typed_steps.specs.Memory.{StorageForm, RxForm, VrxForm, type_of, storage_row, of_opcode}
 use Rattle.s390x_typed_steps.specs.Operands.{Finalized, scratch, no_register, is_numbered, is_relative, is_far, fits_12, fits_20, fits_32, with_displacement, with_address_loaded, with_widened, finalized_operand, has_form}
 use Rattle.s390x_typed_steps.specs.Parts.{helpers_parts, relative_parts, access_parts, operand_parts, finalized_parts, parts_size}
+use Rattle.s390x_typed_steps.proofs.Causes.{first_none}
 use Rattle.s390x_address.specs.Lowerings.{IsPlain, IsBehind, IsIndexed}
 use Rattle.s390x_address.specs.Rows.{storage_form_of}
 use Rattle.s390x_address.specs.declared.rows.StorageRows.{StorageRows}
 use Rattle.s390x_address.specs.declared.rows.StorageRows.TheVariants.{OneRegister, Vector}
 use Rattle.s390x_address.proofs.OnlyMemory.{length-bytes}
 use Rattle.s390x_address.proofs.Refusing.{wider_12, wider_20}
-
-and_false : (b : Bool) → (b && false) ≡ false
-and_false true = refl
-and_false false = refl
-
-or_true : (b : Bool) → (b || true) ≡ true
-or_true true = refl
-or_true false = refl
-
-first_alone : (o : Option EmitError) → first_emit_cause o None ≡ o
-first_alone None = refl
-first_alone (Some e) = refl
 
 -- an offset that a helper doesn't load and an immediate holds
 only_registers : (D : Declared) (form : StorageForm) (base : Reg) (off : ℤ) (flags : AccessFlags) (accesses operands_valid reads_scratch : Bool) →
@@ -45,10 +35,10 @@ only_registers D form base off flags accesses operands_valid reads_scratch has n
     let numbered = is_numbered 1 base in
     let helpers = (finalized_operand (type_of form accesses) (RegOffset base off flags)).helpers in
     ap (λ t. first_emit_cause (unless t BadOperator) (first_emit_cause registers (late (numbered && is_far off) (reads_scratch && is_helped helpers) (fits_32 off)))) has
-    ∙ ap (λ t. first_emit_cause registers (late t (reads_scratch && is_helped helpers) (fits_32 off))) (ap (λ t. numbered && t) near ∙ and_false numbered)
-    ∙ ap (λ t. first_emit_cause registers (late false t (fits_32 off))) (ap (λ hs. reads_scratch && is_helped hs) alone ∙ and_false reads_scratch)
+    ∙ ap (λ t. first_emit_cause registers (late t (reads_scratch && is_helped helpers) (fits_32 off))) (ap (λ t. numbered && t) near ∙ and_right numbered false refl)
+    ∙ ap (λ t. first_emit_cause registers (late false t (fits_32 off))) (ap (λ hs. reads_scratch && is_helped hs) alone ∙ and_right reads_scratch false refl)
     ∙ ap (λ t. first_emit_cause registers (late false false t)) fits
-    ∙ first_alone registers
+    ∙ first_none registers
 
 -- ---- a displacement of 12 bits
 
@@ -63,7 +53,7 @@ short_plain register opcode rxy_opcode ril_opcode base off flags accesses operan
     let far : Finalized = record { helpers = Mov64SImm32 scratch off ∷ []; operand = BXD12 base scratch 0 flags } in
     let stays : Finalized = record { helpers = []; operand = RegOffset base off flags } in
     let lowered : finalized_operand mi (RegOffset base off flags) ≡ short = ap (λ t. with_widened mi (with_address_loaded mi (cond t short (cond (fits_20 off) long (cond (fits_32 off) far stays))))) fits in
-    let near : is_far off ≡ false = ap (λ t. fits_32 off && not t && not (fits_20 off)) fits ∙ ap (λ t. t && not (fits_20 off)) (and_false (fits_32 off)) in
+    let near : is_far off ≡ false = ap (λ t. fits_32 off && not t && not (fits_20 off)) fits ∙ ap (λ t. t && not (fits_20 off)) (and_right (fits_32 off) false refl) in
     let alone = ap (λ (f : Finalized). f.helpers) lowered in (
       alone,
       ap (λ (f : Finalized). is_relative f.operand) lowered,
@@ -83,7 +73,7 @@ vector_plain register opcode mask base off flags accesses operands_valid reads_s
     let far : Finalized = record { helpers = Mov64SImm32 scratch off ∷ []; operand = BXD12 base scratch 0 flags } in
     let stays : Finalized = record { helpers = []; operand = RegOffset base off flags } in
     let lowered : finalized_operand mi (RegOffset base off flags) ≡ short = ap (λ t. with_widened mi (with_address_loaded mi (cond t short (cond (fits_20 off) long (cond (fits_32 off) far stays))))) fits in
-    let near : is_far off ≡ false = ap (λ t. fits_32 off && not t && not (fits_20 off)) fits ∙ ap (λ t. t && not (fits_20 off)) (and_false (fits_32 off)) in
+    let near : is_far off ≡ false = ap (λ t. fits_32 off && not t && not (fits_20 off)) fits ∙ ap (λ t. t && not (fits_20 off)) (and_right (fits_32 off) false refl) in
     let alone = ap (λ (f : Finalized). f.helpers) lowered in (
       alone,
       ap (λ (f : Finalized). is_relative f.operand) lowered,
@@ -122,9 +112,9 @@ long_plain register rx_opcode (Some opcode) ril_opcode base off flags accesses o
     let lowered : finalized_operand mi (RegOffset base off flags) ≡ long =
     ap (λ t. with_widened mi (with_address_loaded mi (cond (fits_12 off) short (cond t long others)))) fits
     ∙ long_chosen register opcode rx_opcode ril_opcode accesses base off flags others (fits_12 off) none (not_negative off) in
-    let near : is_far off ≡ false = ap (λ t. fits_32 off && not (fits_12 off) && not t) fits ∙ and_false (fits_32 off && not (fits_12 off)) in
+    let near : is_far off ≡ false = ap (λ t. fits_32 off && not (fits_12 off) && not t) fits ∙ and_right (fits_32 off && not (fits_12 off)) false refl in
     let alone = ap (λ (f : Finalized). f.helpers) lowered in
-    let has : has_form mi (RegOffset base off flags) ≡ true = ap (λ t. t || (is_relative (RegOffset base off flags) && true)) (or_true mi.have_d12) in (
+    let has : has_form mi (RegOffset base off flags) ≡ true = ap (λ t. t || (is_relative (RegOffset base off flags) && true)) (or_right mi.have_d12 true refl) in (
       alone,
       ap (λ (f : Finalized). is_relative f.operand) lowered,
       ap (λ (f : Finalized). option_map bytes_of (storage_row form f.operand)) lowered ∙ same,
@@ -219,7 +209,7 @@ far_behind form base off flags accesses operands_valid code far other indexed =
       λ D. ap (λ t. first_emit_cause (unless t BadOperator) (first_emit_cause registers (late ((is_numbered 1 base && is_far off) || false) (fits_32 off)))) indexed.0
           ∙ ap (λ t. first_emit_cause registers (late ((t && is_far off) || false) (fits_32 off))) other
           ∙ ap (λ t. first_emit_cause registers (late false t)) tests.0
-          ∙ first_alone registers,
+          ∙ first_none registers,
     )
 
 pub far_found : (form : StorageForm) (base : Reg) (imm off : ℤ) (flags : AccessFlags) (accesses operands_valid : Bool) (code : List ℕ) → Some imm ≡ cond (is_far off) (Some off) None → is_numbered 1 base ≡ false → IsIndexed form accesses base flags code →
@@ -228,13 +218,6 @@ far_found form base imm off flags accesses operands_valid code far other indexed
     let p = held (is_far off) imm off far in
     subst (λ z. IsBehind (record { form = form; operand = RegOffset base off flags; accesses = accesses; operands_valid = operands_valid; reads_scratch = false }) (Mov64SImm32 scratch z ∷ []) code) (sym p.1)
     (far_behind form base off flags accesses operands_valid code p.0 other indexed)
-
--- an offset that no displacement holds and an immediate does
-pub far_of : (off imm : ℤ) (d : ℕ) (a b c : Bool) → is_some (cond a (Some d) None) ≡ false → is_some (cond b (Some off) None) ≡ false → cond c (Some imm) None ≡ cond (c && not a && not b) (Some imm) None
-far_of off imm d true b c h k = absurd (cc)
-far_of off imm d false true c h k = absurd (cc)
-far_of off imm d false false true h k = refl
-far_of off imm d false false false h k = refl
 
 pub short_indexed : (found : Option (List ℕ)) (register base : Reg) (rx_opcode rxy_opcode ril_opcode : Option ℕ) (opcode : ℕ) (flags : AccessFlags) (accesses : Bool) → rx_opcode ≡ Some opcode →
     IfSome found (λ code. code ≡ bytes_of (rx opcode (number_of register) (number_of base) (number_of scratch) (low_12 0))) →

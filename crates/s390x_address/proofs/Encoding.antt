@@ -54,13 +54,19 @@ class_general Int t h = refl
 class_general Float t h = absurd (cc)
 
 -- a real Int register can be encoded
-one_general : (r : Reg) → checked_general r ≡ true → is_general_class r ≡ true
+pub one_general : (r : Reg) → checked_general r ≡ true → is_general_class r ≡ true
 one_general (Real r) h = class_general r.class _ h
 one_general (Virtual num class) h = absurd (cc)
 
-implied : (s t : Bool) → (s ≡ true → t ≡ true) → (not s || t) ≡ true
+-- a test with a weaker one behind it
+pub implied : (s t : Bool) → (s ≡ true → t ≡ true) → (not s || t) ≡ true
 implied true t h = h refl
 implied false t h = refl
+
+-- and back
+pub follows : (s t : Bool) → (not s || t) ≡ true → s ≡ true → t ≡ true
+follows true t h e = h
+follows false t h e = absurd (cc)
 
 pub register_encodes : (r : Reg) (rx_opcode rxy_opcode ril_opcode : Option ℕ) → (rows_take_general rx_opcode && rows_take_general rxy_opcode) ≡ true → has_12_bits ril_opcode ≡ true → (has_12_bits ril_opcode && (not (checked_general r) || (is_general_class r && rows_take_general rx_opcode && rows_take_general rxy_opcode))) ≡ true
 register_encodes r rx_opcode rxy_opcode ril_opcode h k = and_from (has_12_bits ril_opcode) _ k (implied (checked_general r) _ (λ g.
@@ -72,7 +78,7 @@ two_encode a b t = implied (checked_general a && checked_general b && t) _ (λ g
     let p = and_parts (checked_general a) (checked_general b) (and_parts (checked_general a && checked_general b) t g).0 in
     and_from (is_general_class a) (is_general_class b) (one_general a p.0) (one_general b p.1))
 
-class_vector : (c : RegClass) (t : Bool) → (not (is_int c) && t) ≡ true → is_float_class c ≡ true
+pub class_vector : (c : RegClass) (t : Bool) → (not (is_int c) && t) ≡ true → is_float_class c ≡ true
 class_vector Int t h = absurd (cc)
 class_vector Float t h = refl
 

@@ -29,7 +29,7 @@ lowered_last D e x f none same =
     ∙ ap (λ c. first_emit_cause c (target_cause D x)) (sym (late_ok y none))
     ∙ ap (λ c. first_emit_cause (late_cause y) c) (sym (target_same D e x))
 
-both_none : (a b : Option EmitError) → a ≡ None → b ≡ None → first_emit_cause a b ≡ None
+pub both_none : (a b : Option EmitError) → a ≡ None → b ≡ None → first_emit_cause a b ≡ None
 both_none a b ea eb = ap (λ x. first_emit_cause x b) ea ∙ eb
 
 -- where no cause stands by the lowering, the instruction has none

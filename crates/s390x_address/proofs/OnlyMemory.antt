@@ -1,24 +1,14 @@
 -- Where no cause stands, a call of the buffer is refused for want of memory alone; what the parts of an instruction do to a buffer.
-use Rattle.std.proofs.Common.{◌≡◌, ℕ, ◌+◌, ◌<◌, List, [], ◌∷◌, ◌++◌, Bool, true, false, cond, nat_lt, Option, None, Some, length, Result, Ok, Err, MatchResult, IfErr, IsErrAnd, refl, sym, ap, ◌∙◌, arith}
+use Rattle.std.proofs.Common.{◌≡◌, ℕ, ◌+◌, ◌<◌, List, [], ◌∷◌, ◌++◌, Bool, true, false, cond, nat_lt, Option, None, Some, length, Result, Ok, Err, IfErr, IsErrAnd, refl, sym, ap, ◌∙◌, arith, append_assoc}
 use Rattle.std.proofs.lemmas.Bool.{ltb-true, lt-ltb}
 use Rattle.s390x_base.specs.declared.error.EmitError.{EmitError}
 use Rattle.s390x_base.specs.declared.error.EmitError.TheVariants.{NoMemory, LabelOutOfRange, Failed}
-use Rattle.s390x_buffer.specs.State.{BufferState, FailsWith, put_cause, limit}
+use Rattle.s390x_buffer.specs.State.{BufferState, put_cause, limit}
 use Rattle.s390x_format.proofs.Encoding.{encode-length}
 use Rattle.s390x_inst.specs.declared.inst.Inst.{Inst}
 use Rattle.s390x_typed_steps.specs.Causes.{declared_in}
 use Rattle.s390x_typed_steps.specs.MachineInstruction.{MachineInstruction, bytes_of, size_of}
 use Rattle.s390x_typed_steps.specs.Parts.{CodePart, helper_parts, helpers_parts, parts_size}
-use Rattle.s390x_address.specs.Appended.{with_part, with_parts}
-
-pub fails_with_none : (c : Option EmitError) (e : EmitError) → c ≡ None → FailsWith c e → e ≡ NoMemory
-fails_with_none None e h b = b
-fails_with_none (Some x) e h b = absurd (cc)
-
--- a call's answer, where its cause doesn't stand
-pub only_memory_of_call : {T : Type 0} (P : T → Type 0) (Q : EmitError → Type 0) (c : Option EmitError) (r : Result T EmitError) → MatchResult r P (λ e. FailsWith c e × Q e) → c ≡ None → IfErr r (λ e. e ≡ NoMemory)
-only_memory_of_call P Q c (Ok x) m h = tt
-only_memory_of_call P Q c (Err e) m h = fails_with_none c e h m.0
 
 -- an error that is handed on
 pub only_memory_again : {T : Type 0} (r : Result T EmitError) (e : EmitError) → IsErrAnd r (λ y. y ≡ e) → e ≡ NoMemory → IfErr r (λ y. y ≡ NoMemory)
@@ -34,10 +24,10 @@ two_tests false false d e h = absurd (cc)
 pub put_parts : (s : BufferState) (n : ℕ) → put_cause s n ≡ None → (s.is_poisoned ≡ false) × (length s.bytes + n < limit)
 put_parts s n h = let t = two_tests s.is_poisoned (nat_lt (length s.bytes + n) limit) Failed LabelOutOfRange h in (t.0, ltb-true (length s.bytes + n) limit t.1)
 
-mark_of : (f : Bool) (o : Option EmitError) → f ≡ false → cond f (Some Failed) o ≡ o
+pub mark_of : (f : Bool) (o : Option EmitError) → f ≡ false → cond f (Some Failed) o ≡ o
 mark_of f o h = ap (λ b. cond b (Some Failed) o) h
 
-test_of : (t : Bool) (e : EmitError) → t ≡ true → cond t None (Some e) ≡ None
+pub test_of : (t : Bool) (e : EmitError) → t ≡ true → cond t None (Some e) ≡ None
 test_of t e h = ap (λ b. cond b None (Some e)) h
 
 pub put_none : (s : BufferState) (n : ℕ) → s.is_poisoned ≡ false → length s.bytes + n < limit → put_cause s n ≡ None
@@ -60,26 +50,10 @@ put_others s t a b q h = let p = put_parts s (a + b) h in put_none t b (q.unpois
 pub length-bytes : (m : MachineInstruction) → length (bytes_of m) ≡ size_of m
 length-bytes m = encode-length m.format m.slots
 
-pub appended_append : (s : BufferState) (a b : List CodePart) → with_parts s (a ++ b) ≡ with_parts (with_parts s a) b
-appended_append s [] b = refl
-appended_append s (p ∷ a) b = appended_append (with_part s p) a b
-
 pub size_append : (a b : List CodePart) → parts_size (a ++ b) ≡ parts_size a + parts_size b
 size_append [] b = omega arith
 size_append (p ∷ a) b = omega (arith, size_append a b)
 
-append_assoc : (a b c : List CodePart) → (a ++ b) ++ c ≡ a ++ (b ++ c)
-append_assoc [] b c = refl
-append_assoc (p ∷ a) b c = ap (λ l. p ∷ l) (append_assoc a b c)
-
 pub helpers_append : (a b : List Inst) → helpers_parts (a ++ b) ≡ helpers_parts a ++ helpers_parts b
 helpers_append [] b = refl
 helpers_append (i ∷ a) b = ap (λ l. helper_parts i ++ l) (helpers_append a b) ∙ sym (append_assoc (helper_parts i) (helpers_parts a) (helpers_parts b))
-
-nothing_behind : (a : List CodePart) → a ++ [] ≡ a
-nothing_behind [] = refl
-nothing_behind (p ∷ a) = ap (λ l. p ∷ l) (nothing_behind a)
-
--- one helper has its parts alone
-pub one_helper : (i : Inst) → helpers_parts (i ∷ []) ≡ helper_parts i
-one_helper i = nothing_behind (helper_parts i)

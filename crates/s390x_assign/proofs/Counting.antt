@@ -1,15 +1,11 @@
 -- Operands of a list are counted, and registers given to it, one item after the other.
-use Rattle.std.proofs.Common.{◌≡◌, ℕ, suc, ◌+◌, ◌<◌, ◌≤◌, List, [], ◌∷◌, ◌++◌, length, get_or, drop, drop-cons, refl, sym, ap, ◌∙◌, arith}
+use Rattle.std.proofs.Common.{◌≡◌, ℕ, ◌+◌, ◌<◌, ◌≤◌, List, [], ◌∷◌, ◌++◌, length, get_or, drop, sym, ap, ◌∙◌, arith, append_assoc, append-nil}
 use Rattle.std.proofs.lemmas.List.{drop_all}
 use Rattle.s390x_base.specs.declared.regs.Reg.{Reg}
 use Rattle.s390x_operands.specs.declared.constraint.Reported.{Reported}
 use Rattle.s390x_operands.specs.declared.constraint.Reported.TheVariants.{Operand}
+use Rattle.s390x_operands.proofs.Looping.{cons_of}
 use Rattle.s390x_assign.specs.Assignments.{operand_count, each_at}
-
-pub cons_of : {T : Type 0} (xs : List T) (k : ℕ) (x : T) → k < length xs → x ≡ get_or xs k x → drop k xs ≡ x ∷ drop (k + 1) xs
-cons_of xs k x lt at =
-    let k1 : suc k ≡ k + 1 = omega arith in
-    drop-cons xs k x lt ∙ ap (λ y. y ∷ drop (suc k) xs) (sym at) ∙ ap (λ m. x ∷ drop m xs) k1
 
 count_first : (x : Reported) (xs : List Reported) → operand_count (x ∷ xs) ≡ operand_count (x ∷ []) + operand_count xs
 count_first (Operand reg constraint kind pos) xs = omega arith
@@ -26,14 +22,6 @@ pub count_done : (xs : List Reported) (k n t : ℕ) → length xs ≤ k → n + 
 count_done xs k n t le h =
     let a : operand_count (drop k xs) ≡ 0 = ap operand_count (drop_all k xs le) in
     omega arith
-
-append_assoc : {T : Type 0} (xs ys zs : List T) → (xs ++ ys) ++ zs ≡ xs ++ (ys ++ zs)
-append_assoc [] ys zs = refl
-append_assoc (x ∷ xs) ys zs = ap (λ t. x ∷ t) (append_assoc xs ys zs)
-
-pub append_nil : {T : Type 0} (xs : List T) → xs ++ [] ≡ xs
-append_nil [] = refl
-append_nil (x ∷ xs) = ap (λ t. x ∷ t) (append_nil xs)
 
 -- one more item has its registers
 pub given_turn : {T : Type 0} (f : T → List Reg → T × List Reg) (xs done after : List T) (k : ℕ) (x y : T) (s₀ s₁ : List Reg) (t : List T) → k < length xs → x ≡ get_or xs k x → y ≡ (f x s₀).0 → s₁ ≡ (f x s₀).1 → after ≡ done ++ y ∷ [] → done ++ (each_at f (drop k xs) s₀).0 ≡ t → after ++ (each_at f (drop (k + 1) xs) s₁).0 ≡ t
@@ -52,7 +40,7 @@ left_turn f xs k x s₀ s₁ t lt at left h =
 
 -- all items have their registers
 pub given_done : {T : Type 0} (f : T → List Reg → T × List Reg) (xs done : List T) (k : ℕ) (s : List Reg) (t : List T) → length xs ≤ k → done ++ (each_at f (drop k xs) s).0 ≡ t → done ≡ t
-given_done f xs done k s t le h = sym (append_nil done) ∙ sym (ap (λ ys. done ++ (each_at f ys s).0) (drop_all k xs le)) ∙ h
+given_done f xs done k s t le h = sym (append-nil done) ∙ sym (ap (λ ys. done ++ (each_at f ys s).0) (drop_all k xs le)) ∙ h
 
 pub left_done : {T : Type 0} (f : T → List Reg → T × List Reg) (xs : List T) (k : ℕ) (s t : List Reg) → length xs ≤ k → (each_at f (drop k xs) s).1 ≡ t → s ≡ t
 left_done f xs k s t le h = sym (ap (λ ys. (each_at f ys s).1) (drop_all k xs le)) ∙ h

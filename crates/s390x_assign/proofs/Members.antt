@@ -1,29 +1,17 @@
 -- The registers of a loop's members, one member after the other.
-use Rattle.std.proofs.Common.{◌≡◌, ℕ, ◌+◌, ◌<◌, ◌≤◌, false, List, [], ◌∷◌, ◌++◌, length, get_or, drop, Result, Ok, Err, IfOk, refl, sym, ap, ◌∙◌, Vec, Global}
+use Rattle.std.proofs.Common.{◌≡◌, ℕ, ◌+◌, ◌<◌, ◌≤◌, false, List, [], ◌∷◌, ◌++◌, length, get_or, drop, Result, Ok, Err, IfOk, refl, sym, ap, ◌∙◌, Vec, Global, append_assoc, append-nil}
 use Rattle.std.proofs.lemmas.List.{drop_all}
 use Rattle.s390x_base.specs.declared.regs.Reg.{Reg}
 use Rattle.s390x_inst.specs.declared.inst.Inst.{Inst}
-use Rattle.s390x_inst.specs.declared.inst.Inst.TheVariants.{Loop'}
 use Rattle.s390x_inst.specs.declared.inst.Inst.TheViews as V
 use Rattle.s390x_inst.specs.Portions.{Portion, plain, indirect_branch, jump_table, calling, tail_calling, arguments, results, opening, closing, first_portion, portions, members_portions}
-use Rattle.s390x_inst.proofs.Portions.{loop_portions, opens, opens_no_loop}
+use Rattle.s390x_inst.proofs.Portions.{loop_portions, opens, opens_no_loop, members_append, one_portion}
 use Rattle.s390x_assign.specs.Assignments.{assigned_portions, each_at, portion_at, IsPortion, ArePortions}
-use Rattle.s390x_assign.proofs.Counting.{cons_of, append_nil}
-
-one_portion : (i : Inst) → opens (first_portion i) ≡ false → portions i ≡ first_portion i ∷ []
-one_portion (Loop' mask body all) h = absurd cc
-one_portion i h = refl
+use Rattle.s390x_operands.proofs.Looping.{cons_of}
 
 opens_still : (p : Portion) (s : List Reg) → opens (portion_at p s).0 ≡ opens p
 opens_still (plain i) s = refl
-opens_still (indirect_branch rn targets) s = refl
-opens_still (jump_table ridx default mask targets) s = refl
-opens_still (calling link dest uses defs terms) s = refl
-opens_still (tail_calling dest uses pop) s = refl
-opens_still (arguments xs) s = refl
-opens_still (results xs) s = refl
-opens_still (opening mask) s = refl
-opens_still closing s = refl
+opens_still p s = refl
 
 -- the answer for an instruction that is no loop
 pub given_other : {E : Type 0} (i : Inst) (r : Result Inst E) (s₀ s₁ : List Reg) → ((m : ℕ) (v : Vec Inst Global) → i ≡ V.Loop m v → ⊥) → IfOk r (λ j. IsPortion (portion_at (first_portion i) s₀) j s₁) → IfOk r (λ j. ArePortions (assigned_portions (portions i) s₀) (portions j) s₁)
@@ -44,14 +32,6 @@ given_loop i mask v w ms s₀ s₁ is at h =
     ∙ ap (λ p. (opening mask ∷ (p.0 ++ closing ∷ []), p.1)) h
     ∙ ap (λ ps. (ps, s₁)) (sym (loop_portions (V.Loop mask w) mask w refl))
 
-append_assoc : (xs ys zs : List Portion) → (xs ++ ys) ++ zs ≡ xs ++ (ys ++ zs)
-append_assoc [] ys zs = refl
-append_assoc (x ∷ xs) ys zs = ap (λ t. x ∷ t) (append_assoc xs ys zs)
-
-members_append : (xs ys : List Inst) → members_portions (xs ++ ys) ≡ members_portions xs ++ members_portions ys
-members_append [] ys = refl
-members_append (i ∷ is) ys = ap (λ t. portions i ++ t) (members_append is ys) ∙ sym (append_assoc (portions i) (members_portions is) (members_portions ys))
-
 -- the registers of the members behind one
 members_behind : (is : List Inst) (k : ℕ) (i j : Inst) (s₀ s₁ : List Reg) → k < length is → i ≡ get_or is k i → ArePortions (assigned_portions (portions i) s₀) (portions j) s₁ → assigned_portions (members_portions (drop k is)) s₀ ≡ (portions j ++ (assigned_portions (members_portions (drop (k + 1) is)) s₁).0, (assigned_portions (members_portions (drop (k + 1) is)) s₁).1)
 members_behind is k i j s₀ s₁ lt at h =
@@ -64,7 +44,7 @@ pub member_given : (is done after : List Inst) (k : ℕ) (i j : Inst) (s₀ s₁
 member_given is done after k i j s₀ s₁ t lt at h pushed before =
     let rest : List Portion = (assigned_portions (members_portions (drop (k + 1) is)) s₁).0 in
     ap (λ l. members_portions l ++ rest) pushed
-    ∙ ap (λ l. l ++ rest) (members_append done (j ∷ []) ∙ ap (λ l. members_portions done ++ l) (append_nil (portions j)))
+    ∙ ap (λ l. l ++ rest) (members_append done (j ∷ []) ∙ ap (λ l. members_portions done ++ l) (append-nil (portions j)))
     ∙ append_assoc (members_portions done) (portions j) rest
     ∙ ap (λ p. members_portions done ++ p.0) (sym (members_behind is k i j s₀ s₁ lt at h))
     ∙ before
@@ -76,6 +56,6 @@ member_left is k i j s₀ s₁ t lt at h before = ap (λ p. p.1) (sym (members_b
 pub members_given : (is done : List Inst) (k : ℕ) (s : List Reg) (x : List Portion × List Reg) → length is ≤ k → members_portions done ++ (assigned_portions (members_portions (drop k is)) s).0 ≡ x.0 → (assigned_portions (members_portions (drop k is)) s).1 ≡ x.1 → ArePortions x (members_portions done) s
 members_given is done k s x le value left =
     let none : drop k is ≡ [] = drop_all k is le in
-    let a : members_portions done ≡ x.0 = sym (append_nil (members_portions done)) ∙ sym (ap (λ xs. members_portions done ++ (assigned_portions (members_portions xs) s).0) none) ∙ value in
+    let a : members_portions done ≡ x.0 = sym (append-nil (members_portions done)) ∙ sym (ap (λ xs. members_portions done ++ (assigned_portions (members_portions xs) s).0) none) ∙ value in
     let b : s ≡ x.1 = sym (ap (λ xs. (assigned_portions (members_portions xs) s).1) none) ∙ left in
     ap (λ p. (p, x.1)) (sym a) ∙ ap (λ q. (members_portions done, q)) (sym b)

@@ -69,10 +69,6 @@ word-set4 bs o v h =
     let joined : word_from (set4 bs o v) o ≡ x0 * 16777216 + x1 * 65536 + x2 * 256 + x3 = cc in
     joined ∙ digits
 
--- bytes outside a use's field stay
-Outside : LabelUse → ℕ → ℕ → Type 0
-Outside k o i = (i < field_start k o) ⊎ (field_end k o ≤ i)
-
 set2_other : (bs : List ℕ) (o v i : ℕ) → (i < o) ⊎ (o + 2 ≤ i) → get_or (set2 bs o v) i 0 ≡ get_or bs i 0
 set2_other bs o v i h =
     let n0 : i ≢ o = λ e. elim h [ inl a ↦ omega arith | inr a ↦ omega arith ] in

@@ -26,11 +26,8 @@ put_jump s l bs = record s { bytes = s.bytes ++ bs; uses = s.uses ++ use_at (len
 abbrev pub put_conditional : BufferState → MachLabel → (bs inverted : List ℕ) → BufferState
 put_conditional s l bs inverted = record s { bytes = s.bytes ++ bs; uses = s.uses ++ use_at (length s.bytes) l ∷ []; branches = with_conditional s.branches (length s.bytes) l inverted }
 
-same_number : (n : ℕ) → nat_eq n n ≡ true
-same_number n = eq-eqb n n refl
-
 own_use : (m n : ℕ) (l : MachLabel) → m ≡ n → is_branch_use n l.0 (use_at m l) ≡ true
-own_use m n l e = and_from (nat_eq m n) (nat_eq l.0 l.0) (eq-eqb m n e) (same_number l.0)
+own_use m n l e = and_from (nat_eq m n) (nat_eq l.0 l.0) (eq-eqb m n e) (eq-eqb l.0 l.0 refl)
 
 -- the use of a branch that stands last
 pub use_behind : (us : List LabelFixup) (n : ℕ) (l : MachLabel) → has_use n l.0 (us ++ use_at n l ∷ []) ≡ true
@@ -55,7 +52,7 @@ jump_cut s l bs none six =
     let P = put_jump s l bs in
     let n = length s.bytes in
     lone_end s l bs l.0 none six
-    ∙ ap (λ b. cond b (cut n l.0 P) P) (same_number l.0)
+    ∙ ap (λ b. cond b (cut n l.0 P) P) (eq-eqb l.0 l.0 refl)
     ∙ ap₂ (λ xs us. record s { bytes = xs; uses = us; branches = NoBranch }) (front s.bytes bs n refl) (without_behind n l.0 s.uses (use_at n l) (own_use n n l refl))
     ∙ ap (λ b. record s { branches = b }) (sym none)
 

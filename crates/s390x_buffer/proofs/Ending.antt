@@ -1,7 +1,7 @@
 -- Which use is dropped, and what stays at the end of a block.
-use Rattle.std.proofs.Common.{◌≡◌, ℕ, zero, suc, ◌+◌, ◌-◌, ◌<◌, ◌≤◌, List, [], ◌∷◌, ◌++◌, length, take, drop, remove, Option, Some, None, Bool, true, false, cond, ◌||◌, ◌&&◌, nat_eq, refl, sym, ap, ap₂, ◌∙◌, subst, arith, get_or, eqb-true, eq-eqb, ne_eqb, ◌≢◌}
+use Rattle.std.proofs.Common.{◌≡◌, ℕ, zero, suc, ◌+◌, ◌-◌, ◌<◌, ◌≤◌, List, [], ◌∷◌, ◌++◌, length, take, drop, remove, Option, Some, None, Bool, true, false, cond, ◌||◌, ◌&&◌, nat_eq, refl, sym, ap, ap₂, ◌∙◌, subst, arith, get_or, eqb-true, ne_eqb, ◌≢◌}
 use Rattle.std.proofs.lemmas.List.{drop_all, drop_more}
-use Rattle.std.proofs.lemmas.Bool.{and_from}
+use Rattle.std.proofs.lemmas.Bool.{or_parts, or_right, and_left, and_right}
 use Rattle.s390x_base.specs.declared.ir.MachLabel.{MachLabel}
 use Rattle.s390x_buffer.specs.State.{BufferState, poisoned_buffer}
 use Rattle.s390x_buffer.specs.Extends.{IsPrefix}
@@ -12,17 +12,9 @@ use Rattle.s390x_buffer.specs.declared.entries.RecordedBranches.TheVariants.{NoB
 use Rattle.s390x_buffer.specs.declared.label_use.LabelUse.TheVariants.{BranchRIL}
 use Rattle.s390x_buffer.proofs.Extending.{prefix_more}
 
-or_true : (b : Bool) → (b || true) ≡ true
-or_true true = refl
-or_true false = refl
-
-or_false : (b : Bool) → (b || false) ≡ b
-or_false true = refl
-or_false false = refl
-
 pub has-behind : (start l : ℕ) (xs : List LabelFixup) (u : LabelFixup) → is_branch_use start l u ≡ true → has_use start l (xs ++ u ∷ []) ≡ true
 has-behind start l [] u e = cc
-has-behind start l (x ∷ xs) u e = ap (λ b. is_branch_use start l x || b) (has-behind start l xs u e) ∙ or_true (is_branch_use start l x)
+has-behind start l (x ∷ xs) u e = ap (λ b. is_branch_use start l x || b) (has-behind start l xs u e) ∙ or_right (is_branch_use start l x) true refl
 
 has-other : (start l : ℕ) (xs : List LabelFixup) (u : LabelFixup) → is_branch_use start l u ≡ false → has_use start l (xs ++ u ∷ []) ≡ has_use start l xs
 has-other start l [] u e = ap (λ b. b || false) e
@@ -51,7 +43,7 @@ without_other start l (x ∷ xs) u e =
 has_at : (start l : ℕ) (us : List LabelFixup) (i : ℕ) (z : LabelFixup) → i < length us → is_branch_use start l (get_or us i z) ≡ true → has_use start l us ≡ true
 has_at start l [] i z lt e = absurd (omega (arith, lt))
 has_at start l (u ∷ us) zero z lt e = ap (λ b. b || has_use start l us) e
-has_at start l (u ∷ us) (suc i) z lt e = ap (λ b. is_branch_use start l u || b) (has_at start l us i z (omega (arith, lt)) e) ∙ or_true (is_branch_use start l u)
+has_at start l (u ∷ us) (suc i) z lt e = ap (λ b. is_branch_use start l u || b) (has_at start l us i z (omega (arith, lt)) e) ∙ or_right (is_branch_use start l u) true refl
 
 -- where none stands behind it, it is the last one
 pub last_found : (start l : ℕ) (us : List LabelFixup) (i : ℕ) (z : LabelFixup) → i < length us → is_branch_use start l (get_or us i z) ≡ true → has_use start l (drop (i + 1) us) ≡ false → without_use start l us ≡ remove us i
@@ -66,15 +58,11 @@ last_found start l (u ∷ us) (suc i) z lt e h =
     next : suc i + 1 ≡ suc (i + 1)
     next = omega arith
 
-or_none : (p q : Bool) → (p || q) ≡ false → (p ≡ false) × (q ≡ false)
-or_none true q h = absurd (cc)
-or_none false q h = (refl, h)
-
 -- where there is none, all stay
 pub none_found : (start l : ℕ) (us : List LabelFixup) → has_use start l us ≡ false → without_use start l us ≡ us
 none_found start l [] h = refl
 none_found start l (u ∷ us) h =
-    let p = or_none (is_branch_use start l u) (has_use start l us) h in
+    let p = or_parts (is_branch_use start l u) (has_use start l us) h in
     ap (λ b. cond b (u ∷ without_use start l us) (cond (is_branch_use start l u) us (u ∷ us))) p.1
     ∙ ap (λ b. cond b us (u ∷ us)) p.0
 
@@ -84,31 +72,15 @@ none_behind start l us i le = ap (has_use start l) (drop_all i us le)
 pub none_more : (start l : ℕ) (us : List LabelFixup) (i : ℕ) (z : LabelFixup) → i < length us → is_branch_use start l (get_or us i z) ≡ false → has_use start l (drop (i + 1) us) ≡ false → has_use start l (drop i us) ≡ false
 none_more start l us i z lt e h = ap (has_use start l) (drop_more us i z lt) ∙ ap₂ (λ p q. p || q) e h
 
-not_branch : (k : Bool) (p q : Bool) → (p && q) ≡ false → (k && (p && q)) ≡ false
-not_branch true p q e = e
-not_branch false p q e = refl
-
-and-left : (p q : Bool) → p ≡ false → (p && q) ≡ false
-and-left false q e = refl
-and-left true q e = absurd (cc)
-
-and-right : (p q : Bool) → q ≡ false → (p && q) ≡ false
-and-right false q e = refl
-and-right true q e = e
-
 -- the new use is none of the two that are dropped
 pub inverted_uses : (start taken : ℕ) (not_taken : MachLabel) (us : List LabelFixup) → taken ≢ not_taken.0 →
     without_use start taken (without_use (start + 6) not_taken.0 (us ++ record { kind = BranchRIL; offset = start; label = not_taken } ∷ [])) ≡ without_use start taken (without_use (start + 6) not_taken.0 us) ++ record { kind = BranchRIL; offset = start; label = not_taken } ∷ []
 inverted_uses start taken not_taken us differ =
     let u : LabelFixup = record { kind = BranchRIL; offset = start; label = not_taken } in
-    let first : is_branch_use (start + 6) not_taken.0 u ≡ false = and-left (nat_eq start (start + 6)) (nat_eq not_taken.0 not_taken.0) (ne_eqb start (start + 6) (λ e. omega (arith, e))) in
-    let second : is_branch_use start taken u ≡ false = and-right (nat_eq start start) (nat_eq not_taken.0 taken) (ne_eqb not_taken.0 taken (λ e. differ (sym e))) in
+    let first : is_branch_use (start + 6) not_taken.0 u ≡ false = and_left (nat_eq start (start + 6)) (nat_eq not_taken.0 not_taken.0) (ne_eqb start (start + 6) (λ e. omega (arith, e))) in
+    let second : is_branch_use start taken u ≡ false = and_right (nat_eq start start) (nat_eq not_taken.0 taken) (ne_eqb not_taken.0 taken (λ e. differ (sym e))) in
     ap (without_use start taken) (without_other (start + 6) not_taken.0 us u first)
     ∙ without_other start taken (without_use (start + 6) not_taken.0 us) u second
-
--- a use that was just put is one of them
-pub used_last : (start l : ℕ) (us : List LabelFixup) → has_use start l (us ++ record { kind = BranchRIL; offset = start; label = record { 0 = l } } ∷ []) ≡ true
-used_last start l us = has-behind start l us (record { kind = BranchRIL; offset = start; label = record { 0 = l } }) (and_from (nat_eq start start) (nat_eq l l) (eq-eqb start start refl) (eq-eqb l l refl))
 
 -- what the end of a block keeps
 

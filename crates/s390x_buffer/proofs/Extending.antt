@@ -1,15 +1,7 @@
--- What each change keeps, and that keeping goes on.
-use Rattle.std.proofs.Common.{◌≡◌, ℕ, zero, suc, ◌+◌, ◌<◌, ◌≤◌, ◌≢◌, List, [], ◌∷◌, ◌++◌, length, get_or, set, Option, None, refl, sym, ap, ◌∙◌, subst, arith}
-use Rattle.std.proofs.lemmas.List.{get_or-set_other, length-append, length-set}
+-- What a buffer keeps, and that keeping goes on.
+use Rattle.std.proofs.Common.{◌≡◌, ℕ, ◌+◌, ◌<◌, ◌≤◌, ◌≢◌, List, [], ◌∷◌, ◌++◌, length, refl, sym, ap, ◌∙◌, subst, arith}
 use Rattle.s390x_buffer.specs.State.{BufferState, TryCallSite, poisoned_buffer}
 use Rattle.s390x_buffer.specs.Extends.{Extends, ExtendsEntries, ExtendsExcept, IsPrefix}
-use Rattle.s390x_buffer.specs.declared.entries.LabelFixup.{LabelFixup}
-use Rattle.s390x_buffer.specs.declared.entries.RecordedBranches.{RecordedBranches}
-use Rattle.s390x_buffer.specs.declared.entries.RecordedBranches.TheVariants.{NoBranch}
-use Rattle.s390x_buffer.specs.declared.entries.TrapEntry.{TrapEntry}
-use Rattle.s390x_buffer.specs.declared.entries.RelocEntry.{RelocEntry}
-use Rattle.s390x_buffer.specs.declared.entries.PatchEntry.{PatchEntry}
-use Rattle.s390x_buffer.specs.declared.entries.MapEntry.{MapEntry}
 
 prefix_refl : {A : Type 0} (xs : List A) → IsPrefix xs xs
 prefix_refl [] = refl
@@ -30,14 +22,8 @@ prefix_on (x ∷ xs) (y ∷ ys) (z ∷ zs) p q =
 same_count : (n : ℕ) → n ≤ n
 same_count n = omega arith
 
-more_labels : (ls : List (Option ℕ)) → length ls ≤ length (ls ++ None ∷ [])
-more_labels ls = omega (arith, length-append ls (None ∷ []))
-
-as_many : (ls : List (Option ℕ)) (b : ℕ) (v : Option ℕ) → length ls ≤ length (set ls b v)
-as_many ls b v = omega (arith, length-set ls b v)
-
 -- what stood in each list of a buffer whose other lists are as they were, or longer
-ruleset kept_entries = (prefix_refl, prefix_more, same_count, more_labels, as_many)
+ruleset kept_entries = (prefix_refl, prefix_more, same_count)
 
 pub extends_same : (s : BufferState) → Extends s s
 extends_same s = record { entries = search kept_entries; labels = λ l lt. refl }
@@ -77,46 +63,5 @@ extends_bound s t u label a new b = record {
   labels = λ l lt. b.labels l (omega (arith, lt, a.entries.label_count)) (other_label (length s.labels) label l new lt) ∙ a.labels l lt;
 }
 
-pub extends_bytes : (s : BufferState) (xs : List ℕ) → Extends s (record s { bytes = s.bytes ++ xs })
-extends_bytes s xs = record { entries = search kept_entries; labels = λ l lt. refl }
-
-pub extends_uses : (s : BufferState) (xs : List LabelFixup) → Extends s (record s { uses = s.uses ++ xs })
-extends_uses s xs = record { entries = search kept_entries; labels = λ l lt. refl }
-
-pub extends_traps : (s : BufferState) (xs : List TrapEntry) → Extends s (record s { traps = s.traps ++ xs })
-extends_traps s xs = record { entries = search kept_entries; labels = λ l lt. refl }
-
-pub extends_relocs : (s : BufferState) (xs : List RelocEntry) → Extends s (record s { relocs = s.relocs ++ xs })
-extends_relocs s xs = record { entries = search kept_entries; labels = λ l lt. refl }
-
-pub extends_call_sites : (s : BufferState) (xs : List ℕ) → Extends s (record s { call_sites = s.call_sites ++ xs })
-extends_call_sites s xs = record { entries = search kept_entries; labels = λ l lt. refl }
-
 pub extends_try_call_sites : (s : BufferState) (xs : List TryCallSite) → Extends s (record s { try_call_sites = s.try_call_sites ++ xs })
 extends_try_call_sites s xs = record { entries = search kept_entries; labels = λ l lt. refl }
-
-pub extends_patchable_sites : (s : BufferState) (xs : List PatchEntry) → Extends s (record s { patchable_sites = s.patchable_sites ++ xs })
-extends_patchable_sites s xs = record { entries = search kept_entries; labels = λ l lt. refl }
-
-pub extends_stack_maps : (s : BufferState) (xs : List MapEntry) → Extends s (record s { stack_maps = s.stack_maps ++ xs })
-extends_stack_maps s xs = record { entries = search kept_entries; labels = λ l lt. refl }
-
-pub extends_starts : (s : BufferState) (xs : List ℕ) → Extends s (record s { starts = s.starts ++ xs; branches = NoBranch })
-extends_starts s xs = record { entries = search kept_entries; labels = λ l lt. refl }
-
-pub extends_branches : (s : BufferState) (bs : RecordedBranches) → Extends s (record s { branches = bs })
-extends_branches s bs = record { entries = search kept_entries; labels = λ l lt. refl }
-
-drawn_kept : (ls : List (Option ℕ)) (l : ℕ) → l < length ls → get_or (ls ++ None ∷ []) l None ≡ get_or ls l None
-drawn_kept [] l lt = absurd (omega (arith, lt))
-drawn_kept (x ∷ ls) zero lt = refl
-drawn_kept (x ∷ ls) (suc l) lt = drawn_kept ls l (omega (arith, lt))
-
-pub extends_draw : (s : BufferState) → Extends s (record s { labels = s.labels ++ None ∷ [] })
-extends_draw s = record { entries = search kept_entries; labels = drawn_kept s.labels }
-
-pub extends_bind : (s : BufferState) (b : ℕ) (v : Option ℕ) → ExtendsExcept b s (record s { labels = set s.labels b v; branches = NoBranch })
-extends_bind s b v = record { entries = search kept_entries; labels = λ l lt other. get_or-set_other s.labels b l v None other }
-
-pub except_mark : (s t : BufferState) (b : ℕ) → t ≡ poisoned_buffer s → ExtendsExcept b s t
-except_mark s t b e = let k = extends_mark s t e in record { entries = k.entries; labels = λ l lt other. k.labels l lt }

@@ -1,4 +1,3 @@
-pub mod Appending
 pub mod Branching
 pub mod Declared
 pub mod Ended

@@ -1,6 +1,5 @@
 -- What emission finds without a cause has none in its tree: from member to member, through a loop, and of one instruction.
-use Rattle.std.proofs.Common.{◌≡◌, ℕ, ◌+◌, ◌<◌, ◌∙◌, List, length, get_or, drop, Option, None, refl, sym, ap, subst}
-use Rattle.s390x_base.specs.declared.error.EmitError.{EmitError}
+use Rattle.std.proofs.Common.{◌≡◌, ℕ, ◌+◌, ◌<◌, ◌∙◌, List, length, get_or, drop, None, refl, sym, ap, subst}
 use Rattle.s390x_buffer.specs.State.{BufferState}
 use Rattle.s390x_inst.specs.Emission.{Emission}
 use Rattle.s390x_inst.specs.declared.inst.Inst.{Inst}
@@ -21,9 +20,7 @@ use Rattle.s390x_emit_int.proofs.Resolving.{cause_resolved, fresh_labels_resolve
 use Rattle.s390x_emit_int.specs.Members.{member_of, members_of, block_members_of}
 use Rattle.s390x_emit_int.proofs.Members.{members_behind, block_members_behind, member_nominal}
 use Rattle.s390x_emit_int.proofs.Trees.{Begins, member_begins, own_run}
-
-pub both_none : (a b : Option EmitError) → a ≡ None → b ≡ None → first_emit_cause a b ≡ None
-both_none a b ea eb = ap (λ x. first_emit_cause x b) ea ∙ eb
+pub use Rattle.s390x_address.proofs.Lowered.{both_none}
 
 -- the cause of the rest behind a member without one is that of the whole
 pub more_cause_of : (flags : IsaFlags) (own : Tree) (s s1 s2 : BufferState) (after nominal depth : ℕ) (whole rest : Tree) → Begins own → whole ≡ joined own rest → s1 ≡ apply s StartStep → s2 ≡ apply_all s1 (own_fragments (length s1.labels) after own) →
@@ -82,11 +79,6 @@ loop_none flags s sa sb so start nominal depth mask members ea eb eo opens insid
     let t : Turns s so (1 + 1 + 0) (0 + 0 + 0) = turns_on s sb so _ _ _ _ (turns_on s sa sb _ _ _ _ (draw_turns s sa ea) (draw_turns sa sb eb)) (bind_turns sb so start eo) in
     let inner : tree_cause flags (declared_in s) (n + 2) nominal (depth + 1) members ≡ None = sym (ap (λ E. tree_cause flags E (length so.labels) nominal (depth + 1) members) (turns_declared s so _ _ t) ∙ ap (λ l. tree_cause flags (declared_in s) l nominal (depth + 1) members) t.labels) ∙ inside in
     both_none _ _ (both_none _ _ opens inner) refl
-
--- a cause of members is one of their loop
-pub loop_some : (flags : IsaFlags) (D : Declared) (n nominal depth mask : ℕ) (members : Tree) → tree_cause flags D n nominal depth (loop_node mask members empty) ≡ None → first_emit_cause (nesting_cause depth) (numbers_cause n 2) ≡ None
-loop_some flags D n nominal depth mask members h =
-    first_left (first_emit_cause (nesting_cause depth) (numbers_cause n 2)) _ (first_left (first_emit_cause (first_emit_cause (nesting_cause depth) (numbers_cause n 2)) (tree_cause flags D (n + 2) nominal (depth + 1) members)) _ h)
 
 -- one instruction, by its causes outside and its own
 pub leaf_none : (flags : IsaFlags) (e : Emission) (D : Declared) (n nominal depth : ℕ) (i : Inst) → first_emit_cause (facility_cause flags i) (first_emit_cause (stack_cause nominal depth i) (numbers_cause n (instruction_fresh_labels i))) ≡ None →

@@ -1,10 +1,12 @@
 -- Where no cause stands, a call of the buffer is refused for want of memory alone.
-use Rattle.std.proofs.Common.{◌≡◌, ℕ, ◌+◌, ◌<◌, Bool, true, false, cond, nat_lt, Option, None, Some, length, Result, Ok, Err, MatchResult, IsErrAnd, refl, ap, ◌∙◌}
-use Rattle.std.proofs.lemmas.Bool.{ltb-true, lt-ltb}
+use Rattle.std.proofs.Common.{◌≡◌, ℕ, ◌<◌, false, nat_lt, Option, None, Some, length, Result, Ok, Err, MatchResult, IsErrAnd, ◌∙◌}
+use Rattle.std.proofs.lemmas.Bool.{lt-ltb}
 use Rattle.s390x_base.specs.declared.error.EmitError.{EmitError}
-use Rattle.s390x_base.specs.declared.error.EmitError.TheVariants.{NoMemory, LabelOutOfRange, UnboundLabel, Failed}
-use Rattle.s390x_buffer.specs.State.{BufferState, FailsWith, mark_cause, put_cause, draw_cause, label_cause, limit, label_limit}
+use Rattle.s390x_base.specs.declared.error.EmitError.TheVariants.{NoMemory, LabelOutOfRange, UnboundLabel}
+use Rattle.s390x_buffer.specs.State.{BufferState, FailsWith, mark_cause, draw_cause, label_cause, label_limit}
 use Rattle.s390x_emit_int.specs.Room.{OnlyOutOfMemory}
+use Rattle.s390x_address.proofs.OnlyMemory.{mark_of, test_of}
+pub use Rattle.s390x_address.proofs.OnlyMemory.{put_none, put_parts}
 
 pub fails_with_none : (c : Option EmitError) (e : EmitError) → c ≡ None → FailsWith c e → e ≡ NoMemory
 fails_with_none None e h b = b
@@ -20,29 +22,11 @@ pub only_memory_again : {T : Type 0} (r : Result T EmitError) (e : EmitError) �
 only_memory_again (Ok x) e a h = tt
 only_memory_again (Err y) e a h = a ∙ h
 
-mark_of : (f : Bool) (o : Option EmitError) → f ≡ false → cond f (Some Failed) o ≡ o
-mark_of f o h = ap (λ b. cond b (Some Failed) o) h
-
-test_of : (t : Bool) (e : EmitError) → t ≡ true → cond t None (Some e) ≡ None
-test_of t e h = ap (λ b. cond b None (Some e)) h
-
 pub mark_none : (s : BufferState) → s.is_poisoned ≡ false → mark_cause s ≡ None
 mark_none s h = mark_of s.is_poisoned None h
-
-pub put_none : (s : BufferState) (n : ℕ) → s.is_poisoned ≡ false → length s.bytes + n < limit → put_cause s n ≡ None
-put_none s n h lt = mark_of s.is_poisoned _ h ∙ test_of (nat_lt (length s.bytes + n) limit) LabelOutOfRange (lt-ltb (length s.bytes + n) limit lt)
 
 pub draw_none : (s : BufferState) → s.is_poisoned ≡ false → length s.labels < label_limit → draw_cause s ≡ None
 draw_none s h lt = mark_of s.is_poisoned _ h ∙ test_of (nat_lt (length s.labels) label_limit) LabelOutOfRange (lt-ltb (length s.labels) label_limit lt)
 
 pub label_none : (s : BufferState) (l : ℕ) → s.is_poisoned ≡ false → l < length s.labels → label_cause s l ≡ None
 label_none s l h lt = mark_of s.is_poisoned _ h ∙ test_of (nat_lt l (length s.labels)) UnboundLabel (lt-ltb l (length s.labels) lt)
-
-two_tests : (f t : Bool) (d e : EmitError) → cond f (Some d) (cond t None (Some e)) ≡ None → (f ≡ false) × (t ≡ true)
-two_tests true t d e h = absurd (cc)
-two_tests false true d e h = (refl, refl)
-two_tests false false d e h = absurd (cc)
-
--- what a buffer is in which so many bytes can be put
-pub put_parts : (s : BufferState) (n : ℕ) → put_cause s n ≡ None → (s.is_poisoned ≡ false) × (length s.bytes + n < limit)
-put_parts s n h = let t = two_tests s.is_poisoned (nat_lt (length s.bytes + n) limit) Failed LabelOutOfRange h in (t.0, ltb-true (length s.bytes + n) limit t.1)

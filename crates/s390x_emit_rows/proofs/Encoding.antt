@@ -1,17 +1,15 @@
 -- Where the registers of an instruction are general ones, its row can be encoded.
-use Rattle.std.proofs.Common.{◌≡◌, ℕ, ◌<◌, Bool, true, false, not, ◌&&◌, ◌||◌, cond, List, Some, refl, ap, ◌∙◌, nat_eq}
+use Rattle.std.proofs.Common.{◌≡◌, ℕ, ◌<◌, Bool, true, false, not, ◌&&◌, cond, List, Some, refl, ap, ◌∙◌, nat_eq}
 use Rattle.std.proofs.Common.{Result, Ok, Err, MatchResult}
 use Rattle.s390x_base.specs.declared.error.EmitError.{EmitError}
 use Rattle.s390x_base.specs.declared.error.EmitError.TheVariants.{BadRegister}
 use Rattle.std.proofs.lemmas.Bool.{and_parts, and_from, not-true, lt-ltb}
-use Rattle.s390x_base.specs.Regs.{number_of, is_int}
-use Rattle.s390x_base.specs.declared.regs.RegClass.{RegClass}
-use Rattle.s390x_base.specs.declared.regs.RegClass.TheVariants.{Int, Float}
+use Rattle.s390x_base.specs.Regs.{number_of}
 use Rattle.s390x_base.specs.declared.regs.Reg.{Reg}
 use Rattle.s390x_base.specs.declared.regs.RegPair.{RegPair}
 use Rattle.s390x_base.specs.declared.regs.WritableRegPair.{WritableRegPair}
-use Rattle.s390x_base.specs.declared.regs.Reg.TheVariants.{Real, Virtual}
-use Rattle.s390x_enc.specs.Operands.{is_first_float, is_second_float, is_float, may_stand_first, may_stand_second, is_general_class as encodes_general, is_int_class as encodes_int}
+use Rattle.s390x_base.specs.declared.regs.Reg.TheVariants.{Real}
+use Rattle.s390x_enc.specs.Operands.{is_first_float, is_second_float, is_float, may_stand_first, is_general_class as encodes_general}
 use Rattle.s390x_format.specs.declared.kind.FormatKind.{FormatKind}
 use Rattle.s390x_format.specs.Encoded.{IsCode}
 use Rattle.s390x_inst.specs.declared.ops.ALUOp.{ALUOp}
@@ -26,24 +24,10 @@ use Rattle.s390x_typed_steps.specs.General.{is_general, is_even_pair, reuses, re
 use Rattle.s390x_typed_steps.specs.Opcodes.{alu_two, cmp_two, unary_two}
 use Rattle.s390x_typed_steps.specs.SingleCode.{code_where}
 use Rattle.s390x_emit_rows.specs.SingleInstruction.{implies, takes_general}
+pub use Rattle.s390x_address.proofs.Encoding.{implied, follows, one_general}
+pub use Rattle.s390x_emit_vec.proofs.Encoding.{encoded}
 
--- a test with a weaker one behind it
-pub implied : (s t : Bool) → (s ≡ true → t ≡ true) → (not s || t) ≡ true
-implied true t h = h refl
-implied false t h = refl
-
--- and back
-pub follows : (s t : Bool) → (not s || t) ≡ true → s ≡ true → t ≡ true
-follows true t h e = h
-follows false t h e = absurd (cc)
-
--- the answer of an encoding call whose registers may stand there
-pub encoded : (valid ok : Bool) (kind : FormatKind) (slots : List ℕ) (r : Result (List ℕ) EmitError) → MatchResult r (λ code. (ok ≡ true) × IsCode kind slots code) (λ e. (e ≡ BadRegister) × (ok ≡ false)) → valid ≡ true → ok ≡ true → r ≡ code_where valid (record { format = kind; slots = slots })
-unfolding code_where
-encoded valid ok kind slots (Ok code) m v h = rw v (ap Ok m.1.bytes_are)
-encoded valid ok kind slots (Err e) m v h = let n = m.1 in absurd (cc)
-
--- the same of one that tests all that has to hold
+-- the answer of an encoding call that tests all that has to hold
 pub encoded_where : (valid ok : Bool) (kind : FormatKind) (slots : List ℕ) (r : Result (List ℕ) EmitError) → MatchResult r (λ code. (ok ≡ true) × IsCode kind slots code) (λ e. (e ≡ BadRegister) × (ok ≡ false)) → valid ≡ ok → r ≡ code_where valid (record { format = kind; slots = slots })
 unfolding code_where
 encoded_where valid ok kind slots (Ok code) m same = rw (same ∙ m.0) (ap Ok m.1.bytes_are)
@@ -53,26 +37,8 @@ encoded_where valid ok kind slots (Err e) m same = rw (same ∙ m.1) (ap Err m.0
 pub all_three : (a b c x y z : Bool) → a ≡ x → b ≡ y → c ≡ z → (a && b && c) ≡ (x && y && z)
 all_three a b c x y z e f g = rw e (rw f (rw g refl))
 
-class_general : (c : RegClass) (t : Bool) → (is_int c && t) ≡ true → encodes_int c ≡ true
-class_general Int t h = refl
-class_general Float t h = absurd (cc)
-
-pub one_general : (r : Reg) → is_general r ≡ true → encodes_general r ≡ true
-one_general (Real r) h = class_general r.class _ h
-one_general (Virtual num class) h = absurd (cc)
-
 stands_first : (opcode : ℕ) (r : Reg) → not (is_first_float opcode) ≡ true → encodes_general r ≡ true → may_stand_first opcode r ≡ true
 stands_first opcode r h g = ap (λ x. cond x (is_float r) (encodes_general r)) (not-true (is_first_float opcode) h) ∙ g
-
-stands_second : (opcode : ℕ) (r : Reg) → not (is_second_float opcode) ≡ true → encodes_general r ≡ true → may_stand_second opcode r ≡ true
-stands_second opcode r h g = ap (λ x. cond x (is_float r) (encodes_general r)) (not-true (is_second_float opcode) h) ∙ g
-
--- general registers, as the encoding calls test them
-pub pair_encodes : (opcode : ℕ) (r1 r2 : Reg) → takes_general (Some opcode) ≡ true → (is_general r1 && is_general r2) ≡ true → (may_stand_first opcode r1 && may_stand_second opcode r2) ≡ true
-pair_encodes opcode r1 r2 h g =
-    let t = and_parts (not (is_first_float opcode)) (not (is_second_float opcode)) h in
-    let p = and_parts (is_general r1) (is_general r2) g in
-    and_from (may_stand_first opcode r1) (may_stand_second opcode r2) (stands_first opcode r1 t.0 (one_general r1 p.0)) (stands_second opcode r2 t.1 (one_general r2 p.1))
 
 pub two_encode : (r1 r2 : Reg) → (is_general r1 && is_general r2) ≡ true → (encodes_general r1 && encodes_general r2) ≡ true
 two_encode r1 r2 g = let p = and_parts (is_general r1) (is_general r2) g in and_from (encodes_general r1) (encodes_general r2) (one_general r1 p.0) (one_general r2 p.1)
@@ -101,7 +67,7 @@ outer_general a b c = implied (a && b && c) (a && c) (λ h. let p = and_parts (a
 pub first_general : (a b : Bool) → implies (a && b) a ≡ true
 first_general a b = implied (a && b) a (λ h. (and_parts a b h).0)
 
-reused : (a b : Reg) → reuses a b ≡ true → is_general a ≡ true
+pub reused : (a b : Reg) → reuses a b ≡ true → is_general a ≡ true
 reused a b h = let p = and_parts (is_general a && is_general b) (nat_eq (number_of a) (number_of b)) h in (and_parts (is_general a) (is_general b) p.0).0
 
 -- an output that is an input

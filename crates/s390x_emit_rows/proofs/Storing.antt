@@ -1,5 +1,5 @@
 -- Where the registers of an instruction with a memory operand are general ones, its rows can be encoded.
-use Rattle.std.proofs.Common.{◌≡◌, ℕ, true, not, ◌&&◌, ◌||◌, Option, nat_eq, nat_le, refl}
+use Rattle.std.proofs.Common.{◌≡◌, ℕ, true, not, ◌&&◌, ◌||◌, Option, nat_le, refl}
 use Rattle.std.proofs.lemmas.Bool.{and_parts, and_from}
 use Rattle.s390x_base.specs.Regs.{number_of}
 use Rattle.s390x_base.specs.declared.regs.Reg.{Reg}
@@ -12,7 +12,7 @@ use Rattle.s390x_typed_steps.specs.Memory.{load_rows, store_rows}
 use Rattle.s390x_typed_steps.specs.General.{is_general, reuses}
 use Rattle.s390x_typed_steps.specs.Memory.{is_range}
 use Rattle.s390x_address.specs.Rows.{rows_take_general, has_12_bits}
-use Rattle.s390x_emit_rows.proofs.Encoding.{implied, one_general}
+use Rattle.s390x_emit_rows.proofs.Encoding.{implied, one_general, reused}
 
 opcodes_encode : (r : Reg) (rx rxy : Option ℕ) → (rows_take_general rx && rows_take_general rxy) ≡ true → encodes_general r ≡ true → (encodes_general r && rows_take_general rx && rows_take_general rxy) ≡ true
 opcodes_encode r rx rxy h g =
@@ -35,12 +35,9 @@ register_encodes r rx rxy ril h =
     let p = and_parts (rows_take_general rx && rows_take_general rxy) (has_12_bits ril) h in
     and_from (has_12_bits ril) _ p.1 (implied (is_general r) _ (λ g. opcodes_encode r rx rxy p.0 (one_general r g)))
 
-reused_general : (a b : Reg) → reuses a b ≡ true → is_general a ≡ true
-reused_general a b h = let p = and_parts (is_general a && is_general b) (nat_eq (number_of a) (number_of b)) h in (and_parts (is_general a) (is_general b) p.0).0
-
 -- one that is an input too
 pub reused_encodes : (a b : Reg) (rx rxy : Option ℕ) → rows_take_general rx ≡ true → rows_take_general rxy ≡ true → (not (reuses a b) || (encodes_general a && rows_take_general rx && rows_take_general rxy)) ≡ true
-reused_encodes a b rx rxy h k = implied (reuses a b) _ (λ g. opcodes_encode a rx rxy (and_from (rows_take_general rx) (rows_take_general rxy) h k) (one_general a (reused_general a b g)))
+reused_encodes a b rx rxy h k = implied (reuses a b) _ (λ g. opcodes_encode a rx rxy (and_from (rows_take_general rx) (rows_take_general rxy) h k) (one_general a (reused a b g)))
 
 pair_general : (a b : Reg) → is_general a ≡ true → is_general b ≡ true → (encodes_general a && encodes_general b) ≡ true
 pair_general a b h k = and_from (encodes_general a) (encodes_general b) (one_general a h) (one_general b k)
@@ -58,4 +55,4 @@ range_encodes a b = implied (is_range a b) _ (λ g.
 
 -- one that is an input too, and another one
 pub swap_encodes : (a b c : Reg) → (not (reuses a b && is_general c) || (encodes_general a && encodes_general c)) ≡ true
-swap_encodes a b c = implied (reuses a b && is_general c) _ (λ g. let p = and_parts (reuses a b) (is_general c) g in pair_general a c (reused_general a b p.0) p.1)
+swap_encodes a b c = implied (reuses a b && is_general c) _ (λ g. let p = and_parts (reuses a b) (is_general c) g in pair_general a c (reused a b p.0) p.1)

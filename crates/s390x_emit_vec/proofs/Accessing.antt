@@ -1,5 +1,5 @@
 -- Where a vector register may stand in a row with an operand in memory, the row can be encoded.
-use Rattle.std.proofs.Common.{◌≡◌, ℕ, ◌*◌, ◌<◌, ◌≤◌, Bool, true, false, cond, not, ◌&&◌, ◌||◌, nat_lt, nat_eq, refl, ap, ◌∙◌, arith}
+use Rattle.std.proofs.Common.{◌≡◌, ℕ, ◌*◌, ◌<◌, ◌≤◌, Bool, true, cond, not, ◌&&◌, ◌||◌, nat_lt, nat_eq, ap, ◌∙◌, arith}
 use Rattle.std.proofs.lemmas.Bool.{and_parts, and_from, ltb-true, lt-ltb}
 use Rattle.s390x_base.specs.Regs.{number_of}
 use Rattle.s390x_base.specs.declared.regs.Reg.{Reg}
@@ -9,10 +9,7 @@ use Rattle.s390x_inst.specs.declared.whole.WholeLayout.TheVariants.{Straight}
 use Rattle.s390x_typed_steps.specs.Memory.{is_left_lane, layout_rows}
 use Rattle.s390x_typed_steps.specs.VectorInstruction.{is_vector, is_lane}
 use Rattle.s390x_emit_vec.proofs.Encoding.{vector_encodes, float_encodes}
-
-implied : (s t : Bool) → (s ≡ true → t ≡ true) → (not s || t) ≡ true
-implied true t h = h refl
-implied false t h = refl
+use Rattle.s390x_address.proofs.Encoding.{implied}
 
 pub masked_encodes : (valid : Bool) (r : Reg) (mask : ℕ) → (valid ≡ true → is_vector r ≡ true) → mask < 16 → (true && (not valid || (nat_lt mask 16 && encodes_vector r))) ≡ true
 masked_encodes valid r mask h lt = implied valid (nat_lt mask 16 && encodes_vector r) (λ v. and_from (nat_lt mask 16) (encodes_vector r) (lt-ltb mask 16 lt) (vector_encodes r (h v)))

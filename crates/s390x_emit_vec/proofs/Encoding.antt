@@ -1,15 +1,13 @@
 -- Where the registers of an instruction are vector ones, its row can be encoded.
-use Rattle.std.proofs.Common.{◌≡◌, ℕ, Option, Some, None, sym, Bool, true, false, cond, nat_lt, nat_eq, not, ◌&&◌, List, refl, ap, ◌∙◌}
+use Rattle.std.proofs.Common.{◌≡◌, ℕ, Option, Some, None, sym, Bool, true, false, cond, nat_lt, nat_eq, ◌&&◌, List, ap, ◌∙◌}
 use Rattle.std.proofs.Common.{Result, Ok, Err, MatchResult}
 use Rattle.std.proofs.lemmas.Bool.{and_parts, and_from}
-use Rattle.s390x_base.specs.Regs.{is_int, number_of}
+use Rattle.s390x_base.specs.Regs.{number_of}
 use Rattle.s390x_base.specs.declared.error.EmitError.{EmitError}
 use Rattle.s390x_base.specs.declared.error.EmitError.TheVariants.{BadRegister}
-use Rattle.s390x_base.specs.declared.regs.RegClass.{RegClass}
-use Rattle.s390x_base.specs.declared.regs.RegClass.TheVariants.{Int, Float}
 use Rattle.s390x_base.specs.declared.regs.Reg.{Reg}
 use Rattle.s390x_base.specs.declared.regs.Reg.TheVariants.{Real, Virtual}
-use Rattle.s390x_enc.specs.Operands.{is_float, is_first_float, is_second_float, may_stand_first, may_stand_second, is_float_class, is_int_class, is_vector as encodes_vector, is_general_class as encodes_general}
+use Rattle.s390x_enc.specs.Operands.{is_float, is_first_float, is_second_float, may_stand_first, may_stand_second, is_float_class, is_vector as encodes_vector, is_general_class as encodes_general}
 use Rattle.s390x_format.specs.declared.kind.FormatKind.{FormatKind}
 use Rattle.s390x_format.specs.Encoded.{IsCode}
 use Rattle.s390x_rows.specs.declared.opcodes.TheConstants as opcodes
@@ -18,6 +16,7 @@ use Rattle.s390x_typed_steps.specs.MachineInstruction.{MachineInstruction}
 use Rattle.s390x_typed_steps.specs.SingleInstruction.{single_with}
 use Rattle.s390x_typed_steps.specs.General.{is_general}
 use Rattle.s390x_typed_steps.specs.VectorInstruction.{is_vector, is_lane, lane_row, reuses_vector}
+use Rattle.s390x_address.proofs.Encoding.{class_vector, one_general}
 
 -- the answer of an encoding call whose registers may stand there
 pub encoded : (valid ok : Bool) (kind : FormatKind) (slots : List ℕ) (r : Result (List ℕ) EmitError) → MatchResult r (λ code. (ok ≡ true) × IsCode kind slots code) (λ e. (e ≡ BadRegister) × (ok ≡ false)) → valid ≡ true → ok ≡ true → r ≡ code_where valid (record { format = kind; slots = slots })
@@ -25,12 +24,8 @@ unfolding code_where
 encoded valid ok kind slots (Ok code) m v h = rw v (ap Ok m.1.bytes_are)
 encoded valid ok kind slots (Err e) m v h = let n = m.1 in absurd (cc)
 
-class_encodes : (c : RegClass) (t : Bool) → (not (is_int c) && t) ≡ true → is_float_class c ≡ true
-class_encodes Int t h = absurd (cc)
-class_encodes Float t h = refl
-
 pub vector_encodes : (r : Reg) → is_vector r ≡ true → encodes_vector r ≡ true
-vector_encodes (Real r) h = class_encodes r.class _ h
+vector_encodes (Real r) h = class_vector r.class _ h
 vector_encodes (Virtual num class) h = absurd (cc)
 
 pub two_encode : (a b : Reg) → (is_vector a && is_vector b) ≡ true → (encodes_vector a && encodes_vector b) ≡ true
@@ -45,29 +40,21 @@ four_encode a b c d h =
     let p = and_parts (is_vector a && is_vector b && is_vector c) (is_vector d) h in
     and_from (encodes_vector a && encodes_vector b && encodes_vector c) (encodes_vector d) (three_encode a b c p.0) (vector_encodes d p.1)
 
-class_general : (c : RegClass) (t : Bool) → (is_int c && t) ≡ true → is_int_class c ≡ true
-class_general Int t h = refl
-class_general Float t h = absurd (cc)
-
-general_encodes : (r : Reg) → is_general r ≡ true → encodes_general r ≡ true
-general_encodes (Real r) h = class_general r.class _ h
-general_encodes (Virtual num class) h = absurd (cc)
-
 -- a base stands between the vector registers of a shift
 pub shift_encodes : (a b register : Reg) → (is_vector a && is_vector b && is_general register) ≡ true → (encodes_vector a && encodes_general register && encodes_vector b) ≡ true
 shift_encodes a b register h =
     let p = and_parts (is_vector a && is_vector b) (is_general register) h in
     let q = and_parts (is_vector a) (is_vector b) p.0 in
-    and_from (encodes_vector a && encodes_general register) (encodes_vector b) (and_from (encodes_vector a) (encodes_general register) (vector_encodes a q.0) (general_encodes register p.1)) (vector_encodes b q.1)
+    and_from (encodes_vector a && encodes_general register) (encodes_vector b) (and_from (encodes_vector a) (encodes_general register) (vector_encodes a q.0) (one_general register p.1)) (vector_encodes b q.1)
 
 pub join_encodes : (a b c : Reg) → (is_vector a && is_general b && is_general c) ≡ true → (encodes_vector a && encodes_general b && encodes_general c) ≡ true
 join_encodes a b c h =
     let p = and_parts (is_vector a && is_general b) (is_general c) h in
     let q = and_parts (is_vector a) (is_general b) p.0 in
-    and_from (encodes_vector a && encodes_general b) (encodes_general c) (and_from (encodes_vector a) (encodes_general b) (vector_encodes a q.0) (general_encodes b q.1)) (general_encodes c p.1)
+    and_from (encodes_vector a && encodes_general b) (encodes_general c) (and_from (encodes_vector a) (encodes_general b) (vector_encodes a q.0) (one_general b q.1)) (one_general c p.1)
 
 pub float_encodes : (r : Reg) → is_vector r ≡ true → nat_lt (number_of r) 16 ≡ true → is_float r ≡ true
-float_encodes (Real r) h low = and_from (is_float_class r.class) (nat_lt r.number 16) (class_encodes r.class _ h) low
+float_encodes (Real r) h low = and_from (is_float_class r.class) (nat_lt r.number 16) (class_vector r.class _ h) low
 float_encodes (Virtual num class) h low = absurd (cc)
 
 -- float registers, as the encoding call tests them
@@ -87,24 +74,24 @@ pub insert_encodes : (v r base : Reg) → (is_vector v && is_general r && is_gen
 insert_encodes v r base h =
     let p = and_parts (is_vector v && is_general r) (is_general base) h in
     let q = and_parts (is_vector v) (is_general r) p.0 in
-    and_from (encodes_vector v && encodes_general base) (encodes_general r) (and_from (encodes_vector v) (encodes_general base) (vector_encodes v q.0) (general_encodes base p.1)) (general_encodes r q.1)
+    and_from (encodes_vector v && encodes_general base) (encodes_general r) (and_from (encodes_vector v) (encodes_general base) (vector_encodes v q.0) (one_general base p.1)) (one_general r q.1)
 
 pub extract_encodes : (r v base : Reg) → (is_general r && is_vector v && is_general base) ≡ true → (encodes_general r && encodes_general base && encodes_vector v) ≡ true
 extract_encodes r v base h =
     let p = and_parts (is_general r && is_vector v) (is_general base) h in
     let q = and_parts (is_general r) (is_vector v) p.0 in
-    and_from (encodes_general r && encodes_general base) (encodes_vector v) (and_from (encodes_general r) (encodes_general base) (general_encodes r q.0) (general_encodes base p.1)) (vector_encodes v q.1)
+    and_from (encodes_general r && encodes_general base) (encodes_vector v) (and_from (encodes_general r) (encodes_general base) (one_general r q.0) (one_general base p.1)) (vector_encodes v q.1)
 
 -- a doubleword between a float register and a general one
 pub to_float_encodes : (v r : Reg) → (is_vector v && is_general r) ≡ true → nat_lt (number_of v) 16 ≡ true → (may_stand_first opcodes.LDGR v && may_stand_second opcodes.LDGR r) ≡ true
 to_float_encodes v r h low =
     let p = and_parts (is_vector v) (is_general r) h in
-    and_from (may_stand_first opcodes.LDGR v) (may_stand_second opcodes.LDGR r) (float_encodes v p.0 low) (general_encodes r p.1)
+    and_from (may_stand_first opcodes.LDGR v) (may_stand_second opcodes.LDGR r) (float_encodes v p.0 low) (one_general r p.1)
 
 pub from_float_encodes : (r v : Reg) → (is_general r && is_vector v) ≡ true → nat_lt (number_of v) 16 ≡ true → (may_stand_first opcodes.LGDR r && may_stand_second opcodes.LGDR v) ≡ true
 from_float_encodes r v h low =
     let p = and_parts (is_general r) (is_vector v) h in
-    and_from (may_stand_first opcodes.LGDR r) (may_stand_second opcodes.LGDR v) (general_encodes r p.0) (float_encodes v p.1 low)
+    and_from (may_stand_first opcodes.LGDR r) (may_stand_second opcodes.LGDR v) (one_general r p.0) (float_encodes v p.1 low)
 
 -- the code of a row on one element
 pub lane_coded : (valid : Bool) (row : ℕ → MachineInstruction) (o : Option ℕ) (code size lane : ℕ) → o ≡ Some code → is_lane size lane ≡ true → Some (code_where valid (row code)) ≡ single_code (single_with valid (lane_row row o size lane))

@@ -49,19 +49,11 @@ number_2 (a ∷ b ∷ bs) le = omega arith
 
 pub number_4 : (bs : List ℕ) → 4 ≤ length bs → be_number (take 4 bs) ≡ (get_or bs 0 0 * 256 + get_or bs 1 0) * 65536 + (get_or bs 2 0 * 256 + get_or bs 3 0)
 unfolding be_number
-number_4 [] le = absurd (omega arith)
-number_4 (a ∷ []) le = absurd (omega arith)
-number_4 (a ∷ b ∷ []) le = absurd (omega arith)
-number_4 (a ∷ b ∷ c ∷ []) le = absurd (omega arith)
 number_4 (a ∷ b ∷ c ∷ d ∷ bs) le = omega arith
+number_4 bs le = absurd (omega arith)
 
 pub number_6 : (bs : List ℕ) → 6 ≤ length bs →
     be_number (take 6 bs) ≡ ((get_or bs 0 0 * 256 + get_or bs 1 0) * 65536 + (get_or bs 2 0 * 256 + get_or bs 3 0)) * 65536 + (get_or bs 4 0 * 256 + get_or bs 5 0)
 unfolding be_number
-number_6 [] le = absurd (omega arith)
-number_6 (a ∷ []) le = absurd (omega arith)
-number_6 (a ∷ b ∷ []) le = absurd (omega arith)
-number_6 (a ∷ b ∷ c ∷ []) le = absurd (omega arith)
-number_6 (a ∷ b ∷ c ∷ d ∷ []) le = absurd (omega arith)
-number_6 (a ∷ b ∷ c ∷ d ∷ e ∷ []) le = absurd (omega arith)
 number_6 (a ∷ b ∷ c ∷ d ∷ e ∷ f ∷ bs) le = omega arith
+number_6 bs le = absurd (omega arith)

@@ -87,11 +87,8 @@ high_has l m w u d e p q hd he =
 pub whole_has : (qs : List Part) (ds : List ℕ) → is_whole qs ≡ true → DigitsFit qs ds → (join qs ds < 2 ^ bits qs) × HasDigits qs ds (join qs ds)
 unfolding is_whole DigitsFit HasDigits join bits
 whole_has [] [] w f = (omega arith, tt)
-whole_has [] (d ∷ ds) w f = absurd f
-whole_has (p ∷ []) [] w f = absurd f
 whole_has (p ∷ []) (d ∷ []) w f = let t = one_has p.low p.width d (eqb-true p.low 0 w) f.0 in (t.0, (t.1, tt))
 whole_has (p ∷ []) (d ∷ e ∷ ds) w f = absurd f.1
-whole_has (p ∷ q ∷ []) [] w f = absurd f
 whole_has (p ∷ q ∷ []) (d ∷ []) w f = absurd f.1
 whole_has (p ∷ q ∷ []) (d ∷ e ∷ x ∷ ds) w f = absurd f.1.1
 whole_has (p ∷ q ∷ []) (d ∷ e ∷ []) w f =
@@ -100,6 +97,7 @@ whole_has (p ∷ q ∷ []) (d ∷ e ∷ []) w f =
       | inr a ↦ let t = and_parts (q.low == 0) (p.low == q.width) a in let r = high_has p.low q.low p.width q.width d e (eqb-true _ _ t.0) (eqb-true _ _ t.1) f.0 f.1.0 in (r.0, (r.1, (r.2, tt)))
     ]
 whole_has (p ∷ q ∷ r ∷ qs) ds w f = cc
+whole_has qs ds w f = absurd f
 
 pub field_lt : (ps : List Part) (n k : ℕ) → is_whole (parts_of k ps) ≡ true → field ps n k < 2 ^ width_of_part k ps
 field_lt ps n k w = rw (field-join ps n k) (whole_has (parts_of k ps) (digits_in k ps n) w (digits_fit ps n k)).0

@@ -6,199 +6,73 @@ use Rattle.s390x_format.specs.Formats.{layout_of}
 
 pub ri_a : (n k : ℕ) → k < 10 → slice_index ((n / 16777216 % 256 * 16 + n / 65536 % 16) ∷ (n / 1048576 % 16) ∷ 0 ∷ 0 ∷ 0 ∷ 0 ∷ 0 ∷ 0 ∷ (n % 65536) ∷ 0 ∷ []) k ≡ field (layout_of RiA) n k
 unfolding field bits layout_of
-ri_a n zero lt = omega arith
-ri_a n (suc zero) lt = omega arith
-ri_a n (suc (suc zero)) lt = omega arith
-ri_a n (suc (suc (suc zero))) lt = omega arith
-ri_a n (suc (suc (suc (suc zero)))) lt = omega arith
-ri_a n (suc (suc (suc (suc (suc zero))))) lt = omega arith
-ri_a n (suc (suc (suc (suc (suc (suc zero)))))) lt = omega arith
-ri_a n (suc (suc (suc (suc (suc (suc (suc zero))))))) lt = omega arith
-ri_a n (suc (suc (suc (suc (suc (suc (suc (suc zero)))))))) lt = omega arith
-ri_a n (suc (suc (suc (suc (suc (suc (suc (suc (suc zero))))))))) lt = omega arith
 ri_a n (suc (suc (suc (suc (suc (suc (suc (suc (suc (suc k)))))))))) lt = absurd (omega arith)
+ri_a n k lt = omega arith
 
 pub ri_b : (n k : ℕ) → k < 10 → slice_index ((n / 16777216 % 256 * 16 + n / 65536 % 16) ∷ (n / 1048576 % 16) ∷ 0 ∷ 0 ∷ 0 ∷ 0 ∷ 0 ∷ 0 ∷ (n % 65536) ∷ 0 ∷ []) k ≡ field (layout_of RiB) n k
 unfolding field bits layout_of
-ri_b n zero lt = omega arith
-ri_b n (suc zero) lt = omega arith
-ri_b n (suc (suc zero)) lt = omega arith
-ri_b n (suc (suc (suc zero))) lt = omega arith
-ri_b n (suc (suc (suc (suc zero)))) lt = omega arith
-ri_b n (suc (suc (suc (suc (suc zero))))) lt = omega arith
-ri_b n (suc (suc (suc (suc (suc (suc zero)))))) lt = omega arith
-ri_b n (suc (suc (suc (suc (suc (suc (suc zero))))))) lt = omega arith
-ri_b n (suc (suc (suc (suc (suc (suc (suc (suc zero)))))))) lt = omega arith
-ri_b n (suc (suc (suc (suc (suc (suc (suc (suc (suc zero))))))))) lt = omega arith
 ri_b n (suc (suc (suc (suc (suc (suc (suc (suc (suc (suc k)))))))))) lt = absurd (omega arith)
+ri_b n k lt = omega arith
 
 pub ri_c : (n k : ℕ) → k < 10 → slice_index ((n / 16777216 % 256 * 16 + n / 65536 % 16) ∷ 0 ∷ 0 ∷ 0 ∷ 0 ∷ (n / 1048576 % 16) ∷ 0 ∷ 0 ∷ (n % 65536) ∷ 0 ∷ []) k ≡ field (layout_of RiC) n k
 unfolding field bits layout_of
-ri_c n zero lt = omega arith
-ri_c n (suc zero) lt = omega arith
-ri_c n (suc (suc zero)) lt = omega arith
-ri_c n (suc (suc (suc zero))) lt = omega arith
-ri_c n (suc (suc (suc (suc zero)))) lt = omega arith
-ri_c n (suc (suc (suc (suc (suc zero))))) lt = omega arith
-ri_c n (suc (suc (suc (suc (suc (suc zero)))))) lt = omega arith
-ri_c n (suc (suc (suc (suc (suc (suc (suc zero))))))) lt = omega arith
-ri_c n (suc (suc (suc (suc (suc (suc (suc (suc zero)))))))) lt = omega arith
-ri_c n (suc (suc (suc (suc (suc (suc (suc (suc (suc zero))))))))) lt = omega arith
 ri_c n (suc (suc (suc (suc (suc (suc (suc (suc (suc (suc k)))))))))) lt = absurd (omega arith)
+ri_c n k lt = omega arith
 
 pub ril_a : (n k : ℕ) → k < 10 → slice_index ((n / 1099511627776 % 256 * 16 + n / 4294967296 % 16) ∷ (n / 68719476736 % 16) ∷ 0 ∷ 0 ∷ 0 ∷ 0 ∷ 0 ∷ 0 ∷ (n % 4294967296) ∷ 0 ∷ []) k ≡ field (layout_of RilA) n k
 unfolding field bits layout_of
-ril_a n zero lt = omega arith
-ril_a n (suc zero) lt = omega arith
-ril_a n (suc (suc zero)) lt = omega arith
-ril_a n (suc (suc (suc zero))) lt = omega arith
-ril_a n (suc (suc (suc (suc zero)))) lt = omega arith
-ril_a n (suc (suc (suc (suc (suc zero))))) lt = omega arith
-ril_a n (suc (suc (suc (suc (suc (suc zero)))))) lt = omega arith
-ril_a n (suc (suc (suc (suc (suc (suc (suc zero))))))) lt = omega arith
-ril_a n (suc (suc (suc (suc (suc (suc (suc (suc zero)))))))) lt = omega arith
-ril_a n (suc (suc (suc (suc (suc (suc (suc (suc (suc zero))))))))) lt = omega arith
 ril_a n (suc (suc (suc (suc (suc (suc (suc (suc (suc (suc k)))))))))) lt = absurd (omega arith)
+ril_a n k lt = omega arith
 
 pub ril_b : (n k : ℕ) → k < 10 → slice_index ((n / 1099511627776 % 256 * 16 + n / 4294967296 % 16) ∷ (n / 68719476736 % 16) ∷ 0 ∷ 0 ∷ 0 ∷ 0 ∷ 0 ∷ 0 ∷ (n % 4294967296) ∷ 0 ∷ []) k ≡ field (layout_of RilB) n k
 unfolding field bits layout_of
-ril_b n zero lt = omega arith
-ril_b n (suc zero) lt = omega arith
-ril_b n (suc (suc zero)) lt = omega arith
-ril_b n (suc (suc (suc zero))) lt = omega arith
-ril_b n (suc (suc (suc (suc zero)))) lt = omega arith
-ril_b n (suc (suc (suc (suc (suc zero))))) lt = omega arith
-ril_b n (suc (suc (suc (suc (suc (suc zero)))))) lt = omega arith
-ril_b n (suc (suc (suc (suc (suc (suc (suc zero))))))) lt = omega arith
-ril_b n (suc (suc (suc (suc (suc (suc (suc (suc zero)))))))) lt = omega arith
-ril_b n (suc (suc (suc (suc (suc (suc (suc (suc (suc zero))))))))) lt = omega arith
 ril_b n (suc (suc (suc (suc (suc (suc (suc (suc (suc (suc k)))))))))) lt = absurd (omega arith)
+ril_b n k lt = omega arith
 
 pub ril_c : (n k : ℕ) → k < 10 → slice_index ((n / 1099511627776 % 256 * 16 + n / 4294967296 % 16) ∷ 0 ∷ 0 ∷ 0 ∷ 0 ∷ (n / 68719476736 % 16) ∷ 0 ∷ 0 ∷ (n % 4294967296) ∷ 0 ∷ []) k ≡ field (layout_of RilC) n k
 unfolding field bits layout_of
-ril_c n zero lt = omega arith
-ril_c n (suc zero) lt = omega arith
-ril_c n (suc (suc zero)) lt = omega arith
-ril_c n (suc (suc (suc zero))) lt = omega arith
-ril_c n (suc (suc (suc (suc zero)))) lt = omega arith
-ril_c n (suc (suc (suc (suc (suc zero))))) lt = omega arith
-ril_c n (suc (suc (suc (suc (suc (suc zero)))))) lt = omega arith
-ril_c n (suc (suc (suc (suc (suc (suc (suc zero))))))) lt = omega arith
-ril_c n (suc (suc (suc (suc (suc (suc (suc (suc zero)))))))) lt = omega arith
-ril_c n (suc (suc (suc (suc (suc (suc (suc (suc (suc zero))))))))) lt = omega arith
 ril_c n (suc (suc (suc (suc (suc (suc (suc (suc (suc (suc k)))))))))) lt = absurd (omega arith)
+ril_c n k lt = omega arith
 
 pub rr : (n k : ℕ) → k < 10 → slice_index ((n / 256 % 256) ∷ (n / 16 % 16) ∷ (n % 16) ∷ 0 ∷ 0 ∷ 0 ∷ 0 ∷ 0 ∷ 0 ∷ 0 ∷ []) k ≡ field (layout_of Rr) n k
 unfolding field bits layout_of
-rr n zero lt = omega arith
-rr n (suc zero) lt = omega arith
-rr n (suc (suc zero)) lt = omega arith
-rr n (suc (suc (suc zero))) lt = omega arith
-rr n (suc (suc (suc (suc zero)))) lt = omega arith
-rr n (suc (suc (suc (suc (suc zero))))) lt = omega arith
-rr n (suc (suc (suc (suc (suc (suc zero)))))) lt = omega arith
-rr n (suc (suc (suc (suc (suc (suc (suc zero))))))) lt = omega arith
-rr n (suc (suc (suc (suc (suc (suc (suc (suc zero)))))))) lt = omega arith
-rr n (suc (suc (suc (suc (suc (suc (suc (suc (suc zero))))))))) lt = omega arith
 rr n (suc (suc (suc (suc (suc (suc (suc (suc (suc (suc k)))))))))) lt = absurd (omega arith)
+rr n k lt = omega arith
 
 pub rre : (n k : ℕ) → k < 10 → slice_index ((n / 65536 % 65536) ∷ (n / 16 % 16) ∷ (n % 16) ∷ 0 ∷ 0 ∷ 0 ∷ 0 ∷ 0 ∷ 0 ∷ 0 ∷ []) k ≡ field (layout_of Rre) n k
 unfolding field bits layout_of
-rre n zero lt = omega arith
-rre n (suc zero) lt = omega arith
-rre n (suc (suc zero)) lt = omega arith
-rre n (suc (suc (suc zero))) lt = omega arith
-rre n (suc (suc (suc (suc zero)))) lt = omega arith
-rre n (suc (suc (suc (suc (suc zero))))) lt = omega arith
-rre n (suc (suc (suc (suc (suc (suc zero)))))) lt = omega arith
-rre n (suc (suc (suc (suc (suc (suc (suc zero))))))) lt = omega arith
-rre n (suc (suc (suc (suc (suc (suc (suc (suc zero)))))))) lt = omega arith
-rre n (suc (suc (suc (suc (suc (suc (suc (suc (suc zero))))))))) lt = omega arith
 rre n (suc (suc (suc (suc (suc (suc (suc (suc (suc (suc k)))))))))) lt = absurd (omega arith)
+rre n k lt = omega arith
 
 pub rrf_ab : (n k : ℕ) → k < 10 → slice_index ((n / 65536 % 65536) ∷ (n / 16 % 16) ∷ (n % 16) ∷ (n / 4096 % 16) ∷ 0 ∷ (n / 256 % 16) ∷ 0 ∷ 0 ∷ 0 ∷ 0 ∷ []) k ≡ field (layout_of RrfAb) n k
 unfolding field bits layout_of
-rrf_ab n zero lt = omega arith
-rrf_ab n (suc zero) lt = omega arith
-rrf_ab n (suc (suc zero)) lt = omega arith
-rrf_ab n (suc (suc (suc zero))) lt = omega arith
-rrf_ab n (suc (suc (suc (suc zero)))) lt = omega arith
-rrf_ab n (suc (suc (suc (suc (suc zero))))) lt = omega arith
-rrf_ab n (suc (suc (suc (suc (suc (suc zero)))))) lt = omega arith
-rrf_ab n (suc (suc (suc (suc (suc (suc (suc zero))))))) lt = omega arith
-rrf_ab n (suc (suc (suc (suc (suc (suc (suc (suc zero)))))))) lt = omega arith
-rrf_ab n (suc (suc (suc (suc (suc (suc (suc (suc (suc zero))))))))) lt = omega arith
 rrf_ab n (suc (suc (suc (suc (suc (suc (suc (suc (suc (suc k)))))))))) lt = absurd (omega arith)
+rrf_ab n k lt = omega arith
 
 pub rrf_cde : (n k : ℕ) → k < 10 → slice_index ((n / 65536 % 65536) ∷ (n / 16 % 16) ∷ (n % 16) ∷ 0 ∷ 0 ∷ (n / 4096 % 16) ∷ (n / 256 % 16) ∷ 0 ∷ 0 ∷ 0 ∷ []) k ≡ field (layout_of RrfCde) n k
 unfolding field bits layout_of
-rrf_cde n zero lt = omega arith
-rrf_cde n (suc zero) lt = omega arith
-rrf_cde n (suc (suc zero)) lt = omega arith
-rrf_cde n (suc (suc (suc zero))) lt = omega arith
-rrf_cde n (suc (suc (suc (suc zero)))) lt = omega arith
-rrf_cde n (suc (suc (suc (suc (suc zero))))) lt = omega arith
-rrf_cde n (suc (suc (suc (suc (suc (suc zero)))))) lt = omega arith
-rrf_cde n (suc (suc (suc (suc (suc (suc (suc zero))))))) lt = omega arith
-rrf_cde n (suc (suc (suc (suc (suc (suc (suc (suc zero)))))))) lt = omega arith
-rrf_cde n (suc (suc (suc (suc (suc (suc (suc (suc (suc zero))))))))) lt = omega arith
 rrf_cde n (suc (suc (suc (suc (suc (suc (suc (suc (suc (suc k)))))))))) lt = absurd (omega arith)
+rrf_cde n k lt = omega arith
 
 pub rx : (n k : ℕ) → k < 10 → slice_index ((n / 16777216 % 256) ∷ (n / 1048576 % 16) ∷ (n / 4096 % 16) ∷ (n / 65536 % 16) ∷ 0 ∷ 0 ∷ 0 ∷ 0 ∷ 0 ∷ (n % 4096) ∷ []) k ≡ field (layout_of Rx) n k
 unfolding field bits layout_of
-rx n zero lt = omega arith
-rx n (suc zero) lt = omega arith
-rx n (suc (suc zero)) lt = omega arith
-rx n (suc (suc (suc zero))) lt = omega arith
-rx n (suc (suc (suc (suc zero)))) lt = omega arith
-rx n (suc (suc (suc (suc (suc zero))))) lt = omega arith
-rx n (suc (suc (suc (suc (suc (suc zero)))))) lt = omega arith
-rx n (suc (suc (suc (suc (suc (suc (suc zero))))))) lt = omega arith
-rx n (suc (suc (suc (suc (suc (suc (suc (suc zero)))))))) lt = omega arith
-rx n (suc (suc (suc (suc (suc (suc (suc (suc (suc zero))))))))) lt = omega arith
 rx n (suc (suc (suc (suc (suc (suc (suc (suc (suc (suc k)))))))))) lt = absurd (omega arith)
+rx n k lt = omega arith
 
 pub rxy : (n k : ℕ) → k < 10 → slice_index ((n / 1099511627776 % 256 * 256 + n % 256) ∷ (n / 68719476736 % 16) ∷ (n / 268435456 % 16) ∷ (n / 4294967296 % 16) ∷ 0 ∷ 0 ∷ 0 ∷ 0 ∷ 0 ∷ (n / 65536 % 4096 + n / 256 % 256 * 4096) ∷ []) k ≡ field (layout_of Rxy) n k
 unfolding field bits layout_of
-rxy n zero lt = omega arith
-rxy n (suc zero) lt = omega arith
-rxy n (suc (suc zero)) lt = omega arith
-rxy n (suc (suc (suc zero))) lt = omega arith
-rxy n (suc (suc (suc (suc zero)))) lt = omega arith
-rxy n (suc (suc (suc (suc (suc zero))))) lt = omega arith
-rxy n (suc (suc (suc (suc (suc (suc zero)))))) lt = omega arith
-rxy n (suc (suc (suc (suc (suc (suc (suc zero))))))) lt = omega arith
-rxy n (suc (suc (suc (suc (suc (suc (suc (suc zero)))))))) lt = omega arith
-rxy n (suc (suc (suc (suc (suc (suc (suc (suc (suc zero))))))))) lt = omega arith
 rxy n (suc (suc (suc (suc (suc (suc (suc (suc (suc (suc k)))))))))) lt = absurd (omega arith)
+rxy n k lt = omega arith
 
 pub vrr_c : (n k : ℕ) → k < 10 → slice_index ((n / 1099511627776 % 256 * 256 + n % 256) ∷ (n / 68719476736 % 16 + n / 2048 % 2 * 16) ∷ (n / 4294967296 % 16 + n / 1024 % 2 * 16) ∷ (n / 268435456 % 16 + n / 512 % 2 * 16) ∷ 0 ∷ (n / 4096 % 16) ∷ (n / 65536 % 16) ∷ (n / 1048576 % 16) ∷ 0 ∷ 0 ∷ []) k ≡ field (layout_of VrrC) n k
 unfolding field bits layout_of
-vrr_c n zero lt = omega arith
-vrr_c n (suc zero) lt = omega arith
-vrr_c n (suc (suc zero)) lt = omega arith
-vrr_c n (suc (suc (suc zero))) lt = omega arith
-vrr_c n (suc (suc (suc (suc zero)))) lt = omega arith
-vrr_c n (suc (suc (suc (suc (suc zero))))) lt = omega arith
-vrr_c n (suc (suc (suc (suc (suc (suc zero)))))) lt = omega arith
-vrr_c n (suc (suc (suc (suc (suc (suc (suc zero))))))) lt = omega arith
-vrr_c n (suc (suc (suc (suc (suc (suc (suc (suc zero)))))))) lt = omega arith
-vrr_c n (suc (suc (suc (suc (suc (suc (suc (suc (suc zero))))))))) lt = omega arith
 vrr_c n (suc (suc (suc (suc (suc (suc (suc (suc (suc (suc k)))))))))) lt = absurd (omega arith)
+vrr_c n k lt = omega arith
 
 pub vrx : (n k : ℕ) → k < 10 → slice_index ((n / 1099511627776 % 256 * 256 + n % 256) ∷ (n / 68719476736 % 16 + n / 2048 % 2 * 16) ∷ (n / 268435456 % 16) ∷ (n / 4294967296 % 16) ∷ 0 ∷ (n / 4096 % 16) ∷ 0 ∷ 0 ∷ 0 ∷ (n / 65536 % 4096) ∷ []) k ≡ field (layout_of Vrx) n k
 unfolding field bits layout_of
-vrx n zero lt = omega arith
-vrx n (suc zero) lt = omega arith
-vrx n (suc (suc zero)) lt = omega arith
-vrx n (suc (suc (suc zero))) lt = omega arith
-vrx n (suc (suc (suc (suc zero)))) lt = omega arith
-vrx n (suc (suc (suc (suc (suc zero))))) lt = omega arith
-vrx n (suc (suc (suc (suc (suc (suc zero)))))) lt = omega arith
-vrx n (suc (suc (suc (suc (suc (suc (suc zero))))))) lt = omega arith
-vrx n (suc (suc (suc (suc (suc (suc (suc (suc zero)))))))) lt = omega arith
-vrx n (suc (suc (suc (suc (suc (suc (suc (suc (suc zero))))))))) lt = omega arith
 vrx n (suc (suc (suc (suc (suc (suc (suc (suc (suc (suc k)))))))))) lt = absurd (omega arith)
+vrx n k lt = omega arith
 
 -- ---- the bits of no field
 

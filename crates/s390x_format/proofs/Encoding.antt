@@ -71,10 +71,6 @@ listed rows kind slots pos h =
       allowed = ap (λ (r : MachineRow). is_allowed r.allowed slots) p.is ∙ h.2;
     }
 
--- a code that is that of values in a format has the format's length
-pub code-length : (kind : FormatKind) (slots bytes : List ℕ) → IsCode kind slots bytes → length bytes ≡ length_of kind
-code-length kind slots bytes h = ap length h.bytes_are ∙ encode-length kind slots
-
 -- the code of a machine row with values that it allows is fetched as that row with those values,
 -- whatever comes after it
 pub code_fetch : (kind : FormatKind) (slots bytes rest : List ℕ) → IsCode kind slots bytes → IsEncoded machine_rows kind slots → IsFetch (bytes ++ rest) (decoded_of kind slots)

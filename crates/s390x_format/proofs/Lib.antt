@@ -12,7 +12,6 @@ pub mod OneReading
 pub mod Packing
 pub mod Searching
 pub mod SlotBounds
-pub mod Patching
 pub mod RowTable
 pub mod Unpacking
 pub mod StemPlaces

@@ -1,6 +1,6 @@
 -- The search for a row, at its place and by halving.
-use Rattle.std.proofs.Common.{◌≡◌, ℕ, zero, suc, ◌+◌, ◌-◌, ◌*◌, ◌^◌, ◌<◌, ◌≤◌, Bool, true, false, ◌&&◌, if◌then◌else◌, List, [], ◌∷◌, length, get_or, refl, ap, subst, ◌∙◌, arith, inl, inr, leb-true, eqb-true, nat_le, nat_lt, add-one, ◌==◌}
-use Rattle.std.proofs.Math.Pow.{pow_pos, pow-add}
+use Rattle.std.proofs.Common.{◌≡◌, ℕ, zero, suc, ◌+◌, ◌-◌, ◌*◌, ◌^◌, ◌<◌, ◌≤◌, Bool, true, false, ◌&&◌, if◌then◌else◌, List, [], ◌∷◌, length, get_or, refl, ap, subst, ◌∙◌, arith, inl, inr, leb-true, eqb-true, nat_le, nat_lt, ◌==◌}
+use Rattle.std.proofs.Math.Pow.{pow-add}
 use Rattle.std.proofs.Math.Nat.{mul_assoc}
 use Rattle.std.proofs.lemmas.Nat.{mul-le}
 use Rattle.std.proofs.lemmas.Bool.{and_parts, cases_order, cases_Bool, cases_lt, eqb-false, ltb-true}
@@ -19,18 +19,7 @@ agreed Nowhere Nowhere h = refl
 agreed LowHalf LowHalf h = refl
 agreed SecondByte SecondByte h = refl
 agreed LastByte LastByte h = refl
-agreed Nowhere LowHalf h = cc
-agreed Nowhere SecondByte h = cc
-agreed Nowhere LastByte h = cc
-agreed LowHalf Nowhere h = cc
-agreed LowHalf SecondByte h = cc
-agreed LowHalf LastByte h = cc
-agreed SecondByte Nowhere h = cc
-agreed SecondByte LowHalf h = cc
-agreed SecondByte LastByte h = cc
-agreed LastByte Nowhere h = cc
-agreed LastByte LowHalf h = cc
-agreed LastByte SecondByte h = cc
+agreed p q h = cc
 
 -- the part of a row's first byte has the row and tells where its opcode goes on
 record Indexed (p : FirstByte) (r : MachineRow) (i : ℕ) : Type 0 where
@@ -207,10 +196,6 @@ pub above_next : (rs : List MachineRow) (end mid o : ℕ) → rises 0 rs ≡ tru
     (k : ℕ) → mid ≤ k → k < end → o < (get_or rs k no_row).opcode
 above_next rs end mid o up few h ne k a b =
     let le : (get_or rs mid no_row).opcode ≤ (get_or rs k no_row).opcode = rises_le rs mid k up a (omega arith) in omega arith
-
-pub power_above : (s : ℕ) → s < 2 ^ s
-power_above zero = omega arith
-power_above (suc s) = let e : 2 ^ (s + 1) ≡ 2 ^ s * 2 = pow-add 2 s 1 in omega (arith, power_above s, pow_pos s, rw add-one at e)
 
 -- each row stands where the index and the offsets place it
 placed_from : (i0 : ℕ) (rs : List MachineRow) (ps : List FirstByte) (offsets : List ℕ) (i : ℕ) → are_placed i0 rs ps offsets ≡ true → i < length rs →

@@ -2,7 +2,6 @@
 use Rattle.std.specs.Prelude.{◌≡◌, ℕ, ◌<◌, true, List, [], ◌∷◌, length, get_or, slice_index}
 use Rattle.s390x_format.specs.declared.row.MachineRow.{MachineRow}
 use Rattle.s390x_format.specs.declared.kind.FormatKind.{FormatKind}
-use Rattle.s390x_format.specs.declared.kind.FormatKind.TheVariants.{RiA, RiB, RiC, RilA, RilB, RilC}
 use Rattle.s390x_format.specs.declared.decoder.Decoded.{Decoded}
 use Rattle.s390x_format.specs.Layout.{SlotsFit}
 use Rattle.s390x_format.specs.Formats.{layout_of}
@@ -33,14 +32,3 @@ pub record IsEncoded (rows : List MachineRow) (kind : FormatKind) (slots : List 
 -- the row and the fields
 abbrev pub decoded_of : FormatKind → List ℕ → Decoded
 decoded_of kind slots = record { row = record { format = kind; opcode = slice_index slots 0 }; fields = fields_of kind slots }
-
--- how many bytes the immediate or distance has that follows the first two bytes and ends the code;
--- 0 for the formats that don't end so
-abbrev pub immediate_bytes : FormatKind → ℕ
-immediate_bytes RiA = 2
-immediate_bytes RiB = 2
-immediate_bytes RiC = 2
-immediate_bytes RilA = 4
-immediate_bytes RilB = 4
-immediate_bytes RilC = 4
-immediate_bytes _ = 0

@@ -1,18 +1,12 @@
 -- A load is read from its instruction, and the load that is read is the instruction.
-use Rattle.std.proofs.Common.{◌≡◌, true, is_some, Option, Some, None, refl, sym, ap, ◌∙◌, subst}
+use Rattle.std.proofs.Common.{◌≡◌, Option, Some, None, refl, sym, ap, ◌∙◌, subst}
 use Rattle.s390x_base.specs.declared.regs.Reg.{Reg}
 use Rattle.s390x_inst.specs.declared.args.MemArg.{MemArg}
 use Rattle.s390x_inst.specs.declared.inst.Inst.{Inst}
 use Rattle.s390x_inst.specs.declared.inst.Inst.TheVariants.{Fence}
 use Rattle.s390x_inst.specs.declared.load.Load.{Load}
 use Rattle.s390x_inst.specs.declared.load.LoadOp.{LoadOp}
-use Rattle.s390x_inst.specs.declared.load.LoadOp.TheVariants.{Load64}
 use Rattle.s390x_inst.specs.Loads.{as_load, load_instruction, by_load}
-
--- the last clause is a copy for each other load
-pub load_is_read : (op : LoadOp) (rd : Reg) (mem : MemArg) → as_load (load_instruction op rd mem) ≡ Some (record { op = op; rd = rd; mem = mem })
-load_is_read Load64 rd mem = refl
-load_is_read op rd mem = refl
 
 -- the last clause is a copy for each other instruction
 written_or_self : (i : Inst) → by_load (λ l. load_instruction l.op l.rd l.mem) i (as_load i) ≡ i
@@ -21,11 +15,6 @@ written_or_self i = refl
 
 pub load_is_written : (i : Inst) (l : Load) → as_load i ≡ Some l → i ≡ load_instruction l.op l.rd l.mem
 load_is_written i l e = sym (written_or_self i) ∙ ap (by_load (λ k. load_instruction k.op k.rd k.mem) i) e
-
--- the load that there is: in a clause that is a copy for each load, `the_load (as_load i) refl` is the load that i is
-abbrev pub the_load : (o : Option Load) → is_some o ≡ true → Load
-the_load (Some l) is = l
-the_load None is = absurd (cc)
 
 -- what holds of each load and of each other instruction holds of all
 pub each_instruction : (P : Inst → Type 0) → ((op : LoadOp) (rd : Reg) (mem : MemArg) → P (load_instruction op rd mem)) → ((i : Inst) → as_load i ≡ None → P i) → (i : Inst) → P i

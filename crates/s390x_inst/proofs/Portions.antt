@@ -1,5 +1,5 @@
 -- The portions of a loop are those of its members between its opening and its end.
-use Rattle.std.proofs.Common.{◌≡◌, ℕ, suc, ◌+◌, ◌<◌, Bool, true, false, List, [], ◌∷◌, ◌++◌, length, get_or, drop, drop-cons, Result, Ok, Err, IfOk, refl, sym, ap, ◌∙◌, arith, Vec, Global}
+use Rattle.std.proofs.Common.{◌≡◌, ℕ, suc, ◌+◌, ◌<◌, Bool, true, false, List, [], ◌∷◌, ◌++◌, length, get_or, drop, drop-cons, Result, Ok, Err, IfOk, refl, sym, ap, ◌∙◌, arith, Vec, Global, append_assoc, append-nil}
 use Rattle.s390x_inst.specs.declared.inst.Inst.{Inst, Row_of-Inst, end_of-Inst, more_of-Inst, items-the_row-Inst, items_hidden-the_row-Inst-0, roll-out-Inst}
 use Rattle.s390x_inst.specs.declared.inst.Inst.TheVariants.{Loop'}
 use Rattle.s390x_inst.specs.declared.inst.Inst.TheBlock.{hidden-the_row-Inst-0}
@@ -28,7 +28,7 @@ unfolding V.roll-Inst denote.Hole.Carrier.roll V.out-Inst denote.Hole.Carrier.ou
 opens_no_loop (Loop' mask body all) h = absurd (h mask _ (sym (roll-out-Inst (Loop' mask body all))))
 opens_no_loop i h = refl
 
-one_portion : (i : Inst) → opens (first_portion i) ≡ false → portions i ≡ first_portion i ∷ []
+pub one_portion : (i : Inst) → opens (first_portion i) ≡ false → portions i ≡ first_portion i ∷ []
 one_portion (Loop' mask body all) h = absurd cc
 one_portion i h = refl
 
@@ -37,15 +37,7 @@ pub same_others : (i j : Inst) → ((m : ℕ) (v : Vec Inst Global) → i ≡ V.
 same_others i j h same =
     one_portion j (ap opens same ∙ opens_no_loop i h) ∙ ap (λ p. p ∷ []) same ∙ sym (one_portion i (opens_no_loop i h))
 
-append_nil : (xs : List Portion) → xs ++ [] ≡ xs
-append_nil [] = refl
-append_nil (x ∷ xs) = ap (λ t. x ∷ t) (append_nil xs)
-
-append_assoc : (xs ys zs : List Portion) → (xs ++ ys) ++ zs ≡ xs ++ (ys ++ zs)
-append_assoc [] ys zs = refl
-append_assoc (x ∷ xs) ys zs = ap (λ t. x ∷ t) (append_assoc xs ys zs)
-
-members_append : (xs ys : List Inst) → members_portions (xs ++ ys) ≡ members_portions xs ++ members_portions ys
+pub members_append : (xs ys : List Inst) → members_portions (xs ++ ys) ≡ members_portions xs ++ members_portions ys
 members_append [] ys = refl
 members_append (i ∷ is) ys = ap (λ t. portions i ++ t) (members_append is ys) ∙ sym (append_assoc (portions i) (members_portions is) (members_portions ys))
 
@@ -54,7 +46,7 @@ pub member_turn : (is done after : List Inst) (k : ℕ) (i j : Inst) → k < len
 member_turn is done after k i j lt at same pushed h =
     let k1 : suc k ≡ k + 1 = omega arith in
     let d : drop k is ≡ i ∷ drop (k + 1) is = drop-cons is k i lt ∙ ap (λ y. y ∷ drop (suc k) is) (sym at) ∙ ap (λ m. i ∷ drop m is) k1 in
-    let one : members_portions (j ∷ []) ≡ portions i = append_nil (portions j) ∙ same in
+    let one : members_portions (j ∷ []) ≡ portions i = append-nil (portions j) ∙ same in
     let a : members_portions after ≡ members_portions done ++ portions i = ap members_portions pushed ∙ members_append done (j ∷ []) ∙ ap (λ t. members_portions done ++ t) one in
     ap (λ t. t ++ members_portions (drop (k + 1) is)) a
     ∙ append_assoc (members_portions done) (portions i) (members_portions (drop (k + 1) is))

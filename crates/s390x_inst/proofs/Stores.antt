@@ -6,13 +6,7 @@ use Rattle.s390x_inst.specs.declared.inst.Inst.{Inst}
 use Rattle.s390x_inst.specs.declared.inst.Inst.TheVariants.{Fence}
 use Rattle.s390x_inst.specs.declared.store.Store.{Store}
 use Rattle.s390x_inst.specs.declared.store.StoreOp.{StoreOp}
-use Rattle.s390x_inst.specs.declared.store.StoreOp.TheVariants.{Store64}
 use Rattle.s390x_inst.specs.Stores.{as_store, store_instruction, by_store}
-
--- the last clause is a copy for each other store
-pub store_is_read : (op : StoreOp) (rd : Reg) (mem : MemArg) → as_store (store_instruction op rd mem) ≡ Some (record { op = op; rd = rd; mem = mem })
-store_is_read Store64 rd mem = refl
-store_is_read op rd mem = refl
 
 -- the last clause is a copy for each other instruction
 written_or_self : (i : Inst) → by_store (λ s. store_instruction s.op s.rd s.mem) i (as_store i) ≡ i

@@ -10,7 +10,7 @@ use Rattle.s390x_base.specs.declared.regs.RegClass.TheVariants.{Int, Float}
 use Rattle.s390x_base.specs.declared.regs.Reg.{Reg}
 use Rattle.s390x_base.specs.declared.regs.Reg.TheVariants.{Real, Virtual}
 use Rattle.s390x_base.specs.declared.trap.TrapKind.{TrapKind}
-use Rattle.s390x_base.specs.declared.trap.TrapKind.TheVariants.{StackOverflow, IntegerOverflow, HeapOutOfBounds, IntegerDivisionByZero, BadConversionToInteger, User}
+use Rattle.s390x_base.specs.declared.trap.TrapKind.TheVariants.{User}
 use Rattle.s390x_base.specs.AccessFlags.{AccessFlags}
 use Rattle.s390x_job_fields.specs.Marks.{among}
 use Rattle.s390x_job_fields.specs.Numbers.{W32}
@@ -63,20 +63,12 @@ user_round_trip n h =
     rw (decimal-round_trip n (omega (arith, h.1)), a, b) refl
 
 pub trap-round_trip : (k : TrapKind) → IsKind k → trap_of (trap_text k) ≡ k
-trap-round_trip StackOverflow h = refl
-trap-round_trip IntegerOverflow h = refl
-trap-round_trip HeapOutOfBounds h = refl
-trap-round_trip IntegerDivisionByZero h = refl
-trap-round_trip BadConversionToInteger h = refl
 trap-round_trip (User n) h = user_round_trip n h
+trap-round_trip k h = refl
 
 pub trap-one_word : (k : TrapKind) → IsKind k → IsOneWord (trap_text k)
-trap-one_word StackOverflow h = Avoids-test marks (trap_text StackOverflow) refl
-trap-one_word IntegerOverflow h = Avoids-test marks (trap_text IntegerOverflow) refl
-trap-one_word HeapOutOfBounds h = Avoids-test marks (trap_text HeapOutOfBounds) refl
-trap-one_word IntegerDivisionByZero h = Avoids-test marks (trap_text IntegerDivisionByZero) refl
-trap-one_word BadConversionToInteger h = Avoids-test marks (trap_text BadConversionToInteger) refl
 trap-one_word (User n) h = Avoids-append marks (codes "user") (decimal n) (Avoids-test marks (codes "user") refl) (decimal-one_word n (omega (arith, h.1)))
+trap-one_word k h = Avoids-test marks (trap_text k) refl
 
 pub bool-round_trip : (b : Bool) → bool_of (bool_text b) ≡ b
 bool-round_trip true = refl
@@ -103,10 +95,6 @@ aligned_round_trip false = refl
 aligned_one_word : (b : Bool) → IsOneWord (aligned_text b)
 aligned_one_word true = (refl, tt)
 aligned_one_word false = (refl, tt)
-
-suffix_ends : (t : Option TrapKind) → Ends (trap_suffix t)
-suffix_ends None = tt
-suffix_ends (Some k) = refl
 
 suffix_round_trip : (t : Option TrapKind) (r : List ℕ) → IsSuffix t → suffix_of (trap_suffix t ++ (41 ∷ r)) ≡ t
 suffix_round_trip None r h = refl

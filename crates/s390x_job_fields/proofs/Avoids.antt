@@ -1,8 +1,7 @@
 -- Texts that avoid some bytes, and their words.
-use Rattle.std.proofs.Common.{◌≡◌, ℕ, Bool, true, false, List, [], ◌∷◌, ◌++◌, refl, sym, ap, ◌∙◌, inl, inr, arith}
+use Rattle.std.proofs.Common.{◌≡◌, ℕ, Bool, true, false, List, [], ◌∷◌, ◌++◌, refl, sym, ap, ◌∙◌, inl, inr}
 use Rattle.std.specs.Prelude.{◌==◌, ◌&&◌, not}
-use Rattle.std.proofs.lemmas.Bool.Decides.{nat_tests}
-use Rattle.std.proofs.lemmas.Bool.{false≢true}
+use Rattle.std.proofs.lemmas.Bool.{false≢true, and_parts, eqb-true}
 use Rattle.s390x_job_fields.specs.Marks.{among, is_mark, before_mark, from_mark, word, after_word, upto, past}
 use Rattle.s390x_job_fields.proofs.Members.{either, number-self, or-false}
 
@@ -30,18 +29,11 @@ abbrev pub covers : List ℕ → List ℕ → Bool
 covers xs [] = true
 covers xs (y ∷ ys) = among y xs && covers xs ys
 
-both : (a b : Bool) → (a && b) ≡ true → (a ≡ true) × (b ≡ true)
-both true b h = (refl, h)
-both false b h = absurd cc
-
-same : (m n : ℕ) → (m == n) ≡ true → m ≡ n
-same m n h = grind (arith, nat_tests)
-
 fewer : (xs ys : List ℕ) → covers xs ys ≡ true → (z : ℕ) → among z xs ≡ false → among z ys ≡ false
 fewer xs [] h z a = refl
 fewer xs (y ∷ ys) h z a =
-    let p = both (among y xs) (covers xs ys) h in
-    elim (either (z == y)) [ inl e ↦ absurd (false≢true (sym a ∙ ap (λ w. among w xs) (same z y e) ∙ p.0)) | inr e ↦ rw e (fewer xs ys p.1 z a) ]
+    let p = and_parts (among y xs) (covers xs ys) h in
+    elim (either (z == y)) [ inl e ↦ absurd (false≢true (sym a ∙ ap (λ w. among w xs) (eqb-true z y e) ∙ p.0)) | inr e ↦ rw e (fewer xs ys p.1 z a) ]
 
 pub Avoids-fewer : (xs ys : List ℕ) → covers xs ys ≡ true → (s : List ℕ) → Avoids xs s → Avoids ys s
 Avoids-fewer xs ys h [] a = tt
@@ -60,29 +52,23 @@ abbrev pub Ends : List ℕ → Type 0
 Ends [] = Unit {0}
 Ends (x ∷ s) = is_mark x ≡ true
 
-before-one_word : (w r : List ℕ) → IsOneWord w → Ends r → before_mark (w ++ r) ≡ w
-before-one_word [] [] h e = refl
-before-one_word [] (x ∷ r) h e = rw e refl
-before-one_word (x ∷ w) r h e = rw h.0 (ap (λ l. x ∷ l) (before-one_word w r h.1 e))
-
-from-one_word : (w r : List ℕ) → IsOneWord w → Ends r → from_mark (w ++ r) ≡ r
-from-one_word [] [] h e = refl
-from-one_word [] (x ∷ r) h e = rw e refl
-from-one_word (x ∷ w) r h e = rw h.0 (from-one_word w r h.1 e)
-
 pub front-is : (w r : List ℕ) → IsOneWord w → Ends r → before_mark (w ++ r) ≡ w
-front-is w r h e = before-one_word w r h e
+front-is [] [] h e = refl
+front-is [] (x ∷ r) h e = rw e refl
+front-is (x ∷ w) r h e = rw h.0 (ap (λ l. x ∷ l) (front-is w r h.1 e))
 
 pub back-is : (w r : List ℕ) → IsOneWord w → Ends r → from_mark (w ++ r) ≡ r
-back-is w r h e = from-one_word w r h e
+back-is [] [] h e = refl
+back-is [] (x ∷ r) h e = rw e refl
+back-is (x ∷ w) r h e = rw h.0 (back-is w r h.1 e)
 
 pub word-is : (x : ℕ) (w r : List ℕ) → IsOneWord w → Ends r → word (x ∷ (w ++ r)) ≡ w
 unfolding word
-word-is x w r h e = before-one_word w r h e
+word-is x w r h e = front-is w r h e
 
 pub after-is : (x : ℕ) (w r : List ℕ) → IsOneWord w → Ends r → after_word (x ∷ (w ++ r)) ≡ r
 unfolding after_word
-after-is x w r h e = from-one_word w r h e
+after-is x w r h e = back-is w r h e
 
 pub upto-is : (c : ℕ) (w r : List ℕ) → Avoids (c ∷ []) w → upto c (w ++ (c ∷ r)) ≡ w
 upto-is c [] r h = rw (number-self c) refl

@@ -1,7 +1,8 @@
 -- Bytes and starting values in hex, and facilities: reading gives back what was printed.
 use Rattle.std.proofs.Common.{◌≡◌, ℕ, zero, suc, ◌+◌, ◌*◌, ◌/◌, ◌%◌, ◌^◌, ◌<◌, ◌≤◌, Bool, true, false, List, [], ◌∷◌, ◌++◌, refl, ap, ◌∙◌, arith}
-use Rattle.std.specs.Prelude.{◌==◌, ◌||◌, codes, slice_index}
+use Rattle.std.specs.Prelude.{◌==◌, codes, slice_index}
 use Rattle.std.specs.Str.{bytes_eq}
+use Rattle.std.proofs.lemmas.Bool.{or_parts}
 use Rattle.std.proofs.lemmas.Nat.{pow-add}
 use Rattle.std.proofs.Math.Pow.{pow_mono}
 use Rattle.hex.specs.Hex.{encode_lower, encode_with, IsBytes, lower_digits}
@@ -16,50 +17,12 @@ use Rattle.s390x_job_fields.proofs.Digits.{decimal-round_trip, decimal-one_word,
 
 -- hex digits
 hex_digit_one_word : (d : ℕ) → d < 16 → among (slice_index lower_digits d) (45 ∷ marks) ≡ false
-hex_digit_one_word zero h = refl
-hex_digit_one_word (suc zero) h = refl
-hex_digit_one_word (suc (suc zero)) h = refl
-hex_digit_one_word (suc (suc (suc zero))) h = refl
-hex_digit_one_word (suc (suc (suc (suc zero)))) h = refl
-hex_digit_one_word (suc (suc (suc (suc (suc zero))))) h = refl
-hex_digit_one_word (suc (suc (suc (suc (suc (suc zero)))))) h = refl
-hex_digit_one_word (suc (suc (suc (suc (suc (suc (suc zero))))))) h = refl
-hex_digit_one_word (suc (suc (suc (suc (suc (suc (suc (suc zero)))))))) h = refl
-hex_digit_one_word (suc (suc (suc (suc (suc (suc (suc (suc (suc zero))))))))) h = refl
-hex_digit_one_word (suc (suc (suc (suc (suc (suc (suc (suc (suc (suc zero)))))))))) h = refl
-hex_digit_one_word (suc (suc (suc (suc (suc (suc (suc (suc (suc (suc (suc zero))))))))))) h = refl
-hex_digit_one_word (suc (suc (suc (suc (suc (suc (suc (suc (suc (suc (suc (suc zero)))))))))))) h = refl
-hex_digit_one_word (suc (suc (suc (suc (suc (suc (suc (suc (suc (suc (suc (suc (suc zero))))))))))))) h = refl
-hex_digit_one_word (suc (suc (suc (suc (suc (suc (suc (suc (suc (suc (suc (suc (suc (suc zero)))))))))))))) h = refl
-hex_digit_one_word (suc (suc (suc (suc (suc (suc (suc (suc (suc (suc (suc (suc (suc (suc (suc zero))))))))))))))) h = refl
 hex_digit_one_word (suc (suc (suc (suc (suc (suc (suc (suc (suc (suc (suc (suc (suc (suc (suc (suc d)))))))))))))))) h = absurd (omega arith)
+hex_digit_one_word d h = refl
 
 digit_round_trip : (d : ℕ) → d < 16 → digit_of (slice_index lower_digits d) ≡ d
-digit_round_trip zero h = refl
-digit_round_trip (suc zero) h = refl
-digit_round_trip (suc (suc zero)) h = refl
-digit_round_trip (suc (suc (suc zero))) h = refl
-digit_round_trip (suc (suc (suc (suc zero)))) h = refl
-digit_round_trip (suc (suc (suc (suc (suc zero))))) h = refl
-digit_round_trip (suc (suc (suc (suc (suc (suc zero)))))) h = refl
-digit_round_trip (suc (suc (suc (suc (suc (suc (suc zero))))))) h = refl
-digit_round_trip (suc (suc (suc (suc (suc (suc (suc (suc zero)))))))) h = refl
-digit_round_trip (suc (suc (suc (suc (suc (suc (suc (suc (suc zero))))))))) h = refl
-digit_round_trip (suc (suc (suc (suc (suc (suc (suc (suc (suc (suc zero)))))))))) h = refl
-digit_round_trip (suc (suc (suc (suc (suc (suc (suc (suc (suc (suc (suc zero))))))))))) h = refl
-digit_round_trip (suc (suc (suc (suc (suc (suc (suc (suc (suc (suc (suc (suc zero)))))))))))) h = refl
-digit_round_trip (suc (suc (suc (suc (suc (suc (suc (suc (suc (suc (suc (suc (suc zero))))))))))))) h = refl
-digit_round_trip (suc (suc (suc (suc (suc (suc (suc (suc (suc (suc (suc (suc (suc (suc zero)))))))))))))) h = refl
-digit_round_trip (suc (suc (suc (suc (suc (suc (suc (suc (suc (suc (suc (suc (suc (suc (suc zero))))))))))))))) h = refl
 digit_round_trip (suc (suc (suc (suc (suc (suc (suc (suc (suc (suc (suc (suc (suc (suc (suc (suc d)))))))))))))))) h = absurd (omega arith)
-
-either_false : (a b : Bool) → (a || b) ≡ false → b ≡ false
-either_false true b h = absurd cc
-either_false false b h = h
-
-first_false : (a b : Bool) → (a || b) ≡ false → a ≡ false
-first_false true b h = absurd cc
-first_false false b h = refl
+digit_round_trip d h = refl
 
 power : (k : ℕ) → 2 ^ (4 * suc k) ≡ 16 * 2 ^ (4 * k)
 power k = let e : 4 * suc k ≡ 4 + 4 * k = omega arith in ap (λ n. 2 ^ n) e ∙ pow-add 2 4 (4 * k)
@@ -77,7 +40,7 @@ encode_avoids (b ∷ bs) h =
 
 fewer_marks : (s : List ℕ) → Avoids (45 ∷ marks) s → IsOneWord s
 fewer_marks [] h = tt
-fewer_marks (x ∷ s) h = (either_false (x == 45) (among x marks) h.0, fewer_marks s h.1)
+fewer_marks (x ∷ s) h = ((or_parts (x == 45) (among x marks) h.0).1, fewer_marks s h.1)
 
 pub bytes-one_word : (bs : List ℕ) → IsBytes bs → IsOneWord (bytes_text bs)
 bytes-one_word [] h = (refl, tt)
@@ -88,7 +51,8 @@ unfolding encode_with
 no_dash b bs h =
     let s : b < 256 = h 0 in
     let d = hex_digit_one_word (b / 16) (omega arith) in
-    rw (first_false (slice_index lower_digits (b / 16) == 45) (among (slice_index lower_digits (b / 16)) marks) d) refl
+    let e = or_parts (slice_index lower_digits (b / 16) == 45) (among (slice_index lower_digits (b / 16)) marks) d in
+    rw e.0 refl
 
 pub bytes-round_trip : (bs : List ℕ) → IsBytes bs → bytes_of_text (bytes_text bs) ≡ bs
 bytes-round_trip [] h = refl

@@ -128,7 +128,7 @@ reloc-feed (Absolute name offset) h =
     subst (Avoids (10 ∷ [])) (sym (append_nil name.0 o)) (Avoids-append (10 ∷ []) w (41 ∷ []) (Avoids-fewer (41 ∷ 10 ∷ []) (10 ∷ []) refl w (reloc_open name.0 o h.0 (signed-one_word offset h.1))) (refl, tt))
 
 -- pairs in lists
-reg_some : (r : Reg) → 0 < length (reg_text r)
+pub reg_some : (r : Reg) → 0 < length (reg_text r)
 reg_some (Real r) = omega arith
 reg_some (Virtual n c) = omega arith
 
@@ -204,15 +204,10 @@ real-element = record {
 }
 
 -- results
-type-round_trip : (t : ValueType) → value_type_of (type_text t) ≡ t
+type-name : (t : ValueType) → IsOneWord (type_text t) × (value_type_of (type_text t) ≡ t)
 unfolding value_type_of type_text
-type-round_trip T.I8 = refl
-type-round_trip t = refl
-
-type-one_word : (t : ValueType) → IsOneWord (type_text t)
-unfolding type_text
-type-one_word T.I8 = Avoids-test marks (type_text T.I8) refl
-type-one_word t = Avoids-test marks (type_text t) refl
+type-name T.I8 = (Avoids-test marks (type_text T.I8) refl, refl)
+type-name t = (Avoids-test marks (type_text t) refl, refl)
 
 not_at : (r : Reg) (s : List ℕ) → (slice_index (61 ∷ (reg_text r ++ s)) 1 == 64) ≡ false
 not_at (Real r) s = refl
@@ -225,7 +220,7 @@ location_round_trip (L.Reg r ty) h s e =
     let w = word-is 61 (reg_text r) t (reg-one_word r h) refl in
     let b = after-is 61 (reg_text r) t (reg-one_word r h) refl in
     ap (λ u. location_of (61 ∷ u)) a
-    ∙ rw (not_at r t) (ap2 L.Reg (ap reg_of w ∙ reg-round_trip r h) (ap (λ u. value_type_of (word u)) b ∙ ap value_type_of (word-is 58 (type_text ty) s (type-one_word ty) e) ∙ type-round_trip ty))
+    ∙ rw (not_at r t) (ap2 L.Reg (ap reg_of w ∙ reg-round_trip r h) (ap (λ u. value_type_of (word u)) b ∙ ap value_type_of (word-is 58 (type_text ty) s (type-name ty).0 e) ∙ (type-name ty).1))
 location_round_trip (L.Stack off ty) h s e =
     let t = 58 ∷ (type_text ty ++ s) in
     let o = signed_decimal off in
@@ -233,13 +228,13 @@ location_round_trip (L.Stack off ty) h s e =
     let w = word-is 64 o t (signed-one_word off h) refl in
     let b = after-is 64 o t (signed-one_word off h) refl in
     ap (λ u. location_of (61 ∷ 64 ∷ u)) a
-    ∙ ap2 L.Stack (ap (integer_of S64) w ∙ integer-round_trip S64 off h) (ap (λ u. value_type_of (word u)) b ∙ ap value_type_of (word-is 58 (type_text ty) s (type-one_word ty) e) ∙ type-round_trip ty)
+    ∙ ap2 L.Stack (ap (integer_of S64) w ∙ integer-round_trip S64 off h) (ap (λ u. value_type_of (word u)) b ∙ ap value_type_of (word-is 58 (type_text ty) s (type-name ty).0 e) ∙ (type-name ty).1)
 
 location_inner : (l : RetLocation) → IsLocation l → Inner (location_text l)
 location_inner (L.Reg r ty) h =
-    (refl, Inner-append (reg_text r) (58 ∷ type_text ty) (Inner-one_word (reg_text r) (reg-one_word r h)) (refl, Inner-one_word (type_text ty) (type-one_word ty)))
+    (refl, Inner-append (reg_text r) (58 ∷ type_text ty) (Inner-one_word (reg_text r) (reg-one_word r h)) (refl, Inner-one_word (type_text ty) (type-name ty).0))
 location_inner (L.Stack off ty) h =
-    (refl, (refl, Inner-append (signed_decimal off) (58 ∷ type_text ty) (Inner-one_word (signed_decimal off) (signed-one_word off h)) (refl, Inner-one_word (type_text ty) (type-one_word ty))))
+    (refl, (refl, Inner-append (signed_decimal off) (58 ∷ type_text ty) (Inner-one_word (signed_decimal off) (signed-one_word off h)) (refl, Inner-one_word (type_text ty) (type-name ty).0)))
 
 location_ends : (l : RetLocation) (s : List ℕ) → Ends (location_text l ++ s)
 location_ends (L.Reg r ty) s = refl
@@ -278,9 +273,6 @@ not_dash (x ∷ s) h p = rw (sym (or-false (x == 45)) ∙ h.0) refl
 
 pub dash : (n : ℕ) → n < 2 ^ 64 → bytes_eq (decimal n) (codes "-") ≡ false
 dash n h = not_dash (decimal n) (Avoids-fewer no_digits (45 ∷ []) refl (decimal n) (decimal-digits n h)) (decimal_nonempty n h)
-
-tag_not_dash : (n : ℕ) → n < 4294967296 → bytes_eq (decimal n) (codes "-") ≡ false
-tag_not_dash n h = not_dash (decimal n) (Avoids-fewer no_digits (45 ∷ []) refl (decimal n) (decimal-digits n (omega arith))) (decimal_nonempty n (omega arith))
 
 tag_not_star : (n : ℕ) → n < 4294967296 → bytes_eq (decimal n) (codes "*") ≡ false
 tag_not_star n h = not_star (decimal n) (Avoids-fewer no_digits (42 ∷ []) refl (decimal n) (decimal-digits n (omega arith))) (decimal_nonempty n (omega arith))
@@ -330,7 +322,7 @@ try-round_trip (Goes c hs) h r e =
     let w = word-is 32 (decimal c) (l ++ r) (decimal-one_word c (omega (arith, h.0))) (list_ends hs r) in
     let b = after-is 32 (decimal c) (l ++ r) (decimal-one_word c (omega (arith, h.0))) (list_ends hs r) in
     ap (λ u. try_of (32 ∷ u)) (append_assoc (decimal c) l r)
-    ∙ rw (w, tag_not_dash c h.0, b) (ap2 Goes (natural-round_trip W32 c h.0) (list-round_trip handler_text handler_of IsHandler handler-element hs h.1 r))
+    ∙ rw (w, dash c (omega (arith, h.0)), b) (ap2 Goes (natural-round_trip W32 c h.0) (list-round_trip handler_text handler_of IsHandler handler-element hs h.1 r))
 
 pub try-after : (t : TryPart) → IsTry t → (r : List ℕ) → Ends r → after_try (32 ∷ (try_text t ++ r)) ≡ r
 try-after NoTry h r e =
@@ -340,7 +332,7 @@ try-after (Goes c hs) h r e =
     let l = list_text handler_text hs in
     let w = word-is 32 (decimal c) (l ++ r) (decimal-one_word c (omega (arith, h.0))) (list_ends hs r) in
     ap (λ u. after_try (32 ∷ u)) (append_assoc (decimal c) l r)
-    ∙ rw (w, tag_not_dash c h.0) (past_front (32 ∷ decimal c) l r (refl, Avoids-fewer marks (93 ∷ []) refl (decimal c) (decimal-one_word c (omega (arith, h.0)))) ∙ list-past handler_text handler_of IsHandler handler-element hs h.1 r)
+    ∙ rw (w, dash c (omega (arith, h.0))) (past_front (32 ∷ decimal c) l r (refl, Avoids-fewer marks (93 ∷ []) refl (decimal c) (decimal-one_word c (omega (arith, h.0)))) ∙ list-past handler_text handler_of IsHandler handler-element hs h.1 r)
 
 pub try-feed : (t : TryPart) → IsTry t → Avoids (10 ∷ []) (try_text t)
 try-feed NoTry h = (refl, tt)

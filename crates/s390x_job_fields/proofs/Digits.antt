@@ -34,17 +34,8 @@ abbrev pub no_digits : List ℕ
 no_digits = 10 ∷ 32 ∷ 40 ∷ 41 ∷ 91 ∷ 93 ∷ 44 ∷ 58 ∷ 47 ∷ 61 ∷ 33 ∷ 64 ∷ 45 ∷ 37 ∷ 42 ∷ []
 
 digit : (d : ℕ) → d < 10 → among (48 + d) no_digits ≡ false
-digit zero h = refl
-digit (suc zero) h = refl
-digit (suc (suc zero)) h = refl
-digit (suc (suc (suc zero))) h = refl
-digit (suc (suc (suc (suc zero)))) h = refl
-digit (suc (suc (suc (suc (suc zero))))) h = refl
-digit (suc (suc (suc (suc (suc (suc zero)))))) h = refl
-digit (suc (suc (suc (suc (suc (suc (suc zero))))))) h = refl
-digit (suc (suc (suc (suc (suc (suc (suc (suc zero)))))))) h = refl
-digit (suc (suc (suc (suc (suc (suc (suc (suc (suc zero))))))))) h = refl
 digit (suc (suc (suc (suc (suc (suc (suc (suc (suc (suc d)))))))))) h = absurd (omega arith)
+digit d h = refl
 
 pub decimal-digits : (n : ℕ) → n < 2 ^ 64 → Avoids no_digits (decimal n)
 decimal-digits n h =
@@ -76,21 +67,15 @@ int-signed limit (negsuc n) l h =
     rw (decimal-round_trip (suc n) s, a, b, d) refl
 
 pub wide : (w : Width) (n : ℕ) → n < 2 ^ width_bits w → n < 2 ^ 64
-wide W8 n h = omega arith
-wide W12 n h = omega arith
-wide W16 n h = omega arith
-wide W32 n h = omega arith
 wide W64 n h = h
+wide w n h = omega arith
 
 pub natural-round_trip : (w : Width) (n : ℕ) → n < 2 ^ width_bits w → natural_of w (decimal n) ≡ n
 natural-round_trip w n h = rw (decimal-round_trip n (wide w n h)) (small_mod n (2 ^ width_bits w) h)
 
 pub signed_small : (w : SignedWidth) → signed_limit w ≤ 2 ^ 63
 signed_small S8 = omega arith
-signed_small S16 = omega arith
-signed_small S20 = omega arith
-signed_small S32 = omega arith
-signed_small S64 = omega arith
+signed_small w = omega arith
 
 pub signed_wide : (w : SignedWidth) (z : ℤ) → IsBelow (signed_limit w) z → IsBelow (2 ^ 63) z
 signed_wide w (pos n) h = omega (arith, h, signed_small w)

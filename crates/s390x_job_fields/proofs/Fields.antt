@@ -20,28 +20,17 @@ use Rattle.s390x_job_fields.proofs.MemoryRoundTrip.{ap2, memory-round_trip, memo
 use Rattle.s390x_job_fields.proofs.CallsRoundTrip.{target-round_trip, target-one_word, reloc-round_trip, reloc-past, reloc-feed, arg-element, ret-element, use-element, label-element, real-element, result-element, dash, try-round_trip, try-after, try-feed}
 use Rattle.s390x_job_fields.proofs.BytesRoundTrip.{bytes-round_trip, bytes-one_word, value-round_trip, value-one_word, facilities-round_trip, facilities-feed}
 use Rattle.s390x_job_fields.proofs.OperatorsRoundTrip.{
-  alu-round_trip,
-  alu-one_word,
-  cmp-round_trip,
-  cmp-one_word,
-  shift-round_trip,
-  shift-one_word,
-  rxsbg-round_trip,
-  rxsbg-one_word,
-  unary-round_trip,
-  unary-one_word,
-  vec_binary-round_trip,
-  vec_binary-one_word,
-  vec_unary-round_trip,
-  vec_unary-one_word,
-  vec_shift-round_trip,
-  vec_shift-one_word,
-  vec_compare-round_trip,
-  vec_compare-one_word,
-  vec_element_compare-round_trip,
-  vec_element_compare-one_word,
-  convention-round_trip,
-  convention-one_word,
+  alu-name,
+  cmp-name,
+  shift-name,
+  rxsbg-name,
+  unary-name,
+  vec_binary-name,
+  vec_unary-name,
+  vec_shift-name,
+  vec_compare-name,
+  vec_element_compare-name,
+  convention-name,
 }
 use Rattle.s390x_job_fields.proofs.Registers.{all_registers}
 
@@ -95,17 +84,17 @@ pub field-round_trip : (f : Field) → IsField f → (r : List ℕ) → Rest f r
 field-round_trip (FReg x) h r e = one FReg reg_of (reg_text x) x r (reg-one_word x h) e (reg-round_trip x h)
 field-round_trip (FReal x) h r e = one FReal real_register_of (real_text x) x r (real-one_word x h) e (real-round_trip x h)
 field-round_trip (FPair x y) h r e = ap2 FPair (ap reg_of (two_first 47 (reg_text x) (reg_text y) r (reg-one_word x h.0) refl) ∙ reg-round_trip x h.0) (ap reg_of (two_second 47 (reg_text x) (reg_text y) r (reg-one_word x h.0) refl (reg-one_word y h.1) e) ∙ reg-round_trip y h.1)
-field-round_trip (FAlu x) h r e = one FAlu alu_of (alu_text x) x r (alu-one_word x) e (alu-round_trip x)
-field-round_trip (FCmp x) h r e = one FCmp cmp_of (cmp_text x) x r (cmp-one_word x) e (cmp-round_trip x)
-field-round_trip (FShift x) h r e = one FShift shift_of (shift_text x) x r (shift-one_word x) e (shift-round_trip x)
-field-round_trip (FRxsbg x) h r e = one FRxsbg rxsbg_of (rxsbg_text x) x r (rxsbg-one_word x) e (rxsbg-round_trip x)
-field-round_trip (FUnary x) h r e = one FUnary unary_of (unary_text x) x r (unary-one_word x) e (unary-round_trip x)
-field-round_trip (FVecBinary x) h r e = one FVecBinary vec_binary_of (vec_binary_text x) x r (vec_binary-one_word x) e (vec_binary-round_trip x)
-field-round_trip (FVecUnary x) h r e = one FVecUnary vec_unary_of (vec_unary_text x) x r (vec_unary-one_word x) e (vec_unary-round_trip x)
-field-round_trip (FVecShift x) h r e = one FVecShift vec_shift_of (vec_shift_text x) x r (vec_shift-one_word x) e (vec_shift-round_trip x)
-field-round_trip (FVecCompare x) h r e = one FVecCompare vec_compare_of (vec_compare_text x) x r (vec_compare-one_word x) e (vec_compare-round_trip x)
-field-round_trip (FVecElementCompare x) h r e = one FVecElementCompare vec_element_compare_of (vec_element_compare_text x) x r (vec_element_compare-one_word x) e (vec_element_compare-round_trip x)
-field-round_trip (FConvention x) h r e = one FConvention convention_of (convention_text x) x r (convention-one_word x) e (convention-round_trip x)
+field-round_trip (FAlu x) h r e = one FAlu alu_of (alu_text x) x r (alu-name x).0 e (alu-name x).1
+field-round_trip (FCmp x) h r e = one FCmp cmp_of (cmp_text x) x r (cmp-name x).0 e (cmp-name x).1
+field-round_trip (FShift x) h r e = one FShift shift_of (shift_text x) x r (shift-name x).0 e (shift-name x).1
+field-round_trip (FRxsbg x) h r e = one FRxsbg rxsbg_of (rxsbg_text x) x r (rxsbg-name x).0 e (rxsbg-name x).1
+field-round_trip (FUnary x) h r e = one FUnary unary_of (unary_text x) x r (unary-name x).0 e (unary-name x).1
+field-round_trip (FVecBinary x) h r e = one FVecBinary vec_binary_of (vec_binary_text x) x r (vec_binary-name x).0 e (vec_binary-name x).1
+field-round_trip (FVecUnary x) h r e = one FVecUnary vec_unary_of (vec_unary_text x) x r (vec_unary-name x).0 e (vec_unary-name x).1
+field-round_trip (FVecShift x) h r e = one FVecShift vec_shift_of (vec_shift_text x) x r (vec_shift-name x).0 e (vec_shift-name x).1
+field-round_trip (FVecCompare x) h r e = one FVecCompare vec_compare_of (vec_compare_text x) x r (vec_compare-name x).0 e (vec_compare-name x).1
+field-round_trip (FVecElementCompare x) h r e = one FVecElementCompare vec_element_compare_of (vec_element_compare_text x) x r (vec_element_compare-name x).0 e (vec_element_compare-name x).1
+field-round_trip (FConvention x) h r e = one FConvention convention_of (convention_text x) x r (convention-name x).0 e (convention-name x).1
 field-round_trip (FBool x) h r e = one FBool bool_of (bool_text x) x r (bool-one_word x) e (bool-round_trip x)
 field-round_trip (FNatural w x) h r e = one (FNatural w) (natural_of w) (decimal x) x r (decimal-one_word x (wide w x h)) e (natural-round_trip w x h)
 field-round_trip (FInteger w x) h r e = one (FInteger w) (integer_of w) (signed_decimal x) x r (signed-one_word x (signed_wide w x h)) e (integer-round_trip w x h)
@@ -132,17 +121,17 @@ pub field-after : (f : Field) → IsField f → (r : List ℕ) → Rest f r → 
 field-after (FReg x) h r e = one_after (reg_text x) r (reg-one_word x h) e
 field-after (FReal x) h r e = one_after (real_text x) r (real-one_word x h) e
 field-after (FPair x y) h r e = two_after 47 (reg_text x) (reg_text y) r (reg-one_word x h.0) refl (reg-one_word y h.1) e
-field-after (FAlu x) h r e = one_after (alu_text x) r (alu-one_word x) e
-field-after (FCmp x) h r e = one_after (cmp_text x) r (cmp-one_word x) e
-field-after (FShift x) h r e = one_after (shift_text x) r (shift-one_word x) e
-field-after (FRxsbg x) h r e = one_after (rxsbg_text x) r (rxsbg-one_word x) e
-field-after (FUnary x) h r e = one_after (unary_text x) r (unary-one_word x) e
-field-after (FVecBinary x) h r e = one_after (vec_binary_text x) r (vec_binary-one_word x) e
-field-after (FVecUnary x) h r e = one_after (vec_unary_text x) r (vec_unary-one_word x) e
-field-after (FVecShift x) h r e = one_after (vec_shift_text x) r (vec_shift-one_word x) e
-field-after (FVecCompare x) h r e = one_after (vec_compare_text x) r (vec_compare-one_word x) e
-field-after (FVecElementCompare x) h r e = one_after (vec_element_compare_text x) r (vec_element_compare-one_word x) e
-field-after (FConvention x) h r e = one_after (convention_text x) r (convention-one_word x) e
+field-after (FAlu x) h r e = one_after (alu_text x) r (alu-name x).0 e
+field-after (FCmp x) h r e = one_after (cmp_text x) r (cmp-name x).0 e
+field-after (FShift x) h r e = one_after (shift_text x) r (shift-name x).0 e
+field-after (FRxsbg x) h r e = one_after (rxsbg_text x) r (rxsbg-name x).0 e
+field-after (FUnary x) h r e = one_after (unary_text x) r (unary-name x).0 e
+field-after (FVecBinary x) h r e = one_after (vec_binary_text x) r (vec_binary-name x).0 e
+field-after (FVecUnary x) h r e = one_after (vec_unary_text x) r (vec_unary-name x).0 e
+field-after (FVecShift x) h r e = one_after (vec_shift_text x) r (vec_shift-name x).0 e
+field-after (FVecCompare x) h r e = one_after (vec_compare_text x) r (vec_compare-name x).0 e
+field-after (FVecElementCompare x) h r e = one_after (vec_element_compare_text x) r (vec_element_compare-name x).0 e
+field-after (FConvention x) h r e = one_after (convention_text x) r (convention-name x).0 e
 field-after (FBool x) h r e = one_after (bool_text x) r (bool-one_word x) e
 field-after (FNatural w x) h r e = one_after (decimal x) r (decimal-one_word x (wide w x h)) e
 field-after (FInteger w x) h r e = one_after (signed_decimal x) r (signed-one_word x (signed_wide w x h)) e
@@ -169,17 +158,17 @@ pub field-feed : (f : Field) → IsField f → Avoids (10 ∷ []) (spell f)
 field-feed (FReg x) h = (refl, Avoids-fewer marks (10 ∷ []) refl (reg_text x) (reg-one_word x h))
 field-feed (FReal x) h = (refl, Avoids-fewer marks (10 ∷ []) refl (real_text x) (real-one_word x h))
 field-feed (FPair x y) h = (refl, Avoids-append (10 ∷ []) (reg_text x) (47 ∷ (reg_text y)) (Avoids-fewer marks (10 ∷ []) refl (reg_text x) (reg-one_word x h.0)) (refl, Avoids-fewer marks (10 ∷ []) refl (reg_text y) (reg-one_word y h.1)))
-field-feed (FAlu x) h = (refl, Avoids-fewer marks (10 ∷ []) refl (alu_text x) (alu-one_word x))
-field-feed (FCmp x) h = (refl, Avoids-fewer marks (10 ∷ []) refl (cmp_text x) (cmp-one_word x))
-field-feed (FShift x) h = (refl, Avoids-fewer marks (10 ∷ []) refl (shift_text x) (shift-one_word x))
-field-feed (FRxsbg x) h = (refl, Avoids-fewer marks (10 ∷ []) refl (rxsbg_text x) (rxsbg-one_word x))
-field-feed (FUnary x) h = (refl, Avoids-fewer marks (10 ∷ []) refl (unary_text x) (unary-one_word x))
-field-feed (FVecBinary x) h = (refl, Avoids-fewer marks (10 ∷ []) refl (vec_binary_text x) (vec_binary-one_word x))
-field-feed (FVecUnary x) h = (refl, Avoids-fewer marks (10 ∷ []) refl (vec_unary_text x) (vec_unary-one_word x))
-field-feed (FVecShift x) h = (refl, Avoids-fewer marks (10 ∷ []) refl (vec_shift_text x) (vec_shift-one_word x))
-field-feed (FVecCompare x) h = (refl, Avoids-fewer marks (10 ∷ []) refl (vec_compare_text x) (vec_compare-one_word x))
-field-feed (FVecElementCompare x) h = (refl, Avoids-fewer marks (10 ∷ []) refl (vec_element_compare_text x) (vec_element_compare-one_word x))
-field-feed (FConvention x) h = (refl, Avoids-fewer marks (10 ∷ []) refl (convention_text x) (convention-one_word x))
+field-feed (FAlu x) h = (refl, Avoids-fewer marks (10 ∷ []) refl (alu_text x) (alu-name x).0)
+field-feed (FCmp x) h = (refl, Avoids-fewer marks (10 ∷ []) refl (cmp_text x) (cmp-name x).0)
+field-feed (FShift x) h = (refl, Avoids-fewer marks (10 ∷ []) refl (shift_text x) (shift-name x).0)
+field-feed (FRxsbg x) h = (refl, Avoids-fewer marks (10 ∷ []) refl (rxsbg_text x) (rxsbg-name x).0)
+field-feed (FUnary x) h = (refl, Avoids-fewer marks (10 ∷ []) refl (unary_text x) (unary-name x).0)
+field-feed (FVecBinary x) h = (refl, Avoids-fewer marks (10 ∷ []) refl (vec_binary_text x) (vec_binary-name x).0)
+field-feed (FVecUnary x) h = (refl, Avoids-fewer marks (10 ∷ []) refl (vec_unary_text x) (vec_unary-name x).0)
+field-feed (FVecShift x) h = (refl, Avoids-fewer marks (10 ∷ []) refl (vec_shift_text x) (vec_shift-name x).0)
+field-feed (FVecCompare x) h = (refl, Avoids-fewer marks (10 ∷ []) refl (vec_compare_text x) (vec_compare-name x).0)
+field-feed (FVecElementCompare x) h = (refl, Avoids-fewer marks (10 ∷ []) refl (vec_element_compare_text x) (vec_element_compare-name x).0)
+field-feed (FConvention x) h = (refl, Avoids-fewer marks (10 ∷ []) refl (convention_text x) (convention-name x).0)
 field-feed (FBool x) h = (refl, Avoids-fewer marks (10 ∷ []) refl (bool_text x) (bool-one_word x))
 field-feed (FNatural w x) h = (refl, Avoids-fewer marks (10 ∷ []) refl (decimal x) (decimal-one_word x (wide w x h)))
 field-feed (FInteger w x) h = (refl, Avoids-fewer marks (10 ∷ []) refl (signed_decimal x) (signed-one_word x (signed_wide w x h)))

@@ -24,14 +24,10 @@ ap3 f {a = a} {a' = a'} {b = b} {b' = b'} {c = c} {c' = c'} p q r = ap (λ x. f 
 pub ap4 : {A B C D E : Type 0} (f : A → B → C → D → E) {a a' : A} {b b' : B} {c c' : C} {d d' : D} → a ≡ a' → b ≡ b' → c ≡ c' → d ≡ d' → f a b c d ≡ f a' b' c' d'
 ap4 f {a = a} {a' = a'} {b = b} {b' = b'} {c = c} {c' = c'} {d = d} {d' = d'} p q r s = ap (λ x. f x b c d) p ∙ ap3 (f a') q r s
 
-form-round_trip : (f : MemoryForm) → form_of (form_text f) ≡ f
+form-name : (f : MemoryForm) → IsOneWord (form_text f) × (form_of (form_text f) ≡ f)
 unfolding form_of
-form-round_trip F.BXD12 = refl
-form-round_trip f = refl
-
-form-one_word : (f : MemoryForm) → IsOneWord (form_text f)
-form-one_word F.BXD12 = Avoids-test marks (form_text F.BXD12) refl
-form-one_word f = Avoids-test marks (form_text f) refl
+form-name F.BXD12 = (Avoids-test marks (form_text F.BXD12) refl, refl)
+form-name f = (Avoids-test marks (form_text f) refl, refl)
 
 -- the inside is followed by a parenthesis
 indexed_tail : (b x : Reg) (d : List ℕ) (f : AccessFlags) (r : List ℕ) → indexed_text b x d f ++ (41 ∷ r) ≡ reg_text b ++ (44 ∷ (reg_text x ++ (44 ∷ (d ++ (44 ∷ (access_text f ++ (41 ∷ r)))))))
@@ -101,10 +97,10 @@ pub memory-round_trip : (m : MemArg) → IsMemory m → (r : List ℕ) → memor
 memory-round_trip m h r =
     let f = memory_form_of m in
     let s = 40 ∷ (inside_text m ++ (41 ∷ r)) in
-    let w = word-is 32 (form_text f) s (form-one_word f) refl in
-    let a = after-is 32 (form_text f) s (form-one_word f) refl in
+    let w = word-is 32 (form_text f) s (form-name f).0 refl in
+    let a = after-is 32 (form_text f) s (form-name f).0 refl in
     ap (λ t. memory_operand_of (32 ∷ t)) (split m r)
-    ∙ ap2 memory_with (ap form_of w ∙ form-round_trip f) a
+    ∙ ap2 memory_with (ap form_of w ∙ (form-name f).1) a
     ∙ shape m h r
 
 -- no closing parenthesis stands inside
@@ -139,7 +135,7 @@ inside_open (M.SpillOffset o) h = open_one_word (signed_decimal o) (signed-one_w
 
 front_open : (m : MemArg) → IsMemory m → Open (form_text (memory_form_of m) ++ (40 ∷ inside_text m))
 front_open m h =
-    Avoids-append (41 ∷ 10 ∷ []) (form_text (memory_form_of m)) (40 ∷ inside_text m) (open_one_word (form_text (memory_form_of m)) (form-one_word (memory_form_of m))) (refl, inside_open m h)
+    Avoids-append (41 ∷ 10 ∷ []) (form_text (memory_form_of m)) (40 ∷ inside_text m) (open_one_word (form_text (memory_form_of m)) (form-name (memory_form_of m)).0) (refl, inside_open m h)
 
 whole : (m : MemArg) (r : List ℕ) → memory_text m ++ r ≡ (form_text (memory_form_of m) ++ (40 ∷ inside_text m)) ++ (41 ∷ r)
 whole m r = split m r ∙ sym (append_assoc (form_text (memory_form_of m)) (40 ∷ inside_text m) (41 ∷ r))
@@ -152,4 +148,4 @@ memory-past m h r =
 pub memory-feed : (m : MemArg) → IsMemory m → Avoids (10 ∷ []) (memory_text m)
 memory-feed m h =
     let f = form_text (memory_form_of m) in
-    Avoids-append (10 ∷ []) f (40 ∷ (inside_text m ++ (41 ∷ []))) (Avoids-fewer marks (10 ∷ []) refl f (form-one_word (memory_form_of m))) (refl, Avoids-append (10 ∷ []) (inside_text m) (41 ∷ []) (Avoids-fewer (41 ∷ 10 ∷ []) (10 ∷ []) refl (inside_text m) (inside_open m h)) (refl, tt))
+    Avoids-append (10 ∷ []) f (40 ∷ (inside_text m ++ (41 ∷ []))) (Avoids-fewer marks (10 ∷ []) refl f (form-name (memory_form_of m)).0) (refl, Avoids-append (10 ∷ []) (inside_text m) (41 ∷ []) (Avoids-fewer (41 ∷ 10 ∷ []) (10 ∷ []) refl (inside_text m) (inside_open m h)) (refl, tt))

@@ -1,7 +1,8 @@
 -- Whatever is read lies in its range.
-use Rattle.std.proofs.Common.{◌≡◌, ℕ, ◌+◌, ◌-◌, ◌*◌, ◌%◌, ◌<◌, ◌≤◌, ◌^◌, Bool, true, false, List, [], ◌∷◌, refl, inl, inr, arith}
+use Rattle.std.proofs.Common.{◌≡◌, ℕ, ◌+◌, ◌-◌, ◌*◌, ◌%◌, ◌<◌, ◌≤◌, ◌^◌, true, List, [], ◌∷◌, refl, inl, inr, arith}
 use Rattle.std.specs.Prelude.{◌==◌, ◌&&◌, nat_lt, nat_le, slice_index, codes, drop, length, Result, Ok, Err}
 use Rattle.std.specs.Str.{bytes_eq}
+use Rattle.std.proofs.lemmas.Bool.{and_parts}
 use Rattle.std.proofs.lemmas.Bool.Decides.{nat_tests}
 use Rattle.hex.specs.Hex.{IsBytes, decode_of}
 use Rattle.hex.specs.declared.error.FromHexError.{FromHexError}
@@ -22,12 +23,9 @@ use Rattle.s390x_job_fields.specs.Marks.{upto}
 use Rattle.s390x_job_fields.specs.Sets.{is_in}
 use Rattle.s390x_job_fields.specs.Calls.{IsCallTarget, call_target_of, IsLocation, IsResult, location_of, call_result_of, IsHandler, handler_of, IsTry, try_of, arg_of, IsArg, ret_of, IsRet, use_of, IsUse, label_of, IsLabel}
 use Rattle.s390x_job_fields.specs.Bytes.{bytes_of_text, decoded_bytes, hex_from, digit_of, value_limit, value_of}
-use Rattle.s390x_job_fields.specs.Fields.{IsOption, option_of, Kind, KAlu, KArgs, KBool, KBytes, KCmp, KCond, KConvention, KDefs, KFlags, KInteger, KLabels, KMemory, KName, KNatural, KOption, KPair, KReal, KReg, KReloc, KRets, KRxsbg, KSet, KShift, KShifted, KStart, KTarget, KTrap, KTry, KUnary, KUses, KVecBinary, KVecCompare, KVecElementCompare, KVecShift, KVecUnary, kind_of, IsField, value_as}
+use Rattle.s390x_job_fields.specs.Fields.{IsOption, option_of, Kind, KArgs, KBytes, KCond, KDefs, KInteger, KLabels, KMemory, KName, KNatural, KOption, KPair, KReal, KReg, KReloc, KRets, KSet, KShifted, KStart, KTarget, KTrap, KTry, KUses, kind_of, IsField, value_as}
 use Rattle.s390x_job_fields.proofs.Members.{either}
 use Rattle.s390x_job_fields.proofs.Registers.{members-again}
-
-pub below_mod : (n m : ℕ) → 0 < m → n % m < m
-below_mod n m h = omega arith
 
 decimal_small : (s : List ℕ) (a : ℕ) → a < 2 ^ 64 → decimal_from a s < 2 ^ 64
 decimal_small [] a h = h
@@ -35,10 +33,7 @@ decimal_small (c ∷ s) a h = decimal_small s (((a * 10) % 2 ^ 64 + (c - 48)) % 
 
 natural_ok : (w : Width) (s : List ℕ) → natural_of w s < 2 ^ width_bits w
 natural_ok W8 s = omega arith
-natural_ok W12 s = omega arith
-natural_ok W16 s = omega arith
-natural_ok W32 s = omega arith
-natural_ok W64 s = omega arith
+natural_ok w s = omega arith
 
 minus_small : (limit m : ℕ) → nat_lt 0 m ≡ true → nat_le m limit ≡ true → m - 1 < limit
 minus_small limit m e f = grind (arith, nat_tests)
@@ -46,18 +41,14 @@ minus_small limit m e f = grind (arith, nat_tests)
 plus_small : (limit m : ℕ) → nat_lt m limit ≡ true → m < limit
 plus_small limit m e = grind (arith, nat_tests)
 
-both : (a b : Bool) → (a && b) ≡ true → (a ≡ true) × (b ≡ true)
-both true b h = (refl, h)
-both false b h = absurd cc
-
 is_least : (n : ℕ) → nat_lt 0 n ≡ true → 1 ≤ n
 is_least n e = grind (arith, nat_tests)
 
 mask_small : (n : ℕ) → (nat_lt 0 n && nat_lt n 15) ≡ true → IsMask n
-mask_small n h = let p = both (nat_lt 0 n) (nat_lt n 15) h in (is_least n p.0, omega (arith, plus_small 15 n p.1))
+mask_small n h = let p = and_parts (nat_lt 0 n) (nat_lt n 15) h in (is_least n p.0, omega (arith, plus_small 15 n p.1))
 
 user_small : (n : ℕ) → (nat_lt 0 n && nat_lt n 251) ≡ true → IsKind (User n)
-user_small n h = let p = both (nat_lt 0 n) (nat_lt n 251) h in (is_least n p.0, omega (arith, plus_small 251 n p.1))
+user_small n h = let p = and_parts (nat_lt 0 n) (nat_lt n 251) h in (is_least n p.0, omega (arith, plus_small 251 n p.1))
 
 minus_ok : (limit m : ℕ) → 0 < limit → IsBelow limit (minus_of limit m)
 minus_ok limit m h =
@@ -72,10 +63,7 @@ signed_ok limit s h =
 
 limit_some : (w : SignedWidth) → 0 < signed_limit w
 limit_some S8 = omega arith
-limit_some S16 = omega arith
-limit_some S20 = omega arith
-limit_some S32 = omega arith
-limit_some S64 = omega arith
+limit_some w = omega arith
 
 integer_ok : (w : SignedWidth) (s : List ℕ) → IsBelow (signed_limit w) (integer_of w s)
 integer_ok w s = signed_ok (signed_limit w) s (limit_some w)
@@ -125,11 +113,7 @@ memory_shape_ok F.Label s = natural_ok W32 (word s)
 memory_shape_ok F.Constant s = natural_ok W32 (word s)
 memory_shape_ok F.Symbol s = (natural_ok W32 (drop 1 (word s)), integer_ok S32 (word (after_word s)), suffix_ok (after_word (after_word (after_word s))))
 memory_shape_ok F.RegOffset s = (reg_ok (word s), integer_ok S64 (word (after_word s)), suffix_ok (after_word (after_word (after_word s))))
-memory_shape_ok F.InitialSPOffset s = integer_ok S64 (word s)
-memory_shape_ok F.IncomingArgOffset s = integer_ok S64 (word s)
-memory_shape_ok F.OutgoingArgOffset s = integer_ok S64 (word s)
-memory_shape_ok F.SlotOffset s = integer_ok S64 (word s)
-memory_shape_ok F.SpillOffset s = integer_ok S64 (word s)
+memory_shape_ok f s = integer_ok S64 (word s)
 
 elements_ok : {A : Type 0} (P : A → Type 0) (reading : List ℕ → A) → ((s : List ℕ) → P (reading s)) → (s : List ℕ) → AllItems P (elements reading s)
 elements_ok P reading h [] = tt
@@ -180,18 +164,6 @@ pub value-ok : (k : Kind) (s : List ℕ) → IsField (value_as k s)
 value-ok KReg s = reg_ok (word s)
 value-ok KReal s = real_ok (word s)
 value-ok KPair s = (reg_ok (word s), reg_ok (word (after_word s)))
-value-ok KAlu s = tt
-value-ok KCmp s = tt
-value-ok KShift s = tt
-value-ok KRxsbg s = tt
-value-ok KUnary s = tt
-value-ok KVecBinary s = tt
-value-ok KVecUnary s = tt
-value-ok KVecShift s = tt
-value-ok KVecCompare s = tt
-value-ok KVecElementCompare s = tt
-value-ok KConvention s = tt
-value-ok KBool s = tt
 value-ok (KNatural w) s = natural_ok w (word s)
 value-ok (KInteger w) s = integer_ok w (word s)
 value-ok (KShifted w) s = (natural_ok w (word s), natural_ok W8 (word (after_word s)))
@@ -211,7 +183,7 @@ value-ok KReloc s = (natural_ok W32 (drop 1 (word (after_word s))), integer_ok S
 value-ok KName s = natural_ok W32 (drop 1 (word s))
 value-ok KBytes s = bytes_ok (word s)
 value-ok KStart s = (real_ok (word s), value_small (real_register_of (word s)).class (word (after_word s)))
-value-ok KFlags s = tt
+value-ok k s = tt
 
 pub value-kind : (k : Kind) (s : List ℕ) → kind_of (value_as k s) ≡ k
 value-kind KReg s = refl

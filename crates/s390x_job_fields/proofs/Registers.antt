@@ -1,6 +1,7 @@
 -- The members of a set, in order.
 use Rattle.std.proofs.Common.{◌≡◌, ℕ, zero, suc, ◌<◌, ◌≤◌, Bool, true, false, List, [], ◌∷◌, ◌++◌, refl, sym, ap, ◌∙◌, inl, inr, arith}
 use Rattle.std.specs.Prelude.{◌==◌, ◌||◌, ◌&&◌, if◌then◌else◌}
+use Rattle.std.proofs.lemmas.Bool.{eqb-true}
 use Rattle.std.proofs.lemmas.Bool.Decides.{nat_tests}
 use Rattle.s390x_base.specs.Registers.{RealRegister, general, vector, IsRegister}
 use Rattle.s390x_job_fields.specs.Lists.{AllItems}
@@ -47,9 +48,6 @@ or_assoc : (a b c : Bool) → ((a || b) || c) ≡ (a || (b || c))
 or_assoc true b c = refl
 or_assoc false b c = refl
 
-equal : (k n : ℕ) → (k == n) ≡ true → k ≡ n
-equal k n h = grind (arith, nat_tests)
-
 less : (k n : ℕ) → k < suc n → (k == n) ≡ false → k < n
 less k n h e = grind (arith, nat_tests)
 
@@ -70,7 +68,7 @@ and_true true = refl
 and_true false = refl
 
 apart : (k n : ℕ) → (k ≡ n → ⊥) → (k == n) ≡ false
-apart k n h = elim (either (k == n)) [ inl e ↦ absurd (h (equal k n e)) | inr e ↦ e ]
+apart k n h = elim (either (k == n)) [ inl e ↦ absurd (h (eqb-true k n e)) | inr e ↦ e ]
 
 module _ (of : ℕ → RealRegister) (law : (k j : ℕ) → same_register (of k) (of j) ≡ (k == j)) (has : RealRegister → Bool) where
   step : (n : ℕ) (r : RealRegister) → is_in (members_below of has (suc n)) r ≡ (is_in (members_below of has n) r || (has (of n) && same_register r (of n)))
@@ -87,7 +85,7 @@ module _ (of : ℕ → RealRegister) (law : (k j : ℕ) → same_register (of k)
   within (suc n) k h =
       elim (either (k == n)) [
         | inl e ↦
-            let f : k ≡ n = equal k n e in
+            let f : k ≡ n = eqb-true k n e in
             step n (of k) ∙ rw (beyond n k (omega arith), law k n, e) (and_true (has (of n)) ∙ ap (λ j. has (of j)) (sym f))
         | inr e ↦
             step n (of k) ∙ rw (law k n, e, and_false) (or-false (is_in (members_below of has n) (of k)) ∙ within n k (less k n h e))

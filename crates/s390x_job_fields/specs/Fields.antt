@@ -208,18 +208,6 @@ abbrev pub IsField : Field → Type 0
 IsField (FReg r) = IsReg r
 IsField (FReal r) = IsRegister r
 IsField (FPair h l) = IsReg h × IsReg l
-IsField (FAlu o) = Unit {0}
-IsField (FCmp o) = Unit {0}
-IsField (FShift o) = Unit {0}
-IsField (FRxsbg o) = Unit {0}
-IsField (FUnary o) = Unit {0}
-IsField (FVecBinary o) = Unit {0}
-IsField (FVecUnary o) = Unit {0}
-IsField (FVecShift o) = Unit {0}
-IsField (FVecCompare o) = Unit {0}
-IsField (FVecElementCompare o) = Unit {0}
-IsField (FConvention o) = Unit {0}
-IsField (FBool b) = Unit {0}
 IsField (FNatural w n) = n < 2 ^ width_bits w
 IsField (FInteger w z) = IsBelow (signed_limit w) z
 IsField (FShifted w b n) = (b < 2 ^ width_bits w) × (n < 256)
@@ -239,7 +227,7 @@ IsField (FReloc x) = IsReloc x
 IsField (FName n) = n < 4294967296
 IsField (FBytes bs) = IsBytes bs
 IsField (FStart r v) = IsRegister r × (v < value_limit r.class)
-IsField (FFlags f) = Unit {0}
+IsField _ = Unit {0}
 
 -- the field of a kind that a text begins with; where none stands there, some field of the kind
 abbrev pub value_as : Kind → List ℕ → Field
@@ -281,38 +269,17 @@ value_as KFlags s = FFlags (facilities_of s)
 
 -- what follows the field of a kind that a text begins with
 abbrev pub after_as : Kind → List ℕ → List ℕ
-after_as KReg s = after_word s
-after_as KReal s = after_word s
 after_as KPair s = after_word (after_word s)
-after_as KAlu s = after_word s
-after_as KCmp s = after_word s
-after_as KShift s = after_word s
-after_as KRxsbg s = after_word s
-after_as KUnary s = after_word s
-after_as KVecBinary s = after_word s
-after_as KVecUnary s = after_word s
-after_as KVecShift s = after_word s
-after_as KVecCompare s = after_word s
-after_as KVecElementCompare s = after_word s
-after_as KConvention s = after_word s
-after_as KBool s = after_word s
-after_as (KNatural w) s = after_word s
-after_as (KInteger w) s = after_word s
 after_as (KShifted w) s = after_word (after_word s)
 after_as KMemory s = past 41 s
-after_as KCond s = after_word s
-after_as KTrap s = after_word s
 after_as KLabels s = past 93 s
 after_as KArgs s = past 93 s
 after_as KRets s = past 93 s
 after_as KUses s = past 93 s
 after_as KDefs s = past 93 s
 after_as KSet s = past 93 s
-after_as KTarget s = after_word s
 after_as KTry s = after_try s
-after_as (KOption w) s = after_word s
 after_as KReloc s = past 41 s
-after_as KName s = after_word s
-after_as KBytes s = after_word s
 after_as KStart s = after_word (after_word s)
 after_as KFlags s = []
+after_as _ s = after_word s

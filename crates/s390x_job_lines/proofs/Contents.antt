@@ -8,11 +8,10 @@ use Rattle.s390x_base.specs.declared.imms.UImm16Shifted.{UImm16Shifted}
 use Rattle.s390x_base.specs.declared.imms.UImm32Shifted.{UImm32Shifted}
 use Rattle.s390x_inst.specs.declared.inst.Inst.{Inst}
 use Rattle.s390x_inst.specs.declared.inst.Inst.TheVariants as I
-use Rattle.s390x_inst.specs.declared.vec_inst.VecInst.{VecInst}
 use Rattle.s390x_inst.specs.declared.vec_inst.VecInst.TheVariants as V
 use Rattle.s390x_job_fields.specs.Fields.{Field, FAlu, FArgs, FBool, FCmp, FCond, FConvention, FDefs, FInteger, FLabels, FMemory, FNatural, FOption, FPair, FReal, FReg, FReloc, FRets, FRxsbg, FSet, FShift, FShifted, FTarget, FTrap, FTry, FUnary, FUses, FVecBinary, FVecCompare, FVecElementCompare, FVecShift, FVecUnary}
 use Rattle.s390x_job_lines.specs.Line.{Line}
-use Rattle.s390x_job_lines.specs.Instructions.{inst_line, vector_line}
+use Rattle.s390x_job_lines.specs.Instructions.{inst_line}
 use Rattle.s390x_job_lines.specs.Contents.{Contents, Whole, Branches, Table, LoopOf, Calls, TailCalls, Arguments, Results, contents}
 use Rattle.s390x_inst.specs.Loads.{load_instruction}
 use Rattle.s390x_inst.specs.Stores.{store_instruction}
@@ -168,12 +167,8 @@ read name fields = LoopOf 0
 abbrev pub read_line : Line → Contents
 read_line l = read l.name l.fields
 
-vector_read : (v : VecInst) → Whole (I.Vector v) ≡ read_line (vector_line v)
-vector_read (V.VecRR op rd rn) = refl
-vector_read v = refl
-
 pub contents_read : (i : Inst) → contents i ≡ read_line (inst_line i)
-contents_read (I.Vector v) = vector_read v
+contents_read (I.Vector (V.VecRR op rd rn)) = refl
 contents_read i = refl
 
 pub same_contents : (i j : Inst) → inst_line i ≡ inst_line j → contents i ≡ contents j

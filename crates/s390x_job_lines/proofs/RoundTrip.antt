@@ -2,27 +2,19 @@
 use Rattle.std.proofs.Common.{◌≡◌, ℕ, Bool, true, false, List, [], ◌∷◌, ◌++◌, refl, sym, ap, ◌∙◌, subst, append_assoc}
 use Rattle.std.specs.Prelude.{codes, if◌then◌else◌}
 use Rattle.s390x_job_fields.specs.Marks.{before_mark, from_mark}
-use Rattle.s390x_job_lines.specs.Names.{integer_text, load_name_text, store_name_text, memory_name_text, control_text, vector_name_text, whole_name_text, line_name_of, name_text}
+use Rattle.s390x_job_lines.specs.Names.{line_name_of, name_text}
 use Rattle.s390x_inst.specs.declared.state.IsaFlags.{IsaFlags}
 use Rattle.s390x_job_fields.specs.Bytes.{facility_text, facilities_text}
-use Rattle.s390x_job_lines.specs.Kinds.{integer_kinds, memory_kinds, control_kinds, vector_kinds, kinds}
+use Rattle.s390x_job_lines.specs.Kinds.{kinds}
 use Rattle.s390x_job_fields.specs.Fields.{Field, Kind, KFlags, FFlags, kind_of, spell, value_as, after_as}
 use Rattle.s390x_job_lines.specs.Line.{Line, fields_text, line_text, AllFields, kinds_of, IsLine, line_fields_of, line_with, line_of}
-use Rattle.s390x_job_lines.specs.declared.inst_name.IntegerName.{IntegerName}
 use Rattle.s390x_job_lines.specs.declared.inst_name.IntegerName.TheVariants as IntegerIs
-use Rattle.s390x_inst.specs.declared.load.LoadOp.{LoadOp}
 use Rattle.s390x_inst.specs.declared.load.LoadOp.TheVariants as LoadOps
-use Rattle.s390x_inst.specs.declared.store.StoreOp.{StoreOp}
 use Rattle.s390x_inst.specs.declared.store.StoreOp.TheVariants as StoreOps
-use Rattle.s390x_inst.specs.declared.whole.Direction.{Direction}
 use Rattle.s390x_inst.specs.declared.whole.Direction.TheVariants as Directions
-use Rattle.s390x_inst.specs.declared.whole.WholeLayout.{WholeLayout}
 use Rattle.s390x_inst.specs.declared.whole.WholeLayout.TheVariants as Layouts
-use Rattle.s390x_job_lines.specs.declared.inst_name.MemoryName.{MemoryName}
 use Rattle.s390x_job_lines.specs.declared.inst_name.MemoryName.TheVariants as MemoryIs
-use Rattle.s390x_job_lines.specs.declared.inst_name.ControlName.{ControlName}
 use Rattle.s390x_job_lines.specs.declared.inst_name.ControlName.TheVariants as ControlIs
-use Rattle.s390x_job_lines.specs.declared.inst_name.VectorName.{VectorName}
 use Rattle.s390x_job_lines.specs.declared.inst_name.VectorName.TheVariants as VectorIs
 use Rattle.s390x_job_lines.specs.declared.name.LineName.{LineName}
 use Rattle.s390x_job_lines.specs.declared.name.LineName.TheVariants as N
@@ -31,45 +23,15 @@ use Rattle.s390x_job_fields.proofs.Avoids.{Avoids, Avoids-append, Avoids-fewer, 
 use Rattle.s390x_job_fields.proofs.Fields.{Rest, field-round_trip, field-after, field-feed}
 use Rattle.s390x_job_fields.proofs.Ranges.{value-ok, value-kind}
 
-integer-one_word : (n : IntegerName) → IsOneWord (integer_text n)
-integer-one_word IntegerIs.AluRRR = Avoids-test marks (integer_text IntegerIs.AluRRR) refl
-integer-one_word n = Avoids-test marks (integer_text n) refl
-
-load-one_word : (op : LoadOp) → IsOneWord (load_name_text op)
-load-one_word LoadOps.Load32 = Avoids-test marks (load_name_text LoadOps.Load32) refl
-load-one_word op = Avoids-test marks (load_name_text op) refl
-
-store-one_word : (op : StoreOp) → IsOneWord (store_name_text op)
-store-one_word StoreOps.Store64 = Avoids-test marks (store_name_text StoreOps.Store64) refl
-store-one_word op = Avoids-test marks (store_name_text op) refl
-
-memory-one_word : (n : MemoryName) → IsOneWord (memory_name_text n)
-memory-one_word MemoryIs.LoadAddr = Avoids-test marks (memory_name_text MemoryIs.LoadAddr) refl
-memory-one_word n = Avoids-test marks (memory_name_text n) refl
-
-control-one_word : (n : ControlName) → IsOneWord (control_text n)
-control-one_word ControlIs.Fence = Avoids-test marks (control_text ControlIs.Fence) refl
-control-one_word n = Avoids-test marks (control_text n) refl
-
-vector-one_word : (n : VectorName) → IsOneWord (vector_name_text n)
-vector-one_word VectorIs.VecRRR = Avoids-test marks (vector_name_text VectorIs.VecRRR) refl
-vector-one_word n = Avoids-test marks (vector_name_text n) refl
-
-whole-one_word : (direction : Direction) (layout : WholeLayout) → IsOneWord (whole_name_text direction layout)
-whole-one_word Directions.Load Layouts.Straight = Avoids-test marks (whole_name_text Directions.Load Layouts.Straight) refl
-whole-one_word Directions.Load layout = Avoids-test marks (whole_name_text Directions.Load layout) refl
-whole-one_word Directions.Store Layouts.Straight = Avoids-test marks (whole_name_text Directions.Store Layouts.Straight) refl
-whole-one_word Directions.Store layout = Avoids-test marks (whole_name_text Directions.Store layout) refl
-
 name-one_word : (n : LineName) → IsOneWord (name_text n)
-name-one_word N.EndLine = Avoids-test marks (name_text N.EndLine) refl
-name-one_word (N.Integer n) = integer-one_word n
-name-one_word (N.Load op) = load-one_word op
-name-one_word (N.Store op) = store-one_word op
-name-one_word (N.Memory n) = memory-one_word n
-name-one_word (N.Control n) = control-one_word n
-name-one_word (N.Vector n) = vector-one_word n
-name-one_word (N.Whole direction layout) = whole-one_word direction layout
+name-one_word (N.Integer IntegerIs.AluRRR) = Avoids-test marks (name_text (N.Integer IntegerIs.AluRRR)) refl
+name-one_word (N.Load LoadOps.Load32) = Avoids-test marks (name_text (N.Load LoadOps.Load32)) refl
+name-one_word (N.Store StoreOps.Store64) = Avoids-test marks (name_text (N.Store StoreOps.Store64)) refl
+name-one_word (N.Memory MemoryIs.LoadAddr) = Avoids-test marks (name_text (N.Memory MemoryIs.LoadAddr)) refl
+name-one_word (N.Control ControlIs.Fence) = Avoids-test marks (name_text (N.Control ControlIs.Fence)) refl
+name-one_word (N.Vector VectorIs.VecRRR) = Avoids-test marks (name_text (N.Vector VectorIs.VecRRR)) refl
+name-one_word (N.Whole Directions.Load Layouts.Straight) = Avoids-test marks (name_text (N.Whole Directions.Load Layouts.Straight)) refl
+name-one_word (N.Whole Directions.Store Layouts.Straight) = Avoids-test marks (name_text (N.Whole Directions.Store Layouts.Straight)) refl
 name-one_word n = Avoids-test marks (name_text n) refl
 
 -- facilities stand last
@@ -82,28 +44,11 @@ proper [] = true
 proper (k ∷ []) = true
 proper (k ∷ l ∷ ks) = if is_facilities k then false else proper (l ∷ ks)
 
-integer_proper : (n : IntegerName) → proper (integer_kinds n) ≡ true
-integer_proper IntegerIs.AluRRR = refl
-integer_proper n = refl
-
-memory_proper : (n : MemoryName) → proper (memory_kinds n) ≡ true
-memory_proper MemoryIs.LoadAddr = refl
-memory_proper n = refl
-
-control_proper : (n : ControlName) → proper (control_kinds n) ≡ true
-control_proper ControlIs.Fence = refl
-control_proper n = refl
-
-vector_proper : (n : VectorName) → proper (vector_kinds n) ≡ true
-vector_proper VectorIs.VecRRR = refl
-vector_proper n = refl
-
 kinds_proper : (n : LineName) → proper (kinds n) ≡ true
-kinds_proper N.EndLine = refl
-kinds_proper (N.Integer n) = integer_proper n
-kinds_proper (N.Memory n) = memory_proper n
-kinds_proper (N.Control n) = control_proper n
-kinds_proper (N.Vector n) = vector_proper n
+kinds_proper (N.Integer IntegerIs.AluRRR) = refl
+kinds_proper (N.Memory MemoryIs.LoadAddr) = refl
+kinds_proper (N.Control ControlIs.Fence) = refl
+kinds_proper (N.Vector VectorIs.VecRRR) = refl
 kinds_proper n = refl
 
 flags_split : (f : IsaFlags) (r : List ℕ) → facilities_text f ++ r ≡ facility_text f.has_mie3 (codes "mie3") ++ (facility_text f.has_mie4 (codes "mie4") ++ (facility_text f.has_vxrs_ext2 (codes "vxrs_ext2") ++ (facility_text f.has_vxrs_ext3 (codes "vxrs_ext3") ++ (facility_text f.no_relative_memory (codes "norel") ++ r))))

@@ -6,23 +6,15 @@ use Rattle.std.proofs.lemmas.Slice.Eq.{bytes_eq-Decides}
 use Rattle.std.proofs.lemmas.Bool.{false≢true}
 use Rattle.s390x_job_fields.specs.Found.{found_by_name}
 use Rattle.s390x_job_fields.proofs.Members.{either}
-use Rattle.s390x_job_lines.specs.Names.{integer_text, load_name_text, store_name_text, memory_name_text, control_text, vector_name_text, whole_name_text, line_name_of, name_text, with_texts}
+use Rattle.s390x_job_lines.specs.Names.{line_name_of, name_text, with_texts}
 use Rattle.s390x_job_lines.specs.Slots.{slot_of}
-use Rattle.s390x_job_lines.specs.declared.inst_name.IntegerName.{IntegerName}
 use Rattle.s390x_job_lines.specs.declared.inst_name.IntegerName.TheVariants as IntegerIs
-use Rattle.s390x_inst.specs.declared.load.LoadOp.{LoadOp}
 use Rattle.s390x_inst.specs.declared.load.LoadOp.TheVariants as LoadOps
-use Rattle.s390x_inst.specs.declared.store.StoreOp.{StoreOp}
 use Rattle.s390x_inst.specs.declared.store.StoreOp.TheVariants as StoreOps
-use Rattle.s390x_inst.specs.declared.whole.Direction.{Direction}
 use Rattle.s390x_inst.specs.declared.whole.Direction.TheVariants as Directions
-use Rattle.s390x_inst.specs.declared.whole.WholeLayout.{WholeLayout}
 use Rattle.s390x_inst.specs.declared.whole.WholeLayout.TheVariants as Layouts
-use Rattle.s390x_job_lines.specs.declared.inst_name.MemoryName.{MemoryName}
 use Rattle.s390x_job_lines.specs.declared.inst_name.MemoryName.TheVariants as MemoryIs
-use Rattle.s390x_job_lines.specs.declared.inst_name.ControlName.{ControlName}
 use Rattle.s390x_job_lines.specs.declared.inst_name.ControlName.TheVariants as ControlIs
-use Rattle.s390x_job_lines.specs.declared.inst_name.VectorName.{VectorName}
 use Rattle.s390x_job_lines.specs.declared.inst_name.VectorName.TheVariants as VectorIs
 use Rattle.s390x_job_lines.specs.declared.name.LineName.{LineName}
 use Rattle.s390x_job_lines.specs.declared.name.LineName.TheVariants as N
@@ -32,53 +24,16 @@ use Rattle.s390x_job_lines.specs.declared.name_hash.TheConstants.{ALL_NAMES}
 abbrev pub name_at : List ℕ → LineName
 name_at w = slice_index_or ALL_NAMES (slot_of w) N.EndLine
 
-integer-slot : (n : IntegerName) → name_at (integer_text n) ≡ N.Integer n
-unfolding slot_of
-integer-slot IntegerIs.AluRRR = refl
-integer-slot n = refl
-
-load-slot : (op : LoadOp) → name_at (load_name_text op) ≡ N.Load op
-unfolding slot_of
-load-slot LoadOps.Load32 = refl
-load-slot op = refl
-
-store-slot : (op : StoreOp) → name_at (store_name_text op) ≡ N.Store op
-unfolding slot_of
-store-slot StoreOps.Store64 = refl
-store-slot op = refl
-
-memory-slot : (n : MemoryName) → name_at (memory_name_text n) ≡ N.Memory n
-unfolding slot_of
-memory-slot MemoryIs.LoadAddr = refl
-memory-slot n = refl
-
-control-slot : (n : ControlName) → name_at (control_text n) ≡ N.Control n
-unfolding slot_of
-control-slot ControlIs.Fence = refl
-control-slot n = refl
-
-vector-slot : (n : VectorName) → name_at (vector_name_text n) ≡ N.Vector n
-unfolding slot_of
-vector-slot VectorIs.VecRRR = refl
-vector-slot n = refl
-
-whole-slot : (direction : Direction) (layout : WholeLayout) → name_at (whole_name_text direction layout) ≡ N.Whole direction layout
-unfolding slot_of
-whole-slot Directions.Load Layouts.Straight = refl
-whole-slot Directions.Load layout = refl
-whole-slot Directions.Store Layouts.Straight = refl
-whole-slot Directions.Store layout = refl
-
 pub name-slot : (n : LineName) → name_at (name_text n) ≡ n
 unfolding slot_of
-name-slot N.EndLine = refl
-name-slot (N.Integer n) = integer-slot n
-name-slot (N.Load op) = load-slot op
-name-slot (N.Store op) = store-slot op
-name-slot (N.Memory n) = memory-slot n
-name-slot (N.Control n) = control-slot n
-name-slot (N.Vector n) = vector-slot n
-name-slot (N.Whole direction layout) = whole-slot direction layout
+name-slot (N.Integer IntegerIs.AluRRR) = refl
+name-slot (N.Load LoadOps.Load32) = refl
+name-slot (N.Store StoreOps.Store64) = refl
+name-slot (N.Memory MemoryIs.LoadAddr) = refl
+name-slot (N.Control ControlIs.Fence) = refl
+name-slot (N.Vector VectorIs.VecRRR) = refl
+name-slot (N.Whole Directions.Load Layouts.Straight) = refl
+name-slot (N.Whole Directions.Store Layouts.Straight) = refl
 name-slot n = refl
 
 -- what is found has the spelling, or it is the other one

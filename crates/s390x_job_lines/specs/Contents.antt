@@ -11,7 +11,7 @@ use Rattle.s390x_inst.specs.declared.calls.CallConv.{CallConv}
 use Rattle.s390x_inst.specs.declared.calls.CallInstDest.{CallInstDest}
 use Rattle.s390x_inst.specs.declared.calls.CallRetPair.{CallRetPair}
 use Rattle.s390x_inst.specs.declared.inst.Inst.{Inst}
-use Rattle.s390x_inst.specs.declared.inst.Inst.TheVariants.{IndirectBr, JTSequence, Loop', Call, ReturnCall, Args, Rets}
+use Rattle.s390x_inst.specs.declared.inst.Inst.TheVariants as I
 use Rattle.s390x_job_fields.specs.Calls.{TryPart, try_part}
 use Rattle.s390x_job_fields.specs.Sets.{members_of}
 
@@ -43,10 +43,10 @@ pub data Contents : Type 0 where
 
 -- what an instruction holds
 abbrev pub contents : Inst → Contents
-contents (IndirectBr rn targets) = Branches rn targets.items
-contents (JTSequence ridx default default_cond targets) = Table ridx default default_cond targets.items
-contents (Loop' cond body members) = LoopOf cond
-contents (Call link info) = Calls (record {
+contents (I.IndirectBr rn targets) = Branches rn targets.items
+contents (I.JTSequence ridx default default_cond targets) = Table ridx default default_cond targets.items
+contents (I.Loop' cond body members) = LoopOf cond
+contents (I.Call link info) = Calls (record {
   link = link;
   dest = info.dest;
   uses = info.uses.items;
@@ -59,7 +59,7 @@ contents (Call link info) = Calls (record {
   patchable = info.patchable;
   stack_map = info.stack_map;
 })
-contents (ReturnCall info) = TailCalls info.dest info.uses.items info.callee_pop_size
-contents (Args args) = Arguments args.items
-contents (Rets rets) = Results rets.items
+contents (I.ReturnCall info) = TailCalls info.dest info.uses.items info.callee_pop_size
+contents (I.Args args) = Arguments args.items
+contents (I.Rets rets) = Results rets.items
 contents i = Whole i

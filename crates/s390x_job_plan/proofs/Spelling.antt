@@ -1,11 +1,10 @@
 -- The lines of a plan: reading gives back what was printed, and what is read lies in its ranges.
-use Rattle.std.proofs.Common.{◌≡◌, ℕ, ◌<◌, false, List, [], ◌∷◌, ◌++◌, drop, length, map, refl, sym, ap, ap₂, ◌∙◌, inl, inr, arith, append-nil}
+use Rattle.std.proofs.Common.{◌≡◌, ℕ, false, List, [], ◌∷◌, ◌++◌, drop, length, map, refl, sym, ap, ap₂, ◌∙◌, inl, inr, arith, append-nil}
 use Rattle.std.specs.Prelude.{◌==◌, codes, slice_index}
 use Rattle.std.specs.Str.{bytes_eq}
 use Rattle.std.proofs.lemmas.Bool.{false≢true}
 use Rattle.std.proofs.lemmas.Slice.Eq.{bytes_eq-Decides}
 use Rattle.s390x_base.specs.declared.regs.Reg.{Reg}
-use Rattle.s390x_base.specs.declared.regs.Reg.TheVariants.{Real, Virtual}
 use Rattle.s390x_job_fields.specs.Atoms.{IsReg, reg_of, reg_text}
 use Rattle.s390x_job_fields.specs.Lists.{AllItems, begins_element, elements, list_of, list_text}
 use Rattle.s390x_job_fields.specs.Marks.{after_word, upto, word}
@@ -24,6 +23,7 @@ use Rattle.s390x_job_bundle.proofs.Heads.{free_of}
 use Rattle.s390x_job_bundle.proofs.Lines.{AllFree}
 use Rattle.s390x_job_plan.specs.Lines.{Closing, Heading, Held, IsLine, IsPlace, Moving, Opening, PlanLine, Stepping, line_of, line_text, place_of, place_text, step_register_of}
 use Rattle.s390x_job_plan.specs.Text.{AllLines}
+use Rattle.s390x_job_fields.proofs.CallsRoundTrip.{reg_some}
 
 -- ---- places
 
@@ -43,10 +43,6 @@ place_ok s = elim (either (slice_index (word s) 0 == 115)) [ inl e ↦ rw e (ome
 -- the second word of two, where nothing stands behind it
 last_word : (x : ℕ) (w : List ℕ) → IsOneWord w → word (x ∷ w) ≡ w
 last_word x w h = ap (λ t. word (x ∷ t)) (sym (append-nil w)) ∙ word-is x w [] h tt
-
-reg_some : (r : Reg) → 0 < length (reg_text r)
-reg_some (Real r) = omega arith
-reg_some (Virtual n c) = omega arith
 
 step_element : IsElement reg_text step_register_of IsReg
 step_element =
@@ -69,8 +65,6 @@ step_ok s = elim (either (length (upto 93 s) == 1)) [ inl e ↦ rw e tt | inr e 
 -- ---- lines
 
 pub line_round_trip : (l : PlanLine) → IsLine l → line_of (line_text l) ≡ l
-line_round_trip Heading h = refl
-line_round_trip Opening h = refl
 line_round_trip (Held place vreg) h =
     let w = place_one_word place h.0 in
     let first = word-is 32 (place_text place) (61 ∷ reg_text vreg) w refl in
@@ -82,7 +76,7 @@ line_round_trip (Moving to from) h =
     let second = after-is 32 (place_text to) (32 ∷ place_text from) w refl in
     ap₂ Moving (ap place_of first ∙ place_round_trip to h.0) (ap (λ s. place_of (word s)) second ∙ ap place_of (last_word 32 (place_text from) (place_one_word from h.1)) ∙ place_round_trip from h.1)
 line_round_trip (Stepping regs) h = ap Stepping (step_round_trip regs h)
-line_round_trip Closing h = refl
+line_round_trip l h = refl
 
 avoids_feed : (w : List ℕ) → IsOneWord w → Avoids (10 ∷ []) w
 avoids_feed w h = Avoids-fewer marks (10 ∷ []) refl w h

@@ -3,7 +3,7 @@ use Rattle.std.proofs.Common.{◌≡◌, ℕ, zero, suc, ◌+◌, ◌-◌, ◌*�
 use Rattle.std.proofs.Math.Pow.{pow_pos, pow-add}
 use Rattle.std.proofs.Math.Nat.{div-one, mul-zero, mul-suc, mul-add, add_comm, mul-le-mul_left}
 use Rattle.s390x_lanes.specs.declared.size.ElementSize.{ElementSize}
-use Rattle.s390x_lanes.specs.declared.size.ElementSize.TheVariants.{Byte, Halfword, Word, Doubleword, Quadword}
+use Rattle.s390x_lanes.specs.declared.size.ElementSize.TheVariants.{Byte}
 use Rattle.s390x_lanes.specs.Size.{element_bits, lane_count}
 use Rattle.s390x_lanes.proofs.Powers.{pow_le}
 use Rattle.std.proofs.lemmas.Nat.{mod_below, shr_high, mod_low, shr-shr}
@@ -49,10 +49,7 @@ lane-from_lanes w n i f e h b =
 -- ---- a step of the loop that builds
 pub whole : (s : ElementSize) → element_bits s * lane_count s ≡ 128
 whole Byte = refl
-whole Halfword = refl
-whole Word = refl
-whole Doubleword = refl
-whole Quadword = refl
+whole s = refl
 
 pub more_lt : (w i x v : ℕ) → x < 2 ^ (w * i) → v < 2 ^ w → x * 2 ^ w + v < 2 ^ (w * (i + 1))
 more_lt w i x v h g = let e : w * (i + 1) ≡ w * i + w = omega arith in rw e (push_lt w (w * i) x v h g)

@@ -1,5 +1,5 @@
 -- What the bits that the code computes with say of the elements' numbers.
-use Rattle.std.proofs.Common.{◌≡◌, ℕ, zero, suc, ◌+◌, ◌-◌, ◌*◌, ◌/◌, ◌%◌, ◌^◌, ◌<◌, ◌≤◌, refl, sym, ap, ◌∙◌, arith, ℤ, pos, negsuc, nat_lt, inl, inr, ◌==◌, if◌then◌else◌}
+use Rattle.std.proofs.Common.{◌≡◌, ℕ, zero, suc, ◌+◌, ◌-◌, ◌*◌, ◌/◌, ◌%◌, ◌^◌, ◌<◌, ◌≤◌, refl, sym, ap, ◌∙◌, arith, ℤ, pos, negsuc, inl, inr, ◌==◌, if◌then◌else◌}
 use Rattle.std.specs.Prelude.{◌≤ℤ◌}
 use Rattle.std.specs.Int.{int_div_euclid}
 use Rattle.std.specs.Int.RustNames.{int_div, int_rem, unsigned_abs}
@@ -15,13 +15,10 @@ use Rattle.s390x_lanes.specs.declared.operators.ShiftOperator.TheVariants.{Shift
 use Rattle.s390x_lanes.specs.declared.operators.Division.TheVariants.{Quotient, Remainder}
 use Rattle.s390x_lanes.specs.Numbers.{element_number, wrapped_element, saturated_value}
 use Rattle.s390x_lanes.specs.Encoding.{biased_element, sign_extended, negation, magnitude, rounded_mean, shifted_right, saturated_bits, quotient_bits, remainder_bits}
-use Rattle.s390x_lanes.specs.Elements.{is_lower, average, element_shifted, division_result, immediate}
+use Rattle.s390x_lanes.specs.Elements.{average, element_shifted, division_result, immediate}
 use Rattle.s390x_lanes.proofs.Powers.{pow_step, pow_le}
 
 -- ---- order
-pub is_lower-biased : (w x y : ℕ) → 0 < w → x < 2 ^ w → y < 2 ^ w → nat_lt (biased_element w x) (biased_element w y) ≡ is_lower Signed w x y
-is_lower-biased w x y p hx hy = let e = pow_step w p in grind (arith, nat_tests)
-
 -- ---- an element and its number
 low_number : (w x : ℕ) → x < 2 ^ (w - 1) → element_number Signed w x ≡ pos x
 low_number w x h = grind (arith, nat_tests)
@@ -54,9 +51,6 @@ widened-signed w v x p h hx =
 pub wrapped-neg : (w q : ℕ) → q < 2 ^ w → negation w q ≡ wrapped_element w (neg_ℤ (pos q))
 wrapped-neg w zero h = let e = pow_pos w in let m : 0 % 2 ^ w ≡ 0 = mod-eq_of_lt e in grind (arith, nat_tests)
 wrapped-neg w (suc q) h = let m : q % 2 ^ w ≡ q = mod-eq_of_lt (omega arith) in grind (arith, nat_tests)
-
-neg_signed : (w q : ℕ) → q < 2 ^ w → wrapped_element w (neg_ℤ (pos q)) ≡ negation w q
-neg_signed w q h = sym (wrapped-neg w q h)
 
 -- ---- absolute value
 unsigned_abs-number : (w x : ℕ) → 0 < w → x < 2 ^ w → unsigned_abs (element_number Signed w x) ≡ magnitude w x

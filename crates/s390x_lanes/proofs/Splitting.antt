@@ -1,12 +1,9 @@
 -- Lanes of one width as lanes of another, and a number from its lanes.
-use Rattle.std.proofs.Common.{◌≡◌, ℕ, zero, suc, ◌+◌, ◌-◌, ◌*◌, ◌/◌, ◌%◌, ◌^◌, ◌<◌, ◌≤◌, refl, sym, ap, ap₂, ◌∙◌, arith, List, map, get_or, length}
-use Rattle.std.specs.List.{range_with_len}
+use Rattle.std.proofs.Common.{◌≡◌, ℕ, zero, suc, ◌+◌, ◌-◌, ◌*◌, ◌/◌, ◌%◌, ◌^◌, ◌<◌, ◌≤◌, refl, sym, ap, ap₂, ◌∙◌, arith}
 use Rattle.std.proofs.Math.Pow.{mod-mod-pow, shr-shr}
 use Rattle.std.proofs.Math.Nat.{mul-suc, div-one}
 use Rattle.std.proofs.lemmas.Nat.{field_of, shr_split, shr_below}
-use Rattle.std.proofs.lemmas.List.FromFn.{get_or-map-range_with_len, fill_by_all, length-map-range_with_len}
 use Rattle.s390x_lanes.specs.Lanes.{lane, from_lanes}
-use Rattle.s390x_lanes.proofs.Building.{lane-from_lanes}
 
 -- the left and the right half of a lane
 pub lane_left : (w x i : ℕ) → w * (2 * i + 2) ≤ 128 → lane w x (2 * i) ≡ lane (2 * w) x i / 2 ^ w
@@ -23,10 +20,6 @@ lane_right w x i =
     let e : 2 * w ≡ w + w = omega arith in
     let d : 128 - w * (2 * i + 1 + 1) ≡ 128 - 2 * w * (i + 1) = omega arith in
     rw d (sym (mod-mod-pow (x / 2 ^ (128 - 2 * w * (i + 1))) w w) ∙ ap (λ (k : ℕ). x / 2 ^ (128 - 2 * w * (i + 1)) % 2 ^ k % 2 ^ w) (sym e))
-
--- a lane is its two halves
-pub lane_halves : (w x i : ℕ) → w * (2 * i + 2) ≤ 128 → lane (2 * w) x i ≡ lane w x (2 * i) * 2 ^ w + lane w x (2 * i + 1)
-lane_halves w x i h = rw (lane_left w x i h, lane_right w x i) (sym (shr_split (lane (2 * w) x i) w))
 
 -- equal lanes from_lanes equal numbers
 pub build_same : (w n : ℕ) (f g : ℕ → ℕ) → ((k : ℕ) → k < n → f k ≡ g k) → from_lanes w n f ≡ from_lanes w n g
@@ -55,20 +48,3 @@ from_lanes-lanes w n x e p =
 -- two numbers with the same lanes are one
 pub same_lanes : (w n x y : ℕ) → w * n ≡ 128 → x < 2 ^ 128 → y < 2 ^ 128 → ((k : ℕ) → k < n → lane w x k ≡ lane w y k) → x ≡ y
 same_lanes w n x y e p q h = sym (from_lanes-lanes w n x e p) ∙ build_same w n (lane w x) (lane w y) h ∙ from_lanes-lanes w n y e q
-
--- ---- as lists
-pub lanes_of : ℕ → ℕ → ℕ → List ℕ
-lanes_of w n x = map (lane w x) (range_with_len 0 n)
-
-pub get_or-lanes_of : (w n x i : ℕ) → i < n → get_or (lanes_of w n x) i 0 ≡ lane w x i
-unfolding lanes_of
-get_or-lanes_of w n x i h = get_or-map-range_with_len (lane w x) 0 n i i 0 h (omega arith)
-
-pub length-lanes_of : (w n x : ℕ) → length (lanes_of w n x) ≡ n
-unfolding lanes_of
-length-lanes_of w n x = length-map-range_with_len (lane w x) 0 n
-
--- the lanes of what was built, as a list
-pub lanes_of-from_lanes : (w n : ℕ) (f : ℕ → ℕ) → w * n ≡ 128 → ((k : ℕ) → k < n → f k < 2 ^ w) → lanes_of w n (from_lanes w n f) ≡ map f (range_with_len 0 n)
-lanes_of-from_lanes w n f e b =
-    fill_by_all f (lanes_of w n (from_lanes w n f)) n 0 (length-lanes_of w n (from_lanes w n f)) (λ k h. get_or-lanes_of w n (from_lanes w n f) k h ∙ lane-from_lanes w n k f e h b)

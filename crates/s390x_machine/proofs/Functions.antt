@@ -7,7 +7,7 @@ use Rattle.s390x_typed_steps.specs.Parts.{step_parts, step_size}
 use Rattle.s390x_typed_steps.specs.Rows.{LinkEnvironment, Offsets, step_bytes}
 use Rattle.s390x_typed_steps.specs.Image.{step_offset, code}
 use Rattle.s390x_typed_steps.specs.Traps.{first_code, step_traps}
-use Rattle.s390x_typed_steps.proofs.Traps.{step_codes}
+use Rattle.s390x_typed_steps.proofs.Traps.{step_codes, place_first}
 use Rattle.s390x_operations.specs.State.{CodeImage}
 use Rattle.s390x_machine.specs.CodeAt.{AllCodeAt, CodeAt, IsFoldedRight, IsPlace, IsValidStep, PartsReach}
 use Rattle.s390x_machine.specs.Functions.{function_layout, StandsAsCode}
@@ -20,10 +20,6 @@ record Cut (P : Offsets) (k : ℕ) (ss : List Step) (j : ℕ) (s : Step) : Type 
   later : List ℕ
   bytes : code P k ss ≡ earlier ++ (step_bytes P (P.step (k + j)) s ++ later)
   offset : length earlier ≡ step_offset ss j
-
-place_first : (ss : List Step) → step_offset ss 0 ≡ 0
-place_first [] = refl
-place_first (s ∷ ss) = refl
 
 place_next : (ss : List Step) (j : ℕ) (s : Step) → slice_get ss j ≡ Some s → step_offset ss (suc j) ≡ step_offset ss j + step_size s
 place_next [] j s e = absurd (cc)

@@ -7,23 +7,17 @@ use Rattle.s390x_lanes.specs.declared.size.ElementSize.TheVariants.{Byte, Halfwo
 use Rattle.s390x_lanes.proofs.Building.{build_one}
 use Rattle.s390x_operations.specs.Vectors.{register_after_load}
 use Rattle.s390x_operations.specs.declared.effect.VectorLayout.{VectorLayout}
-use Rattle.s390x_operations.specs.declared.effect.VectorLayout.TheVariants.{Whole, ReversedBytes, ReversedElements, Replicated, Element}
+use Rattle.s390x_operations.specs.declared.effect.VectorLayout.TheVariants.{Whole}
 use Rattle.s390x_operations.specs.Layouts.{layout_size, loaded_lane}
 
 -- how many numbers the bytes of an element hold
 pub whole_bytes : (size : ElementSize) (n : ℕ) → n ≡ element_bits size / 8 → 256 ^ n ≡ 2 ^ element_bits size
 whole_bytes Byte n e = ap (λ k. 256 ^ k) e
-whole_bytes Halfword n e = ap (λ k. 256 ^ k) e
-whole_bytes Word n e = ap (λ k. 256 ^ k) e
-whole_bytes Doubleword n e = ap (λ k. 256 ^ k) e
-whole_bytes Quadword n e = ap (λ k. 256 ^ k) e
+whole_bytes size n e = ap (λ k. 256 ^ k) e
 
 pub bytes_whole : (size : ElementSize) → 8 * (element_bits size / 8) ≡ element_bits size
 bytes_whole Byte = refl
-bytes_whole Halfword = refl
-bytes_whole Word = refl
-bytes_whole Doubleword = refl
-bytes_whole Quadword = refl
+bytes_whole size = refl
 
 -- a lane past the last one is the last one
 pub last_lane : (size : ElementSize) (x i : ℕ) → lane_count size - 1 ≤ i → lane (element_bits size) x i ≡ lane (element_bits size) x (lane_count size - 1)
@@ -37,7 +31,4 @@ last_lane Quadword x i l = let e : 128 - 128 * (i + 1) ≡ 0 = omega arith in ap
 -- a load, lane by lane
 pub loaded_is : (layout : VectorLayout) (old x : ℕ) → register_after_load layout old x ≡ from_lanes (element_bits (layout_size layout)) (lane_count (layout_size layout)) (loaded_lane layout old x)
 loaded_is Whole old x = sym (build_one 128 (λ i. x))
-loaded_is (ReversedBytes size) old x = refl
-loaded_is (ReversedElements size) old x = refl
-loaded_is (Replicated size backwards) old x = refl
-loaded_is (Element size index backwards) old x = refl
+loaded_is layout old x = refl

@@ -43,15 +43,8 @@ leading_all x e = go (leading_length 64 x (omega arith))
 
 -- a number of i bytes and one more byte fit in 64 bits, for i below 8
 pub room : (i t : ℕ) → i < 8 → t < 256 ^ i → (t * 256 + 255 < 2 ^ 64) × (256 ^ (i + 1) ≡ 256 * 256 ^ i) × (256 ^ i < 2 ^ 64)
-room zero t lt small = (omega arith, refl, omega arith)
-room (suc zero) t lt small = (omega arith, refl, omega arith)
-room (suc (suc zero)) t lt small = (omega arith, refl, omega arith)
-room (suc (suc (suc zero))) t lt small = (omega arith, refl, omega arith)
-room (suc (suc (suc (suc zero)))) t lt small = (omega arith, refl, omega arith)
-room (suc (suc (suc (suc (suc zero))))) t lt small = (omega arith, refl, omega arith)
-room (suc (suc (suc (suc (suc (suc zero)))))) t lt small = (omega arith, refl, omega arith)
-room (suc (suc (suc (suc (suc (suc (suc zero))))))) t lt small = (omega arith, refl, omega arith)
 room (suc (suc (suc (suc (suc (suc (suc (suc i)))))))) t lt small = absurd (omega arith)
+room i t lt small = (omega arith, refl, omega arith)
 
 -- the same of 128 bits, for i below 16
 pub wide_room : (i t : ℕ) → i < 16 → t < 256 ^ i → (t * 256 + 255 < 2 ^ 128) × (256 ^ (i + 1) ≡ 256 * 256 ^ i) × (256 ^ i < 2 ^ 128)

@@ -1,5 +1,6 @@
 -- A tree on a machine by its flags: what its members give stands before what those behind them give, with the same labels and nominal sizes.
 use Rattle.std.proofs.Common.{◌≡◌, ℕ, ◌+◌, ◌<◌, Bool, true, false, ◌&&◌, List, Some, get_or, length, drop, refl, ap, ◌∙◌}
+use Rattle.std.proofs.lemmas.Bool.{and_right}
 use Rattle.s390x_base.specs.declared.error.EmitError.{EmitError}
 use Rattle.s390x_inst.specs.Emission.{Emission}
 use Rattle.s390x_inst.specs.declared.inst.Inst.{Inst}
@@ -92,12 +93,8 @@ for_block_stops flags state D depth n m e is k i lt at some =
     ∙ ap (λ o. first_emit_cause o (tree_cause flags D (n + fresh_labels (prepend here i empty)) (nominal_after m i) depth (tree_for flags rest))) some
 
 -- where the machine has relative rows, each step stays
-and_false : (a b : Bool) → b ≡ false → (a && b) ≡ false
-and_false true b e = e
-and_false false b e = refl
-
 body_same : (flags : IsaFlags) (b : StepBody) → flags.no_relative_memory ≡ false → body_for flags b ≡ b
-body_same flags (Whole i) e = ap (λ t. whole_or_loaded t i) (and_false (accesses_relative (memory i)) flags.no_relative_memory e)
+body_same flags (Whole i) e = ap (λ t. whole_or_loaded t i) (and_right (accesses_relative (memory i)) flags.no_relative_memory e)
 body_same flags b e = refl
 
 pub for_relative_machine : (flags : IsaFlags) (t : Tree) → flags.no_relative_memory ≡ false → tree_for flags t ≡ t

@@ -5,7 +5,7 @@ use Rattle.s390x_base.specs.Regs.{number_of}
 use Rattle.s390x_base.specs.declared.regs.Reg.{Reg}
 use Rattle.s390x_inst.specs.declared.args.MemArg.{MemArg}
 use Rattle.s390x_inst.specs.declared.vec_inst.VecInst.{VecInst}
-use Rattle.s390x_inst.specs.declared.vec_inst.VecInst.TheVariants.{VecLoadReplicate, VecLoadReplicateRev, VecLoadLane, VecLoadLaneRev, VecLoadLaneUndef, VecLoadLaneRevUndef, VecStoreLane, VecStoreLaneRev}
+use Rattle.s390x_inst.specs.declared.vec_inst.VecInst.TheVariants as V
 use Rattle.s390x_rows.specs.declared.opcodes.TheConstants as opcodes
 use Rattle.s390x_typed_steps.specs.Memory.{VrxForm, FloatForm, MemoryInstruction, operate, load_and_operate, access_vector, access_elements, access_lane, load_left, store_left, is_left_lane, vector_memory, without_relative, reversed_code, load_lane_opcode, load_reversed_opcode, store_lane_opcode, store_reversed_opcode}
 use Rattle.s390x_typed_steps.specs.VectorInstruction.{is_vector, reuses_vector, element_code, is_lane}
@@ -49,16 +49,16 @@ either_none true a b h k = h
 either_none false a b h k = k
 
 pub vector_none : (v : VecInst) → without_relative (vector_memory v) ≡ None
-vector_none (VecLoadReplicate size rd mem) = elements_none opcodes.VLREP rd (element_code size) mem
-vector_none (VecLoadReplicateRev size rd mem) = elements_none opcodes.VLBRREP rd (reversed_code size) mem
-vector_none (VecLoadLane size rd ri mem lane) = lane_none (reuses_vector rd ri) load_lane_opcode (number_of rd) (element_code size) size lane mem
-vector_none (VecLoadLaneRev size rd ri mem lane) = lane_none (reuses_vector rd ri) load_reversed_opcode (number_of rd) (reversed_code size) size lane mem
-vector_none (VecLoadLaneUndef size rd mem lane) =
+vector_none (V.VecLoadReplicate size rd mem) = elements_none opcodes.VLREP rd (element_code size) mem
+vector_none (V.VecLoadReplicateRev size rd mem) = elements_none opcodes.VLBRREP rd (reversed_code size) mem
+vector_none (V.VecLoadLane size rd ri mem lane) = lane_none (reuses_vector rd ri) load_lane_opcode (number_of rd) (element_code size) size lane mem
+vector_none (V.VecLoadLaneRev size rd ri mem lane) = lane_none (reuses_vector rd ri) load_reversed_opcode (number_of rd) (reversed_code size) size lane mem
+vector_none (V.VecLoadLaneUndef size rd mem lane) =
     either_none (is_left_lane size lane (number_of rd)) (access_vector (is_vector rd) (load_left size (number_of rd)) mem) (access_lane (is_vector rd) load_lane_opcode (number_of rd) (element_code size) size lane mem)
     (load_left_none (is_vector rd) size (number_of rd) mem) (lane_none (is_vector rd) load_lane_opcode (number_of rd) (element_code size) size lane mem)
-vector_none (VecLoadLaneRevUndef size rd mem lane) = lane_none (is_vector rd) load_reversed_opcode (number_of rd) (reversed_code size) size lane mem
-vector_none (VecStoreLane size rd mem lane) =
+vector_none (V.VecLoadLaneRevUndef size rd mem lane) = lane_none (is_vector rd) load_reversed_opcode (number_of rd) (reversed_code size) size lane mem
+vector_none (V.VecStoreLane size rd mem lane) =
     either_none (is_left_lane size lane (number_of rd)) (access_vector (is_vector rd) (store_left size (number_of rd)) mem) (access_lane (is_vector rd) store_lane_opcode (number_of rd) (element_code size) size lane mem)
     (store_left_none (is_vector rd) size (number_of rd) mem) (lane_none (is_vector rd) store_lane_opcode (number_of rd) (element_code size) size lane mem)
-vector_none (VecStoreLaneRev size rd mem lane) = lane_none (is_vector rd) store_reversed_opcode (number_of rd) (reversed_code size) size lane mem
+vector_none (V.VecStoreLaneRev size rd mem lane) = lane_none (is_vector rd) store_reversed_opcode (number_of rd) (reversed_code size) size lane mem
 vector_none v = refl

@@ -9,7 +9,7 @@ use Rattle.s390x_base.specs.declared.regs.Reg.{Reg}
 use Rattle.s390x_inst.specs.declared.calls.CallInstDest.{CallInstDest}
 use Rattle.s390x_inst.specs.declared.calls.CallInstDest.TheVariants.{Direct, Indirect}
 use Rattle.s390x_inst.specs.declared.inst.Inst.{Inst}
-use Rattle.s390x_inst.specs.declared.inst.Inst.TheVariants.{Mov64SImm32, LoadAddr, Jump, CondBr, IndirectBr, Ret, LabelAddress, LoadSymbolReloc, Trap, TrapIf, Debugtrap, JTSequence, Vector}
+use Rattle.s390x_inst.specs.declared.inst.Inst.TheVariants as I
 use Rattle.s390x_typed_steps.specs.MachineInstruction.{MachineInstruction, size_of}
 use Rattle.s390x_typed_steps.specs.Tree.{Tree}
 use Rattle.s390x_typed_steps.specs.SingleInstruction.{SingleInstruction, single_instruction, stop_code}
@@ -18,10 +18,10 @@ use Rattle.s390x_inst.specs.declared.args.MemArg.TheVariants.{Label, Constant, S
 use Rattle.s390x_typed_steps.specs.Operands.{finalized_operand, is_relative}
 use Rattle.s390x_typed_steps.specs.Memory.{StorageForm, RxForm, RsForm, SiForm, SilForm, VrxForm, FloatForm, MemoryInstruction, memory, loaded_memory, type_of, storage_row, address_form, fault_code}
 use Rattle.s390x_typed_steps.specs.Steps.{Step, Plain, LoadedStep, Shortened, Opening, Back, Break, CallingStep, NoLoadStep, TailOpeningStep, TailJumpStep, function_steps}
-use Rattle.s390x_typed_steps.specs.StepBody.{Site, AtCall, NothingLeft, BranchLeft}
+use Rattle.s390x_typed_steps.specs.StepBody.{Site, AtCall, NothingLeft}
 use Rattle.s390x_typed_steps.specs.VectorComposite.{composite_rows}
-use Rattle.s390x_typed_steps.specs.Parts.{CodePart, Row, Trapping, Branch, Relative, RelativeConstant, RelativeSymbol, TableWord, part_size, parts_size, branch_parts, row_part, row_parts, access_parts, trap_here, relative_part, relative_parts, operand_parts, helper_parts, helpers_parts, memory_or, parts_or}
-use Rattle.s390x_typed_steps.specs.Parts.{step_parts, step_size, table_words, SymbolValue, TrapHere, CallSymbol, SiteHere, call_part, tail_part, site_parts}
+use Rattle.s390x_typed_steps.specs.Parts.{CodePart, Row, Trapping, TableWord, part_size, parts_size, branch_parts, row_part, row_parts, access_parts, trap_here, relative_part, relative_parts, operand_parts, helper_parts, helpers_parts, memory_or, parts_or}
+use Rattle.s390x_typed_steps.specs.Parts.{step_parts, step_size, table_words, SymbolValue, TrapHere, SiteHere, call_part, tail_part, site_parts}
 use Rattle.s390x_typed_steps.specs.Image.{step_offset}
 use Rattle.s390x_typed_steps.specs.Traps.{part_traps, parts_traps, step_traps, traps_from, function_traps, first_code}
 
@@ -96,15 +96,11 @@ parts_below : (p high : ℕ) (parts : List CodePart) → p + parts_size parts �
 parts_below p high [] le h = tt
 parts_below p high (Trapping m byte code ∷ parts) le h = (omega (arith, h.0), parts_below (p + size_of m) high parts (omega arith) h.1)
 parts_below p high (Row m ∷ parts) le h = parts_below (p + size_of m) high parts (omega arith) h
-parts_below p high (Branch mask target ∷ parts) le h = parts_below (p + 6) high parts (omega arith) h
-parts_below p high (Relative opcode register target ∷ parts) le h = parts_below (p + 6) high parts (omega arith) h
-parts_below p high (RelativeConstant opcode register constant ∷ parts) le h = parts_below (p + 6) high parts (omega arith) h
-parts_below p high (RelativeSymbol opcode register name offset ∷ parts) le h = parts_below (p + 6) high parts (omega arith) h
 parts_below p high (SymbolValue name offset ∷ parts) le h = parts_below (p + 8) high parts (omega arith) h
 parts_below p high (TrapHere code ∷ parts) le h = (omega (arith, h.0), parts_below (p + 0) high parts (omega arith) h.1)
 parts_below p high (TableWord before target ∷ parts) le h = parts_below (p + 4) high parts (omega arith) h
-parts_below p high (CallSymbol link name ∷ parts) le h = parts_below (p + 6) high parts (omega arith) h
 parts_below p high (SiteHere site ∷ parts) le h = parts_below (p + 0) high parts (omega arith) h
+parts_below p high (part ∷ parts) le h = parts_below (p + 6) high parts (omega arith) h
 
 words_inside : (before : ℕ) (ls : List MachLabel) → Inside (table_words before ls)
 words_inside before [] = tt
@@ -116,10 +112,10 @@ rows_inside (m ∷ ms) = rows_inside ms
 
 branch_inside : (i : Inst) → Inside (branch_parts i)
 unfolding length_of
-branch_inside (JTSequence ridx other mask targets) = words_inside 0 targets.items
-branch_inside (Trap code) = (omega arith, tt)
-branch_inside (TrapIf mask code) = (omega arith, tt)
-branch_inside (Vector v) = rows_inside (composite_rows v)
+branch_inside (I.JTSequence ridx other mask targets) = words_inside 0 targets.items
+branch_inside (I.Trap code) = (omega arith, tt)
+branch_inside (I.TrapIf mask code) = (omega arith, tt)
+branch_inside (I.Vector v) = rows_inside (composite_rows v)
 branch_inside i = tt
 
 stopping_inside : (m : MachineInstruction) (code : Option TrapKind) → Inside (row_part m code ∷ [])
@@ -133,16 +129,8 @@ more_parts (part ∷ a) b = omega (arith, more_parts a b)
 inside_append : (a b : List CodePart) → Inside a → Inside b → Inside (a ++ b)
 inside_append [] b h k = k
 inside_append (Trapping m byte code ∷ a) b h k = (h.0, inside_append a b h.1 k)
-inside_append (Row m ∷ a) b h k = inside_append a b h k
-inside_append (Branch mask target ∷ a) b h k = inside_append a b h k
-inside_append (Relative opcode register target ∷ a) b h k = inside_append a b h k
-inside_append (RelativeConstant opcode register constant ∷ a) b h k = inside_append a b h k
-inside_append (RelativeSymbol opcode register name offset ∷ a) b h k = inside_append a b h k
-inside_append (SymbolValue name offset ∷ a) b h k = inside_append a b h k
 inside_append (TrapHere code ∷ a) b h k = (omega (arith, h.0, more_parts a b), inside_append a b h.1 k)
-inside_append (TableWord before target ∷ a) b h k = inside_append a b h k
-inside_append (CallSymbol link name ∷ a) b h k = inside_append a b h k
-inside_append (SiteHere site ∷ a) b h k = inside_append a b h k
+inside_append (part ∷ a) b h k = inside_append a b h k
 
 access_inside : (m : Option MachineInstruction) (code : Option TrapKind) → Inside (access_parts m code)
 access_inside None code = tt
@@ -170,8 +158,8 @@ operand_inside form code m = go (is_relative m) refl
     go false e = access_inside (storage_row form m) code
 
 helper_inside : (i : Inst) → Inside (helper_parts i)
-helper_inside (Mov64SImm32 rd imm) = tt
-helper_inside (LoadAddr rd mem) = operand_inside (address_form rd) None mem
+helper_inside (I.Mov64SImm32 rd imm) = tt
+helper_inside (I.LoadAddr rd mem) = operand_inside (address_form rd) None mem
 helper_inside i = tt
 
 helpers_inside : (is : List Inst) → Inside (helpers_parts is)
@@ -203,7 +191,6 @@ tail_inside (Indirect reg) = tt
 step_inside : (s : Step) → Inside (step_parts s)
 step_inside (Plain i) = instruction_inside (single_instruction i) (stop_code i) (memory_or (memory i) (branch_parts i)) (memory_inside (memory i) (branch_parts i) (branch_inside i))
 step_inside (Shortened NothingLeft i) = tt
-step_inside (Shortened (BranchLeft mask b) i) = tt
 step_inside (LoadedStep i) = memory_inside (loaded_memory i) [] tt
 step_inside (CallingStep c) = call_inside c.link c.target c.sites
 step_inside (TailJumpStep target) = tail_inside target
@@ -218,7 +205,7 @@ step_below p s = parts_below p (p + step_size s) (step_parts s) (omega arith) (s
 abbrev Chained : (ℕ → ℕ) → (k p : ℕ) → List Step → Type 0
 Chained at k p ss = (j : ℕ) → at (k + j) ≡ p + step_offset ss j
 
-place_first : (ss : List Step) → step_offset ss 0 ≡ 0
+pub place_first : (ss : List Step) → step_offset ss 0 ≡ 0
 place_first [] = refl
 place_first (s ∷ ss) = refl
 

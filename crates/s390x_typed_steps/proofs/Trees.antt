@@ -27,7 +27,7 @@ use Rattle.s390x_typed_steps.specs.Causes.{body_nominal_after, fresh_labels, nom
 use Rattle.s390x_typed_steps.specs.Sizes.{body_size, tree_size}
 use Rattle.s390x_inst.specs.Emission.{Emission}
 use Rattle.s390x_inst.specs.declared.inst.Inst.{Inst, Row_of-Inst, end_of-Inst, more_of-Inst, items-the_row-Inst, items_hidden-the_row-Inst-0, roll-out-Inst}
-use Rattle.s390x_inst.specs.declared.inst.Inst.TheVariants.{Loop', AllocateArgs, Call, ReturnCall, Mov64, LoadAddr}
+use Rattle.s390x_inst.specs.declared.inst.Inst.TheVariants as I
 use Rattle.s390x_inst.specs.declared.inst.Inst.TheBlock.{hidden-the_row-Inst-0}
 use Rattle.s390x_inst.specs.declared.inst.Inst.TheViews as V
 
@@ -58,7 +58,7 @@ leaves_joined (b ∷ bs) rest = ap (leaf b) (leaves_joined bs rest)
 
 -- what an instruction becomes stands before the rest
 pub prepend_joined : (e : Emission) (i : Inst) (rest : Tree) → prepend e i rest ≡ joined (prepend e i empty) rest
-prepend_joined e (Loop' mask body all) rest = refl
+prepend_joined e (I.Loop' mask body all) rest = refl
 prepend_joined e i rest = leaves_joined (bodies e i) rest
 
 pub joined_fresh_labels : (t u : Tree) → fresh_labels (joined t u) ≡ fresh_labels t + fresh_labels u
@@ -84,7 +84,7 @@ joined_behind nominal (loop_node mask members t) u = joined_behind nominal t u
 
 -- an instruction does to the nominal size what it does without frame operands
 pub nominal_resolved : (e : Emission) (nominal : ℕ) (i : Inst) → nominal_after nominal (resolved_instruction e i) ≡ nominal_after nominal i
-nominal_resolved e nominal (AllocateArgs size) = refl
+nominal_resolved e nominal (I.AllocateArgs size) = refl
 nominal_resolved e nominal i = refl
 
 -- ---- a block, whose calls are safepoints
@@ -151,7 +151,7 @@ copy_keeps : (dest : CallInstDest) → AllKeep (target_copy dest)
 copy_keeps (Direct name) = tt
 copy_keeps (Indirect reg) = go (is_lost reg)
   where
-    go : (t : Bool) → AllKeep (cond t (Mov64 (Real (general 1)) reg ∷ []) [])
+    go : (t : Bool) → AllKeep (cond t (I.Mov64 (Real (general 1)) reg ∷ []) [])
     go true = (λ e m. refl, tt)
     go false = tt
 
@@ -167,42 +167,42 @@ epilogue_keeps : (layout : FrameLayout) (popped : ℕ) (dest : CallInstDest) →
 epilogue_keeps layout popped dest =
     let floats = float_loads (floats_at layout) 0 (saved_floats layout.saved_fprs) in
     let generals = general_load (caller_at layout) layout.first_saved_gpr in
-    let raise = LoadAddr (Real (general 15)) (above_stack (pos (caller_at layout + layout.tail_args_size) -ℤ pos popped)) ∷ [] in
+    let raise = I.LoadAddr (Real (general 15)) (above_stack (pos (caller_at layout + layout.tail_args_size) -ℤ pos popped)) ∷ [] in
     let copy = target_copy dest in
     keep_append (copy ++ floats ++ generals) raise
     (keep_append (copy ++ floats) generals
     (keep_append copy floats (copy_keeps dest) (floats_keep (floats_at layout) 0 (saved_floats layout.saved_fprs))) (general_keeps (caller_at layout) layout.first_saved_gpr)) (λ e m. refl, tt)
 
-behind_call_bodies : (e : Emission) (m : ℕ) (link : Reg) (info : CallInfo) → behind_bodies m (bodies e (Call link info)) ≡ nominal_after m (Call link info)
+behind_call_bodies : (e : Emission) (m : ℕ) (link : Reg) (info : CallInfo) → behind_bodies m (bodies e (I.Call link info)) ≡ nominal_after m (I.Call link info)
 behind_call_bodies e m link info =
-    let n = nominal_after m (Call link info) in
+    let n = nominal_after m (I.Call link info) in
     behind_append n (result_bodies e info) (continuation_bodies info.try_call_info)
     ∙ ap (λ k. behind_bodies k (continuation_bodies info.try_call_info)) (results_keep e info n)
     ∙ continuation_keeps info.try_call_info n
 
-behind_tail_bodies : (e : Emission) (m : ℕ) (info : ReturnCallInfo CallInstDest) → behind_bodies m (bodies e (ReturnCall info)) ≡ m
+behind_tail_bodies : (e : Emission) (m : ℕ) (info : ReturnCallInfo CallInstDest) → behind_bodies m (bodies e (I.ReturnCall info)) ≡ m
 behind_tail_bodies e m info =
     behind_append m (wholes e (epilogue e.layout info.callee_pop_size info.dest)) _
     ∙ wholes_keep e (epilogue e.layout info.callee_pop_size info.dest) m (epilogue_keeps e.layout info.callee_pop_size info.dest)
 
 -- the nominal size behind the steps of an instruction
 pub bodies_behind : (e : Emission) (m : ℕ) (i : Inst) → behind_bodies m (bodies e i) ≡ nominal_after m i
-bodies_behind e m (Call link info) = behind_call_bodies e m link info
-bodies_behind e m (ReturnCall info) = behind_tail_bodies e m info
+bodies_behind e m (I.Call link info) = behind_call_bodies e m link info
+bodies_behind e m (I.ReturnCall info) = behind_tail_bodies e m info
 bodies_behind e m i = nominal_resolved e m i
 
 pub prepend_nominal : (e : Emission) (nominal : ℕ) (i : Inst) → nominal_behind nominal (prepend e i empty) ≡ nominal_after nominal i
-prepend_nominal e nominal (Loop' mask body all) = refl
+prepend_nominal e nominal (I.Loop' mask body all) = refl
 prepend_nominal e nominal i = leaves_behind nominal (bodies e i) ∙ bodies_behind e nominal i
 
 -- an instruction that is no `Loop` is its steps
 pub not_loop : (e : Emission) (i : Inst) (rest : Tree) → ((m : ℕ) (v : Vec Inst Global) → i ≡ V.Loop m v → ⊥) → prepend e i rest ≡ leaves (bodies e i) rest
 unfolding V.roll-Inst denote.Hole.Carrier.roll V.out-Inst denote.Hole.Carrier.out
-not_loop e (Loop' mask body all) rest h = absurd (h mask _ (sym (roll-out-Inst (Loop' mask body all))))
+not_loop e (I.Loop' mask body all) rest h = absurd (h mask _ (sym (roll-out-Inst (I.Loop' mask body all))))
 not_loop e i rest h = refl
 
 -- one that is no call either is one step
-pub one_body : (e : Emission) (i : Inst) → ((link : Reg) (info : CallInfo) → i ≡ Call link info → ⊥) → ((info : ReturnCallInfo CallInstDest) → i ≡ ReturnCall info → ⊥) → bodies e i ≡ Whole (resolved_instruction e i) ∷ []
-one_body e (Call link info) h k = absurd (h link info refl)
-one_body e (ReturnCall info) h k = absurd (k info refl)
+pub one_body : (e : Emission) (i : Inst) → ((link : Reg) (info : CallInfo) → i ≡ I.Call link info → ⊥) → ((info : ReturnCallInfo CallInstDest) → i ≡ I.ReturnCall info → ⊥) → bodies e i ≡ Whole (resolved_instruction e i) ∷ []
+one_body e (I.Call link info) h k = absurd (h link info refl)
+one_body e (I.ReturnCall info) h k = absurd (k info refl)
 one_body e i h k = refl

@@ -10,7 +10,7 @@ use Rattle.s390x_inst.specs.declared.args.MemArg.{MemArg}
 use Rattle.s390x_inst.specs.declared.args.MemArg.TheVariants.{Label, Constant, Symbol}
 use Rattle.s390x_inst.specs.declared.calls.CallInstDest.{CallInstDest}
 use Rattle.s390x_inst.specs.declared.inst.Inst.{Inst}
-use Rattle.s390x_inst.specs.declared.inst.Inst.TheVariants.{Jump, CondBr, IndirectBr, Ret, JTSequence, CondBreak, Nop0, LabelAddress, LoadSymbolReloc, Trap, TrapIf, Debugtrap, AllocateArgs, Args, Rets, DummyUse, SequencePoint, Vector}
+use Rattle.s390x_inst.specs.declared.inst.Inst.TheVariants as I
 use Rattle.s390x_inst.specs.declared.state.IsaFlags.{IsaFlags}
 use Rattle.s390x_inst.specs.Facilities.{facility_of, has_facility}
 use Rattle.s390x_typed_steps.specs.Calls.{is_target, is_first_saved, site_labels}
@@ -50,23 +50,23 @@ table_cause blocks index other targets =
 
 -- the causes of an instruction that names a place, goes elsewhere or ends the run, inside so many loops; any other is refused
 abbrev pub branch_cause : (blocks depth : ℕ) → Inst → Option EmitError
-branch_cause blocks depth (Jump dest) = target_label_cause blocks dest
-branch_cause blocks depth (CondBr taken not_taken mask) = first_emit_cause (target_label_cause blocks taken) (target_label_cause blocks not_taken)
-branch_cause blocks depth (IndirectBr rn targets) = first_emit_cause (unless (is_general rn && is_nonzero rn) BadRegister) (labels_cause blocks targets.items)
-branch_cause blocks depth (Ret link) = unless (is_general link && is_nonzero link) BadRegister
-branch_cause blocks depth (JTSequence ridx other mask targets) = table_cause blocks ridx other targets.items
-branch_cause blocks depth (CondBreak mask) = unless (nat_lt 0 depth) BreakOutsideLoop
-branch_cause blocks depth Nop0 = None
-branch_cause blocks depth (LabelAddress dst label) = first_emit_cause (unless (is_general dst) BadRegister) (target_label_cause blocks label)
-branch_cause blocks depth (LoadSymbolReloc rd reloc) = unless (is_general rd) BadRegister
-branch_cause blocks depth (Trap code) = None
-branch_cause blocks depth (TrapIf mask code) = None
-branch_cause blocks depth Debugtrap = None
-branch_cause blocks depth (Args args) = None
-branch_cause blocks depth (Rets rets) = None
-branch_cause blocks depth (DummyUse reg) = None
-branch_cause blocks depth SequencePoint = None
-branch_cause blocks depth (Vector v) = composite_cause v
+branch_cause blocks depth (I.Jump dest) = target_label_cause blocks dest
+branch_cause blocks depth (I.CondBr taken not_taken mask) = first_emit_cause (target_label_cause blocks taken) (target_label_cause blocks not_taken)
+branch_cause blocks depth (I.IndirectBr rn targets) = first_emit_cause (unless (is_general rn && is_nonzero rn) BadRegister) (labels_cause blocks targets.items)
+branch_cause blocks depth (I.Ret link) = unless (is_general link && is_nonzero link) BadRegister
+branch_cause blocks depth (I.JTSequence ridx other mask targets) = table_cause blocks ridx other targets.items
+branch_cause blocks depth (I.CondBreak mask) = unless (nat_lt 0 depth) BreakOutsideLoop
+branch_cause blocks depth I.Nop0 = None
+branch_cause blocks depth (I.LabelAddress dst label) = first_emit_cause (unless (is_general dst) BadRegister) (target_label_cause blocks label)
+branch_cause blocks depth (I.LoadSymbolReloc rd reloc) = unless (is_general rd) BadRegister
+branch_cause blocks depth (I.Trap code) = None
+branch_cause blocks depth (I.TrapIf mask code) = None
+branch_cause blocks depth I.Debugtrap = None
+branch_cause blocks depth (I.Args args) = None
+branch_cause blocks depth (I.Rets rets) = None
+branch_cause blocks depth (I.DummyUse reg) = None
+branch_cause blocks depth I.SequencePoint = None
+branch_cause blocks depth (I.Vector v) = composite_cause v
 branch_cause blocks depth _ = Some BadOperator
 
 -- the causes of an operand: no row has a form for it, its offset is loaded over its base, its exact offset doesn't fit 32 bits
@@ -152,7 +152,7 @@ facility_cause flags i = unless (has_facility flags (facility_of i)) MissingFaci
 
 -- a cause: arguments are allocated where some already are, or in a loop
 abbrev pub stack_cause : (nominal depth : ℕ) → Inst → Option EmitError
-stack_cause nominal depth (AllocateArgs size) = unless (nat_eq nominal 0 && nat_eq depth 0) BadStackState
+stack_cause nominal depth (I.AllocateArgs size) = unless (nat_eq nominal 0 && nat_eq depth 0) BadStackState
 stack_cause nominal depth _ = None
 
 -- the causes of an instruction that is no `Loop`, at a nominal size and inside so many loops: its facility first. What has a cause by the stack sizes
@@ -167,7 +167,7 @@ numbers_cause n more = unless (nat_lt (n + more) 4294967297) LabelOutOfRange
 
 -- how many labels an instruction draws that is no `Loop`: one for a table
 abbrev pub instruction_fresh_labels : Inst → ℕ
-instruction_fresh_labels (JTSequence ridx other mask targets) = 1
+instruction_fresh_labels (I.JTSequence ridx other mask targets) = 1
 instruction_fresh_labels _ = 0
 
 -- the causes of an instruction that is no `Loop`, with n labels in use: its own, and the numbers of the labels that it draws

@@ -7,8 +7,7 @@ use Rattle.s390x_inst.specs.Memory.{flags_of}
 use Rattle.s390x_inst.specs.declared.args.MemArg.{MemArg}
 use Rattle.s390x_inst.specs.declared.args.MemArg.TheVariants.{BXD12, BXD20}
 use Rattle.s390x_inst.specs.declared.inst.Inst.{Inst}
-use Rattle.s390x_inst.specs.declared.inst.Inst.TheVariants.{AluRX, CmpRX}
-use Rattle.s390x_inst.specs.declared.inst.Inst.TheVariants.{StoreImm8, StoreImm16, StoreImm32SExt16, StoreImm64SExt16, LoadMultiple64, StoreMultiple64, LoadAddr, AtomicRmw, AtomicCas32, AtomicCas64, Vector}
+use Rattle.s390x_inst.specs.declared.inst.Inst.TheVariants as I
 use Rattle.s390x_inst.specs.declared.load.Load.{Load}
 use Rattle.s390x_inst.specs.declared.load.LoadOp.{LoadOp}
 use Rattle.s390x_inst.specs.Loads.{as_load, by_load, load_place}
@@ -19,7 +18,7 @@ use Rattle.s390x_inst.specs.declared.whole.WholeAccess.{WholeAccess}
 use Rattle.s390x_inst.specs.declared.whole.WholeLayout.{WholeLayout}
 use Rattle.s390x_inst.specs.Wholes.{as_whole, by_whole, by_direction, layout_place}
 use Rattle.s390x_inst.specs.declared.vec_inst.VecInst.{VecInst}
-use Rattle.s390x_inst.specs.declared.vec_inst.VecInst.TheVariants.{VecLoadReplicate, VecLoadReplicateRev, VecLoadLane, VecLoadLaneRev, VecLoadLaneUndef, VecLoadLaneRevUndef, VecStoreLane, VecStoreLaneRev}
+use Rattle.s390x_inst.specs.declared.vec_inst.VecInst.TheVariants as V
 use Rattle.s390x_rows.specs.declared.opcodes.TheConstants as opcodes
 use Rattle.s390x_typed_steps.specs.General.{is_general, reuses, low_byte, low_halfword, low_displacement, low_12}
 use Rattle.s390x_typed_steps.specs.MachineInstruction.{MachineInstruction, rx, rxy, rs, rsy, si, siy, sil, vrx}
@@ -194,22 +193,22 @@ store_left size register = cond (nat_eq size 32) (FloatForm register opcodes.STE
 
 -- loads and stores of one element. Where the other ones may become any, the leftmost one is also loaded as a float register
 abbrev pub lane_memory : VecInst → Option MemoryInstruction
-lane_memory (VecLoadLane size rd ri mem lane) = access_lane (reuses_vector rd ri) load_lane_opcode (number_of rd) (element_code size) size lane mem
-lane_memory (VecLoadLaneRev size rd ri mem lane) = access_lane (reuses_vector rd ri) load_reversed_opcode (number_of rd) (reversed_code size) size lane mem
-lane_memory (VecLoadLaneUndef size rd mem lane) =
+lane_memory (V.VecLoadLane size rd ri mem lane) = access_lane (reuses_vector rd ri) load_lane_opcode (number_of rd) (element_code size) size lane mem
+lane_memory (V.VecLoadLaneRev size rd ri mem lane) = access_lane (reuses_vector rd ri) load_reversed_opcode (number_of rd) (reversed_code size) size lane mem
+lane_memory (V.VecLoadLaneUndef size rd mem lane) =
     cond (is_left_lane size lane (number_of rd)) (access_vector (is_vector rd) (load_left size (number_of rd)) mem)
     (access_lane (is_vector rd) load_lane_opcode (number_of rd) (element_code size) size lane mem)
-lane_memory (VecLoadLaneRevUndef size rd mem lane) = access_lane (is_vector rd) load_reversed_opcode (number_of rd) (reversed_code size) size lane mem
-lane_memory (VecStoreLane size rd mem lane) =
+lane_memory (V.VecLoadLaneRevUndef size rd mem lane) = access_lane (is_vector rd) load_reversed_opcode (number_of rd) (reversed_code size) size lane mem
+lane_memory (V.VecStoreLane size rd mem lane) =
     cond (is_left_lane size lane (number_of rd)) (access_vector (is_vector rd) (store_left size (number_of rd)) mem)
     (access_lane (is_vector rd) store_lane_opcode (number_of rd) (element_code size) size lane mem)
-lane_memory (VecStoreLaneRev size rd mem lane) = access_lane (is_vector rd) store_reversed_opcode (number_of rd) (reversed_code size) size lane mem
+lane_memory (V.VecStoreLaneRev size rd mem lane) = access_lane (is_vector rd) store_reversed_opcode (number_of rd) (reversed_code size) size lane mem
 lane_memory _ = None
 
 -- loads and stores of elements
 abbrev pub part_memory : VecInst → Option MemoryInstruction
-part_memory (VecLoadReplicate size rd mem) = access_elements opcodes.VLREP rd (element_code size) mem
-part_memory (VecLoadReplicateRev size rd mem) = access_elements opcodes.VLBRREP rd (reversed_code size) mem
+part_memory (V.VecLoadReplicate size rd mem) = access_elements opcodes.VLREP rd (element_code size) mem
+part_memory (V.VecLoadReplicateRev size rd mem) = access_elements opcodes.VLBRREP rd (reversed_code size) mem
 part_memory v = lane_memory v
 
 -- the rows of a layout
@@ -239,19 +238,19 @@ store_memory s = store s.rd (store_rows s.op).rx (store_rows s.op).rxy (store_ro
 
 -- the machine rows and the operand of one that is neither a load nor a store of one register
 abbrev pub rest_memory : Inst → Option MemoryInstruction
-rest_memory (AluRX op rd ri mem) = operate (is_some (alu_rx op) || is_some (alu_rxy op)) (alu_rx op) (alu_rxy op) rd ri mem
-rest_memory (CmpRX op rn mem) = compare rn (cmp_rx op) (cmp_rxy op) (cmp_ril op) mem
-rest_memory (StoreImm8 imm mem) = store_immediate (SiForm (low_byte imm) opcodes.MVI opcodes.MVIY) mem
-rest_memory (StoreImm16 imm mem) = store_immediate (SilForm (low_halfword imm) opcodes.MVHHI) mem
-rest_memory (StoreImm32SExt16 imm mem) = store_immediate (SilForm (low_halfword imm) opcodes.MVHI) mem
-rest_memory (StoreImm64SExt16 imm mem) = store_immediate (SilForm (low_halfword imm) opcodes.MVGHI) mem
-rest_memory (LoadMultiple64 rt rt2 mem) = multiple rt rt2 opcodes.LMG false mem
-rest_memory (StoreMultiple64 rt rt2 mem) = multiple rt rt2 opcodes.STMG (holds_scratch rt rt2) mem
-rest_memory (LoadAddr rd mem) = Some (record { form = address_form rd; operand = mem; accesses = false; operands_valid = is_general rd; reads_scratch = false })
-rest_memory (AtomicRmw op rd rn mem) = load_and_operate (atomic_rsy op) rd rn mem
-rest_memory (AtomicCas32 rd ri rn mem) = compare_and_swap (Some opcodes.CS) opcodes.CSY rd ri rn mem
-rest_memory (AtomicCas64 rd ri rn mem) = compare_and_swap None opcodes.CSG rd ri rn mem
-rest_memory (Vector v) = vector_memory v
+rest_memory (I.AluRX op rd ri mem) = operate (is_some (alu_rx op) || is_some (alu_rxy op)) (alu_rx op) (alu_rxy op) rd ri mem
+rest_memory (I.CmpRX op rn mem) = compare rn (cmp_rx op) (cmp_rxy op) (cmp_ril op) mem
+rest_memory (I.StoreImm8 imm mem) = store_immediate (SiForm (low_byte imm) opcodes.MVI opcodes.MVIY) mem
+rest_memory (I.StoreImm16 imm mem) = store_immediate (SilForm (low_halfword imm) opcodes.MVHHI) mem
+rest_memory (I.StoreImm32SExt16 imm mem) = store_immediate (SilForm (low_halfword imm) opcodes.MVHI) mem
+rest_memory (I.StoreImm64SExt16 imm mem) = store_immediate (SilForm (low_halfword imm) opcodes.MVGHI) mem
+rest_memory (I.LoadMultiple64 rt rt2 mem) = multiple rt rt2 opcodes.LMG false mem
+rest_memory (I.StoreMultiple64 rt rt2 mem) = multiple rt rt2 opcodes.STMG (holds_scratch rt rt2) mem
+rest_memory (I.LoadAddr rd mem) = Some (record { form = address_form rd; operand = mem; accesses = false; operands_valid = is_general rd; reads_scratch = false })
+rest_memory (I.AtomicRmw op rd rn mem) = load_and_operate (atomic_rsy op) rd rn mem
+rest_memory (I.AtomicCas32 rd ri rn mem) = compare_and_swap (Some opcodes.CS) opcodes.CSY rd ri rn mem
+rest_memory (I.AtomicCas64 rd ri rn mem) = compare_and_swap None opcodes.CSG rd ri rn mem
+rest_memory (I.Vector v) = vector_memory v
 rest_memory _ = None
 
 -- the machine rows and the operand of an instruction that is no load of one register

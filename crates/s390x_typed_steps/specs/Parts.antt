@@ -11,7 +11,7 @@ use Rattle.s390x_inst.specs.declared.calls.CallInstDest.TheVariants.{Direct, Ind
 use Rattle.s390x_inst.specs.declared.calls.SymbolReloc.{SymbolReloc}
 use Rattle.s390x_inst.specs.declared.calls.SymbolReloc.TheVariants.{Absolute}
 use Rattle.s390x_inst.specs.declared.inst.Inst.{Inst}
-use Rattle.s390x_inst.specs.declared.inst.Inst.TheVariants.{Mov64SImm32, LoadAddr, Jump, CondBr, IndirectBr, Ret, LabelAddress, LoadSymbolReloc, Trap, TrapIf, Debugtrap, JTSequence, Vector}
+use Rattle.s390x_inst.specs.declared.inst.Inst.TheVariants as I
 use Rattle.s390x_rows.specs.declared.opcodes.TheConstants as opcodes
 use Rattle.s390x_typed_steps.specs.General.{low_word}
 use Rattle.s390x_typed_steps.specs.MachineInstruction.{MachineInstruction, size_of, format_e, rr, ri_b, ril_a, ril_c, ril_b, rxy}
@@ -88,8 +88,8 @@ operand_parts form code m = cond (is_relative m) (relative_parts form code m) (a
 
 -- the parts of a helper, whose operand stands in it as it is
 abbrev pub helper_parts : Inst → List CodePart
-helper_parts (Mov64SImm32 rd imm) = Row (ril_a opcodes.LGFI (number_of rd) (low_word imm)) ∷ []
-helper_parts (LoadAddr rd mem) = operand_parts (address_form rd) None mem
+helper_parts (I.Mov64SImm32 rd imm) = Row (ril_a opcodes.LGFI (number_of rd) (low_word imm)) ∷ []
+helper_parts (I.LoadAddr rd mem) = operand_parts (address_form rd) None mem
 helper_parts _ = []
 
 -- those of helpers, in order
@@ -135,19 +135,19 @@ row_parts (m ∷ ms) = Row m ∷ row_parts ms
 
 -- the parts of an instruction that names a place, goes elsewhere or ends the run; of any other, none: emission refuses it
 abbrev pub branch_parts : Inst → List CodePart
-branch_parts (Jump dest) = Branch 15 (ToBlock dest.0) ∷ []
-branch_parts (CondBr taken not_taken mask) = Branch mask (ToBlock taken.0) ∷ Branch 15 (ToBlock not_taken.0) ∷ []
-branch_parts (IndirectBr rn targets) = Row (rr opcodes.BCR 15 (number_of rn)) ∷ []
-branch_parts (Ret link) = Row (rr opcodes.BCR 15 (number_of link)) ∷ []
-branch_parts (JTSequence ridx other mask targets) = table_parts (number_of ridx) mask other.0 targets.items
-branch_parts (LabelAddress dst label) = Relative opcodes.LARL (number_of dst) (ToBlock label.0) ∷ []
-branch_parts (LoadSymbolReloc rd reloc) = symbol_parts (number_of rd) reloc
+branch_parts (I.Jump dest) = Branch 15 (ToBlock dest.0) ∷ []
+branch_parts (I.CondBr taken not_taken mask) = Branch mask (ToBlock taken.0) ∷ Branch 15 (ToBlock not_taken.0) ∷ []
+branch_parts (I.IndirectBr rn targets) = Row (rr opcodes.BCR 15 (number_of rn)) ∷ []
+branch_parts (I.Ret link) = Row (rr opcodes.BCR 15 (number_of link)) ∷ []
+branch_parts (I.JTSequence ridx other mask targets) = table_parts (number_of ridx) mask other.0 targets.items
+branch_parts (I.LabelAddress dst label) = Relative opcodes.LARL (number_of dst) (ToBlock label.0) ∷ []
+branch_parts (I.LoadSymbolReloc rd reloc) = symbol_parts (number_of rd) reloc
 -- no machine instruction begins with a byte of zeros
-branch_parts (Trap code) = stopping (format_e 0x0000) code ∷ []
+branch_parts (I.Trap code) = stopping (format_e 0x0000) code ∷ []
 -- a branch into its own bytes, to the zeros of its distance
-branch_parts (TrapIf mask code) = Trapping (ril_c opcodes.BRCL mask 1) 3 code ∷ []
-branch_parts Debugtrap = Row (format_e 0x0001) ∷ []
-branch_parts (Vector v) = row_parts (composite_rows v)
+branch_parts (I.TrapIf mask code) = Trapping (ril_c opcodes.BRCL mask 1) 3 code ∷ []
+branch_parts I.Debugtrap = Row (format_e 0x0001) ∷ []
+branch_parts (I.Vector v) = row_parts (composite_rows v)
 branch_parts _ = []
 
 -- a machine instruction whose stop may have a code

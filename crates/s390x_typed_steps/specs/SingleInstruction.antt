@@ -5,15 +5,12 @@ use Rattle.s390x_base.specs.declared.regs.Reg.TheVariants.{Real}
 use Rattle.s390x_base.specs.declared.trap.TrapKind.{TrapKind}
 use Rattle.s390x_base.specs.declared.trap.TrapKind.TheVariants.{IntegerDivisionByZero}
 use Rattle.s390x_inst.specs.declared.inst.Inst.{Inst}
-use Rattle.s390x_inst.specs.declared.inst.Inst.TheVariants.{AluRRR, AluRR, AluRRSImm16, AluRSImm16, AluRSImm32, AluRUImm32, AluRUImm16Shifted, AluRUImm32Shifted, SMulWide, UMulWide, Flogr, ShiftRR, RxSBG, RxSBGTest, UnaryRR, CmpRR, CmpRSImm16, CmpRSImm32, CmpRUImm32, Mov64, MovPReg, Mov32, Mov32Imm}
-use Rattle.s390x_inst.specs.declared.inst.Inst.TheVariants.{Mov32SImm16, Mov64SImm16, Mov64SImm32, Mov64UImm16Shifted, Mov64UImm32Shifted, Insert64UImm16Shifted, Insert64UImm32Shifted, CMov32, CMov64, CMov32SImm16, CMov64SImm16, Extend, LoadAR, InsertAR, LoadIndexedAddr, LoadLogicalIndexedAddr}
-use Rattle.s390x_inst.specs.declared.inst.Inst.TheVariants.{AllocateArgs, Fence, Nop2, SDivMod32, SDivMod64, UDivMod32, UDivMod64, CmpTrapRR, CmpTrapRSImm16, CmpTrapRUImm16}
+use Rattle.s390x_inst.specs.declared.inst.Inst.TheVariants as I
 use Rattle.s390x_inst.specs.declared.ops.UnaryOp.{UnaryOp}
 use Rattle.s390x_inst.specs.declared.ops.UnaryOp.TheVariants.{PopcntByte, PopcntReg}
 use Rattle.s390x_rows.specs.declared.opcodes.TheConstants as opcodes
 use Rattle.s390x_typed_steps.specs.General.{is_general, is_even_pair, reuses, reuses_pair, low_halfword, low_word, four_bits, low_displacement, low_byte, rotation, is_access}
 use Rattle.s390x_typed_steps.specs.MachineInstruction.{MachineInstruction, rr, rre, rrf_ab, rrf_cde, ri_a, rie_a, rie_d, rie_f, rie_g, ril_a, rsy, rxy}
-use Rattle.s390x_inst.specs.declared.inst.Inst.TheVariants.{Vector}
 use Rattle.s390x_typed_steps.specs.VectorInstruction.{vector_row, vector_operands_valid, vector_stop}
 use Rattle.s390x_typed_steps.specs.Opcodes.{alu_three, alu_two, cmp_two, cmp_trap, cmp_trap_signed, cmp_trap_unsigned, unary_two, alu_halfword, alu_three_halfword, alu_signed_word, alu_unsigned_word, cmp_halfword, cmp_signed_word, cmp_unsigned_word, alu_part, alu_half, load_part, load_half, insert_part}
 use Rattle.s390x_typed_steps.specs.Opcodes.{insert_half, extend_two, shift_opcode, rotate_then, rotate_then_test, indexed_opcode, logical_indexed_opcode}
@@ -91,73 +88,73 @@ single_with operands_valid (Some row) = Some (record { row = row; operands_valid
 
 -- the one machine instruction of an instruction, where it is one
 abbrev pub single_instruction : Inst → Option SingleInstruction
-single_instruction (AluRRR op rd rn rm) = single_with (is_general rd && is_general rn && is_general rm) (three_row (alu_three op) (alu_two op) (number_of rd) (number_of rn) (number_of rm))
-single_instruction (AluRR op rd ri rm) = single_with (reuses rd ri && is_general rm) (two_row (alu_two op) (number_of rd) (number_of rm))
-single_instruction (UnaryRR op rd rn) = single_with (is_general rd && is_general rn) (unary_row op (number_of rd) (number_of rn))
-single_instruction (CmpRR op rn rm) = single_with (is_general rn && is_general rm) (two_row (cmp_two op) (number_of rn) (number_of rm))
-single_instruction (Mov64 rd rm) = single_with (is_general rd && is_general rm) (two_row (Some opcodes.LGR) (number_of rd) (number_of rm))
-single_instruction (MovPReg rd rm) = single_with (is_general rd && is_general (Real rm)) (two_row (Some opcodes.LGR) (number_of rd) (number_of (Real rm)))
-single_instruction (Mov32 rd rm) = single_with (is_general rd && is_general rm) (two_row (Some opcodes.LR) (number_of rd) (number_of rm))
-single_instruction (AluRRSImm16 op rd rn imm) = single_with (is_general rd && is_general rn) (three_halfword_row (alu_three_halfword op) (alu_halfword op) (number_of rd) (number_of rn) (low_halfword imm))
-single_instruction (AluRSImm16 op rd ri imm) = single_with (reuses rd ri) (halfword_row (alu_halfword op) (number_of rd) (low_halfword imm))
-single_instruction (AluRSImm32 op rd ri imm) = single_with (reuses rd ri) (word_row (alu_signed_word op) (number_of rd) (low_word imm))
-single_instruction (AluRUImm32 op rd ri imm) = single_with (reuses rd ri) (word_row (alu_unsigned_word op) (number_of rd) (low_word (pos imm)))
-single_instruction (CmpRSImm16 op rn imm) = single_with (is_general rn) (halfword_row (cmp_halfword op) (number_of rn) (low_halfword imm))
-single_instruction (CmpRSImm32 op rn imm) = single_with (is_general rn) (word_row (cmp_signed_word op) (number_of rn) (low_word imm))
-single_instruction (CmpRUImm32 op rn imm) = single_with (is_general rn) (word_row (cmp_unsigned_word op) (number_of rn) (low_word (pos imm)))
-single_instruction (Mov32Imm rd imm) = single_with (is_general rd) (word_row (Some opcodes.IILF) (number_of rd) (low_word (pos imm)))
-single_instruction (Mov32SImm16 rd imm) = single_with (is_general rd) (halfword_row (Some opcodes.LHI) (number_of rd) (low_halfword imm))
-single_instruction (Mov64SImm16 rd imm) = single_with (is_general rd) (halfword_row (Some opcodes.LGHI) (number_of rd) (low_halfword imm))
-single_instruction (Mov64SImm32 rd imm) = single_with (is_general rd) (word_row (Some opcodes.LGFI) (number_of rd) (low_word imm))
-single_instruction (AluRUImm16Shifted op rd ri imm) = single_with (reuses rd ri) (halfword_row (alu_part op imm.shift) (number_of rd) (low_halfword (pos imm.bits)))
-single_instruction (AluRUImm32Shifted op rd ri imm) = single_with (reuses rd ri) (word_row (alu_half op imm.shift) (number_of rd) (low_word (pos imm.bits)))
-single_instruction (Mov64UImm16Shifted rd imm) = single_with (is_general rd) (halfword_row (load_part imm.shift) (number_of rd) (low_halfword (pos imm.bits)))
-single_instruction (Mov64UImm32Shifted rd imm) = single_with (is_general rd) (word_row (load_half imm.shift) (number_of rd) (low_word (pos imm.bits)))
-single_instruction (Insert64UImm16Shifted rd ri imm) = single_with (reuses rd ri) (halfword_row (insert_part imm.shift) (number_of rd) (low_halfword (pos imm.bits)))
-single_instruction (Insert64UImm32Shifted rd ri imm) = single_with (reuses rd ri) (word_row (insert_half imm.shift) (number_of rd) (low_word (pos imm.bits)))
-single_instruction (Extend rd rn signed from to) = single_with (is_general rd && is_general rn) (two_row (extend_two signed from to) (number_of rd) (number_of rn))
-single_instruction (LoadAR rd ar) = single_with (is_general rd && is_access ar) (two_row (Some opcodes.EAR) (number_of rd) (four_bits ar))
-single_instruction (InsertAR rd ri ar) = single_with (reuses rd ri && is_access ar) (two_row (Some opcodes.EAR) (number_of rd) (four_bits ar))
-single_instruction (ShiftRR op rd rn amount register) =
+single_instruction (I.AluRRR op rd rn rm) = single_with (is_general rd && is_general rn && is_general rm) (three_row (alu_three op) (alu_two op) (number_of rd) (number_of rn) (number_of rm))
+single_instruction (I.AluRR op rd ri rm) = single_with (reuses rd ri && is_general rm) (two_row (alu_two op) (number_of rd) (number_of rm))
+single_instruction (I.UnaryRR op rd rn) = single_with (is_general rd && is_general rn) (unary_row op (number_of rd) (number_of rn))
+single_instruction (I.CmpRR op rn rm) = single_with (is_general rn && is_general rm) (two_row (cmp_two op) (number_of rn) (number_of rm))
+single_instruction (I.Mov64 rd rm) = single_with (is_general rd && is_general rm) (two_row (Some opcodes.LGR) (number_of rd) (number_of rm))
+single_instruction (I.MovPReg rd rm) = single_with (is_general rd && is_general (Real rm)) (two_row (Some opcodes.LGR) (number_of rd) (number_of (Real rm)))
+single_instruction (I.Mov32 rd rm) = single_with (is_general rd && is_general rm) (two_row (Some opcodes.LR) (number_of rd) (number_of rm))
+single_instruction (I.AluRRSImm16 op rd rn imm) = single_with (is_general rd && is_general rn) (three_halfword_row (alu_three_halfword op) (alu_halfword op) (number_of rd) (number_of rn) (low_halfword imm))
+single_instruction (I.AluRSImm16 op rd ri imm) = single_with (reuses rd ri) (halfword_row (alu_halfword op) (number_of rd) (low_halfword imm))
+single_instruction (I.AluRSImm32 op rd ri imm) = single_with (reuses rd ri) (word_row (alu_signed_word op) (number_of rd) (low_word imm))
+single_instruction (I.AluRUImm32 op rd ri imm) = single_with (reuses rd ri) (word_row (alu_unsigned_word op) (number_of rd) (low_word (pos imm)))
+single_instruction (I.CmpRSImm16 op rn imm) = single_with (is_general rn) (halfword_row (cmp_halfword op) (number_of rn) (low_halfword imm))
+single_instruction (I.CmpRSImm32 op rn imm) = single_with (is_general rn) (word_row (cmp_signed_word op) (number_of rn) (low_word imm))
+single_instruction (I.CmpRUImm32 op rn imm) = single_with (is_general rn) (word_row (cmp_unsigned_word op) (number_of rn) (low_word (pos imm)))
+single_instruction (I.Mov32Imm rd imm) = single_with (is_general rd) (word_row (Some opcodes.IILF) (number_of rd) (low_word (pos imm)))
+single_instruction (I.Mov32SImm16 rd imm) = single_with (is_general rd) (halfword_row (Some opcodes.LHI) (number_of rd) (low_halfword imm))
+single_instruction (I.Mov64SImm16 rd imm) = single_with (is_general rd) (halfword_row (Some opcodes.LGHI) (number_of rd) (low_halfword imm))
+single_instruction (I.Mov64SImm32 rd imm) = single_with (is_general rd) (word_row (Some opcodes.LGFI) (number_of rd) (low_word imm))
+single_instruction (I.AluRUImm16Shifted op rd ri imm) = single_with (reuses rd ri) (halfword_row (alu_part op imm.shift) (number_of rd) (low_halfword (pos imm.bits)))
+single_instruction (I.AluRUImm32Shifted op rd ri imm) = single_with (reuses rd ri) (word_row (alu_half op imm.shift) (number_of rd) (low_word (pos imm.bits)))
+single_instruction (I.Mov64UImm16Shifted rd imm) = single_with (is_general rd) (halfword_row (load_part imm.shift) (number_of rd) (low_halfword (pos imm.bits)))
+single_instruction (I.Mov64UImm32Shifted rd imm) = single_with (is_general rd) (word_row (load_half imm.shift) (number_of rd) (low_word (pos imm.bits)))
+single_instruction (I.Insert64UImm16Shifted rd ri imm) = single_with (reuses rd ri) (halfword_row (insert_part imm.shift) (number_of rd) (low_halfword (pos imm.bits)))
+single_instruction (I.Insert64UImm32Shifted rd ri imm) = single_with (reuses rd ri) (word_row (insert_half imm.shift) (number_of rd) (low_word (pos imm.bits)))
+single_instruction (I.Extend rd rn signed from to) = single_with (is_general rd && is_general rn) (two_row (extend_two signed from to) (number_of rd) (number_of rn))
+single_instruction (I.LoadAR rd ar) = single_with (is_general rd && is_access ar) (two_row (Some opcodes.EAR) (number_of rd) (four_bits ar))
+single_instruction (I.InsertAR rd ri ar) = single_with (reuses rd ri && is_access ar) (two_row (Some opcodes.EAR) (number_of rd) (four_bits ar))
+single_instruction (I.ShiftRR op rd rn amount register) =
     single_with (is_general rd && is_general rn && is_general register) (Some (rsy (shift_opcode op) (number_of rd) (number_of rn) (number_of register) (low_byte amount)))
-single_instruction (RxSBG op rd ri rn start end amount) =
+single_instruction (I.RxSBG op rd ri rn start end amount) =
     single_with (reuses rd ri && is_general rn) (rotated_row (Some (rotate_then op)) (number_of rd) (number_of rn) start end start (rotation amount))
-single_instruction (RxSBGTest op rd rn start end amount) =
+single_instruction (I.RxSBGTest op rd rn start end amount) =
     single_with (is_general rd && is_general rn) (rotated_row (rotate_then_test op) (number_of rd) (number_of rn) start end (start + 128) (rotation amount))
-single_instruction (SMulWide rd rn rm) =
+single_instruction (I.SMulWide rd rn rm) =
     single_with (is_even_pair rd.hi rd.lo && is_general rn && is_general rm) (Some (rrf_ab opcodes.MGRK (number_of rd.hi) (number_of rn) (number_of rm) 0))
-single_instruction (UMulWide rd ri rn) = single_with (is_even_pair rd.hi rd.lo && reuses rd.lo ri && is_general rn) (Some (rre opcodes.MLGR (number_of rd.hi) (number_of rn)))
-single_instruction (Flogr rd rn) = single_with (is_even_pair rd.hi rd.lo && is_general rn) (Some (rre opcodes.FLOGR (number_of rd.hi) (number_of rn)))
-single_instruction (SDivMod32 rd ri rn) = single_with (is_even_pair rd.hi rd.lo && reuses rd.lo ri && is_general rn) (Some (rre opcodes.DSGFR (number_of rd.hi) (number_of rn)))
-single_instruction (SDivMod64 rd ri rn) = single_with (is_even_pair rd.hi rd.lo && reuses rd.lo ri && is_general rn) (Some (rre opcodes.DSGR (number_of rd.hi) (number_of rn)))
-single_instruction (UDivMod32 rd ri rn) = single_with (is_even_pair rd.hi rd.lo && reuses_pair rd ri && is_general rn) (Some (rre opcodes.DLR (number_of rd.hi) (number_of rn)))
-single_instruction (UDivMod64 rd ri rn) = single_with (is_even_pair rd.hi rd.lo && reuses_pair rd ri && is_general rn) (Some (rre opcodes.DLGR (number_of rd.hi) (number_of rn)))
-single_instruction (CmpTrapRR op rn rm mask code) = single_with (is_general rn && is_general rm) (masked_row (cmp_trap op) (number_of rn) (number_of rm) (four_bits mask))
-single_instruction (CmpTrapRSImm16 op rn imm mask code) = single_with (is_general rn) (masked_halfword_row (cmp_trap_signed op) (number_of rn) (low_halfword imm) (four_bits mask))
-single_instruction (CmpTrapRUImm16 op rn imm mask code) = single_with (is_general rn) (masked_halfword_row (cmp_trap_unsigned op) (number_of rn) (low_halfword (pos imm)) (four_bits mask))
-single_instruction (CMov32 rd mask ri rm) = single_with (reuses rd ri && is_general rm) (Some (rrf_cde opcodes.LOCR (number_of rd) (number_of rm) (four_bits mask) 0))
-single_instruction (CMov64 rd mask ri rm) = single_with (reuses rd ri && is_general rm) (Some (rrf_cde opcodes.LOCGR (number_of rd) (number_of rm) (four_bits mask) 0))
-single_instruction (CMov32SImm16 rd mask ri imm) = single_with (reuses rd ri) (Some (rie_g opcodes.LOCHI (number_of rd) (low_halfword imm) (four_bits mask)))
-single_instruction (CMov64SImm16 rd mask ri imm) = single_with (reuses rd ri) (Some (rie_g opcodes.LOCGHI (number_of rd) (low_halfword imm) (four_bits mask)))
-single_instruction (LoadIndexedAddr rd base index offset size) =
+single_instruction (I.UMulWide rd ri rn) = single_with (is_even_pair rd.hi rd.lo && reuses rd.lo ri && is_general rn) (Some (rre opcodes.MLGR (number_of rd.hi) (number_of rn)))
+single_instruction (I.Flogr rd rn) = single_with (is_even_pair rd.hi rd.lo && is_general rn) (Some (rre opcodes.FLOGR (number_of rd.hi) (number_of rn)))
+single_instruction (I.SDivMod32 rd ri rn) = single_with (is_even_pair rd.hi rd.lo && reuses rd.lo ri && is_general rn) (Some (rre opcodes.DSGFR (number_of rd.hi) (number_of rn)))
+single_instruction (I.SDivMod64 rd ri rn) = single_with (is_even_pair rd.hi rd.lo && reuses rd.lo ri && is_general rn) (Some (rre opcodes.DSGR (number_of rd.hi) (number_of rn)))
+single_instruction (I.UDivMod32 rd ri rn) = single_with (is_even_pair rd.hi rd.lo && reuses_pair rd ri && is_general rn) (Some (rre opcodes.DLR (number_of rd.hi) (number_of rn)))
+single_instruction (I.UDivMod64 rd ri rn) = single_with (is_even_pair rd.hi rd.lo && reuses_pair rd ri && is_general rn) (Some (rre opcodes.DLGR (number_of rd.hi) (number_of rn)))
+single_instruction (I.CmpTrapRR op rn rm mask code) = single_with (is_general rn && is_general rm) (masked_row (cmp_trap op) (number_of rn) (number_of rm) (four_bits mask))
+single_instruction (I.CmpTrapRSImm16 op rn imm mask code) = single_with (is_general rn) (masked_halfword_row (cmp_trap_signed op) (number_of rn) (low_halfword imm) (four_bits mask))
+single_instruction (I.CmpTrapRUImm16 op rn imm mask code) = single_with (is_general rn) (masked_halfword_row (cmp_trap_unsigned op) (number_of rn) (low_halfword (pos imm)) (four_bits mask))
+single_instruction (I.CMov32 rd mask ri rm) = single_with (reuses rd ri && is_general rm) (Some (rrf_cde opcodes.LOCR (number_of rd) (number_of rm) (four_bits mask) 0))
+single_instruction (I.CMov64 rd mask ri rm) = single_with (reuses rd ri && is_general rm) (Some (rrf_cde opcodes.LOCGR (number_of rd) (number_of rm) (four_bits mask) 0))
+single_instruction (I.CMov32SImm16 rd mask ri imm) = single_with (reuses rd ri) (Some (rie_g opcodes.LOCHI (number_of rd) (low_halfword imm) (four_bits mask)))
+single_instruction (I.CMov64SImm16 rd mask ri imm) = single_with (reuses rd ri) (Some (rie_g opcodes.LOCGHI (number_of rd) (low_halfword imm) (four_bits mask)))
+single_instruction (I.LoadIndexedAddr rd base index offset size) =
     single_with (is_general rd && is_general base && is_general index) (indexed_row (indexed_opcode size) (number_of rd) (number_of base) (number_of index) (low_displacement offset))
-single_instruction (LoadLogicalIndexedAddr rd base index offset size) =
+single_instruction (I.LoadLogicalIndexedAddr rd base index offset size) =
     single_with (is_general rd && is_general base && is_general index) (indexed_row (logical_indexed_opcode size) (number_of rd) (number_of base) (number_of index) (low_displacement offset))
-single_instruction (AllocateArgs size) = Some (record { row = allocate_row size; operands_valid = true })
+single_instruction (I.AllocateArgs size) = Some (record { row = allocate_row size; operands_valid = true })
 -- BRANCH ON CONDITION to no address, and under a mask that selects nothing
-single_instruction Fence = Some (record { row = rr opcodes.BCR 14 0; operands_valid = true })
-single_instruction Nop2 = Some (record { row = rr opcodes.BCR 0 7; operands_valid = true })
-single_instruction (Vector v) = single_with (vector_operands_valid v) (vector_row v)
+single_instruction I.Fence = Some (record { row = rr opcodes.BCR 14 0; operands_valid = true })
+single_instruction I.Nop2 = Some (record { row = rr opcodes.BCR 0 7; operands_valid = true })
+single_instruction (I.Vector v) = single_with (vector_operands_valid v) (vector_row v)
 single_instruction _ = None
 
 -- the code of the stop of a division, or of a comparison that traps
 abbrev pub stop_code : Inst → Option TrapKind
-stop_code (SDivMod32 rd ri rn) = Some IntegerDivisionByZero
-stop_code (SDivMod64 rd ri rn) = Some IntegerDivisionByZero
-stop_code (UDivMod32 rd ri rn) = Some IntegerDivisionByZero
-stop_code (UDivMod64 rd ri rn) = Some IntegerDivisionByZero
-stop_code (CmpTrapRR op rn rm mask code) = Some code
-stop_code (CmpTrapRSImm16 op rn imm mask code) = Some code
-stop_code (CmpTrapRUImm16 op rn imm mask code) = Some code
-stop_code (Vector v) = vector_stop v
+stop_code (I.SDivMod32 rd ri rn) = Some IntegerDivisionByZero
+stop_code (I.SDivMod64 rd ri rn) = Some IntegerDivisionByZero
+stop_code (I.UDivMod32 rd ri rn) = Some IntegerDivisionByZero
+stop_code (I.UDivMod64 rd ri rn) = Some IntegerDivisionByZero
+stop_code (I.CmpTrapRR op rn rm mask code) = Some code
+stop_code (I.CmpTrapRSImm16 op rn imm mask code) = Some code
+stop_code (I.CmpTrapRUImm16 op rn imm mask code) = Some code
+stop_code (I.Vector v) = vector_stop v
 stop_code _ = None

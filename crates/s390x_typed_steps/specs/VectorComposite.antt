@@ -4,7 +4,7 @@ use Rattle.s390x_base.specs.Regs.{number_of}
 use Rattle.s390x_base.specs.declared.error.EmitError.{EmitError}
 use Rattle.s390x_base.specs.declared.error.EmitError.TheVariants.{BadOperator, BadRegister}
 use Rattle.s390x_inst.specs.declared.vec_inst.VecInst.{VecInst}
-use Rattle.s390x_inst.specs.declared.vec_inst.VecInst.TheVariants.{FpuCMov32, FpuCMov64, VecCMov, VecEltRev, VecInt128SCmpHi, VecInt128UCmpHi}
+use Rattle.s390x_inst.specs.declared.vec_inst.VecInst.TheVariants as V
 use Rattle.s390x_rows.specs.declared.opcodes.TheConstants as opcodes
 use Rattle.s390x_typed_steps.specs.General.{four_bits}
 use Rattle.s390x_typed_steps.specs.MachineInstruction.{MachineInstruction, size_of, ri_c, vrr_a, vrr_b, vrr_c, vrs_a}
@@ -18,9 +18,9 @@ pub record MoveUnder : Type 0 where
 
 -- the vector instructions that are such a move
 abbrev pub move_under : VecInst → Option MoveUnder
-move_under (FpuCMov32 rd mask ri rm) = Some (record { mask = four_bits mask; row = move_left_row opcodes.LER (number_of rd) (number_of rm); operands_valid = reuses_vector rd ri && is_vector rm })
-move_under (FpuCMov64 rd mask ri rm) = Some (record { mask = four_bits mask; row = move_left_row opcodes.LDR (number_of rd) (number_of rm); operands_valid = reuses_vector rd ri && is_vector rm })
-move_under (VecCMov rd mask ri rm) = Some (record { mask = four_bits mask; row = vrr_a opcodes.VLR (number_of rd) (number_of rm) 0; operands_valid = reuses_vector rd ri && is_vector rm })
+move_under (V.FpuCMov32 rd mask ri rm) = Some (record { mask = four_bits mask; row = move_left_row opcodes.LER (number_of rd) (number_of rm); operands_valid = reuses_vector rd ri && is_vector rm })
+move_under (V.FpuCMov64 rd mask ri rm) = Some (record { mask = four_bits mask; row = move_left_row opcodes.LDR (number_of rd) (number_of rm); operands_valid = reuses_vector rd ri && is_vector rm })
+move_under (V.VecCMov rd mask ri rm) = Some (record { mask = four_bits mask; row = vrr_a opcodes.VLR (number_of rd) (number_of rm) 0; operands_valid = reuses_vector rd ri && is_vector rm })
 move_under _ = None
 
 -- BRANCH RELATIVE ON CONDITION over a machine instruction, under the codes that the mask doesn't select, and that instruction
@@ -61,9 +61,9 @@ rows_or_none (Some rows) = rows
 
 -- those of a vector instruction that is several; none of another one
 abbrev pub composite_rows : VecInst → List MachineInstruction
-composite_rows (VecEltRev count rd rn) = rows_or_none (reversing_rows count (number_of rd) (number_of rn))
-composite_rows (VecInt128SCmpHi tmp rn rm) = comparing_rows opcodes.VEC (number_of tmp) (number_of rn) (number_of rm)
-composite_rows (VecInt128UCmpHi tmp rn rm) = comparing_rows opcodes.VECL (number_of tmp) (number_of rn) (number_of rm)
+composite_rows (V.VecEltRev count rd rn) = rows_or_none (reversing_rows count (number_of rd) (number_of rn))
+composite_rows (V.VecInt128SCmpHi tmp rn rm) = comparing_rows opcodes.VEC (number_of tmp) (number_of rn) (number_of rm)
+composite_rows (V.VecInt128UCmpHi tmp rn rm) = comparing_rows opcodes.VECL (number_of tmp) (number_of rn) (number_of rm)
 composite_rows v = rows_under (move_under v)
 
 -- why such a move is refused; another instruction isn't one
@@ -78,7 +78,7 @@ rows_cause (Some rows) operands_valid = cond operands_valid None (Some BadRegist
 
 -- why a vector instruction that is several machine instructions is refused; another one has no row
 abbrev pub composite_cause : VecInst → Option EmitError
-composite_cause (VecEltRev count rd rn) = rows_cause (reversing_rows count (number_of rd) (number_of rn)) (is_vector rd && is_vector rn)
-composite_cause (VecInt128SCmpHi tmp rn rm) = cond (is_vector tmp && is_vector rn && is_vector rm) None (Some BadRegister)
-composite_cause (VecInt128UCmpHi tmp rn rm) = cond (is_vector tmp && is_vector rn && is_vector rm) None (Some BadRegister)
+composite_cause (V.VecEltRev count rd rn) = rows_cause (reversing_rows count (number_of rd) (number_of rn)) (is_vector rd && is_vector rn)
+composite_cause (V.VecInt128SCmpHi tmp rn rm) = cond (is_vector tmp && is_vector rn && is_vector rm) None (Some BadRegister)
+composite_cause (V.VecInt128UCmpHi tmp rn rm) = cond (is_vector tmp && is_vector rn && is_vector rm) None (Some BadRegister)
 composite_cause v = cause_under (move_under v)

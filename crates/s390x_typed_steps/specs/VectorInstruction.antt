@@ -6,7 +6,7 @@ use Rattle.s390x_base.specs.declared.regs.Reg.TheVariants.{Real, Virtual}
 use Rattle.s390x_base.specs.declared.trap.TrapKind.{TrapKind}
 use Rattle.s390x_base.specs.declared.trap.TrapKind.TheVariants.{IntegerDivisionByZero}
 use Rattle.s390x_inst.specs.declared.vec_inst.VecInst.{VecInst}
-use Rattle.s390x_inst.specs.declared.vec_inst.VecInst.TheVariants.{VecRRR, VecRR, VecSelect, VecPermute, VecBlend, VecIntCmp, VecIntCmpS, VecIntEltCmp, VecMov, VecShiftRR, VecEvaluate, VecPermuteDWImm, MovToVec128, VecImmByteMask, VecImmReplicate, VecImmBitMask, VecReplicateLane, VecInsertLaneImm, VecInsertLaneImmUndef, VecInsertLane, VecInsertLaneUndef, VecExtractLane, FpuMove32, FpuMove64}
+use Rattle.s390x_inst.specs.declared.vec_inst.VecInst.TheVariants as V
 use Rattle.s390x_rows.specs.declared.opcodes.TheConstants as opcodes
 use Rattle.s390x_typed_steps.specs.General.{is_general, low_halfword, low_byte}
 use Rattle.s390x_typed_steps.specs.MachineInstruction.{MachineInstruction, rr, rre, vri_a, vri_b, vri_c, vri_k, vrr_a, vrr_b, vrr_c, vrr_d, vrr_e, vrr_f, vrs_a, vrs_b, vrs_c}
@@ -84,64 +84,64 @@ reuses_vector output input = is_vector output && is_vector input && nat_eq (numb
 
 -- the one machine instruction of a vector instruction, where it is one
 abbrev pub vector_row : VecInst → Option MachineInstruction
-vector_row (VecRRR op rd rn rm) = Some (vrr_c (binary_row op).opcode (number_of rd) (number_of rn) (number_of rm) (binary_row op).code)
-vector_row (VecRR op rd rn) = Some (vrr_a (unary_row op).opcode (number_of rd) (number_of rn) (unary_row op).code)
-vector_row (VecSelect rd rn rm ra) = Some (vrr_e opcodes.VSEL (number_of rd) (number_of rn) (number_of rm) (number_of ra))
-vector_row (VecPermute rd rn rm ra) = Some (vrr_e opcodes.VPERM (number_of rd) (number_of rn) (number_of rm) (number_of ra))
-vector_row (VecBlend rd rn rm ra) = Some (vrr_d opcodes.VBLEND (number_of rd) (number_of rn) (number_of rm) (number_of ra) 0)
-vector_row (VecIntCmp op rd rn rm) = Some (vrr_b (comparison_row op).opcode (number_of rd) (number_of rn) (number_of rm) (comparison_row op).code 0)
+vector_row (V.VecRRR op rd rn rm) = Some (vrr_c (binary_row op).opcode (number_of rd) (number_of rn) (number_of rm) (binary_row op).code)
+vector_row (V.VecRR op rd rn) = Some (vrr_a (unary_row op).opcode (number_of rd) (number_of rn) (unary_row op).code)
+vector_row (V.VecSelect rd rn rm ra) = Some (vrr_e opcodes.VSEL (number_of rd) (number_of rn) (number_of rm) (number_of ra))
+vector_row (V.VecPermute rd rn rm ra) = Some (vrr_e opcodes.VPERM (number_of rd) (number_of rn) (number_of rm) (number_of ra))
+vector_row (V.VecBlend rd rn rm ra) = Some (vrr_d opcodes.VBLEND (number_of rd) (number_of rn) (number_of rm) (number_of ra) 0)
+vector_row (V.VecIntCmp op rd rn rm) = Some (vrr_b (comparison_row op).opcode (number_of rd) (number_of rn) (number_of rm) (comparison_row op).code 0)
 -- the second mask asks for the condition code
-vector_row (VecIntCmpS op rd rn rm) = Some (vrr_b (comparison_row op).opcode (number_of rd) (number_of rn) (number_of rm) (comparison_row op).code 1)
-vector_row (VecIntEltCmp op rn rm) = Some (vrr_a (element_comparison_row op).opcode (number_of rn) (number_of rm) (element_comparison_row op).code)
-vector_row (VecMov rd rn) = Some (vrr_a opcodes.VLR (number_of rd) (number_of rn) 0)
-vector_row (VecShiftRR op rd rn amount register) = Some (vrs_a (shift_row op).opcode (number_of rd) (number_of register) (number_of rn) (shift_row op).code (low_byte amount))
-vector_row (VecEvaluate imm rd rn rm ra) = Some (vri_k opcodes.VEVAL (low_byte imm) (number_of rd) (number_of rn) (number_of rm) (number_of ra))
-vector_row (VecPermuteDWImm rd rn rm first second) = doublewords_row (number_of rd) (number_of rn) (number_of rm) first second
-vector_row (MovToVec128 rd rn rm) = Some (vrr_f opcodes.VLVGP (number_of rd) (number_of rn) (number_of rm))
-vector_row (VecImmByteMask rd mask) = Some (vri_a opcodes.VGBM (number_of rd) (low_halfword (pos mask)) 0)
-vector_row (VecImmReplicate size rd imm) = replicate_row (element_code size) (number_of rd) (low_halfword imm)
-vector_row (VecImmBitMask size rd start end) = bit_mask_row (element_code size) size (number_of rd) start end
-vector_row (VecReplicateLane size rd rn lane) = replicate_lane_row (element_code size) size (number_of rd) (number_of rn) lane
-vector_row (VecInsertLaneImm size rd ri imm lane) = insert_immediate_row (element_code size) size (number_of rd) (low_halfword imm) lane
-vector_row (VecInsertLaneImmUndef size rd imm lane) = insert_immediate_row (element_code size) size (number_of rd) (low_halfword imm) lane
-vector_row (VecInsertLane size rd ri rn lane base) = insert_lane_row (element_code size) size (number_of rd) (number_of rn) (number_of base) lane
-vector_row (VecInsertLaneUndef size rd rn lane base) = insert_alone_row size (number_of rd) (number_of rn) (number_of base) lane
-vector_row (VecExtractLane size rd rn lane base) = extract_row size (number_of rd) (number_of rn) (number_of base) lane
-vector_row (FpuMove32 rd rn) = Some (move_left_row opcodes.LER (number_of rd) (number_of rn))
-vector_row (FpuMove64 rd rn) = Some (move_left_row opcodes.LDR (number_of rd) (number_of rn))
+vector_row (V.VecIntCmpS op rd rn rm) = Some (vrr_b (comparison_row op).opcode (number_of rd) (number_of rn) (number_of rm) (comparison_row op).code 1)
+vector_row (V.VecIntEltCmp op rn rm) = Some (vrr_a (element_comparison_row op).opcode (number_of rn) (number_of rm) (element_comparison_row op).code)
+vector_row (V.VecMov rd rn) = Some (vrr_a opcodes.VLR (number_of rd) (number_of rn) 0)
+vector_row (V.VecShiftRR op rd rn amount register) = Some (vrs_a (shift_row op).opcode (number_of rd) (number_of register) (number_of rn) (shift_row op).code (low_byte amount))
+vector_row (V.VecEvaluate imm rd rn rm ra) = Some (vri_k opcodes.VEVAL (low_byte imm) (number_of rd) (number_of rn) (number_of rm) (number_of ra))
+vector_row (V.VecPermuteDWImm rd rn rm first second) = doublewords_row (number_of rd) (number_of rn) (number_of rm) first second
+vector_row (V.MovToVec128 rd rn rm) = Some (vrr_f opcodes.VLVGP (number_of rd) (number_of rn) (number_of rm))
+vector_row (V.VecImmByteMask rd mask) = Some (vri_a opcodes.VGBM (number_of rd) (low_halfword (pos mask)) 0)
+vector_row (V.VecImmReplicate size rd imm) = replicate_row (element_code size) (number_of rd) (low_halfword imm)
+vector_row (V.VecImmBitMask size rd start end) = bit_mask_row (element_code size) size (number_of rd) start end
+vector_row (V.VecReplicateLane size rd rn lane) = replicate_lane_row (element_code size) size (number_of rd) (number_of rn) lane
+vector_row (V.VecInsertLaneImm size rd ri imm lane) = insert_immediate_row (element_code size) size (number_of rd) (low_halfword imm) lane
+vector_row (V.VecInsertLaneImmUndef size rd imm lane) = insert_immediate_row (element_code size) size (number_of rd) (low_halfword imm) lane
+vector_row (V.VecInsertLane size rd ri rn lane base) = insert_lane_row (element_code size) size (number_of rd) (number_of rn) (number_of base) lane
+vector_row (V.VecInsertLaneUndef size rd rn lane base) = insert_alone_row size (number_of rd) (number_of rn) (number_of base) lane
+vector_row (V.VecExtractLane size rd rn lane base) = extract_row size (number_of rd) (number_of rn) (number_of base) lane
+vector_row (V.FpuMove32 rd rn) = Some (move_left_row opcodes.LER (number_of rd) (number_of rn))
+vector_row (V.FpuMove64 rd rn) = Some (move_left_row opcodes.LDR (number_of rd) (number_of rn))
 vector_row _ = None
 
 -- its registers may stand there: real ones of the row's classes, and the input that has to be the output is it
 abbrev pub vector_operands_valid : VecInst → Bool
-vector_operands_valid (VecRRR op rd rn rm) = is_vector rd && is_vector rn && is_vector rm
-vector_operands_valid (VecRR op rd rn) = is_vector rd && is_vector rn
-vector_operands_valid (VecSelect rd rn rm ra) = is_vector rd && is_vector rn && is_vector rm && is_vector ra
-vector_operands_valid (VecPermute rd rn rm ra) = is_vector rd && is_vector rn && is_vector rm && is_vector ra
-vector_operands_valid (VecBlend rd rn rm ra) = is_vector rd && is_vector rn && is_vector rm && is_vector ra
-vector_operands_valid (VecIntCmp op rd rn rm) = is_vector rd && is_vector rn && is_vector rm
-vector_operands_valid (VecIntCmpS op rd rn rm) = is_vector rd && is_vector rn && is_vector rm
-vector_operands_valid (VecIntEltCmp op rn rm) = is_vector rn && is_vector rm
-vector_operands_valid (VecMov rd rn) = is_vector rd && is_vector rn
-vector_operands_valid (VecShiftRR op rd rn amount register) = is_vector rd && is_vector rn && is_general register
-vector_operands_valid (VecEvaluate imm rd rn rm ra) = is_vector rd && is_vector rn && is_vector rm && is_vector ra
-vector_operands_valid (VecPermuteDWImm rd rn rm first second) = is_vector rd && is_vector rn && is_vector rm
-vector_operands_valid (MovToVec128 rd rn rm) = is_vector rd && is_general rn && is_general rm
-vector_operands_valid (VecImmByteMask rd mask) = is_vector rd
-vector_operands_valid (VecImmReplicate size rd imm) = is_vector rd
-vector_operands_valid (VecImmBitMask size rd start end) = is_vector rd
-vector_operands_valid (VecReplicateLane size rd rn lane) = is_vector rd && is_vector rn
-vector_operands_valid (VecInsertLaneImm size rd ri imm lane) = reuses_vector rd ri
-vector_operands_valid (VecInsertLaneImmUndef size rd imm lane) = is_vector rd
-vector_operands_valid (VecInsertLane size rd ri rn lane base) = reuses_vector rd ri && is_general rn && is_general base
-vector_operands_valid (VecInsertLaneUndef size rd rn lane base) = is_vector rd && is_general rn && is_general base
-vector_operands_valid (VecExtractLane size rd rn lane base) = is_general rd && is_vector rn && is_general base
-vector_operands_valid (FpuMove32 rd rn) = is_vector rd && is_vector rn
-vector_operands_valid (FpuMove64 rd rn) = is_vector rd && is_vector rn
+vector_operands_valid (V.VecRRR op rd rn rm) = is_vector rd && is_vector rn && is_vector rm
+vector_operands_valid (V.VecRR op rd rn) = is_vector rd && is_vector rn
+vector_operands_valid (V.VecSelect rd rn rm ra) = is_vector rd && is_vector rn && is_vector rm && is_vector ra
+vector_operands_valid (V.VecPermute rd rn rm ra) = is_vector rd && is_vector rn && is_vector rm && is_vector ra
+vector_operands_valid (V.VecBlend rd rn rm ra) = is_vector rd && is_vector rn && is_vector rm && is_vector ra
+vector_operands_valid (V.VecIntCmp op rd rn rm) = is_vector rd && is_vector rn && is_vector rm
+vector_operands_valid (V.VecIntCmpS op rd rn rm) = is_vector rd && is_vector rn && is_vector rm
+vector_operands_valid (V.VecIntEltCmp op rn rm) = is_vector rn && is_vector rm
+vector_operands_valid (V.VecMov rd rn) = is_vector rd && is_vector rn
+vector_operands_valid (V.VecShiftRR op rd rn amount register) = is_vector rd && is_vector rn && is_general register
+vector_operands_valid (V.VecEvaluate imm rd rn rm ra) = is_vector rd && is_vector rn && is_vector rm && is_vector ra
+vector_operands_valid (V.VecPermuteDWImm rd rn rm first second) = is_vector rd && is_vector rn && is_vector rm
+vector_operands_valid (V.MovToVec128 rd rn rm) = is_vector rd && is_general rn && is_general rm
+vector_operands_valid (V.VecImmByteMask rd mask) = is_vector rd
+vector_operands_valid (V.VecImmReplicate size rd imm) = is_vector rd
+vector_operands_valid (V.VecImmBitMask size rd start end) = is_vector rd
+vector_operands_valid (V.VecReplicateLane size rd rn lane) = is_vector rd && is_vector rn
+vector_operands_valid (V.VecInsertLaneImm size rd ri imm lane) = reuses_vector rd ri
+vector_operands_valid (V.VecInsertLaneImmUndef size rd imm lane) = is_vector rd
+vector_operands_valid (V.VecInsertLane size rd ri rn lane base) = reuses_vector rd ri && is_general rn && is_general base
+vector_operands_valid (V.VecInsertLaneUndef size rd rn lane base) = is_vector rd && is_general rn && is_general base
+vector_operands_valid (V.VecExtractLane size rd rn lane base) = is_general rd && is_vector rn && is_general base
+vector_operands_valid (V.FpuMove32 rd rn) = is_vector rd && is_vector rn
+vector_operands_valid (V.FpuMove64 rd rn) = is_vector rd && is_vector rn
 vector_operands_valid _ = false
 
 -- a division, which may stop by its values
 abbrev pub divides : VecInst → Bool
-divides (VecRRR op rd rn rm) = is_division op
+divides (V.VecRRR op rd rn rm) = is_division op
 divides _ = false
 
 -- the code of the stop of a division

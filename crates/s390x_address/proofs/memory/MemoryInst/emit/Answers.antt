@@ -1,4 +1,4 @@
-use Rattle.std.proofs.Common.{◌≡◌, Bool, true, false, None, Some, cond, sym, ap, subst, ◌∙◌, ◌||◌, not}
+use Rattle.std.proofs.Common.{◌≡◌, None, Some, cond, sym, ap, subst, ◌∙◌, ◌||◌, not}
 use Rattle.std.proofs.lemmas.Bool.{and_parts}
 use Rattle.s390x_buffer.specs.State.{put_cause}
 use Rattle.s390x_typed_steps.specs.Causes.{declared_in, operand_cause}
@@ -11,6 +11,7 @@ use Rattle.s390x_address.specs.Rows.{relative_encodes, rows_encode, memory_instr
 use Rattle.s390x_address.proofs.Planning.{resolved_flags, on_ok}
 use Rattle.s390x_address.proofs.Refusing.{Stands, passes, finalized_stands, lowering_may_stand}
 use Rattle.s390x_address.proofs.memory.MemoryInst.emit.Goals as goal
+use Rattle.s390x_address.proofs.Encoding.{follows}
 
 pub returns-in-Ok-clause-answer : goal.returns-in-Ok-clause-answer
 returns-in-Ok-clause-answer c =
@@ -21,10 +22,6 @@ returns-in-Ok-clause-answer c =
     let same : finalized_of p ≡ finalized_operand (type_of x.form x.accesses) x.operand = c.in-Ok.ensures.1 ∙ ap (λ mi. finalized_operand mi x.operand) forms in
     let code : c.fault_code.result ≡ fault_code x = c.fault_code.ensures ∙ ap (λ f. cond x.accesses f.trap None) (sym (resolved_flags c.args.state.now c.args.self.now.operand)) in
     on_ok c.put_lowering.result c.put_lowering.ensures.answer (λ h. h ∙ ap (λ k. with_parts s (finalized_parts x.form k (finalized_of p))) code ∙ ap (λ f. with_parts s (finalized_parts x.form (fault_code x) f)) same)
-
-follows : (s t : Bool) → (not s || t) ≡ true → s ≡ true → t ≡ true
-follows true t h e = h
-follows false t h e = absurd (cc)
 
 pub returns-in-Ok-clause-only_memory : goal.returns-in-Ok-clause-only_memory
 returns-in-Ok-clause-only_memory c = λ put none.

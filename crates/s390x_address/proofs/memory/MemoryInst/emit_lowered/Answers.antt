@@ -1,4 +1,4 @@
-use Rattle.std.proofs.Common.{◌≡◌, Bool, true, false, None, Some, cond, sym, ap, subst, ◌∙◌, ◌||◌, not}
+use Rattle.std.proofs.Common.{◌≡◌, None, Some, cond, sym, ap, subst, ◌∙◌, ◌||◌, not}
 use Rattle.std.proofs.lemmas.Bool.{and_parts}
 use Rattle.s390x_buffer.specs.State.{put_cause}
 use Rattle.s390x_typed_steps.specs.Causes.{declared_in, operand_cause}
@@ -12,10 +12,7 @@ use Rattle.s390x_address.proofs.Planning.{resolved_flags, on_ok}
 use Rattle.s390x_address.proofs.Lowered.{lowered_none, none_lowered}
 use Rattle.s390x_address.proofs.Refusing.{Stands, passes, finalized_stands, lowering_may_stand}
 use Rattle.s390x_address.proofs.memory.MemoryInst.emit_lowered.Goals as goal
-
-follows : (s t : Bool) → (not s || t) ≡ true → s ≡ true → t ≡ true
-follows true t h e = h
-follows false t h e = absurd (cc)
+use Rattle.s390x_address.proofs.Encoding.{follows}
 
 pub returns-in-Ok-clause-answer : goal.returns-in-Ok-clause-answer
 returns-in-Ok-clause-answer c =
