@@ -20,13 +20,14 @@ SOURCES = CRATES / "s390x_job_lines/src"
 VIEWS = CRATES / "s390x_inst/src"
 # The enums of s390x_job_lines/src/inst_name.rt, whose variants are spelled as they are named.
 GROUPS = ("IntegerName", "MemoryName", "ControlName", "VectorName")
-# The tables of s390x_job_lines/src/access_names.rt: the enum in whose order each is, and how ALL_NAMES writes a name of it.
-TABLES = {
-    "LOAD_NAMES": ("load.rt", "LoadOp", "Load({})"),
-    "STORE_NAMES": ("store.rt", "StoreOp", "Store({})"),
-    "WHOLE_LOAD_NAMES": ("whole.rt", "WholeLayout", "Whole(Direction::Load, {})"),
-    "WHOLE_STORE_NAMES": ("whole.rt", "WholeLayout", "Whole(Direction::Store, {})"),
-}
+# The groups of loads and stores in s390x_inst/src/table.rt, which are spelled as their variants are named: the table, its group, and how ALL_NAMES writes a
+# name of it, by the variant or by the layout behind it.
+ACCESSES = (
+    ("inst_table", "loads", "Load({0})"),
+    ("inst_table", "stores", "Store({0})"),
+    ("vector_table", "loads", "Whole(Direction::Load, {1})"),
+    ("vector_table", "stores", "Whole(Direction::Store, {1})"),
+)
 
 
 def operators(file, enum):
@@ -35,15 +36,19 @@ def operators(file, enum):
     return re.findall(r"\n    (\w+),", table[:table.index("}")])
 
 
+def members(table, group):
+    """The variants of a group, each with the word behind it."""
+    source = (VIEWS / "table.rt").read_text().split(f"macro_rules! {table} {{")[1]
+    return re.findall(r"\n {16}(\w+) (\w*) ?\{", re.search(rf"\n {{12}}{group} \{{(.*?)\n {{12}}\}}", source, re.S)[1])
+
+
 def written_names():
     """Each name's text, with how ALL_NAMES writes it."""
     names = {text: name for name, text in re.findall(r'LineName::(\w+) => "(\w+)"', (SOURCES / "name.rt").read_text())}
     for group in GROUPS:
         names |= {name: f"{group.removesuffix('Name')}({name})" for name in operators(SOURCES / "inst_name.rt", group)}
-    accesses = (SOURCES / "access_names.rt").read_text()
-    for table, (file, enum, form) in TABLES.items():
-        texts = re.findall(r'    "(\w+)",', re.search(rf"const {table}: .*?\];", accesses, re.S)[0])
-        names |= {text: form.format(name) for name, text in zip(operators(VIEWS / file, enum), texts, strict=True)}
+    for table, group, form in ACCESSES:
+        names |= {name: form.format(name, layout) for name, layout in members(table, group)}
     return names
 
 

@@ -4,7 +4,7 @@
 mod law;
 mod replacer;
 mod replacing;
-mod table;
+mod rows;
 
 pub use law::descriptions_give_instructions;
 pub use replacer::Replacer;

@@ -4,11 +4,8 @@ ghost use Rattle.s390x_described.specs.Roles.{again_or_none, described_again};
 ghost use Rattle.s390x_described.specs.Instructions.{description_of, described_move, described_storage, described_store, described_rest, described_control, described_wide, described_vector};
 
 use crate::replacer::Replacer;
-use crate::table::{
-    again, control_table, in_role, move_table, operator_table, rest_table, vector_again,
-    vector_table,
-};
-use s390x_inst::{Inst, VecInst};
+use crate::rows::{again, again_rows, in_role, vector_again, with_roles};
+use s390x_inst::{Inst, VecInst, inst_table, vector_table};
 
 // One on vector or float registers.
 fn replace_vector<R: Replacer>(inst: &VecInst, r: &mut R) -> VecInst
@@ -40,7 +37,7 @@ fn replace_control<R: Replacer>(inst: &Inst, r: &mut R) -> Option<Inst>
     ensures after { R.state r.new
         ≡ (again_or_none R.role_at (described_control inst.now) (R.state r.old)).1 }
 {
-    control_table!(again, inst, r, replace_wide(inst, r))
+    inst_table!(again, addresses, inst, r, replace_wide(inst, r))
 }
 
 // One that is no operator, no move, and no load or store of one register.
@@ -50,7 +47,7 @@ fn replace_rest<R: Replacer>(inst: &Inst, r: &mut R) -> Option<Inst>
     ensures after { R.state r.new
         ≡ (again_or_none R.role_at (described_rest inst.now) (R.state r.old)).1 }
 {
-    rest_table!(again, inst, r, replace_control(inst, r))
+    inst_table!(again, memory, inst, r, replace_control(inst, r))
 }
 
 // One that is no operator, no move and no load of one register.
@@ -94,7 +91,7 @@ fn replace_move<R: Replacer>(inst: &Inst, r: &mut R) -> Option<Inst>
     ensures after { R.state r.new
         ≡ (again_or_none R.role_at (described_move inst.now) (R.state r.old)).1 }
 {
-    move_table!(again, inst, r, replace_storage(inst, r))
+    inst_table!(again, moves, inst, r, replace_storage(inst, r))
 }
 
 /// The instruction with other registers in its roles; nothing where it has none, or lists or members.
@@ -104,5 +101,5 @@ pub fn replace<R: Replacer>(inst: &Inst, r: &mut R) -> Option<Inst>
     ensures after { R.state r.new
         ≡ (again_or_none R.role_at (description_of inst.now) (R.state r.old)).1 }
 {
-    operator_table!(again, inst, r, replace_move(inst, r))
+    inst_table!(again, operators, inst, r, replace_move(inst, r))
 }

@@ -4,6 +4,7 @@ ghost use Rattle.s390x_inst.specs.Portions.{portions, first_portion, members_por
 
 use crate::calls::{CallInfo, CallInstDest, ReturnCallInfo, TryCallInfo};
 use crate::inst::Inst;
+use crate::inst_table;
 use s390x_base::{NoMemory, Reg, Writable};
 use std::alloc::{AllocError, Global};
 
@@ -62,11 +63,11 @@ fn copy_tail_call(
     })
 }
 
-// Copies what is borrowed: of the variants that are listed, each field by itself.
+// Copies what is borrowed: of the variants in the table, each field by itself.
 macro_rules! copied {
-    ($inst:ident, { $($name:ident { $($field:ident),* })* }, $($rest:tt)*) => {
+    (($inst:expr, { $($rest:tt)* }) $($group:ident { $($name:ident { $($field:ident : $kind:ident),* })* })*) => {
         match $inst {
-            $(Inst::$name { $($field),* } => Ok(Inst::$name { $($field: *$field),* }),)*
+            $($(Inst::$name { $($field),* } => Ok(Inst::$name { $($field: *$field),* }),)*)*
             $($rest)*
         }
     };
@@ -76,99 +77,7 @@ macro_rules! copied {
 fn copy_head(alloc: Global, inst: &Inst) -> Result<Inst, AllocError>
     ensures { IfOk result (λ copied. first_portion copied ≡ first_portion inst.now) }
 {
-    copied! { inst,
-        {
-            AluRRR { alu_op, rd, rn, rm }
-            AluRRSImm16 { alu_op, rd, rn, imm }
-            AluRR { alu_op, rd, ri, rm }
-            AluRX { alu_op, rd, ri, mem }
-            AluRSImm16 { alu_op, rd, ri, imm }
-            AluRSImm32 { alu_op, rd, ri, imm }
-            AluRUImm32 { alu_op, rd, ri, imm }
-            AluRUImm16Shifted { alu_op, rd, ri, imm }
-            AluRUImm32Shifted { alu_op, rd, ri, imm }
-            SMulWide { rd, rn, rm }
-            UMulWide { rd, ri, rn }
-            SDivMod32 { rd, ri, rn }
-            SDivMod64 { rd, ri, rn }
-            UDivMod32 { rd, ri, rn }
-            UDivMod64 { rd, ri, rn }
-            Flogr { rd, rn }
-            ShiftRR { shift_op, rd, rn, shift_imm, shift_reg }
-            RxSBG { op, rd, ri, rn, start_bit, end_bit, rotate_amt }
-            RxSBGTest { op, rd, rn, start_bit, end_bit, rotate_amt }
-            UnaryRR { op, rd, rn }
-            CmpRR { op, rn, rm }
-            CmpRX { op, rn, mem }
-            CmpRSImm16 { op, rn, imm }
-            CmpRSImm32 { op, rn, imm }
-            CmpRUImm32 { op, rn, imm }
-            CmpTrapRR { op, rn, rm, cond, trap_code }
-            CmpTrapRSImm16 { op, rn, imm, cond, trap_code }
-            CmpTrapRUImm16 { op, rn, imm, cond, trap_code }
-            Mov64 { rd, rm }
-            MovPReg { rd, rm }
-            Mov32 { rd, rm }
-            Mov32Imm { rd, imm }
-            Mov32SImm16 { rd, imm }
-            Mov64SImm16 { rd, imm }
-            Mov64SImm32 { rd, imm }
-            Mov64UImm16Shifted { rd, imm }
-            Mov64UImm32Shifted { rd, imm }
-            Insert64UImm16Shifted { rd, ri, imm }
-            Insert64UImm32Shifted { rd, ri, imm }
-            CMov32 { rd, cond, ri, rm }
-            CMov64 { rd, cond, ri, rm }
-            CMov32SImm16 { rd, cond, ri, imm }
-            CMov64SImm16 { rd, cond, ri, imm }
-            Extend { rd, rn, signed, from_bits, to_bits }
-            LoadAR { rd, ar }
-            InsertAR { rd, ri, ar }
-            Load32 { rd, mem }
-            Load32ZExt8 { rd, mem }
-            Load32SExt8 { rd, mem }
-            Load32ZExt16 { rd, mem }
-            Load32SExt16 { rd, mem }
-            Load64 { rd, mem }
-            Load64ZExt8 { rd, mem }
-            Load64SExt8 { rd, mem }
-            Load64ZExt16 { rd, mem }
-            Load64SExt16 { rd, mem }
-            Load64ZExt32 { rd, mem }
-            Load64SExt32 { rd, mem }
-            LoadRev16 { rd, mem }
-            LoadRev32 { rd, mem }
-            LoadRev64 { rd, mem }
-            Store8 { rd, mem }
-            Store16 { rd, mem }
-            Store32 { rd, mem }
-            Store64 { rd, mem }
-            StoreRev16 { rd, mem }
-            StoreRev32 { rd, mem }
-            StoreRev64 { rd, mem }
-            StoreImm8 { imm, mem }
-            StoreImm16 { imm, mem }
-            StoreImm32SExt16 { imm, mem }
-            StoreImm64SExt16 { imm, mem }
-            LoadMultiple64 { rt, rt2, mem }
-            StoreMultiple64 { rt, rt2, mem }
-            LoadAddr { rd, mem }
-            LoadIndexedAddr { rd, base, index, offset, size }
-            LoadLogicalIndexedAddr { rd, base, index, offset, size }
-            AtomicRmw { alu_op, rd, rn, mem }
-            AtomicCas32 { rd, ri, rn, mem }
-            AtomicCas64 { rd, ri, rn, mem }
-            Trap { trap_code }
-            TrapIf { cond, trap_code }
-            Jump { dest }
-            CondBr { taken, not_taken, cond }
-            Ret { link }
-            CondBreak { cond }
-            AllocateArgs { size }
-            LoadSymbolReloc { rd, symbol_reloc }
-            LabelAddress { dst, label }
-            DummyUse { reg }
-        },
+    inst_table!(copied, inst, {
         Inst::Fence => Ok(Inst::Fence),
         Inst::Nop0 => Ok(Inst::Nop0),
         Inst::Nop2 => Ok(Inst::Nop2),
@@ -204,7 +113,7 @@ fn copy_head(alloc: Global, inst: &Inst) -> Result<Inst, AllocError>
         Inst::Rets { rets } => Ok(Inst::Rets {
             rets: Vec::from_slice(alloc, rets)?,
         }),
-    }
+    })
 }
 
 // The members of a loop.

@@ -14,6 +14,7 @@ mod make;
 mod ops;
 mod state;
 mod store;
+mod table;
 mod vec_inst;
 mod vec_ops;
 mod whole;

@@ -6,6 +6,7 @@ ghost use Rattle.s390x_inst.specs.Loads.{as_load, load_instruction, load_place};
 
 use crate::args::MemArg;
 use crate::inst::Inst;
+use crate::inst_table;
 use s390x_base::{Reg, Writable};
 
 /// A load of a general register from memory.
@@ -39,6 +40,25 @@ pub struct Load {
     pub mem: MemArg,
 }
 
+// The load that an instruction is.
+macro_rules! viewed {
+    (($inst:expr) operators $operators:tt moves $moves:tt loads { $($load:ident $fields:tt)* } $($rest:tt)*) => {
+        match $inst {
+            $(Inst::$load { rd, mem } => some_load(LoadOp::$load, rd, mem),)*
+            _ => None,
+        }
+    };
+}
+
+// The instruction that a load is.
+macro_rules! made {
+    (($op:expr, $rd:expr, $mem:expr) operators $operators:tt moves $moves:tt loads { $($load:ident $fields:tt)* } $($rest:tt)*) => {
+        match $op {
+            $(LoadOp::$load => Inst::$load { rd: $rd, mem: $mem },)*
+        }
+    };
+}
+
 // A load, of operands that are borrowed.
 #[inline(always)]
 fn some_load(op: LoadOp, rd: &Writable<Reg>, mem: &MemArg) -> Option<Load>
@@ -57,24 +77,7 @@ impl Inst {
     pub fn as_load(&self) -> Option<Load>
         ensures { result ≡ as_load self.now }
     {
-        match self {
-            Inst::Load32 { rd, mem } => some_load(LoadOp::Load32, rd, mem),
-            Inst::Load32ZExt8 { rd, mem } => some_load(LoadOp::Load32ZExt8, rd, mem),
-            Inst::Load32SExt8 { rd, mem } => some_load(LoadOp::Load32SExt8, rd, mem),
-            Inst::Load32ZExt16 { rd, mem } => some_load(LoadOp::Load32ZExt16, rd, mem),
-            Inst::Load32SExt16 { rd, mem } => some_load(LoadOp::Load32SExt16, rd, mem),
-            Inst::Load64 { rd, mem } => some_load(LoadOp::Load64, rd, mem),
-            Inst::Load64ZExt8 { rd, mem } => some_load(LoadOp::Load64ZExt8, rd, mem),
-            Inst::Load64SExt8 { rd, mem } => some_load(LoadOp::Load64SExt8, rd, mem),
-            Inst::Load64ZExt16 { rd, mem } => some_load(LoadOp::Load64ZExt16, rd, mem),
-            Inst::Load64SExt16 { rd, mem } => some_load(LoadOp::Load64SExt16, rd, mem),
-            Inst::Load64ZExt32 { rd, mem } => some_load(LoadOp::Load64ZExt32, rd, mem),
-            Inst::Load64SExt32 { rd, mem } => some_load(LoadOp::Load64SExt32, rd, mem),
-            Inst::LoadRev16 { rd, mem } => some_load(LoadOp::LoadRev16, rd, mem),
-            Inst::LoadRev32 { rd, mem } => some_load(LoadOp::LoadRev32, rd, mem),
-            Inst::LoadRev64 { rd, mem } => some_load(LoadOp::LoadRev64, rd, mem),
-            _ => None,
-        }
+        inst_table!(viewed, self)
     }
 }
 
@@ -83,23 +86,7 @@ impl LoadOp {
     pub fn instruction(self, rd: Writable<Reg>, mem: MemArg) -> Inst
         ensures { result ≡ load_instruction self rd mem }
     {
-        match self {
-            LoadOp::Load32 => Inst::Load32 { rd, mem },
-            LoadOp::Load32ZExt8 => Inst::Load32ZExt8 { rd, mem },
-            LoadOp::Load32SExt8 => Inst::Load32SExt8 { rd, mem },
-            LoadOp::Load32ZExt16 => Inst::Load32ZExt16 { rd, mem },
-            LoadOp::Load32SExt16 => Inst::Load32SExt16 { rd, mem },
-            LoadOp::Load64 => Inst::Load64 { rd, mem },
-            LoadOp::Load64ZExt8 => Inst::Load64ZExt8 { rd, mem },
-            LoadOp::Load64SExt8 => Inst::Load64SExt8 { rd, mem },
-            LoadOp::Load64ZExt16 => Inst::Load64ZExt16 { rd, mem },
-            LoadOp::Load64SExt16 => Inst::Load64SExt16 { rd, mem },
-            LoadOp::Load64ZExt32 => Inst::Load64ZExt32 { rd, mem },
-            LoadOp::Load64SExt32 => Inst::Load64SExt32 { rd, mem },
-            LoadOp::LoadRev16 => Inst::LoadRev16 { rd, mem },
-            LoadOp::LoadRev32 => Inst::LoadRev32 { rd, mem },
-            LoadOp::LoadRev64 => Inst::LoadRev64 { rd, mem },
-        }
+        inst_table!(made, self, rd, mem)
     }
 
     /// The load's row in each table of loads.

@@ -4,6 +4,7 @@ ghost use Rattle.s390x_inst.specs.Stores.{as_store, store_instruction, store_pla
 
 use crate::args::MemArg;
 use crate::inst::Inst;
+use crate::inst_table;
 use s390x_base::Reg;
 
 /// A store of a general register to memory.
@@ -29,6 +30,25 @@ pub struct Store {
     pub mem: MemArg,
 }
 
+// The store that an instruction is.
+macro_rules! viewed {
+    (($inst:expr) operators $operators:tt moves $moves:tt loads $loads:tt stores { $($store:ident $fields:tt)* } $($rest:tt)*) => {
+        match $inst {
+            $(Inst::$store { rd, mem } => some_store(StoreOp::$store, rd, mem),)*
+            _ => None,
+        }
+    };
+}
+
+// The instruction that a store is.
+macro_rules! made {
+    (($op:expr, $rd:expr, $mem:expr) operators $operators:tt moves $moves:tt loads $loads:tt stores { $($store:ident $fields:tt)* } $($rest:tt)*) => {
+        match $op {
+            $(StoreOp::$store => Inst::$store { rd: $rd, mem: $mem },)*
+        }
+    };
+}
+
 // A store, of operands that are borrowed.
 #[inline(always)]
 fn some_store(op: StoreOp, rd: &Reg, mem: &MemArg) -> Option<Store>
@@ -47,16 +67,7 @@ impl Inst {
     pub fn as_store(&self) -> Option<Store>
         ensures { result ≡ as_store self.now }
     {
-        match self {
-            Inst::Store8 { rd, mem } => some_store(StoreOp::Store8, rd, mem),
-            Inst::Store16 { rd, mem } => some_store(StoreOp::Store16, rd, mem),
-            Inst::Store32 { rd, mem } => some_store(StoreOp::Store32, rd, mem),
-            Inst::Store64 { rd, mem } => some_store(StoreOp::Store64, rd, mem),
-            Inst::StoreRev16 { rd, mem } => some_store(StoreOp::StoreRev16, rd, mem),
-            Inst::StoreRev32 { rd, mem } => some_store(StoreOp::StoreRev32, rd, mem),
-            Inst::StoreRev64 { rd, mem } => some_store(StoreOp::StoreRev64, rd, mem),
-            _ => None,
-        }
+        inst_table!(viewed, self)
     }
 }
 
@@ -65,15 +76,7 @@ impl StoreOp {
     pub fn instruction(self, rd: Reg, mem: MemArg) -> Inst
         ensures { result ≡ store_instruction self rd mem }
     {
-        match self {
-            StoreOp::Store8 => Inst::Store8 { rd, mem },
-            StoreOp::Store16 => Inst::Store16 { rd, mem },
-            StoreOp::Store32 => Inst::Store32 { rd, mem },
-            StoreOp::Store64 => Inst::Store64 { rd, mem },
-            StoreOp::StoreRev16 => Inst::StoreRev16 { rd, mem },
-            StoreOp::StoreRev32 => Inst::StoreRev32 { rd, mem },
-            StoreOp::StoreRev64 => Inst::StoreRev64 { rd, mem },
-        }
+        inst_table!(made, self, rd, mem)
     }
 
     /// The store's row in each table of stores.

@@ -6,6 +6,7 @@ ghost use Rattle.s390x_inst.specs.Wholes.{as_whole, layout_place, whole_instruct
 
 use crate::args::MemArg;
 use crate::vec_inst::VecInst;
+use crate::vector_table;
 use s390x_base::{Reg, Writable};
 
 /// Whether a register becomes what lies in memory, or the memory becomes the register.
@@ -46,6 +47,35 @@ pub struct WholeAccess {
     pub layout: WholeLayout,
     pub rd: Reg,
     pub mem: MemArg,
+}
+
+// The load or the store of a whole register that an instruction is.
+macro_rules! viewed {
+    (($inst:expr) loads { $($load:ident $from:ident $read:tt)* } stores { $($store:ident $to:ident $written:tt)* } $($rest:tt)*) => {
+        match $inst {
+            $(VecInst::$load { rd, mem } => some_load(WholeLayout::$from, rd, mem),)*
+            $(VecInst::$store { rd, mem } => some_store(WholeLayout::$to, rd, mem),)*
+            _ => None,
+        }
+    };
+}
+
+// The load of a layout.
+macro_rules! loaded {
+    (($layout:expr, $rd:expr, $mem:expr) loads { $($load:ident $from:ident $fields:tt)* } $($rest:tt)*) => {
+        match $layout {
+            $(WholeLayout::$from => VecInst::$load { rd: $rd, mem: $mem },)*
+        }
+    };
+}
+
+// The store of a layout.
+macro_rules! stored {
+    (($layout:expr, $rd:expr, $mem:expr) loads $loads:tt stores { $($store:ident $to:ident $fields:tt)* } $($rest:tt)*) => {
+        match $layout {
+            $(WholeLayout::$to => VecInst::$store { rd: $rd, mem: $mem },)*
+        }
+    };
 }
 
 // A load, of operands that are borrowed.
@@ -90,25 +120,7 @@ impl VecInst {
     pub fn as_whole(&self) -> Option<WholeAccess>
         ensures { result ≡ as_whole self.now }
     {
-        match self {
-            VecInst::VecLoad { rd, mem } => some_load(WholeLayout::Straight, rd, mem),
-            VecInst::VecLoadRev { rd, mem } => some_load(WholeLayout::Reversed, rd, mem),
-            VecInst::VecLoadByte16Rev { rd, mem } => some_load(WholeLayout::Bytes16, rd, mem),
-            VecInst::VecLoadByte32Rev { rd, mem } => some_load(WholeLayout::Bytes32, rd, mem),
-            VecInst::VecLoadByte64Rev { rd, mem } => some_load(WholeLayout::Bytes64, rd, mem),
-            VecInst::VecLoadElt16Rev { rd, mem } => some_load(WholeLayout::Elements16, rd, mem),
-            VecInst::VecLoadElt32Rev { rd, mem } => some_load(WholeLayout::Elements32, rd, mem),
-            VecInst::VecLoadElt64Rev { rd, mem } => some_load(WholeLayout::Elements64, rd, mem),
-            VecInst::VecStore { rd, mem } => some_store(WholeLayout::Straight, rd, mem),
-            VecInst::VecStoreRev { rd, mem } => some_store(WholeLayout::Reversed, rd, mem),
-            VecInst::VecStoreByte16Rev { rd, mem } => some_store(WholeLayout::Bytes16, rd, mem),
-            VecInst::VecStoreByte32Rev { rd, mem } => some_store(WholeLayout::Bytes32, rd, mem),
-            VecInst::VecStoreByte64Rev { rd, mem } => some_store(WholeLayout::Bytes64, rd, mem),
-            VecInst::VecStoreElt16Rev { rd, mem } => some_store(WholeLayout::Elements16, rd, mem),
-            VecInst::VecStoreElt32Rev { rd, mem } => some_store(WholeLayout::Elements32, rd, mem),
-            VecInst::VecStoreElt64Rev { rd, mem } => some_store(WholeLayout::Elements64, rd, mem),
-            _ => None,
-        }
+        vector_table!(viewed, self)
     }
 }
 
@@ -116,32 +128,14 @@ impl VecInst {
 fn load_of(layout: WholeLayout, rd: Writable<Reg>, mem: MemArg) -> VecInst
     ensures { result ≡ whole_instruction Direction.Load layout rd mem }
 {
-    match layout {
-        WholeLayout::Straight => VecInst::VecLoad { rd, mem },
-        WholeLayout::Reversed => VecInst::VecLoadRev { rd, mem },
-        WholeLayout::Bytes16 => VecInst::VecLoadByte16Rev { rd, mem },
-        WholeLayout::Bytes32 => VecInst::VecLoadByte32Rev { rd, mem },
-        WholeLayout::Bytes64 => VecInst::VecLoadByte64Rev { rd, mem },
-        WholeLayout::Elements16 => VecInst::VecLoadElt16Rev { rd, mem },
-        WholeLayout::Elements32 => VecInst::VecLoadElt32Rev { rd, mem },
-        WholeLayout::Elements64 => VecInst::VecLoadElt64Rev { rd, mem },
-    }
+    vector_table!(loaded, layout, rd, mem)
 }
 
 // The store of a whole register.
 fn store_of(layout: WholeLayout, rd: Reg, mem: MemArg) -> VecInst
     ensures { result ≡ whole_instruction Direction.Store layout rd mem }
 {
-    match layout {
-        WholeLayout::Straight => VecInst::VecStore { rd, mem },
-        WholeLayout::Reversed => VecInst::VecStoreRev { rd, mem },
-        WholeLayout::Bytes16 => VecInst::VecStoreByte16Rev { rd, mem },
-        WholeLayout::Bytes32 => VecInst::VecStoreByte32Rev { rd, mem },
-        WholeLayout::Bytes64 => VecInst::VecStoreByte64Rev { rd, mem },
-        WholeLayout::Elements16 => VecInst::VecStoreElt16Rev { rd, mem },
-        WholeLayout::Elements32 => VecInst::VecStoreElt32Rev { rd, mem },
-        WholeLayout::Elements64 => VecInst::VecStoreElt64Rev { rd, mem },
-    }
+    vector_table!(stored, layout, rd, mem)
 }
 
 impl WholeAccess {

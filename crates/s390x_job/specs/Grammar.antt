@@ -89,12 +89,21 @@ abbrev pub next_place : Place → Class → Option Place
 next_place (Header rank bound) (Head r first past) = if may_follow rank bound r first then Some (Header r past) else None
 next_place (Header rank bound) OpenBlock = Some (Within 0)
 next_place (Header rank bound) CloseJob = Some AtEnd
+next_place (Header rank bound) OpenLoop = None
+next_place (Header rank bound) CloseLoop = None
+next_place (Header rank bound) Instruction = None
+next_place (Header rank bound) Never = None
+next_place (Within d) (Head r first past) = None
+next_place (Within d) Never = None
 next_place (Within d) OpenLoop = if nat_lt d 9 then Some (Within (suc d)) else None
 next_place (Within d) Instruction = Some (Within d)
 next_place (Within zero) OpenBlock = Some (Within 0)
 next_place (Within zero) CloseJob = Some AtEnd
+next_place (Within zero) CloseLoop = None
+next_place (Within (suc d)) OpenBlock = None
+next_place (Within (suc d)) CloseJob = None
 next_place (Within (suc d)) CloseLoop = Some (Within d)
-next_place _ _ = None
+next_place AtEnd c = None
 
 -- the place after these lines
 abbrev pub run : Option Place → List Line → Option Place

@@ -208,6 +208,18 @@ abbrev pub IsField : Field → Type 0
 IsField (FReg r) = IsReg r
 IsField (FReal r) = IsRegister r
 IsField (FPair h l) = IsReg h × IsReg l
+IsField (FAlu o) = Unit {0}
+IsField (FCmp o) = Unit {0}
+IsField (FShift o) = Unit {0}
+IsField (FRxsbg o) = Unit {0}
+IsField (FUnary o) = Unit {0}
+IsField (FVecBinary o) = Unit {0}
+IsField (FVecUnary o) = Unit {0}
+IsField (FVecShift o) = Unit {0}
+IsField (FVecCompare o) = Unit {0}
+IsField (FVecElementCompare o) = Unit {0}
+IsField (FConvention o) = Unit {0}
+IsField (FBool b) = Unit {0}
 IsField (FNatural w n) = n < 2 ^ width_bits w
 IsField (FInteger w z) = IsBelow (signed_limit w) z
 IsField (FShifted w b n) = (b < 2 ^ width_bits w) × (n < 256)
@@ -227,7 +239,7 @@ IsField (FReloc x) = IsReloc x
 IsField (FName n) = n < 4294967296
 IsField (FBytes bs) = IsBytes bs
 IsField (FStart r v) = IsRegister r × (v < value_limit r.class)
-IsField _ = Unit {0}
+IsField (FFlags f) = Unit {0}
 
 -- the field of a kind that a text begins with; where none stands there, some field of the kind
 abbrev pub value_as : Kind → List ℕ → Field

@@ -2,65 +2,23 @@
 ghost use Rattle.std.specs.Prelude.{◌≡◌, ◌<◌, length, map};
 ghost use Rattle.s390x_job_lines.specs.Names.{load_name_text, name_in, store_name_text, whole_name_text};
 
-use s390x_inst::{Direction, LAYOUT_COUNT, LOAD_COUNT, LoadOp, STORE_COUNT, StoreOp, WholeLayout};
+use crate::rows::texts;
+use s390x_inst::{
+    Direction, LAYOUT_COUNT, LOAD_COUNT, LoadOp, STORE_COUNT, StoreOp, WholeLayout, inst_table,
+    vector_table,
+};
 
 /// The names by load.
-#[rattlefmt::skip]
-pub const LOAD_NAMES: [&str; LOAD_COUNT] = [
-    "Load32",
-    "Load32ZExt8",
-    "Load32SExt8",
-    "Load32ZExt16",
-    "Load32SExt16",
-    "Load64",
-    "Load64ZExt8",
-    "Load64SExt8",
-    "Load64ZExt16",
-    "Load64SExt16",
-    "Load64ZExt32",
-    "Load64SExt32",
-    "LoadRev16",
-    "LoadRev32",
-    "LoadRev64",
-];
+pub const LOAD_NAMES: [&str; LOAD_COUNT] = inst_table!(texts, loads);
 
 /// The names by store.
-#[rattlefmt::skip]
-pub const STORE_NAMES: [&str; STORE_COUNT] = [
-    "Store8",
-    "Store16",
-    "Store32",
-    "Store64",
-    "StoreRev16",
-    "StoreRev32",
-    "StoreRev64",
-];
+pub const STORE_NAMES: [&str; STORE_COUNT] = inst_table!(texts, stores);
 
 /// The names of loads of a whole vector register, by layout.
-#[rattlefmt::skip]
-pub const WHOLE_LOAD_NAMES: [&str; LAYOUT_COUNT] = [
-    "VecLoad",
-    "VecLoadRev",
-    "VecLoadByte16Rev",
-    "VecLoadByte32Rev",
-    "VecLoadByte64Rev",
-    "VecLoadElt16Rev",
-    "VecLoadElt32Rev",
-    "VecLoadElt64Rev",
-];
+pub const WHOLE_LOAD_NAMES: [&str; LAYOUT_COUNT] = vector_table!(texts, whole_loads);
 
 /// The names of stores of a whole vector register, by layout.
-#[rattlefmt::skip]
-pub const WHOLE_STORE_NAMES: [&str; LAYOUT_COUNT] = [
-    "VecStore",
-    "VecStoreRev",
-    "VecStoreByte16Rev",
-    "VecStoreByte32Rev",
-    "VecStoreByte64Rev",
-    "VecStoreElt16Rev",
-    "VecStoreElt32Rev",
-    "VecStoreElt64Rev",
-];
+pub const WHOLE_STORE_NAMES: [&str; LAYOUT_COUNT] = vector_table!(texts, whole_stores);
 
 // The name at a place in a list of them.
 fn name_in(names: &[&'static str], at: usize) -> &'static str

@@ -1,7 +1,8 @@
 //! The names of instructions' lines, in groups.
 ghost use Rattle.s390x_job_lines.specs.Names.{integer_text, memory_name_text, control_text, vector_name_text};
 
-use crate::table::{integer_table, memory_table, named, vector_table};
+use crate::rows::named;
+use s390x_inst::{inst_table, vector_table};
 use s390x_job_fields::word::{Names, Word, name_at};
 
 /// Instructions on general registers alone.
@@ -75,26 +76,26 @@ pub enum MemoryName {
 /// Traps, branches, calls, and what has no code.
 #[derive(Clone, Copy)]
 pub enum ControlName {
-    Fence,
-    Nop0,
-    Nop2,
-    Debugtrap,
     Trap,
     TrapIf,
     Jump,
     CondBr,
-    IndirectBr,
     Ret,
-    JTSequence,
     CondBreak,
-    Call,
-    ReturnCall,
     AllocateArgs,
     LoadSymbolReloc,
     LabelAddress,
+    DummyUse,
+    Fence,
+    Nop0,
+    Nop2,
+    Debugtrap,
+    IndirectBr,
+    JTSequence,
+    Call,
+    ReturnCall,
     Args,
     Rets,
-    DummyUse,
     SequencePoint,
 }
 
@@ -142,35 +143,14 @@ pub enum VectorName {
 }
 
 /// Each value with its name, in the order of the declaration.
-pub const INTEGER_NAMES: Names<IntegerName> = integer_table!(named, IntegerName);
+pub const INTEGER_NAMES: Names<IntegerName> = inst_table!(named, IntegerName);
 
 /// Each value with its name, in the order of the declaration.
-pub const MEMORY_NAMES: Names<MemoryName> = memory_table!(named, MemoryName);
+pub const MEMORY_NAMES: Names<MemoryName> = inst_table!(named, MemoryName);
 
 /// Each value with its name, in the order of the declaration.
-pub const CONTROL_NAMES: Names<ControlName> = &[
-    (ControlName::Fence, "Fence"),
-    (ControlName::Nop0, "Nop0"),
-    (ControlName::Nop2, "Nop2"),
-    (ControlName::Debugtrap, "Debugtrap"),
-    (ControlName::Trap, "Trap"),
-    (ControlName::TrapIf, "TrapIf"),
-    (ControlName::Jump, "Jump"),
-    (ControlName::CondBr, "CondBr"),
-    (ControlName::IndirectBr, "IndirectBr"),
-    (ControlName::Ret, "Ret"),
-    (ControlName::JTSequence, "JTSequence"),
-    (ControlName::CondBreak, "CondBreak"),
-    (ControlName::Call, "Call"),
-    (ControlName::ReturnCall, "ReturnCall"),
-    (ControlName::AllocateArgs, "AllocateArgs"),
-    (ControlName::LoadSymbolReloc, "LoadSymbolReloc"),
-    (ControlName::LabelAddress, "LabelAddress"),
-    (ControlName::Args, "Args"),
-    (ControlName::Rets, "Rets"),
-    (ControlName::DummyUse, "DummyUse"),
-    (ControlName::SequencePoint, "SequencePoint"),
-];
+pub const CONTROL_NAMES: Names<ControlName> =
+    inst_table!(named, ControlName, Fence Nop0 Nop2 Debugtrap IndirectBr JTSequence Call ReturnCall Args Rets SequencePoint);
 
 /// Each value with its name, in the order of the declaration.
 pub const VECTOR_NAMES: Names<VectorName> = vector_table!(named, VectorName);

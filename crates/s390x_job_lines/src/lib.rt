@@ -14,7 +14,7 @@ mod read_control;
 mod read_integer;
 mod read_memory;
 mod read_vector;
-mod table;
+mod rows;
 
 pub use access_names::{LOAD_NAMES, STORE_NAMES, WHOLE_LOAD_NAMES, WHOLE_STORE_NAMES};
 pub use inst_name::{ControlName, IntegerName, MemoryName, VectorName};

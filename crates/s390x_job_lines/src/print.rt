@@ -9,10 +9,8 @@ use crate::name::LineName::{Control, Integer, Memory};
 use crate::print_call::{put_call, put_return_call};
 use crate::print_vector::put_vector;
 use crate::put_line::{line0, line1, line2, line3, line4, line5, line6, line7};
-use crate::table::{
-    and_control, and_memory, control_table, integer_table, memory_table, put_fields, put_rows,
-};
-use s390x_inst::Inst;
+use crate::rows::{put_fields, put_rows};
+use s390x_inst::{Inst, inst_table};
 use s390x_job_fields::Part;
 use std::alloc::{AllocError, Global};
 
@@ -36,7 +34,7 @@ pub fn put_inst(alloc: Global, out: &mut String, i: &Inst) -> Result<(), AllocEr
     ensures { OnOk result
         (string_bytes out.new ≡ string_bytes out.old ++ line_text (inst_line i.now)) }
 {
-    integer_table!(and_memory, alloc, out, i, {
+    inst_table!(put_rows, alloc, out, i, put_transfer(alloc, out, i), {
         Inst::Fence => line0(out, Control(ControlName::Fence)),
         Inst::Nop0 => line0(out, Control(ControlName::Nop0)),
         Inst::Nop2 => line0(out, Control(ControlName::Nop2)),
@@ -50,11 +48,5 @@ pub fn put_inst(alloc: Global, out: &mut String, i: &Inst) -> Result<(), AllocEr
         Inst::Rets { rets } => line1(alloc, out, Control(ControlName::Rets), rets),
         Inst::SequencePoint => line0(out, Control(ControlName::SequencePoint)),
         Inst::Vector(v) => put_vector(alloc, out, v),
-        Inst::Load32 { .. } | Inst::Load32ZExt8 { .. } | Inst::Load32SExt8 { .. } | Inst::Load32ZExt16 { .. }
-        | Inst::Load32SExt16 { .. } | Inst::Load64 { .. } | Inst::Load64ZExt8 { .. } | Inst::Load64SExt8 { .. }
-        | Inst::Load64ZExt16 { .. } | Inst::Load64SExt16 { .. } | Inst::Load64ZExt32 { .. } | Inst::Load64SExt32 { .. }
-        | Inst::LoadRev16 { .. } | Inst::LoadRev32 { .. } | Inst::LoadRev64 { .. } | Inst::Store8 { .. }
-        | Inst::Store16 { .. } | Inst::Store32 { .. } | Inst::Store64 { .. } | Inst::StoreRev16 { .. }
-        | Inst::StoreRev32 { .. } | Inst::StoreRev64 { .. } => put_transfer(alloc, out, i),
     })
 }

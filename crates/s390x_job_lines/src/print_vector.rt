@@ -8,8 +8,8 @@ use crate::inst_name::VectorName;
 use crate::name::LineName;
 use crate::name::LineName::Vector;
 use crate::put_line::{line0, line2, line3, line4, line5, line6};
-use crate::table::{put_fields, put_vector_rows, vector_table};
-use s390x_inst::VecInst;
+use crate::rows::{put_fields, put_vector_rows};
+use s390x_inst::{VecInst, vector_table};
 use std::alloc::{AllocError, Global};
 
 // Appends the line of a load or a store of a whole vector register.
@@ -27,15 +27,9 @@ fn put_whole(alloc: Global, out: &mut String, v: &VecInst) -> Result<(), AllocEr
 }
 
 /// Appends the line of an instruction on vector or float registers, without the line feed.
-#[rattlefmt::skip]
 pub fn put_vector(alloc: Global, out: &mut String, v: &VecInst) -> Result<(), AllocError>
     ensures { OnOk result
         (string_bytes out.new ≡ string_bytes out.old ++ line_text (vector_line v.now)) }
 {
-    vector_table!(put_vector_rows, alloc, out, v, {
-        VecInst::VecLoad { .. } | VecInst::VecLoadRev { .. } | VecInst::VecLoadByte16Rev { .. } | VecInst::VecLoadByte32Rev { .. }
-        | VecInst::VecLoadByte64Rev { .. } | VecInst::VecLoadElt16Rev { .. } | VecInst::VecLoadElt32Rev { .. } | VecInst::VecLoadElt64Rev { .. }
-        | VecInst::VecStore { .. } | VecInst::VecStoreRev { .. } | VecInst::VecStoreByte16Rev { .. } | VecInst::VecStoreByte32Rev { .. }
-        | VecInst::VecStoreByte64Rev { .. } | VecInst::VecStoreElt16Rev { .. } | VecInst::VecStoreElt32Rev { .. } | VecInst::VecStoreElt64Rev { .. } => put_whole(alloc, out, v),
-    })
+    vector_table!(put_vector_rows, alloc, out, v, put_whole(alloc, out, v))
 }

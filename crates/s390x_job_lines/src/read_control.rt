@@ -5,8 +5,8 @@ ghost use Rattle.s390x_job_lines.specs.Instructions.{inst_line};
 
 use crate::inst_name::ControlName;
 use crate::name::LineName;
-use crate::table::{control_table, read_control_rows};
-use s390x_inst::{CallInfo, Inst, ReturnCallInfo};
+use crate::rows::{read_control_rows, read_field};
+use s390x_inst::{CallInfo, Inst, ReturnCallInfo, inst_table};
 use s390x_job_fields::Cursor;
 use std::alloc::{AllocError, Global};
 
@@ -62,7 +62,7 @@ fn return_call(alloc: Global, c: &mut Cursor) -> Result<Inst, AllocError>
 pub fn control(alloc: Global, name: ControlName, c: &mut Cursor) -> Result<Inst, AllocError>
     ensures { IfOk result (λ i. inst_line i ≡ line_with (LineName.Control name) c.old) }
 {
-    control_table!(read_control_rows, name, c, {
+    inst_table!(read_control_rows, name, c, {
         ControlName::Fence => Ok(Inst::Fence),
         ControlName::Nop0 => Ok(Inst::Nop0),
         ControlName::Nop2 => Ok(Inst::Nop2),

@@ -5,13 +5,13 @@ ghost use Rattle.s390x_job_lines.specs.Instructions.{inst_line};
 
 use crate::inst_name::IntegerName;
 use crate::name::LineName;
-use crate::table::{integer_table, read_rows};
-use s390x_inst::Inst;
+use crate::rows::{read_field, read_group, read_rows};
+use s390x_inst::{Inst, inst_table};
 use s390x_job_fields::Cursor;
 
 /// The instruction of this name, whose fields come next.
 pub fn integer(name: IntegerName, c: &mut Cursor) -> Inst
     ensures { inst_line result ≡ line_with (LineName.Integer name) c.old }
 {
-    integer_table!(read_rows, IntegerName, Inst, name, c)
+    inst_table!(read_rows, IntegerName, name, c)
 }

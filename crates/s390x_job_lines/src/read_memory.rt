@@ -5,15 +5,15 @@ ghost use Rattle.s390x_job_lines.specs.Instructions.{inst_line};
 
 use crate::inst_name::MemoryName;
 use crate::name::LineName;
-use crate::table::{memory_table, read_rows};
-use s390x_inst::{Inst, LoadOp, StoreOp};
+use crate::rows::{read_field, read_group, read_rows};
+use s390x_inst::{Inst, LoadOp, StoreOp, inst_table};
 use s390x_job_fields::Cursor;
 
 /// The instruction of this name, whose fields come next.
 pub fn memory(name: MemoryName, c: &mut Cursor) -> Inst
     ensures { inst_line result ≡ line_with (LineName.Memory name) c.old }
 {
-    memory_table!(read_rows, MemoryName, Inst, name, c)
+    inst_table!(read_rows, MemoryName, name, c)
 }
 
 /// The load, whose fields come next.
