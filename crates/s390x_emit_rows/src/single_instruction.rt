@@ -24,6 +24,7 @@ use crate::moves::{
     load_half, load_part, logical_indexed_opcode, set_doubleword, set_short_doubleword,
     set_short_word, set_word,
 };
+use crate::table::rows;
 use crate::trapping::{
     compare_opcode as trap_opcode, compare_signed_opcode as trap_signed_opcode,
     compare_unsigned_opcode as trap_unsigned_opcode, encode_masked, encode_masked_ri,
@@ -36,16 +37,6 @@ use s390x_rows::opcodes;
 use s390x_typed_steps::{
     bits_of_halfword, bits_of_unsigned, bits_of_unsigned_halfword, bits_of_word,
 };
-
-// A table of instructions: for each a line with its fields and the code of its row.
-macro_rules! rows {
-    ($inst:expr, $kind:ident { $($name:ident $fields:tt => $row:expr,)* } $($rest:tt)*) => {
-        match $inst {
-            $($kind::$name $fields => $row,)*
-            $($rest)*
-        }
-    };
-}
 
 /// The code of the one machine instruction of an instruction that is one, or `BadRegister` where its registers may not stand there: real general
 /// ones, and the input that has to be the output is it.
