@@ -10,6 +10,7 @@ mod moves;
 mod opcode;
 mod registers;
 mod single_instruction;
+mod table;
 mod trapping;
 
 pub use arithmetic::encode_rrr;

@@ -11,6 +11,7 @@ ghost use Rattle.s390x_emit_vec.specs.Memory.{lane_opcode};
 
 use crate::codes::{number, reuses};
 use crate::lanes::{element_code, is_lane};
+use crate::table::rows;
 use s390x_address::{MemoryInst, StorageRows, vector};
 use s390x_base::Reg;
 use s390x_inst::{Direction, MemArg, VecInst, WholeAccess};
@@ -304,83 +305,21 @@ fn lane_memory(inst: &VecInst) -> Option<MemoryInst>
     ensures row { option_map memory_instruction_of result ≡ lane_memory inst.now }
     ensures encodes { IfSome result (λ x. may_encode x ≡ true) }
 {
-    match inst {
-        VecInst::VecLoadLane {
-            size,
-            rd,
-            ri,
-            mem,
-            lane_imm,
-        } => reused_lane(
-            LaneAccess::Load,
-            rd.to_reg(),
-            *ri,
-            element_code(*size),
-            Element {
-                size: *size,
-                lane: *lane_imm,
-            },
-            mem,
-        ),
-        VecInst::VecLoadLaneRev {
-            size,
-            rd,
-            ri,
-            mem,
-            lane_imm,
-        } => reused_lane(
-            LaneAccess::LoadReversed,
-            rd.to_reg(),
-            *ri,
-            reversed_code(*size),
-            Element {
-                size: *size,
-                lane: *lane_imm,
-            },
-            mem,
-        ),
-        VecInst::VecLoadLaneUndef {
-            size,
-            rd,
-            mem,
-            lane_imm,
-        } => load_alone(*size, rd.to_reg(), *lane_imm, mem),
-        VecInst::VecLoadLaneRevUndef {
-            size,
-            rd,
-            mem,
-            lane_imm,
-        } => lane_of(
-            LaneAccess::LoadReversed,
-            rd.to_reg(),
-            reversed_code(*size),
-            Element {
-                size: *size,
-                lane: *lane_imm,
-            },
-            mem,
-        ),
-        VecInst::VecStoreLane {
-            size,
-            rd,
-            mem,
-            lane_imm,
-        } => store_lane(*size, *rd, *lane_imm, mem),
-        VecInst::VecStoreLaneRev {
-            size,
-            rd,
-            mem,
-            lane_imm,
-        } => lane_of(
-            LaneAccess::StoreReversed,
-            *rd,
-            reversed_code(*size),
-            Element {
-                size: *size,
-                lane: *lane_imm,
-            },
-            mem,
-        ),
+    rows! { inst,
+        VecInst {
+            VecLoadLane { size, rd, ri, mem, lane_imm } =>
+                reused_lane(LaneAccess::Load, rd.to_reg(), *ri, element_code(*size), Element { size: *size, lane: *lane_imm }, mem),
+            VecLoadLaneRev { size, rd, ri, mem, lane_imm } =>
+                reused_lane(
+                    LaneAccess::LoadReversed, rd.to_reg(), *ri, reversed_code(*size), Element { size: *size, lane: *lane_imm }, mem
+                ),
+            VecLoadLaneUndef { size, rd, mem, lane_imm } => load_alone(*size, rd.to_reg(), *lane_imm, mem),
+            VecLoadLaneRevUndef { size, rd, mem, lane_imm } =>
+                lane_of(LaneAccess::LoadReversed, rd.to_reg(), reversed_code(*size), Element { size: *size, lane: *lane_imm }, mem),
+            VecStoreLane { size, rd, mem, lane_imm } => store_lane(*size, *rd, *lane_imm, mem),
+            VecStoreLaneRev { size, rd, mem, lane_imm } =>
+                lane_of(LaneAccess::StoreReversed, *rd, reversed_code(*size), Element { size: *size, lane: *lane_imm }, mem),
+        }
         _ => None,
     }
 }

@@ -17,6 +17,7 @@ use crate::lanes::{
 use crate::opcodes::{
     binary_row, comparison_row, element_comparison_row, is_division, shift_row, unary_row,
 };
+use crate::table::rows;
 use s390x_base::{Code, EmitError, Reg, TrapCode};
 use s390x_inst::VecInst;
 use s390x_rows::opcodes;
@@ -105,127 +106,37 @@ fn encode_any(inst: &VecInst) -> Option<Result<Code, EmitError>>
     ensures { result
         ≡ single_code (single_with (vector_operands_valid inst.now) (vector_row inst.now)) }
 {
-    match inst {
-        VecInst::VecRRR { op, rd, rn, rm } => {
-            Some(three_vectors(binary_row(*op), rd.to_reg(), *rn, *rm))
+    rows! { inst,
+        VecInst {
+            VecRRR { op, rd, rn, rm } => Some(three_vectors(binary_row(*op), rd.to_reg(), *rn, *rm)),
+            VecRR { op, rd, rn } => Some(two_vectors(unary_row(*op), rd.to_reg(), *rn)),
+            VecSelect { rd, rn, rm, ra } => Some(four_vectors(opcodes::VSEL, rd.to_reg(), *rn, *rm, *ra)),
+            VecPermute { rd, rn, rm, ra } => Some(four_vectors(opcodes::VPERM, rd.to_reg(), *rn, *rm, *ra)),
+            VecBlend { rd, rn, rm, ra } => Some(blended_vectors(rd.to_reg(), *rn, *rm, *ra)),
+            VecIntCmp { op, rd, rn, rm } => Some(compared_vectors(comparison_row(*op), rd.to_reg(), *rn, *rm, 0)),
+            VecIntCmpS { op, rd, rn, rm } => Some(compared_vectors(comparison_row(*op), rd.to_reg(), *rn, *rm, 1)),
+            VecIntEltCmp { op, rn, rm } => Some(two_vectors(element_comparison_row(*op), *rn, *rm)),
+            VecMov { rd, rn } =>
+                { let row = VectorOpcode { opcode: opcodes::VLR, code: 0 }; Some(two_vectors(row, rd.to_reg(), *rn)) },
+            VecShiftRR { shift_op, rd, rn, shift_imm, shift_reg } =>
+                Some(shifted_vector(shift_row(*shift_op), rd.to_reg(), *rn, *shift_reg, displacement_of(*shift_imm))),
+            VecEvaluate { imm, rd, rn, rm, ra } => Some(evaluated_vectors(low_byte(*imm), rd.to_reg(), *rn, *rm, *ra)),
+            VecPermuteDWImm { rd, rn, rm, idx1, idx2 } => doublewords(rd.to_reg(), *rn, *rm, *idx1, *idx2),
+            MovToVec128 { rd, rn, rm } => Some(joined_registers(rd.to_reg(), *rn, *rm)),
+            VecImmByteMask { rd, mask } =>
+                { let row = VectorOpcode { opcode: opcodes::VGBM, code: 0 }; Some(immediate_vector(row, rd.to_reg(), bits_of_unsigned_halfword(*mask))) },
+            VecImmReplicate { size, rd, imm } => replicate_immediate(*size, rd.to_reg(), *imm),
+            VecImmBitMask { size, rd, start_bit, end_bit } => bit_mask_of(*size, rd.to_reg(), *start_bit, *end_bit),
+            VecReplicateLane { size, rd, rn, lane_imm } => replicated_lane_of(*size, rd.to_reg(), *rn, *lane_imm),
+            VecInsertLane { size, rd, ri, rn, lane_imm, lane_reg } =>
+                lane_inserted_into(*size, rd.to_reg(), *ri, *rn, *lane_imm, *lane_reg),
+            VecInsertLaneUndef { size, rd, rn, lane_imm, lane_reg } => lane_inserted(*size, rd.to_reg(), *rn, *lane_imm, *lane_reg),
+            VecExtractLane { size, rd, rn, lane_imm, lane_reg } => lane_extracted(*size, rd.to_reg(), *rn, *lane_imm, *lane_reg),
+            VecInsertLaneImm { size, rd, ri, imm, lane_imm } => inserted_into(*size, rd.to_reg(), *ri, *imm, *lane_imm),
+            VecInsertLaneImmUndef { size, rd, imm, lane_imm } => insert_immediate(*size, rd.to_reg(), *imm, *lane_imm),
+            FpuMove32 { rd, rn } => Some(moved_left(opcodes::LER, rd.to_reg(), *rn)),
+            FpuMove64 { rd, rn } => Some(moved_left(opcodes::LDR, rd.to_reg(), *rn)),
         }
-        VecInst::VecRR { op, rd, rn } => Some(two_vectors(unary_row(*op), rd.to_reg(), *rn)),
-        VecInst::VecSelect { rd, rn, rm, ra } => {
-            Some(four_vectors(opcodes::VSEL, rd.to_reg(), *rn, *rm, *ra))
-        }
-        VecInst::VecPermute { rd, rn, rm, ra } => {
-            Some(four_vectors(opcodes::VPERM, rd.to_reg(), *rn, *rm, *ra))
-        }
-        VecInst::VecBlend { rd, rn, rm, ra } => Some(blended_vectors(rd.to_reg(), *rn, *rm, *ra)),
-        VecInst::VecIntCmp { op, rd, rn, rm } => Some(compared_vectors(
-            comparison_row(*op),
-            rd.to_reg(),
-            *rn,
-            *rm,
-            0,
-        )),
-        VecInst::VecIntCmpS { op, rd, rn, rm } => Some(compared_vectors(
-            comparison_row(*op),
-            rd.to_reg(),
-            *rn,
-            *rm,
-            1,
-        )),
-        VecInst::VecIntEltCmp { op, rn, rm } => {
-            Some(two_vectors(element_comparison_row(*op), *rn, *rm))
-        }
-        VecInst::VecMov { rd, rn } => {
-            let row = VectorOpcode {
-                opcode: opcodes::VLR,
-                code: 0,
-            };
-            Some(two_vectors(row, rd.to_reg(), *rn))
-        }
-        VecInst::VecShiftRR {
-            shift_op,
-            rd,
-            rn,
-            shift_imm,
-            shift_reg,
-        } => Some(shifted_vector(
-            shift_row(*shift_op),
-            rd.to_reg(),
-            *rn,
-            *shift_reg,
-            displacement_of(*shift_imm),
-        )),
-        VecInst::VecEvaluate {
-            imm,
-            rd,
-            rn,
-            rm,
-            ra,
-        } => Some(evaluated_vectors(low_byte(*imm), rd.to_reg(), *rn, *rm, *ra)),
-        VecInst::VecPermuteDWImm {
-            rd,
-            rn,
-            rm,
-            idx1,
-            idx2,
-        } => doublewords(rd.to_reg(), *rn, *rm, *idx1, *idx2),
-        VecInst::MovToVec128 { rd, rn, rm } => Some(joined_registers(rd.to_reg(), *rn, *rm)),
-        VecInst::VecImmByteMask { rd, mask } => {
-            let row = VectorOpcode {
-                opcode: opcodes::VGBM,
-                code: 0,
-            };
-            Some(immediate_vector(row, rd.to_reg(), bits_of_unsigned_halfword(*mask)))
-        }
-        VecInst::VecImmReplicate { size, rd, imm } => replicate_immediate(*size, rd.to_reg(), *imm),
-        VecInst::VecImmBitMask {
-            size,
-            rd,
-            start_bit,
-            end_bit,
-        } => bit_mask_of(*size, rd.to_reg(), *start_bit, *end_bit),
-        VecInst::VecReplicateLane {
-            size,
-            rd,
-            rn,
-            lane_imm,
-        } => replicated_lane_of(*size, rd.to_reg(), *rn, *lane_imm),
-        VecInst::VecInsertLane {
-            size,
-            rd,
-            ri,
-            rn,
-            lane_imm,
-            lane_reg,
-        } => lane_inserted_into(*size, rd.to_reg(), *ri, *rn, *lane_imm, *lane_reg),
-        VecInst::VecInsertLaneUndef {
-            size,
-            rd,
-            rn,
-            lane_imm,
-            lane_reg,
-        } => lane_inserted(*size, rd.to_reg(), *rn, *lane_imm, *lane_reg),
-        VecInst::VecExtractLane {
-            size,
-            rd,
-            rn,
-            lane_imm,
-            lane_reg,
-        } => lane_extracted(*size, rd.to_reg(), *rn, *lane_imm, *lane_reg),
-        VecInst::VecInsertLaneImm {
-            size,
-            rd,
-            ri,
-            imm,
-            lane_imm,
-        } => inserted_into(*size, rd.to_reg(), *ri, *imm, *lane_imm),
-        VecInst::VecInsertLaneImmUndef {
-            size,
-            rd,
-            imm,
-            lane_imm,
-        } => insert_immediate(*size, rd.to_reg(), *imm, *lane_imm),
-        VecInst::FpuMove32 { rd, rn } => Some(moved_left(opcodes::LER, rd.to_reg(), *rn)),
-        VecInst::FpuMove64 { rd, rn } => Some(moved_left(opcodes::LDR, rd.to_reg(), *rn)),
         _ => None,
     }
 }

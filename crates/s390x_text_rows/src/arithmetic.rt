@@ -15,6 +15,7 @@ use crate::mnemonics::{
 use crate::operand::{Amount, Operand, Reused, ReusedLow, ReusedPair, RotatedBits};
 use crate::regs::pair_refusal;
 use crate::row::{fixed2, fixed3, row2, row3, spelled2, spelled3, three};
+use crate::table::rows;
 use s390x_base::{Reg, RegPair, Writable, WritableRegPair};
 use s390x_inst::{ALUOp, Inst, UnaryOp};
 use s390x_typed_steps::{row_of_part, rows_of_alu};
@@ -80,129 +81,29 @@ pub fn put_arithmetic(out: &mut String, inst: &Inst) -> Option<Result<(), TextEr
     ensures { PrintsWhere result (string_bytes out.old) (string_bytes out.new)
         (arithmetic_text inst.now) }
 {
-    match inst {
-        Inst::AluRRR { alu_op, rd, rn, rm } => Some(put_alu_three(out, *alu_op, rd, rn, rm)),
-        Inst::AluRRSImm16 {
-            alu_op,
-            rd,
-            rn,
-            imm,
-        } => {
-            let rows = rows_of_alu(*alu_op);
-            Some(three(out, rows.three_halfword, rows.halfword, rd, rn, imm))
+    rows! { inst,
+        Inst {
+            AluRRR { alu_op, rd, rn, rm } => Some(put_alu_three(out, *alu_op, rd, rn, rm)),
+            AluRRSImm16 { alu_op, rd, rn, imm } =>
+                { let rows = rows_of_alu(*alu_op); Some(three(out, rows.three_halfword, rows.halfword, rd, rn, imm)) },
+            AluRR { alu_op, rd, ri, rm } => Some(row2(out, alu_two_name(*alu_op), &reused_operand(rd, ri), rm)),
+            AluRSImm16 { alu_op, rd, ri, imm } => Some(row2(out, alu_halfword_name(*alu_op), &reused_operand(rd, ri), imm)),
+            AluRSImm32 { alu_op, rd, ri, imm } => Some(row2(out, alu_signed_word_name(*alu_op), &reused_operand(rd, ri), imm)),
+            AluRUImm32 { alu_op, rd, ri, imm } => Some(row2(out, alu_unsigned_word_name(*alu_op), &reused_operand(rd, ri), imm)),
+            AluRUImm16Shifted { alu_op, rd, ri, imm } =>
+                Some(row2(out, alu_part_name(*alu_op, imm.shift), &reused_operand(rd, ri), imm)),
+            AluRUImm32Shifted { alu_op, rd, ri, imm } =>
+                Some(row2(out, alu_half_name(*alu_op, imm.shift), &reused_operand(rd, ri), imm)),
+            UnaryRR { op, rd, rn } => Some(put_unary(out, *op, rd, rn)),
+            ShiftRR { shift_op, rd, rn, shift_imm, shift_reg } =>
+                Some(fixed3(out, shift_name(*shift_op), rd, rn, &Amount { imm: *shift_imm, reg: *shift_reg })),
+            RxSBG { op, rd, ri, rn, start_bit, end_bit, rotate_amt } =>
+                Some(row3(out, selected_name(Some(rotate_name(*op)), *start_bit, *end_bit), &reused_operand(rd, ri), rn,
+                    &RotatedBits { start: u16::from(*start_bit), end: *end_bit, amount: rotation(*rotate_amt) })),
+            RxSBGTest { op, rd, rn, start_bit, end_bit, rotate_amt } =>
+                Some(row3(out, selected_name(rotate_test_name(*op), *start_bit, *end_bit), rd, rn,
+                    &RotatedBits { start: u16::from(*start_bit) + 128, end: *end_bit, amount: rotation(*rotate_amt) })),
         }
-        Inst::AluRR { alu_op, rd, ri, rm } => {
-            Some(row2(out, alu_two_name(*alu_op), &reused_operand(rd, ri), rm))
-        }
-        Inst::AluRSImm16 {
-            alu_op,
-            rd,
-            ri,
-            imm,
-        } => Some(row2(
-            out,
-            alu_halfword_name(*alu_op),
-            &reused_operand(rd, ri),
-            imm,
-        )),
-        Inst::AluRSImm32 {
-            alu_op,
-            rd,
-            ri,
-            imm,
-        } => Some(row2(
-            out,
-            alu_signed_word_name(*alu_op),
-            &reused_operand(rd, ri),
-            imm,
-        )),
-        Inst::AluRUImm32 {
-            alu_op,
-            rd,
-            ri,
-            imm,
-        } => Some(row2(
-            out,
-            alu_unsigned_word_name(*alu_op),
-            &reused_operand(rd, ri),
-            imm,
-        )),
-        Inst::AluRUImm16Shifted {
-            alu_op,
-            rd,
-            ri,
-            imm,
-        } => Some(row2(
-            out,
-            alu_part_name(*alu_op, imm.shift),
-            &reused_operand(rd, ri),
-            imm,
-        )),
-        Inst::AluRUImm32Shifted {
-            alu_op,
-            rd,
-            ri,
-            imm,
-        } => Some(row2(
-            out,
-            alu_half_name(*alu_op, imm.shift),
-            &reused_operand(rd, ri),
-            imm,
-        )),
-        Inst::UnaryRR { op, rd, rn } => Some(put_unary(out, *op, rd, rn)),
-        Inst::ShiftRR {
-            shift_op,
-            rd,
-            rn,
-            shift_imm,
-            shift_reg,
-        } => Some(fixed3(
-            out,
-            shift_name(*shift_op),
-            rd,
-            rn,
-            &Amount {
-                imm: *shift_imm,
-                reg: *shift_reg,
-            },
-        )),
-        Inst::RxSBG {
-            op,
-            rd,
-            ri,
-            rn,
-            start_bit,
-            end_bit,
-            rotate_amt,
-        } => Some(row3(
-            out,
-            selected_name(Some(rotate_name(*op)), *start_bit, *end_bit),
-            &reused_operand(rd, ri),
-            rn,
-            &RotatedBits {
-                start: u16::from(*start_bit),
-                end: *end_bit,
-                amount: rotation(*rotate_amt),
-            },
-        )),
-        Inst::RxSBGTest {
-            op,
-            rd,
-            rn,
-            start_bit,
-            end_bit,
-            rotate_amt,
-        } => Some(row3(
-            out,
-            selected_name(rotate_test_name(*op), *start_bit, *end_bit),
-            rd,
-            rn,
-            &RotatedBits {
-                start: u16::from(*start_bit) + 128,
-                end: *end_bit,
-                amount: rotation(*rotate_amt),
-            },
-        )),
         _ => None,
     }
 }
@@ -275,14 +176,16 @@ pub fn put_pair_instruction(out: &mut String, inst: &Inst) -> Option<Result<(), 
     ensures { PrintsWhere result (string_bytes out.old) (string_bytes out.new)
         (pair_instruction_text inst.now) }
 {
-    match inst {
-        Inst::SMulWide { rd, rn, rm } => Some(pair_row3(out, "mgrk", rd, rn, rm)),
-        Inst::UMulWide { rd, ri, rn } => Some(fixed2(out, "mlgr", &reused_low(rd, ri), rn)),
-        Inst::SDivMod32 { rd, ri, rn } => Some(fixed2(out, "dsgfr", &reused_low(rd, ri), rn)),
-        Inst::SDivMod64 { rd, ri, rn } => Some(fixed2(out, "dsgr", &reused_low(rd, ri), rn)),
-        Inst::UDivMod32 { rd, ri, rn } => Some(fixed2(out, "dlr", &reused_pair(rd, ri), rn)),
-        Inst::UDivMod64 { rd, ri, rn } => Some(fixed2(out, "dlgr", &reused_pair(rd, ri), rn)),
-        Inst::Flogr { rd, rn } => Some(pair_row2(out, "flogr", rd, rn)),
+    rows! { inst,
+        Inst {
+            SMulWide { rd, rn, rm } => Some(pair_row3(out, "mgrk", rd, rn, rm)),
+            UMulWide { rd, ri, rn } => Some(fixed2(out, "mlgr", &reused_low(rd, ri), rn)),
+            SDivMod32 { rd, ri, rn } => Some(fixed2(out, "dsgfr", &reused_low(rd, ri), rn)),
+            SDivMod64 { rd, ri, rn } => Some(fixed2(out, "dsgr", &reused_low(rd, ri), rn)),
+            UDivMod32 { rd, ri, rn } => Some(fixed2(out, "dlr", &reused_pair(rd, ri), rn)),
+            UDivMod64 { rd, ri, rn } => Some(fixed2(out, "dlgr", &reused_pair(rd, ri), rn)),
+            Flogr { rd, rn } => Some(pair_row2(out, "flogr", rd, rn)),
+        }
         _ => None,
     }
 }

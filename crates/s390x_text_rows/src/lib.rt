@@ -16,6 +16,7 @@ mod regs;
 mod row;
 mod simple;
 mod storage;
+mod table;
 mod vector;
 mod vector_memory;
 mod vector_mnemonics;

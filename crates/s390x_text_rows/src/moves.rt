@@ -9,6 +9,7 @@ use crate::error::TextError;
 use crate::mnemonics::stem_where;
 use crate::operand::{AccessRegister, Indexed};
 use crate::row::{conditional2, fixed2, row2};
+use crate::table::rows;
 use s390x_base::{Reg, SImm20};
 use s390x_inst::Inst;
 use s390x_typed_steps::{
@@ -49,85 +50,33 @@ pub fn put_move(out: &mut String, inst: &Inst) -> Option<Result<(), TextError>>
     ensures { PrintsWhere result (string_bytes out.old) (string_bytes out.new)
         (move_text inst.now) }
 {
-    match inst {
-        Inst::Mov64 { rd, rm } => Some(fixed2(out, "lgr", rd, rm)),
-        Inst::MovPReg { rd, rm } => Some(fixed2(out, "lgr", rd, rm)),
-        Inst::Mov32 { rd, rm } => Some(fixed2(out, "lr", rd, rm)),
-        Inst::Mov32Imm { rd, imm } => Some(fixed2(out, "iilf", rd, imm)),
-        Inst::Mov32SImm16 { rd, imm } => Some(fixed2(out, "lhi", rd, imm)),
-        Inst::Mov64SImm16 { rd, imm } => Some(fixed2(out, "lghi", rd, imm)),
-        Inst::Mov64SImm32 { rd, imm } => Some(fixed2(out, "lgfi", rd, imm)),
-        Inst::Mov64UImm16Shifted { rd, imm } => Some(row2(
-            out,
-            stem_where(row_of_part(LOAD_PARTS, imm.shift)),
-            rd,
-            imm,
-        )),
-        Inst::Mov64UImm32Shifted { rd, imm } => Some(row2(
-            out,
-            stem_where(row_of_part(LOAD_HALVES, imm.shift)),
-            rd,
-            imm,
-        )),
-        Inst::Insert64UImm16Shifted { rd, ri, imm } => Some(row2(
-            out,
-            stem_where(row_of_part(INSERT_PARTS, imm.shift)),
-            &reused_operand(rd, ri),
-            imm,
-        )),
-        Inst::Insert64UImm32Shifted { rd, ri, imm } => Some(row2(
-            out,
-            stem_where(row_of_part(INSERT_HALVES, imm.shift)),
-            &reused_operand(rd, ri),
-            imm,
-        )),
-        Inst::CMov32 { rd, cond, ri, rm } => {
-            Some(conditional2(out, "locr", *cond, &reused_operand(rd, ri), rm))
+    rows! { inst,
+        Inst {
+            Mov64 { rd, rm } => Some(fixed2(out, "lgr", rd, rm)),
+            MovPReg { rd, rm } => Some(fixed2(out, "lgr", rd, rm)),
+            Mov32 { rd, rm } => Some(fixed2(out, "lr", rd, rm)),
+            Mov32Imm { rd, imm } => Some(fixed2(out, "iilf", rd, imm)),
+            Mov32SImm16 { rd, imm } => Some(fixed2(out, "lhi", rd, imm)),
+            Mov64SImm16 { rd, imm } => Some(fixed2(out, "lghi", rd, imm)),
+            Mov64SImm32 { rd, imm } => Some(fixed2(out, "lgfi", rd, imm)),
+            Mov64UImm16Shifted { rd, imm } => Some(row2(out, stem_where(row_of_part(LOAD_PARTS, imm.shift)), rd, imm)),
+            Mov64UImm32Shifted { rd, imm } => Some(row2(out, stem_where(row_of_part(LOAD_HALVES, imm.shift)), rd, imm)),
+            Insert64UImm16Shifted { rd, ri, imm } =>
+                Some(row2(out, stem_where(row_of_part(INSERT_PARTS, imm.shift)), &reused_operand(rd, ri), imm)),
+            Insert64UImm32Shifted { rd, ri, imm } =>
+                Some(row2(out, stem_where(row_of_part(INSERT_HALVES, imm.shift)), &reused_operand(rd, ri), imm)),
+            CMov32 { rd, cond, ri, rm } => Some(conditional2(out, "locr", *cond, &reused_operand(rd, ri), rm)),
+            CMov64 { rd, cond, ri, rm } => Some(conditional2(out, "locgr", *cond, &reused_operand(rd, ri), rm)),
+            CMov32SImm16 { rd, cond, ri, imm } => Some(conditional2(out, "lochi", *cond, &reused_operand(rd, ri), imm)),
+            CMov64SImm16 { rd, cond, ri, imm } => Some(conditional2(out, "locghi", *cond, &reused_operand(rd, ri), imm)),
+            Extend { rd, rn, signed, from_bits, to_bits } => Some(row2(out, extend_name(*signed, *from_bits, *to_bits), rd, rn)),
+            LoadAR { rd, ar } => Some(fixed2(out, "ear", rd, &AccessRegister(*ar))),
+            InsertAR { rd, ri, ar } => Some(fixed2(out, "ear", &reused_operand(rd, ri), &AccessRegister(*ar))),
+            LoadIndexedAddr { rd, base, index, offset, size } =>
+                Some(row2(out, indexed_name(*size), rd, &indexed_operand(offset, index, base))),
+            LoadLogicalIndexedAddr { rd, base, index, offset, size } =>
+                Some(row2(out, logical_indexed_name(*size), rd, &indexed_operand(offset, index, base))),
         }
-        Inst::CMov64 { rd, cond, ri, rm } => {
-            Some(conditional2(out, "locgr", *cond, &reused_operand(rd, ri), rm))
-        }
-        Inst::CMov32SImm16 { rd, cond, ri, imm } => {
-            Some(conditional2(out, "lochi", *cond, &reused_operand(rd, ri), imm))
-        }
-        Inst::CMov64SImm16 { rd, cond, ri, imm } => {
-            Some(conditional2(out, "locghi", *cond, &reused_operand(rd, ri), imm))
-        }
-        Inst::Extend {
-            rd,
-            rn,
-            signed,
-            from_bits,
-            to_bits,
-        } => Some(row2(out, extend_name(*signed, *from_bits, *to_bits), rd, rn)),
-        Inst::LoadAR { rd, ar } => Some(fixed2(out, "ear", rd, &AccessRegister(*ar))),
-        Inst::InsertAR { rd, ri, ar } => {
-            Some(fixed2(out, "ear", &reused_operand(rd, ri), &AccessRegister(*ar)))
-        }
-        Inst::LoadIndexedAddr {
-            rd,
-            base,
-            index,
-            offset,
-            size,
-        } => Some(row2(
-            out,
-            indexed_name(*size),
-            rd,
-            &indexed_operand(offset, index, base),
-        )),
-        Inst::LoadLogicalIndexedAddr {
-            rd,
-            base,
-            index,
-            offset,
-            size,
-        } => Some(row2(
-            out,
-            logical_indexed_name(*size),
-            rd,
-            &indexed_operand(offset, index, base),
-        )),
         _ => None,
     }
 }

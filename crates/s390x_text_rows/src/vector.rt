@@ -18,6 +18,7 @@ use crate::row::{
     fixed2, fixed3, lettered2, lettered3, lettered4, row2, row3, spelled2, spelled3, spelled4,
     text_result,
 };
+use crate::table::rows;
 use crate::vector_mnemonics::{
     vec_binary_name, vec_compare_name, vec_element_compare_name, vec_shift_name, vec_unary_name,
 };
@@ -228,76 +229,23 @@ pub fn put_vec_operator(out: &mut String, inst: &VecInst) -> Option<Result<(), T
     ensures { PrintsWhere result (string_bytes out.old) (string_bytes out.new)
         (vec_operator_text inst.now) }
 {
-    match inst {
-        VecInst::VecRRR { op, rd, rn, rm } => { Some(put_vec_binary(out, *op, rd, rn, rm)) }
-        VecInst::VecRR { op, rd, rn } => {
-            Some(text_result(lettered2(out, vec_unary_name(*op), rd, rn)))
+    rows! { inst,
+        VecInst {
+            VecRRR { op, rd, rn, rm } => Some(put_vec_binary(out, *op, rd, rn, rm)),
+            VecRR { op, rd, rn } => Some(text_result(lettered2(out, vec_unary_name(*op), rd, rn))),
+            VecShiftRR { shift_op, rd, rn, shift_imm, shift_reg } =>
+                Some(text_result(lettered3(out, vec_shift_name(*shift_op), rd, rn, &Amount { imm: *shift_imm, reg: *shift_reg }))),
+            VecSelect { rd, rn, rm, ra } => Some(text_result(spelled4(out, "vsel", rd, rn, rm, ra))),
+            VecPermute { rd, rn, rm, ra } => Some(text_result(spelled4(out, "vperm", rd, rn, rm, ra))),
+            VecBlend { rd, rn, rm, ra } => Some(text_result(spelled4(out, "vblend", rd, rn, rm, ra))),
+            VecEvaluate { imm, rd, rn, rm, ra } => Some(text_result(put_evaluate(out, rd.to_reg(), *rn, *rm, *ra, *imm))),
+            VecPermuteDWImm { rd, rn, rm, idx1, idx2 } => Some(put_doublewords(out, rd.to_reg(), *rn, *rm, *idx1, *idx2)),
+            VecIntCmp { op, rd, rn, rm } => Some(text_result(lettered3(out, vec_compare_name(*op), rd, rn, rm))),
+            VecIntCmpS { op, rd, rn, rm } => Some(text_result(put_compare_set(out, *op, rd.to_reg(), *rn, *rm))),
+            VecIntEltCmp { op, rn, rm } => Some(text_result(lettered2(out, vec_element_compare_name(*op), rn, rm))),
+            VecInt128SCmpHi { tmp, rn, rm } => Some(text_result(put_wide_compare(out, "vecg", tmp.to_reg(), *rn, *rm))),
+            VecInt128UCmpHi { tmp, rn, rm } => Some(text_result(put_wide_compare(out, "veclg", tmp.to_reg(), *rn, *rm))),
         }
-        VecInst::VecShiftRR {
-            shift_op,
-            rd,
-            rn,
-            shift_imm,
-            shift_reg,
-        } => Some(text_result(lettered3(
-            out,
-            vec_shift_name(*shift_op),
-            rd,
-            rn,
-            &Amount {
-                imm: *shift_imm,
-                reg: *shift_reg,
-            },
-        ))),
-        VecInst::VecSelect { rd, rn, rm, ra } => {
-            Some(text_result(spelled4(out, "vsel", rd, rn, rm, ra)))
-        }
-        VecInst::VecPermute { rd, rn, rm, ra } => {
-            Some(text_result(spelled4(out, "vperm", rd, rn, rm, ra)))
-        }
-        VecInst::VecBlend { rd, rn, rm, ra } => {
-            Some(text_result(spelled4(out, "vblend", rd, rn, rm, ra)))
-        }
-        VecInst::VecEvaluate {
-            imm,
-            rd,
-            rn,
-            rm,
-            ra,
-        } => Some(text_result(put_evaluate(out, rd.to_reg(), *rn, *rm, *ra, *imm))),
-        VecInst::VecPermuteDWImm {
-            rd,
-            rn,
-            rm,
-            idx1,
-            idx2,
-        } => Some(put_doublewords(out, rd.to_reg(), *rn, *rm, *idx1, *idx2)),
-        VecInst::VecIntCmp { op, rd, rn, rm } => {
-            Some(text_result(lettered3(out, vec_compare_name(*op), rd, rn, rm)))
-        }
-        VecInst::VecIntCmpS { op, rd, rn, rm } => {
-            Some(text_result(put_compare_set(out, *op, rd.to_reg(), *rn, *rm)))
-        }
-        VecInst::VecIntEltCmp { op, rn, rm } => Some(text_result(lettered2(
-            out,
-            vec_element_compare_name(*op),
-            rn,
-            rm,
-        ))),
-        VecInst::VecInt128SCmpHi { tmp, rn, rm } => Some(text_result(put_wide_compare(
-            out,
-            "vecg",
-            tmp.to_reg(),
-            *rn,
-            *rm,
-        ))),
-        VecInst::VecInt128UCmpHi { tmp, rn, rm } => Some(text_result(put_wide_compare(
-            out,
-            "veclg",
-            tmp.to_reg(),
-            *rn,
-            *rm,
-        ))),
         _ => None,
     }
 }
@@ -373,51 +321,21 @@ pub fn put_vec_move(out: &mut String, inst: &VecInst) -> Option<Result<(), TextE
     ensures { PrintsWhere result (string_bytes out.old) (string_bytes out.new)
         (vec_move_text inst.now) }
 {
-    match inst {
-        VecInst::VecMov { rd, rn } => Some(fixed2(out, "vlr", rd, rn)),
-        VecInst::FpuMove32 { rd, rn } => {
-            Some(text_result(put_float_move(out, "ler", &rd.to_reg(), rn)))
+    rows! { inst,
+        VecInst {
+            VecMov { rd, rn } => Some(fixed2(out, "vlr", rd, rn)),
+            FpuMove32 { rd, rn } => Some(text_result(put_float_move(out, "ler", &rd.to_reg(), rn))),
+            FpuMove64 { rd, rn } => Some(text_result(put_float_move(out, "ldr", &rd.to_reg(), rn))),
+            FpuCMov32 { rd, cond, rm, .. } => Some(text_result(put_float_cmov(out, "ler", &rd.to_reg(), *cond, rm))),
+            FpuCMov64 { rd, cond, rm, .. } => Some(text_result(put_float_cmov(out, "ldr", &rd.to_reg(), *cond, rm))),
+            VecCMov { rd, cond, ri, rm } => Some(text_result(put_vec_cmov(out, &reused_operand(rd, ri), *cond, *rm))),
+            MovToVec128 { rd, rn, rm } => Some(fixed3(out, "vlvgp", rd, rn, rm)),
+            VecImmByteMask { rd, mask } => Some(fixed2(out, "vgbm", rd, mask)),
+            VecImmBitMask { size, rd, start_bit, end_bit } =>
+                Some(row3(out, mask_name(*size, *start_bit, *end_bit), rd, start_bit, end_bit)),
+            VecImmReplicate { size, rd, imm } =>
+                Some(row2(out, lane_name("vrepib", "vrepih", "vrepif", "vrepig", *size, 0), rd, imm)),
         }
-        VecInst::FpuMove64 { rd, rn } => {
-            Some(text_result(put_float_move(out, "ldr", &rd.to_reg(), rn)))
-        }
-        VecInst::FpuCMov32 { rd, cond, rm, .. } => Some(text_result(put_float_cmov(
-            out,
-            "ler",
-            &rd.to_reg(),
-            *cond,
-            rm,
-        ))),
-        VecInst::FpuCMov64 { rd, cond, rm, .. } => Some(text_result(put_float_cmov(
-            out,
-            "ldr",
-            &rd.to_reg(),
-            *cond,
-            rm,
-        ))),
-        VecInst::VecCMov { rd, cond, ri, rm } => {
-            Some(text_result(put_vec_cmov(out, &reused_operand(rd, ri), *cond, *rm)))
-        }
-        VecInst::MovToVec128 { rd, rn, rm } => Some(fixed3(out, "vlvgp", rd, rn, rm)),
-        VecInst::VecImmByteMask { rd, mask } => Some(fixed2(out, "vgbm", rd, mask)),
-        VecInst::VecImmBitMask {
-            size,
-            rd,
-            start_bit,
-            end_bit,
-        } => Some(row3(
-            out,
-            mask_name(*size, *start_bit, *end_bit),
-            rd,
-            start_bit,
-            end_bit,
-        )),
-        VecInst::VecImmReplicate { size, rd, imm } => Some(row2(
-            out,
-            lane_name("vrepib", "vrepih", "vrepif", "vrepig", *size, 0),
-            rd,
-            imm,
-        )),
         _ => None,
     }
 }
@@ -536,74 +454,22 @@ pub fn put_vec_lane(out: &mut String, inst: &VecInst) -> Option<Result<(), TextE
     ensures { PrintsWhere result (string_bytes out.old) (string_bytes out.new)
         (vec_lane_text inst.now) }
 {
-    match inst {
-        VecInst::VecInsertLane {
-            size,
-            rd,
-            ri,
-            rn,
-            lane_imm,
-            lane_reg,
-        } => Some(row3(
-            out,
-            lane_name("vlvgb", "vlvgh", "vlvgf", "vlvgg", *size, *lane_imm),
-            &reused_operand(rd, ri),
-            rn,
-            &amount(lane_imm, lane_reg),
-        )),
-        VecInst::VecInsertLaneUndef {
-            size,
-            rd,
-            rn,
-            lane_imm,
-            lane_reg,
-        } => Some(put_insert_lane(out, *size, rd.to_reg(), *rn, &amount(lane_imm, lane_reg))),
-        VecInst::VecExtractLane {
-            size,
-            rd,
-            rn,
-            lane_imm,
-            lane_reg,
-        } => Some(put_extract_lane(out, *size, rd.to_reg(), *rn, &amount(lane_imm, lane_reg))),
-        VecInst::VecInsertLaneImm {
-            size,
-            rd,
-            ri,
-            imm,
-            lane_imm,
-        } => Some(row3(
-            out,
-            lane_name("vleib", "vleih", "vleif", "vleig", *size, *lane_imm),
-            &reused_operand(rd, ri),
-            imm,
-            lane_imm,
-        )),
-        VecInst::VecInsertLaneImmUndef {
-            size,
-            rd,
-            imm,
-            lane_imm,
-        } => Some(row3(
-            out,
-            lane_name("vleib", "vleih", "vleif", "vleig", *size, *lane_imm),
-            rd,
-            imm,
-            lane_imm,
-        )),
-        VecInst::VecReplicateLane {
-            size,
-            rd,
-            rn,
-            lane_imm,
-        } => Some(row3(
-            out,
-            lane_name("vrepb", "vreph", "vrepf", "vrepg", *size, *lane_imm),
-            rd,
-            rn,
-            lane_imm,
-        )),
-        VecInst::VecEltRev { lane_count, rd, rn } => {
-            Some(put_reverse(out, rd.to_reg(), *rn, *lane_count))
+    rows! { inst,
+        VecInst {
+            VecInsertLane { size, rd, ri, rn, lane_imm, lane_reg } =>
+                Some(row3(out, lane_name("vlvgb", "vlvgh", "vlvgf", "vlvgg", *size, *lane_imm), &reused_operand(rd, ri), rn,
+                    &amount(lane_imm, lane_reg))),
+            VecInsertLaneUndef { size, rd, rn, lane_imm, lane_reg } =>
+                Some(put_insert_lane(out, *size, rd.to_reg(), *rn, &amount(lane_imm, lane_reg))),
+            VecExtractLane { size, rd, rn, lane_imm, lane_reg } =>
+                Some(put_extract_lane(out, *size, rd.to_reg(), *rn, &amount(lane_imm, lane_reg))),
+            VecInsertLaneImm { size, rd, ri, imm, lane_imm } =>
+                Some(row3(out, lane_name("vleib", "vleih", "vleif", "vleig", *size, *lane_imm), &reused_operand(rd, ri), imm, lane_imm)),
+            VecInsertLaneImmUndef { size, rd, imm, lane_imm } =>
+                Some(row3(out, lane_name("vleib", "vleih", "vleif", "vleig", *size, *lane_imm), rd, imm, lane_imm)),
+            VecReplicateLane { size, rd, rn, lane_imm } =>
+                Some(row3(out, lane_name("vrepb", "vreph", "vrepf", "vrepg", *size, *lane_imm), rd, rn, lane_imm)),
+            VecEltRev { lane_count, rd, rn } => Some(put_reverse(out, rd.to_reg(), *rn, *lane_count)),
         }
         _ => None,
     }
