@@ -10,7 +10,6 @@ mod moves;
 mod opcode;
 mod registers;
 mod single_instruction;
-mod table;
 mod trapping;
 
 pub use arithmetic::encode_rrr;

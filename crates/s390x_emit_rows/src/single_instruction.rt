@@ -24,7 +24,6 @@ use crate::moves::{
     load_half, load_part, logical_indexed_opcode, set_doubleword, set_short_doubleword,
     set_short_word, set_word,
 };
-use crate::table::rows;
 use crate::trapping::{
     compare_opcode as trap_opcode, compare_signed_opcode as trap_signed_opcode,
     compare_unsigned_opcode as trap_unsigned_opcode, encode_masked, encode_masked_ri,
@@ -32,7 +31,7 @@ use crate::trapping::{
 };
 use s390x_base::{Code, EmitError, Reg};
 use s390x_emit_vec::encode_vector;
-use s390x_inst::Inst;
+use s390x_inst::{Inst, rows};
 use s390x_rows::opcodes;
 use s390x_typed_steps::{
     bits_of_halfword, bits_of_unsigned, bits_of_unsigned_halfword, bits_of_word,

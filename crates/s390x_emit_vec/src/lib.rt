@@ -7,7 +7,6 @@ mod lanes;
 mod memory;
 mod opcodes;
 mod single_vector;
-mod table;
 
 pub use codes::{
     compared_vectors, shifted_vector, three_vectors, two_vectors, vector as real_vector,

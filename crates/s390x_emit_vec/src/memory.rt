@@ -11,10 +11,9 @@ ghost use Rattle.s390x_emit_vec.specs.Memory.{lane_opcode};
 
 use crate::codes::{number, reuses};
 use crate::lanes::{element_code, is_lane};
-use crate::table::rows;
 use s390x_address::{MemoryInst, StorageRows, vector};
 use s390x_base::Reg;
-use s390x_inst::{Direction, MemArg, VecInst, WholeAccess};
+use s390x_inst::{Direction, MemArg, VecInst, WholeAccess, rows};
 use s390x_rows::opcodes;
 use s390x_typed_steps::{WholeRows, rows_of_layout};
 

@@ -17,9 +17,8 @@ use crate::lanes::{
 use crate::opcodes::{
     binary_row, comparison_row, element_comparison_row, is_division, shift_row, unary_row,
 };
-use crate::table::rows;
 use s390x_base::{Code, EmitError, Reg, TrapCode};
-use s390x_inst::VecInst;
+use s390x_inst::{VecInst, rows};
 use s390x_rows::opcodes;
 use s390x_typed_steps::{VectorOpcode, bits_of_halfword, bits_of_unsigned_halfword, low_byte};
 

@@ -15,9 +15,8 @@ use crate::mnemonics::{
 use crate::operand::{Amount, Operand, Reused, ReusedLow, ReusedPair, RotatedBits};
 use crate::regs::pair_refusal;
 use crate::row::{fixed2, fixed3, row2, row3, spelled2, spelled3, three};
-use crate::table::rows;
 use s390x_base::{Reg, RegPair, Writable, WritableRegPair};
-use s390x_inst::{ALUOp, Inst, UnaryOp};
+use s390x_inst::{ALUOp, Inst, UnaryOp, rows};
 use s390x_typed_steps::{row_of_part, rows_of_alu};
 
 // On a part of 16 bits.

@@ -9,8 +9,7 @@ use crate::mnemonics::{
     cmp_trap_unsigned_name, cmp_two_name, cmp_unsigned_word_name,
 };
 use crate::row::{conditional_row2, row2};
-use crate::table::rows;
-use s390x_inst::Inst;
+use s390x_inst::{Inst, rows};
 
 /// Appends the text of a comparison of registers and immediates; None for another instruction.
 pub fn put_compare(out: &mut String, inst: &Inst) -> Option<Result<(), TextError>>

@@ -16,7 +16,6 @@ mod regs;
 mod row;
 mod simple;
 mod storage;
-mod table;
 mod vector;
 mod vector_memory;
 mod vector_mnemonics;

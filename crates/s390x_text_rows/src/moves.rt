@@ -9,9 +9,8 @@ use crate::error::TextError;
 use crate::mnemonics::stem_where;
 use crate::operand::{AccessRegister, Indexed};
 use crate::row::{conditional2, fixed2, row2};
-use crate::table::rows;
 use s390x_base::{Reg, SImm20};
-use s390x_inst::Inst;
+use s390x_inst::{Inst, rows};
 use s390x_typed_steps::{
     INSERT_HALVES, INSERT_PARTS, LOAD_HALVES, LOAD_PARTS, row_of_extension, row_of_index,
     row_of_logical_index, row_of_part,

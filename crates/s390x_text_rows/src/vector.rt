@@ -18,13 +18,12 @@ use crate::row::{
     fixed2, fixed3, lettered2, lettered3, lettered4, row2, row3, spelled2, spelled3, spelled4,
     text_result,
 };
-use crate::table::rows;
 use crate::vector_mnemonics::{
     vec_binary_name, vec_compare_name, vec_element_compare_name, vec_shift_name, vec_unary_name,
 };
 use s390x_base::{Cond, Reg, Writable};
 use s390x_format::stem;
-use s390x_inst::{VecBinaryOp, VecInst, VecIntCmpOp};
+use s390x_inst::{VecBinaryOp, VecInst, VecIntCmpOp, rows};
 use std::alloc::AllocError;
 
 /// By the width of a lane in bits: 8, 16, 32 or 64; None for another width, or where the lane's number isn't below the count of lanes.
