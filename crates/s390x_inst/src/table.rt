@@ -189,12 +189,12 @@ macro_rules! vector_table {
     };
 }
 
-/// What is made of an instruction, by a table: for each a line with its fields and what is made of it; then the arms of the others.
+/// What is made of an instruction, by a table: for each, or for several of one kind, a line with its fields and what is made of it; then the arms of the others.
 #[macro_export]
 macro_rules! rows {
-    ($inst:expr, $kind:ident { $($name:ident $fields:tt => $row:expr,)* } $($rest:tt)*) => {
+    ($inst:expr, $kind:ident { $($($name:ident $fields:tt)|+ => $row:expr,)* } $($rest:tt)*) => {
         match $inst {
-            $($kind::$name $fields => $row,)*
+            $($($kind::$name $fields)|+ => $row,)*
             $($rest)*
         }
     };

@@ -9,7 +9,7 @@ use crate::report::{
 };
 use crate::visitor::OperandVisitor;
 use s390x_base::Writable;
-use s390x_inst::{Direction, VecInst, WholeAccess};
+use s390x_inst::{Direction, VecInst, WholeAccess, rows};
 
 // Reports the operands of a load or a store of a whole register.
 fn report_whole<V: OperandVisitor>(
@@ -82,27 +82,16 @@ fn report_register_vector<V: OperandVisitor>(
     ensures { Reports denied (register_vector_requests inst.now) (V.items v.old) (V.items v.new)
         (V.denies v.old) (V.denies v.new) result }
 {
-    match inst {
-        VecInst::VecRRR { rd, rn, rm, .. }
-        | VecInst::VecPermuteDWImm { rd, rn, rm, .. }
-        | VecInst::VecIntCmp { rd, rn, rm, .. }
-        | VecInst::VecIntCmpS { rd, rn, rm, .. } => { report_output(v, denied, rd, &[*rn, *rm]) }
-        VecInst::VecRR { rd, rn, .. } => report_output(v, denied, rd, &[*rn]),
-        VecInst::VecShiftRR {
-            rd,
-            rn,
-            shift_reg,
-            ..
-        } => { report_output(v, denied, rd, &[*rn, *shift_reg]) }
-        VecInst::VecSelect { rd, rn, rm, ra }
-        | VecInst::VecPermute { rd, rn, rm, ra }
-        | VecInst::VecBlend { rd, rn, rm, ra }
-        | VecInst::VecEvaluate { rd, rn, rm, ra, .. } => {
-            report_output(v, denied, rd, &[*rn, *rm, *ra])
-        }
-        VecInst::VecIntEltCmp { rn, rm, .. } => { report_uses(v, denied, &[*rn, *rm]) }
-        VecInst::VecInt128SCmpHi { tmp, rn, rm } | VecInst::VecInt128UCmpHi { tmp, rn, rm } => {
-            report_output(v, denied, tmp, &[*rn, *rm])
+    rows! { inst,
+        VecInst {
+            VecRRR { rd, rn, rm, .. } | VecPermuteDWImm { rd, rn, rm, .. } | VecIntCmp { rd, rn, rm, .. }
+            | VecIntCmpS { rd, rn, rm, .. } => report_output(v, denied, rd, &[*rn, *rm]),
+            VecRR { rd, rn, .. } => report_output(v, denied, rd, &[*rn]),
+            VecShiftRR { rd, rn, shift_reg, .. } => report_output(v, denied, rd, &[*rn, *shift_reg]),
+            VecSelect { rd, rn, rm, ra } | VecPermute { rd, rn, rm, ra } | VecBlend { rd, rn, rm, ra }
+            | VecEvaluate { rd, rn, rm, ra, .. } => report_output(v, denied, rd, &[*rn, *rm, *ra]),
+            VecIntEltCmp { rn, rm, .. } => report_uses(v, denied, &[*rn, *rm]),
+            VecInt128SCmpHi { tmp, rn, rm } | VecInt128UCmpHi { tmp, rn, rm } => report_output(v, denied, tmp, &[*rn, *rm]),
         }
         _ => report_vector_move(v, denied, inst),
     }
@@ -117,40 +106,20 @@ fn report_vector_move<V: OperandVisitor>(
     ensures { Reports denied (vector_move_requests inst.now) (V.items v.old) (V.items v.new)
         (V.denies v.old) (V.denies v.new) result }
 {
-    match inst {
-        VecInst::VecMov { rd, rn }
-        | VecInst::FpuMove32 { rd, rn }
-        | VecInst::FpuMove64 { rd, rn }
-        | VecInst::VecReplicateLane { rd, rn, .. }
-        | VecInst::VecEltRev { rd, rn, .. } => { report_output(v, denied, rd, &[*rn]) }
-        VecInst::MovToVec128 { rd, rn, rm } => report_output(v, denied, rd, &[*rn, *rm]),
-        VecInst::FpuCMov32 { rd, ri, rm, .. }
-        | VecInst::FpuCMov64 { rd, ri, rm, .. }
-        | VecInst::VecCMov { rd, ri, rm, .. } => { report_reused(v, denied, rd, &[*ri, *rm]) }
-        VecInst::VecImmByteMask { rd, .. }
-        | VecInst::VecImmBitMask { rd, .. }
-        | VecInst::VecImmReplicate { rd, .. }
-        | VecInst::VecInsertLaneImmUndef { rd, .. } => { report_output(v, denied, rd, &[]) }
-        VecInst::VecInsertLane {
-            rd,
-            ri,
-            rn,
-            lane_reg,
-            ..
-        } => { report_reused(v, denied, rd, &[*ri, *rn, *lane_reg]) }
-        VecInst::VecInsertLaneUndef {
-            rd,
-            rn,
-            lane_reg,
-            ..
+    rows! { inst,
+        VecInst {
+            VecMov { rd, rn } | FpuMove32 { rd, rn } | FpuMove64 { rd, rn } | VecReplicateLane { rd, rn, .. }
+            | VecEltRev { rd, rn, .. } => report_output(v, denied, rd, &[*rn]),
+            MovToVec128 { rd, rn, rm } => report_output(v, denied, rd, &[*rn, *rm]),
+            FpuCMov32 { rd, ri, rm, .. } | FpuCMov64 { rd, ri, rm, .. } | VecCMov { rd, ri, rm, .. } =>
+                report_reused(v, denied, rd, &[*ri, *rm]),
+            VecImmByteMask { rd, .. } | VecImmBitMask { rd, .. } | VecImmReplicate { rd, .. } | VecInsertLaneImmUndef { rd, .. } =>
+                report_output(v, denied, rd, &[]),
+            VecInsertLane { rd, ri, rn, lane_reg, .. } => report_reused(v, denied, rd, &[*ri, *rn, *lane_reg]),
+            VecInsertLaneUndef { rd, rn, lane_reg, .. } | VecExtractLane { rd, rn, lane_reg, .. } =>
+                report_output(v, denied, rd, &[*rn, *lane_reg]),
+            VecInsertLaneImm { rd, ri, .. } => report_reused(v, denied, rd, &[*ri]),
         }
-        | VecInst::VecExtractLane {
-            rd,
-            rn,
-            lane_reg,
-            ..
-        } => { report_output(v, denied, rd, &[*rn, *lane_reg]) }
-        VecInst::VecInsertLaneImm { rd, ri, .. } => { report_reused(v, denied, rd, &[*ri]) }
         _ => report_nothing(v, denied),
     }
 }
