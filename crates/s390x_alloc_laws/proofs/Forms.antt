@@ -120,22 +120,22 @@ kept P L (I.Mov32 rd rm) s m g h =
     (λ rd rm changed f. does L changed (computes Kept (on_words Move) (number_of rd) (number_of rd) (number_of rm)) no_code (λ r. f)) rd rm (reported_use rm ∷ []) s m.0 g h
 kept P L (I.Mov32Imm rd imm) s m g h =
     kept1 P L reported_def defined_output is_general general_target general_written (λ rd. I.Mov32Imm rd imm) (λ rd. word_row (Some opcodes.IILF) (number_of rd) (low_word (pos imm))) (λ rd. refl)
-    (λ rd changed f. does L changed (computes_immediate Kept (on_words Move) (number_of rd) (number_of rd) (low_word (pos imm))) no_code (λ r. f)) rd [] s m g h
+    (λ rd changed f. does L changed (computes_immediate Kept (on_words Move) (number_of rd) (number_of rd) (low_word (pos imm))) no_code (λ r. f)) rd [] s m.0 g h
 kept P L (I.Mov32SImm16 rd imm) s m g h =
     kept1 P L reported_def defined_output is_general general_target general_written (λ rd. I.Mov32SImm16 rd imm) (λ rd. halfword_row (Some opcodes.LHI) (number_of rd) (low_halfword imm)) (λ rd. refl)
-    (λ rd changed f. does L changed (computes_immediate Kept (on_immediate (on_words Move) signed_halfword) (number_of rd) (number_of rd) (low_halfword imm)) no_code (λ r. f)) rd [] s m g h
+    (λ rd changed f. does L changed (computes_immediate Kept (on_immediate (on_words Move) signed_halfword) (number_of rd) (number_of rd) (low_halfword imm)) no_code (λ r. f)) rd [] s m.0 g h
 kept P L (I.Mov64SImm16 rd imm) s m g h =
     kept1 P L reported_def defined_output is_general general_target general_written (λ rd. I.Mov64SImm16 rd imm) (λ rd. halfword_row (Some opcodes.LGHI) (number_of rd) (low_halfword imm)) (λ rd. refl)
-    (λ rd changed f. does L changed (computes_immediate Kept (on_immediate (on_doublewords Move) signed_halfword) (number_of rd) (number_of rd) (low_halfword imm)) no_code (λ r. f)) rd [] s m g h
+    (λ rd changed f. does L changed (computes_immediate Kept (on_immediate (on_doublewords Move) signed_halfword) (number_of rd) (number_of rd) (low_halfword imm)) no_code (λ r. f)) rd [] s m.0 g h
 kept P L (I.Mov64SImm32 rd imm) s m g h =
     kept1 P L reported_def defined_output is_general general_target general_written (λ rd. I.Mov64SImm32 rd imm) (λ rd. word_row (Some opcodes.LGFI) (number_of rd) (low_word imm)) (λ rd. refl)
-    (λ rd changed f. does L changed (computes_immediate Kept (on_immediate (on_doublewords Move) signed_word) (number_of rd) (number_of rd) (low_word imm)) no_code (λ r. f)) rd [] s m g h
+    (λ rd changed f. does L changed (computes_immediate Kept (on_immediate (on_doublewords Move) signed_word) (number_of rd) (number_of rd) (low_word imm)) no_code (λ r. f)) rd [] s m.0 g h
 kept P L (I.Mov64UImm16Shifted rd imm) s m g h =
     kept1 P L reported_def defined_output is_general general_target general_written (λ rd. I.Mov64UImm16Shifted rd imm) (λ rd. halfword_row (load_part imm.shift) (number_of rd) (low_halfword (pos imm.bits))) (λ rd. refl)
-    (λ rd changed f. does L changed (computes_immediate Kept (on_doublewords Move) (number_of rd) (number_of rd) (at_part imm.shift (low_halfword (pos imm.bits)))) no_code (λ r. f)) rd [] s m g h
+    (λ rd changed f. does L changed (computes_immediate Kept (on_doublewords Move) (number_of rd) (number_of rd) (at_part imm.shift (low_halfword (pos imm.bits)))) no_code (λ r. f)) rd [] s m.0 g h
 kept P L (I.Mov64UImm32Shifted rd imm) s m g h =
     kept1 P L reported_def defined_output is_general general_target general_written (λ rd. I.Mov64UImm32Shifted rd imm) (λ rd. word_row (load_half imm.shift) (number_of rd) (low_word (pos imm.bits))) (λ rd. refl)
-    (λ rd changed f. does L changed (computes_immediate Kept (on_doublewords Move) (number_of rd) (number_of rd) (at_half imm.shift (low_word (pos imm.bits)))) no_code (λ r. f)) rd [] s m g h
+    (λ rd changed f. does L changed (computes_immediate Kept (on_doublewords Move) (number_of rd) (number_of rd) (at_half imm.shift (low_word (pos imm.bits)))) no_code (λ r. f)) rd [] s m.0 g h
 kept P L (I.Insert64UImm16Shifted rd ri imm) s m g h =
     kept_reuse1 P L is_general general_target general_written (λ rd ri. I.Insert64UImm16Shifted rd ri imm) (λ rd ri. halfword_row (insert_part imm.shift) (number_of rd) (low_halfword (pos imm.bits))) (λ rd ri. refl)
     (λ rd ri changed f. does L changed (computes_immediate Kept (on_selected Select.Insert (part_mask imm.shift)) (number_of rd) (number_of rd) (at_part imm.shift (low_halfword (pos imm.bits)))) no_code (λ r. f)) rd ri (reported_use ri ∷ []) s m.0 g h
@@ -198,7 +198,7 @@ kept P L (I.CmpRUImm32 op rn imm) s m g h = does L _ (compares_immediate (compar
 kept P L (I.CmpTrapRR op rn rm mask code) s m g h = does L _ (compares_and_traps (comparison op) (number_of (register_at rn s)) (number_of (register_at rm (after rn s))) (four_bits mask)) (comparison_code code) (λ r q a. tt)
 kept P L (I.CmpTrapRSImm16 op rn imm mask code) s m g h = does L _ (compares_immediate_and_traps (comparison op) (number_of (register_at rn s)) (low_halfword imm) (four_bits mask)) (comparison_code code) (λ r q a. tt)
 kept P L (I.CmpTrapRUImm16 op rn imm mask code) s m g h = does L _ (compares_immediate_and_traps (comparison op) (number_of (register_at rn s)) (low_halfword (pos imm)) (four_bits mask)) (comparison_code code) (λ r q a. tt)
-kept P L (I.LoadAR rd ar) s m g h = kept1_and P L reported_def defined_output is_general general_target general_written (λ d. I.LoadAR d ar) (is_access ar) (λ d. two_row (Some opcodes.EAR) (number_of d) (four_bits ar)) (λ d. refl) (λ rd changed f. does L changed (copies_access (number_of rd) (four_bits ar)) no_code (λ r. f)) rd [] s m g h
+kept P L (I.LoadAR rd ar) s m g h = kept1_and P L reported_def defined_output is_general general_target general_written (λ d. I.LoadAR d ar) (is_access ar) (λ d. two_row (Some opcodes.EAR) (number_of d) (four_bits ar)) (λ d. refl) (λ rd changed f. does L changed (copies_access (number_of rd) (four_bits ar)) no_code (λ r. f)) rd [] s m.0 g h
 kept P L (I.InsertAR rd ri ar) s m g h =
     kept_reuse1_and P L is_general general_target general_written (λ d i. I.InsertAR d i ar) (is_access ar) (λ d i. two_row (Some opcodes.EAR) (number_of d) (four_bits ar)) (λ d i. refl)
     (λ rd ri changed f. does L changed (copies_access (number_of rd) (four_bits ar)) no_code (λ r. f)) rd ri (reported_use ri ∷ []) s m.0 g h
@@ -269,13 +269,13 @@ kept P L (I.Vector (V.MovToVec128 rd rn rm)) s m g h =
     (λ rd rn rm changed f. does L changed (joins_registers (number_of rd) (number_of rn) (number_of rm)) no_code (λ r. f)) rd rn rm (reported_use rn ∷ reported_use rm ∷ []) s m.0 g h
 kept P L (I.Vector (V.VecImmByteMask rd mask)) s m g h =
     kept1 P L reported_def defined_output is_vector vector_target vector_written (λ rd. I.Vector (V.VecImmByteMask rd mask)) (λ rd. vector_row (V.VecImmByteMask rd mask)) (λ rd. refl)
-    (λ rd changed f. does L changed (generates_vector (Lanes.ByteMask (low_halfword (pos mask))) (number_of rd)) no_code (λ r. f)) rd [] s m g h
+    (λ rd changed f. does L changed (generates_vector (Lanes.ByteMask (low_halfword (pos mask))) (number_of rd)) no_code (λ r. f)) rd [] s m.0 g h
 kept P L (I.Vector (V.VecImmBitMask size rd start end)) s m g h =
     kept1 P L reported_def defined_output is_vector vector_target vector_written (λ rd. I.Vector (V.VecImmBitMask size rd start end)) (λ rd. vector_row (V.VecImmBitMask size rd start end)) (λ rd. refl)
-    (λ rd changed f. does L changed (generates_vector (Lanes.BitMask (elements_of size) start end) (number_of rd)) no_code (λ r. f)) rd [] s m g h
+    (λ rd changed f. does L changed (generates_vector (Lanes.BitMask (elements_of size) start end) (number_of rd)) no_code (λ r. f)) rd [] s m.0 g h
 kept P L (I.Vector (V.VecImmReplicate size rd imm)) s m g h =
     kept1 P L reported_def defined_output is_vector vector_target vector_written (λ rd. I.Vector (V.VecImmReplicate size rd imm)) (λ rd. vector_row (V.VecImmReplicate size rd imm)) (λ rd. refl)
-    (λ rd changed f. does L changed (generates_vector (Lanes.ReplicateImmediate (elements_of size) (low_halfword imm)) (number_of rd)) no_code (λ r. f)) rd [] s m g h
+    (λ rd changed f. does L changed (generates_vector (Lanes.ReplicateImmediate (elements_of size) (low_halfword imm)) (number_of rd)) no_code (λ r. f)) rd [] s m.0 g h
 kept P L (I.Vector (V.VecInsertLaneUndef size rd rn lane base)) s m g h =
     kept3 P L reported_def defined_output is_vector vector_target vector_written (λ rd rn base. I.Vector (V.VecInsertLaneUndef size rd rn lane base)) is_general is_general (λ rd rn base. vector_row (V.VecInsertLaneUndef size rd rn lane base)) (λ rd rn base. refl)
     (λ rd rn base changed f. does L changed (inserts_lane_alone (elements_of size) (number_of rd) (number_of rn) (number_of base) lane) no_code (λ r. inserts_alone_written (elements_of size) (number_of rd) (number_of rn) (number_of base) lane r changed f)) rd rn base (reported_use rn ∷ reported_use base ∷ []) s m.0
@@ -285,7 +285,7 @@ kept P L (I.Vector (V.VecExtractLane size rd rn lane base)) s m g h =
     (λ rd rn base changed f. does L changed (extracts_lane (elements_of size) (number_of rd) (number_of rn) (number_of base) lane) no_code (λ r. extracts_written (elements_of size) (number_of rd) (number_of rn) (number_of base) lane r changed f)) rd rn base (reported_use rn ∷ reported_use base ∷ []) s m.0 g h
 kept P L (I.Vector (V.VecInsertLaneImmUndef size rd imm lane)) s m g h =
     kept1 P L reported_def defined_output is_vector vector_target vector_written (λ rd. I.Vector (V.VecInsertLaneImmUndef size rd imm lane)) (λ rd. vector_row (V.VecInsertLaneImmUndef size rd imm lane)) (λ rd. refl)
-    (λ rd changed f. does L changed (inserts_immediate_alone (elements_of size) (number_of rd) (low_halfword imm) lane) no_code (λ r. f)) rd [] s m g h
+    (λ rd changed f. does L changed (inserts_immediate_alone (elements_of size) (number_of rd) (low_halfword imm) lane) no_code (λ r. f)) rd [] s m.0 g h
 kept P L (I.Vector (V.VecReplicateLane size rd rn lane)) s m g h =
     kept2 P L reported_def defined_output is_vector vector_target vector_written (λ rd rn. I.Vector (V.VecReplicateLane size rd rn lane)) is_vector (λ rd rn. vector_row (V.VecReplicateLane size rd rn lane)) (λ rd rn. refl)
     (λ rd rn changed f. does L changed (computes_one_vector (Lanes.Replicate (elements_of size) lane) (number_of rd) (number_of rn)) no_code (λ r. f)) rd rn (reported_use rn ∷ []) s m.0 g h
@@ -327,8 +327,8 @@ kept P L (I.AtomicRmw op rd rn mem) s m g h =
     (λ d n x changed f free. accessed L changed (operand_step (I.AtomicRmw op d n (resolved_operand P.state x))) (λ address r. f) free) rd rn mem s m.0 g h
 kept P L (I.IndirectBr rn targets) s m g h = (branch_keeps L _ (number_of (register_at rn s)) targets.items, nothing L _)
 kept P L (I.JTSequence ridx other mask targets) s m g h = (table_keeps L _ (number_of (register_at ridx s)) mask other.0 targets.items (behind_one ridx (scratch_request ∷ []) s g scratch_target (λ k. scratch_listed [] (after ridx s))), nothing L _)
-kept P L (I.LoadSymbolReloc rd reloc) s m g h = relocation_kept P L rd reloc s m g h
-kept P L (I.LabelAddress dst label) s m g h = label_kept P L dst label s m g h
+kept P L (I.LoadSymbolReloc rd reloc) s m g h = relocation_kept P L rd reloc s m.0 g h
+kept P L (I.LabelAddress dst label) s m g h = label_kept P L dst label s m.0 g h
 kept P L (I.Args args) s m g h = (silence L _, nothing L _)
 kept P L (I.Rets rets) s m g h = (silence L _, nothing L _)
 kept P L (I.Vector (V.VecInsertLane size rd ri rn lane base)) s m g h =
