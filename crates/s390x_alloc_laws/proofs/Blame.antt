@@ -73,8 +73,8 @@ whole_blames P Store layout rd mem s s' m g h = vector_access P reported_use use
 pub blames : (P : Place) (i : Inst) (s s' : List Reg) → MayStand i → Gives s s' s s' (items_of (leaf_requests i)) → portion_refusal P (portion_at (first_portion i) s').0 ≡ None → IsNotBlamed (portion_refusal P (portion_at (first_portion i) s).0)
 blames P (I.LoadIndexedAddr rd base index offset size) s s' m g h = general3 P reported_def defined_given (λ rd base index. I.LoadIndexedAddr rd base index offset size) (λ rd base index. indexed_row (indexed_opcode size) (number_of rd) (number_of base) (number_of index) (low_displacement offset)) (λ rd base index. refl) rd base index s s' g h
 blames P (I.LoadLogicalIndexedAddr rd base index offset size) s s' m g h = general3 P reported_def defined_given (λ rd base index. I.LoadLogicalIndexedAddr rd base index offset size) (λ rd base index. indexed_row (logical_indexed_opcode size) (number_of rd) (number_of base) (number_of index) (low_displacement offset)) (λ rd base index. refl) rd base index s s' g h
-blames P (I.Mov64 rd rm) s s' m g h = general2 P reported_def defined_given (λ rd rm. I.Mov64 rd rm) (λ rd rm. two_row (Some opcodes.LGR) (number_of rd) (number_of rm)) (λ rd rm. refl) rd rm s s' g h
-blames P (I.Mov32 rd rm) s s' m g h = general2 P reported_def defined_given (λ rd rm. I.Mov32 rd rm) (λ rd rm. two_row (Some opcodes.LR) (number_of rd) (number_of rm)) (λ rd rm. refl) rd rm s s' g h
+blames P (I.Mov64 rd rm) s s' m g h = general2 P reported_def defined_given I.Mov64 (λ rd rm. two_row (Some opcodes.LGR) (number_of rd) (number_of rm)) (λ rd rm. refl) rd rm s s' g h
+blames P (I.Mov32 rd rm) s s' m g h = general2 P reported_def defined_given I.Mov32 (λ rd rm. two_row (Some opcodes.LR) (number_of rd) (number_of rm)) (λ rd rm. refl) rd rm s s' g h
 blames P (I.Mov32Imm rd imm) s s' m g h = general1 P reported_def defined_given (λ rd. I.Mov32Imm rd imm) (λ rd. word_row (Some opcodes.IILF) (number_of rd) (low_word (pos imm))) (λ rd. refl) rd s s' g h
 blames P (I.Mov32SImm16 rd imm) s s' m g h = general1 P reported_def defined_given (λ rd. I.Mov32SImm16 rd imm) (λ rd. halfword_row (Some opcodes.LHI) (number_of rd) (low_halfword imm)) (λ rd. refl) rd s s' g h
 blames P (I.Mov64SImm16 rd imm) s s' m g h = general1 P reported_def defined_given (λ rd. I.Mov64SImm16 rd imm) (λ rd. halfword_row (Some opcodes.LGHI) (number_of rd) (low_halfword imm)) (λ rd. refl) rd s s' g h
@@ -88,9 +88,9 @@ blames P (I.CMov64 rd mask ri rm) s s' m g h = reuse2 P (λ rd ri rm. I.CMov64 r
 blames P (I.CMov32SImm16 rd mask ri imm) s s' m g h = reuse1 P (λ rd ri. I.CMov32SImm16 rd mask ri imm) (λ rd ri. Some (rie_g opcodes.LOCHI (number_of rd) (low_halfword imm) (four_bits mask))) (λ rd ri. refl) rd ri s s' m.0 m.1.0 g h
 blames P (I.CMov64SImm16 rd mask ri imm) s s' m g h = reuse1 P (λ rd ri. I.CMov64SImm16 rd mask ri imm) (λ rd ri. Some (rie_g opcodes.LOCGHI (number_of rd) (low_halfword imm) (four_bits mask))) (λ rd ri. refl) rd ri s s' m.0 m.1.0 g h
 blames P (I.Extend rd rn signed from to) s s' m g h = general2 P reported_def defined_given (λ rd rn. I.Extend rd rn signed from to) (λ rd rn. two_row (extend_two signed from to) (number_of rd) (number_of rn)) (λ rd rn. refl) rd rn s s' g h
-blames P (I.AluRRR op rd rn rm) s s' m g h = general3 P reported_def defined_given (λ rd rn rm. I.AluRRR op rd rn rm) (λ rd rn rm. three_row (alu_three op) (alu_two op) (number_of rd) (number_of rn) (number_of rm)) (λ rd rn rm. refl) rd rn rm s s' g h
+blames P (I.AluRRR op rd rn rm) s s' m g h = general3 P reported_def defined_given (I.AluRRR op) (λ rd rn rm. three_row (alu_three op) (alu_two op) (number_of rd) (number_of rn) (number_of rm)) (λ rd rn rm. refl) rd rn rm s s' g h
 blames P (I.AluRRSImm16 op rd rn imm) s s' m g h = general2 P reported_def defined_given (λ rd rn. I.AluRRSImm16 op rd rn imm) (λ rd rn. three_halfword_row (alu_three_halfword op) (alu_halfword op) (number_of rd) (number_of rn) (low_halfword imm)) (λ rd rn. refl) rd rn s s' g h
-blames P (I.AluRR op rd ri rm) s s' m g h = reuse2 P (λ rd ri rm. I.AluRR op rd ri rm) (λ rd ri rm. two_row (alu_two op) (number_of rd) (number_of rm)) (λ rd ri rm. refl) rd ri rm s s' m.0 m.1.0 g h
+blames P (I.AluRR op rd ri rm) s s' m g h = reuse2 P (I.AluRR op) (λ rd ri rm. two_row (alu_two op) (number_of rd) (number_of rm)) (λ rd ri rm. refl) rd ri rm s s' m.0 m.1.0 g h
 blames P (I.AluRSImm16 op rd ri imm) s s' m g h = reuse1 P (λ rd ri. I.AluRSImm16 op rd ri imm) (λ rd ri. halfword_row (alu_halfword op) (number_of rd) (low_halfword imm)) (λ rd ri. refl) rd ri s s' m.0 m.1.0 g h
 blames P (I.AluRSImm32 op rd ri imm) s s' m g h = reuse1 P (λ rd ri. I.AluRSImm32 op rd ri imm) (λ rd ri. word_row (alu_signed_word op) (number_of rd) (low_word imm)) (λ rd ri. refl) rd ri s s' m.0 m.1.0 g h
 blames P (I.AluRUImm32 op rd ri imm) s s' m g h = reuse1 P (λ rd ri. I.AluRUImm32 op rd ri imm) (λ rd ri. word_row (alu_unsigned_word op) (number_of rd) (low_word (pos imm))) (λ rd ri. refl) rd ri s s' m.0 m.1.0 g h
@@ -99,8 +99,8 @@ blames P (I.AluRUImm32Shifted op rd ri imm) s s' m g h = reuse1 P (λ rd ri. I.A
 blames P (I.ShiftRR op rd rn amount register) s s' m g h = general3 P reported_def defined_given (λ rd rn register. I.ShiftRR op rd rn amount register) (λ rd rn register. Some (rsy (shift_opcode op) (number_of rd) (number_of rn) (number_of register) (low_byte amount))) (λ rd rn register. refl) rd rn register s s' g h
 blames P (I.RxSBG op rd ri rn start end amount) s s' m g h = reuse2 P (λ rd ri rn. I.RxSBG op rd ri rn start end amount) (λ rd ri rn. rotated_row (Some (rotate_then op)) (number_of rd) (number_of rn) start end start (rotation amount)) (λ rd ri rn. refl) rd ri rn s s' m.0 m.1.0 g h
 blames P (I.RxSBGTest op rd rn start end amount) s s' m g h = general2 P reported_use used_given (λ rd rn. I.RxSBGTest op rd rn start end amount) (λ rd rn. rotated_row (rotate_then_test op) (number_of rd) (number_of rn) start end (start + 128) (rotation amount)) (λ rd rn. refl) rd rn s s' g h
-blames P (I.UnaryRR op rd rn) s s' m g h = general2 P reported_def defined_given (λ rd rn. I.UnaryRR op rd rn) (λ rd rn. unary_row op (number_of rd) (number_of rn)) (λ rd rn. refl) rd rn s s' g h
-blames P (I.CmpRR op rn rm) s s' m g h = general2 P reported_use used_given (λ rn rm. I.CmpRR op rn rm) (λ rn rm. two_row (cmp_two op) (number_of rn) (number_of rm)) (λ rn rm. refl) rn rm s s' g h
+blames P (I.UnaryRR op rd rn) s s' m g h = general2 P reported_def defined_given (I.UnaryRR op) (λ rd rn. unary_row op (number_of rd) (number_of rn)) (λ rd rn. refl) rd rn s s' g h
+blames P (I.CmpRR op rn rm) s s' m g h = general2 P reported_use used_given (I.CmpRR op) (λ rn rm. two_row (cmp_two op) (number_of rn) (number_of rm)) (λ rn rm. refl) rn rm s s' g h
 blames P (I.CmpRSImm16 op rn imm) s s' m g h = general1 P reported_use used_given (λ rn. I.CmpRSImm16 op rn imm) (λ rn. halfword_row (cmp_halfword op) (number_of rn) (low_halfword imm)) (λ rn. refl) rn s s' g h
 blames P (I.CmpRSImm32 op rn imm) s s' m g h = general1 P reported_use used_given (λ rn. I.CmpRSImm32 op rn imm) (λ rn. word_row (cmp_signed_word op) (number_of rn) (low_word imm)) (λ rn. refl) rn s s' g h
 blames P (I.CmpRUImm32 op rn imm) s s' m g h = general1 P reported_use used_given (λ rn. I.CmpRUImm32 op rn imm) (λ rn. word_row (cmp_unsigned_word op) (number_of rn) (low_word (pos imm))) (λ rn. refl) rn s s' g h
@@ -111,12 +111,12 @@ blames P (I.LoadAR rd ar) s s' m g h = general1_and P reported_def defined_given
 blames P (I.InsertAR rd ri ar) s s' m g h = reuse1_and P (λ d i. I.InsertAR d i ar) (is_access ar) (λ d i. two_row (Some opcodes.EAR) (number_of d) (four_bits ar)) (λ d i. refl) rd ri s s' m.0 m.1.0 g h
 blames P (I.MovPReg rd rm) s s' m g h = general1_and P reported_def defined_given (λ d. I.MovPReg d rm) (is_general (Real rm)) (λ d. two_row (Some opcodes.LGR) (number_of d) (number_of (Real rm))) (λ d. refl) rd (Some (Fixed rm) ∷ []) s s' g h
 blames P (I.SMulWide rd rn rm) s s' m g h = products P rd rn rm s s' g h
-blames P (I.Flogr rd rn) s s' m g h = by_one P (λ d n. I.Flogr d n) (λ d n. Some (rre opcodes.FLOGR (number_of d.hi) (number_of n))) (λ d n. refl) rd rn s s' g h
-blames P (I.UMulWide rd ri rn) s s' m g h = by_low P (λ d i n. I.UMulWide d i n) (λ d i n. Some (rre opcodes.MLGR (number_of d.hi) (number_of n))) (λ d i n. refl) rd ri rn s s' g h
-blames P (I.SDivMod32 rd ri rn) s s' m g h = by_low P (λ d i n. I.SDivMod32 d i n) (λ d i n. Some (rre opcodes.DSGFR (number_of d.hi) (number_of n))) (λ d i n. refl) rd ri rn s s' g h
-blames P (I.SDivMod64 rd ri rn) s s' m g h = by_low P (λ d i n. I.SDivMod64 d i n) (λ d i n. Some (rre opcodes.DSGR (number_of d.hi) (number_of n))) (λ d i n. refl) rd ri rn s s' g h
-blames P (I.UDivMod32 rd ri rn) s s' m g h = by_pair P (λ d i n. I.UDivMod32 d i n) (λ d i n. Some (rre opcodes.DLR (number_of d.hi) (number_of n))) (λ d i n. refl) rd ri rn s s' g h
-blames P (I.UDivMod64 rd ri rn) s s' m g h = by_pair P (λ d i n. I.UDivMod64 d i n) (λ d i n. Some (rre opcodes.DLGR (number_of d.hi) (number_of n))) (λ d i n. refl) rd ri rn s s' g h
+blames P (I.Flogr rd rn) s s' m g h = by_one P I.Flogr (λ d n. Some (rre opcodes.FLOGR (number_of d.hi) (number_of n))) (λ d n. refl) rd rn s s' g h
+blames P (I.UMulWide rd ri rn) s s' m g h = by_low P I.UMulWide (λ d i n. Some (rre opcodes.MLGR (number_of d.hi) (number_of n))) (λ d i n. refl) rd ri rn s s' g h
+blames P (I.SDivMod32 rd ri rn) s s' m g h = by_low P I.SDivMod32 (λ d i n. Some (rre opcodes.DSGFR (number_of d.hi) (number_of n))) (λ d i n. refl) rd ri rn s s' g h
+blames P (I.SDivMod64 rd ri rn) s s' m g h = by_low P I.SDivMod64 (λ d i n. Some (rre opcodes.DSGR (number_of d.hi) (number_of n))) (λ d i n. refl) rd ri rn s s' g h
+blames P (I.UDivMod32 rd ri rn) s s' m g h = by_pair P I.UDivMod32 (λ d i n. Some (rre opcodes.DLR (number_of d.hi) (number_of n))) (λ d i n. refl) rd ri rn s s' g h
+blames P (I.UDivMod64 rd ri rn) s s' m g h = by_pair P I.UDivMod64 (λ d i n. Some (rre opcodes.DLGR (number_of d.hi) (number_of n))) (λ d i n. refl) rd ri rn s s' g h
 blames P (I.Vector (V.VecRRR op rd rn rm)) s s' m g h = mixed3 P reported_def defined_given (λ rd rn rm. I.Vector (V.VecRRR op rd rn rm)) is_vector is_vector is_vector float_kept float_kept float_kept (λ rd rn rm. vector_row (V.VecRRR op rd rn rm)) (λ rd rn rm. refl) rd rn rm s s' g h
 blames P (I.Vector (V.VecRR op rd rn)) s s' m g h = mixed2 P reported_def defined_given (λ rd rn. I.Vector (V.VecRR op rd rn)) is_vector is_vector float_kept float_kept (λ rd rn. vector_row (V.VecRR op rd rn)) (λ rd rn. refl) rd rn s s' g h
 blames P (I.Vector (V.VecShiftRR op rd rn amount register)) s s' m g h = mixed3 P reported_def defined_given (λ rd rn register. I.Vector (V.VecShiftRR op rd rn amount register)) is_vector is_vector is_general float_kept float_kept int_kept (λ rd rn register. vector_row (V.VecShiftRR op rd rn amount register)) (λ rd rn register. refl) rd rn register s s' g h
@@ -139,9 +139,9 @@ blames P (I.Vector (V.VecInsertLaneUndef size rd rn lane base)) s s' m g h = mix
 blames P (I.Vector (V.VecExtractLane size rd rn lane base)) s s' m g h = mixed3 P reported_def defined_given (λ rd rn base. I.Vector (V.VecExtractLane size rd rn lane base)) is_general is_vector is_general int_kept float_kept int_kept (λ rd rn base. vector_row (V.VecExtractLane size rd rn lane base)) (λ rd rn base. refl) rd rn base s s' g h
 blames P (I.Vector (V.VecInsertLaneImmUndef size rd imm lane)) s s' m g h = mixed1 P reported_def defined_given (λ rd. I.Vector (V.VecInsertLaneImmUndef size rd imm lane)) is_vector float_kept (λ rd. vector_row (V.VecInsertLaneImmUndef size rd imm lane)) (λ rd. refl) rd s s' g h
 blames P (I.Vector (V.VecReplicateLane size rd rn lane)) s s' m g h = mixed2 P reported_def defined_given (λ rd rn. I.Vector (V.VecReplicateLane size rd rn lane)) is_vector is_vector float_kept float_kept (λ rd rn. vector_row (V.VecReplicateLane size rd rn lane)) (λ rd rn. refl) rd rn s s' g h
-blames P (I.AluRX op rd ri mem) s s' m g h = reuse_access P (λ d i x. I.AluRX op d i x) (is_some (alu_rx op) || is_some (alu_rxy op)) (alu_rx op) (alu_rxy op) (λ d i x. (refl, refl)) rd ri mem s s' m.0 m.1.0 m.1.1.0 g h
-blames P (I.AtomicCas32 rd ri rn mem) s s' m g h = swap_access P (λ d i n x. I.AtomicCas32 d i n x) (Some opcodes.CS) opcodes.CSY (λ d i n x. (refl, refl)) rd ri rn mem s s' m.0 m.1.0 m.1.1.0 m.1.1.1.0 g h
-blames P (I.AtomicCas64 rd ri rn mem) s s' m g h = swap_access P (λ d i n x. I.AtomicCas64 d i n x) None opcodes.CSG (λ d i n x. (refl, refl)) rd ri rn mem s s' m.0 m.1.0 m.1.1.0 m.1.1.1.0 g h
+blames P (I.AluRX op rd ri mem) s s' m g h = reuse_access P (I.AluRX op) (is_some (alu_rx op) || is_some (alu_rxy op)) (alu_rx op) (alu_rxy op) (λ d i x. (refl, refl)) rd ri mem s s' m.0 m.1.0 m.1.1.0 g h
+blames P (I.AtomicCas32 rd ri rn mem) s s' m g h = swap_access P I.AtomicCas32 (Some opcodes.CS) opcodes.CSY (λ d i n x. (refl, refl)) rd ri rn mem s s' m.0 m.1.0 m.1.1.0 m.1.1.1.0 g h
+blames P (I.AtomicCas64 rd ri rn mem) s s' m g h = swap_access P I.AtomicCas64 None opcodes.CSG (λ d i n x. (refl, refl)) rd ri rn mem s s' m.0 m.1.0 m.1.1.0 m.1.1.1.0 g h
 blames P (I.Jump dest) s s' m g h = unread _ h
 blames P (I.CondBr taken not_taken mask) s s' m g h = unread _ h
 blames P (I.CondBreak mask) s s' m g h = unread _ h
@@ -153,15 +153,15 @@ blames P (I.TrapIf mask code) s s' m g h = unread _ h
 blames P I.Debugtrap s s' m g h = unread _ h
 blames P I.SequencePoint s s' m g h = unread _ h
 blames P (I.DummyUse reg) s s' m g h = unread _ h
-blames P (I.CmpRX op rn mem) s s' m g h = access1 P reported_use used_given (λ a x. I.CmpRX op a x) (λ rn mem. compare rn (cmp_rx op) (cmp_rxy op) (cmp_ril op) mem) (λ q q' x x' v n p k. record { valid = v; general = p; keeps_base = k; reads_none = n }) (λ a x. (refl, refl)) rn mem s s' m.0 m.1.0 g h
-blames P (I.StoreImm8 imm mem) s s' m g h = access0 P (λ x. I.StoreImm8 imm x) (λ mem. store_immediate (SiForm (low_byte imm) opcodes.MVI opcodes.MVIY) mem) (λ x x' p k. record { valid = λ z. z; general = p; keeps_base = k; reads_none = refl }) (λ x. (refl, refl)) mem s s' m.0 g h
-blames P (I.StoreImm16 imm mem) s s' m g h = access0 P (λ x. I.StoreImm16 imm x) (λ mem. store_immediate (SilForm (low_halfword imm) opcodes.MVHHI) mem) (λ x x' p k. record { valid = λ z. z; general = p; keeps_base = k; reads_none = refl }) (λ x. (refl, refl)) mem s s' m.0 g h
-blames P (I.StoreImm32SExt16 imm mem) s s' m g h = access0 P (λ x. I.StoreImm32SExt16 imm x) (λ mem. store_immediate (SilForm (low_halfword imm) opcodes.MVHI) mem) (λ x x' p k. record { valid = λ z. z; general = p; keeps_base = k; reads_none = refl }) (λ x. (refl, refl)) mem s s' m.0 g h
-blames P (I.StoreImm64SExt16 imm mem) s s' m g h = access0 P (λ x. I.StoreImm64SExt16 imm x) (λ mem. store_immediate (SilForm (low_halfword imm) opcodes.MVGHI) mem) (λ x x' p k. record { valid = λ z. z; general = p; keeps_base = k; reads_none = refl }) (λ x. (refl, refl)) mem s s' m.0 g h
-blames P (I.LoadAddr rd mem) s s' m g h = access1 P reported_def defined_given (λ a x. I.LoadAddr a x) (λ rd mem. Some (record { form = address_form rd; operand = mem; accesses = false; operands_valid = is_general rd; reads_scratch = false })) (λ q q' x x' v n p k. record { valid = v; general = p; keeps_base = k; reads_none = refl }) (λ a x. (refl, refl)) rd mem s s' m.0 m.1.0 g h
+blames P (I.CmpRX op rn mem) s s' m g h = access1 P reported_use used_given (I.CmpRX op) (λ rn mem. compare rn (cmp_rx op) (cmp_rxy op) (cmp_ril op) mem) (λ q q' x x' v n p k. record { valid = v; general = p; keeps_base = k; reads_none = n }) (λ a x. (refl, refl)) rn mem s s' m.0 m.1.0 g h
+blames P (I.StoreImm8 imm mem) s s' m g h = access0 P (I.StoreImm8 imm) (λ mem. store_immediate (SiForm (low_byte imm) opcodes.MVI opcodes.MVIY) mem) (λ x x' p k. record { valid = λ z. z; general = p; keeps_base = k; reads_none = refl }) (λ x. (refl, refl)) mem s s' m.0 g h
+blames P (I.StoreImm16 imm mem) s s' m g h = access0 P (I.StoreImm16 imm) (λ mem. store_immediate (SilForm (low_halfword imm) opcodes.MVHHI) mem) (λ x x' p k. record { valid = λ z. z; general = p; keeps_base = k; reads_none = refl }) (λ x. (refl, refl)) mem s s' m.0 g h
+blames P (I.StoreImm32SExt16 imm mem) s s' m g h = access0 P (I.StoreImm32SExt16 imm) (λ mem. store_immediate (SilForm (low_halfword imm) opcodes.MVHI) mem) (λ x x' p k. record { valid = λ z. z; general = p; keeps_base = k; reads_none = refl }) (λ x. (refl, refl)) mem s s' m.0 g h
+blames P (I.StoreImm64SExt16 imm mem) s s' m g h = access0 P (I.StoreImm64SExt16 imm) (λ mem. store_immediate (SilForm (low_halfword imm) opcodes.MVGHI) mem) (λ x x' p k. record { valid = λ z. z; general = p; keeps_base = k; reads_none = refl }) (λ x. (refl, refl)) mem s s' m.0 g h
+blames P (I.LoadAddr rd mem) s s' m g h = access1 P reported_def defined_given I.LoadAddr (λ rd mem. Some (record { form = address_form rd; operand = mem; accesses = false; operands_valid = is_general rd; reads_scratch = false })) (λ q q' x x' v n p k. record { valid = v; general = p; keeps_base = k; reads_none = refl }) (λ a x. (refl, refl)) rd mem s s' m.0 m.1.0 g h
 blames P (I.LoadMultiple64 rt rt2 mem) s s' m g h = load_range P rt rt2 mem s s' m.1 g h
 blames P (I.StoreMultiple64 rt rt2 mem) s s' m g h = store_range P rt rt2 mem s s' m.0 m.1 g h
-blames P (I.AtomicRmw op rd rn mem) s s' m g h = change_access P (λ d n x. I.AtomicRmw op d n x) (atomic_rsy op) (λ d n x. (refl, refl)) rd rn mem s s' m.1.0 m.1.1.0 g h
+blames P (I.AtomicRmw op rd rn mem) s s' m g h = change_access P (I.AtomicRmw op) (atomic_rsy op) (λ d n x. (refl, refl)) rd rn mem s s' m.1.0 m.1.1.0 g h
 blames P (I.IndirectBr rn targets) s s' m g h = branch P rn targets.items s s' m g h
 blames P (I.JTSequence ridx other mask targets) s s' m g h = table P ridx other mask targets.items s s' m g h
 blames P (I.LoadSymbolReloc rd reloc) s s' m g h = general1_before P reported_def defined_given (λ d. I.LoadSymbolReloc d reloc) (λ d. two_row (Some opcodes.LGR) (number_of d) 0) (λ d. refl) rd (scratch_request ∷ []) s s' g h

@@ -109,12 +109,10 @@ kept P L (I.LoadIndexedAddr rd base index offset size) s m g h =
     kept3 P L general_def (λ rd base index. I.LoadIndexedAddr rd base index offset size) is_general is_general (λ rd base index. indexed_row (indexed_opcode size) (number_of rd) (number_of base) (number_of index) (low_displacement offset))
     (λ rd base index. refl) (λ rd base index changed f. does L changed (havocs (number_of rd)) no_code (λ r. f)) rd base index (reported_use base ∷ reported_use index ∷ []) s m.0 g h
 kept P L (I.LoadLogicalIndexedAddr rd base index offset size) s m g h =
-    kept3 P L general_def (λ rd base index. I.LoadLogicalIndexedAddr rd base index offset size) is_general is_general
-    (λ rd base index. indexed_row (logical_indexed_opcode size) (number_of rd) (number_of base) (number_of index) (low_displacement offset)) (λ rd base index. refl)
+    kept3 P L general_def (λ rd base index. I.LoadLogicalIndexedAddr rd base index offset size) is_general is_general (λ rd base index. indexed_row (logical_indexed_opcode size) (number_of rd) (number_of base) (number_of index) (low_displacement offset)) (λ rd base index. refl)
     (λ rd base index changed f. does L changed (havocs (number_of rd)) no_code (λ r. f)) rd base index (reported_use base ∷ reported_use index ∷ []) s m.0 g h
-kept P L (I.Mov64 rd rm) s m g h =
-    kept2 P L general_def (λ rd rm. I.Mov64 rd rm) is_general (λ rd rm. two_row (Some opcodes.LGR) (number_of rd) (number_of rm)) (λ rd rm. refl) (λ rd rm changed f. does L changed (computes Kept (on_doublewords Move) (number_of rd) (number_of rd) (number_of rm)) no_code (λ r. f)) rd rm (reported_use rm ∷ []) s m.0 g h
-kept P L (I.Mov32 rd rm) s m g h = kept2 P L general_def (λ rd rm. I.Mov32 rd rm) is_general (λ rd rm. two_row (Some opcodes.LR) (number_of rd) (number_of rm)) (λ rd rm. refl) (λ rd rm changed f. does L changed (computes Kept (on_words Move) (number_of rd) (number_of rd) (number_of rm)) no_code (λ r. f)) rd rm (reported_use rm ∷ []) s m.0 g h
+kept P L (I.Mov64 rd rm) s m g h = kept2 P L general_def I.Mov64 is_general (λ rd rm. two_row (Some opcodes.LGR) (number_of rd) (number_of rm)) (λ rd rm. refl) (λ rd rm changed f. does L changed (computes Kept (on_doublewords Move) (number_of rd) (number_of rd) (number_of rm)) no_code (λ r. f)) rd rm (reported_use rm ∷ []) s m.0 g h
+kept P L (I.Mov32 rd rm) s m g h = kept2 P L general_def I.Mov32 is_general (λ rd rm. two_row (Some opcodes.LR) (number_of rd) (number_of rm)) (λ rd rm. refl) (λ rd rm changed f. does L changed (computes Kept (on_words Move) (number_of rd) (number_of rd) (number_of rm)) no_code (λ r. f)) rd rm (reported_use rm ∷ []) s m.0 g h
 kept P L (I.Mov32Imm rd imm) s m g h = kept1 P L general_def (λ rd. I.Mov32Imm rd imm) (λ rd. word_row (Some opcodes.IILF) (number_of rd) (low_word (pos imm))) (λ rd. refl) (λ rd changed f. does L changed (computes_immediate Kept (on_words Move) (number_of rd) (number_of rd) (low_word (pos imm))) no_code (λ r. f)) rd [] s m.0 g h
 kept P L (I.Mov32SImm16 rd imm) s m g h =
     kept1 P L general_def (λ rd. I.Mov32SImm16 rd imm) (λ rd. halfword_row (Some opcodes.LHI) (number_of rd) (low_halfword imm)) (λ rd. refl) (λ rd changed f. does L changed (computes_immediate Kept (on_immediate (on_words Move) signed_halfword) (number_of rd) (number_of rd) (low_halfword imm)) no_code (λ r. f)) rd [] s m.0 g h
@@ -149,13 +147,13 @@ kept P L (I.Extend rd rn signed from to) s m g h =
     kept2 P L general_def (λ rd rn. I.Extend rd rn signed from to) is_general (λ rd rn. two_row (extend_two signed from to) (number_of rd) (number_of rn)) (λ rd rn. refl)
     (λ rd rn changed f. does L changed (computes Kept (extension signed from to) (number_of rd) (number_of rd) (number_of rn)) no_code (λ r. f)) rd rn (reported_use rn ∷ []) s m.0 g h
 kept P L (I.AluRRR op rd rn rm) s m g h =
-    kept3 P L general_def (λ rd rn rm. I.AluRRR op rd rn rm) is_general is_general (λ rd rn rm. three_row (alu_three op) (alu_two op) (number_of rd) (number_of rn) (number_of rm)) (λ rd rn rm. refl)
+    kept3 P L general_def (I.AluRRR op) is_general is_general (λ rd rn rm. three_row (alu_three op) (alu_two op) (number_of rd) (number_of rn) (number_of rm)) (λ rd rn rm. refl)
     (λ rd rn rm changed f. does L changed (computes (alu_three_rule op) (alu_computation op) (number_of rd) (number_of rn) (number_of rm)) no_code (λ r. f)) rd rn rm (reported_use rn ∷ reported_use rm ∷ []) s m.0 g h
 kept P L (I.AluRRSImm16 op rd rn imm) s m g h =
     kept2 P L general_def (λ rd rn. I.AluRRSImm16 op rd rn imm) is_general (λ rd rn. three_halfword_row (alu_three_halfword op) (alu_halfword op) (number_of rd) (number_of rn) (low_halfword imm)) (λ rd rn. refl)
     (λ rd rn changed f. does L changed (computes_immediate (alu_two_rule op) (on_immediate (alu_computation op) signed_halfword) (number_of rd) (number_of rn) (low_halfword imm)) no_code (λ r. f)) rd rn (reported_use rn ∷ []) s m.0 g h
 kept P L (I.AluRR op rd ri rm) s m g h =
-    kept_reuse2 P L general_reuse (λ rd ri rm. I.AluRR op rd ri rm) is_general (λ rd ri rm. two_row (alu_two op) (number_of rd) (number_of rm)) (λ rd ri rm. refl)
+    kept_reuse2 P L general_reuse (I.AluRR op) is_general (λ rd ri rm. two_row (alu_two op) (number_of rd) (number_of rm)) (λ rd ri rm. refl)
     (λ rd ri rm changed f. does L changed (computes (alu_two_rule op) (alu_computation op) (number_of rd) (number_of rd) (number_of rm)) no_code (λ r. f)) rd ri rm (reported_use ri ∷ reported_use rm ∷ []) s m.0 g h
 kept P L (I.AluRSImm16 op rd ri imm) s m g h =
     kept_reuse1 P L general_reuse (λ rd ri. I.AluRSImm16 op rd ri imm) (λ rd ri. halfword_row (alu_halfword op) (number_of rd) (low_halfword imm)) (λ rd ri. refl)
@@ -179,8 +177,7 @@ kept P L (I.RxSBG op rd ri rn start end amount) s m g h =
     kept_reuse2 P L general_reuse (λ rd ri rn. I.RxSBG op rd ri rn start end amount) is_general (λ rd ri rn. rotated_row (Some (rotate_then op)) (number_of rd) (number_of rn) start end start (rotation amount)) (λ rd ri rn. refl)
     (λ rd ri rn changed f. does L changed (rotates_into op (number_of rd) (number_of rn) start end (rotation amount)) no_code (λ r. f)) rd ri rn (reported_use ri ∷ reported_use rn ∷ []) s m.0 g h
 kept P L (I.RxSBGTest op rd rn start end amount) s m g h = does L _ (rotates_to_test op (number_of (register_at rd s)) (number_of (register_at rn (after rd s))) start end (rotation amount)) no_code (λ r q a. tt)
-kept P L (I.UnaryRR op rd rn) s m g h =
-    kept2 P L general_def (λ rd rn. I.UnaryRR op rd rn) is_general (λ rd rn. unary_row op (number_of rd) (number_of rn)) (λ rd rn. refl) (λ rd rn changed f. does L changed (computes (unary_rule op) (unary_computation op) (number_of rd) (number_of rd) (number_of rn)) no_code (λ r. f)) rd rn (reported_use rn ∷ []) s m.0 g h
+kept P L (I.UnaryRR op rd rn) s m g h = kept2 P L general_def (I.UnaryRR op) is_general (λ rd rn. unary_row op (number_of rd) (number_of rn)) (λ rd rn. refl) (λ rd rn changed f. does L changed (computes (unary_rule op) (unary_computation op) (number_of rd) (number_of rd) (number_of rn)) no_code (λ r. f)) rd rn (reported_use rn ∷ []) s m.0 g h
 kept P L (I.CmpRR op rn rm) s m g h = does L _ (compares (comparison op) (number_of (register_at rn s)) (number_of (register_at rm (after rn s)))) no_code (λ r q a. tt)
 kept P L (I.CmpRSImm16 op rn imm) s m g h = does L _ (compares_immediate (compares_on_immediate (comparison op) signed_halfword) (number_of (register_at rn s)) (low_halfword imm)) no_code (λ r q a. tt)
 kept P L (I.CmpRSImm32 op rn imm) s m g h = does L _ (compares_immediate (compares_on_immediate (comparison op) signed_word) (number_of (register_at rn s)) (low_word imm)) no_code (λ r q a. tt)
@@ -249,8 +246,7 @@ kept P L (I.Vector (V.VecImmReplicate size rd imm)) s m g h =
     kept1 P L vector_def (λ rd. I.Vector (V.VecImmReplicate size rd imm)) (λ rd. vector_row (V.VecImmReplicate size rd imm)) (λ rd. refl) (λ rd changed f. does L changed (generates_vector (Lanes.ReplicateImmediate (elements_of size) (low_halfword imm)) (number_of rd)) no_code (λ r. f)) rd [] s m.0 g h
 kept P L (I.Vector (V.VecInsertLaneUndef size rd rn lane base)) s m g h =
     kept3 P L vector_def (λ rd rn base. I.Vector (V.VecInsertLaneUndef size rd rn lane base)) is_general is_general (λ rd rn base. vector_row (V.VecInsertLaneUndef size rd rn lane base)) (λ rd rn base. refl)
-    (λ rd rn base changed f. does L changed (inserts_lane_alone (elements_of size) (number_of rd) (number_of rn) (number_of base) lane) no_code (λ r. inserts_alone_written (elements_of size) (number_of rd) (number_of rn) (number_of base) lane r changed f)) rd rn base (reported_use rn ∷ reported_use base ∷ []) s m.0
-    g h
+    (λ rd rn base changed f. does L changed (inserts_lane_alone (elements_of size) (number_of rd) (number_of rn) (number_of base) lane) no_code (λ r. inserts_alone_written (elements_of size) (number_of rd) (number_of rn) (number_of base) lane r changed f)) rd rn base (reported_use rn ∷ reported_use base ∷ []) s m.0 g h
 kept P L (I.Vector (V.VecExtractLane size rd rn lane base)) s m g h =
     kept3 P L general_def (λ rd rn base. I.Vector (V.VecExtractLane size rd rn lane base)) is_vector is_general (λ rd rn base. vector_row (V.VecExtractLane size rd rn lane base)) (λ rd rn base. refl)
     (λ rd rn base changed f. does L changed (extracts_lane (elements_of size) (number_of rd) (number_of rn) (number_of base) lane) no_code (λ r. extracts_written (elements_of size) (number_of rd) (number_of rn) (number_of base) lane r changed f)) rd rn base (reported_use rn ∷ reported_use base ∷ []) s m.0 g h
@@ -260,14 +256,13 @@ kept P L (I.Vector (V.VecReplicateLane size rd rn lane)) s m g h =
     kept2 P L vector_def (λ rd rn. I.Vector (V.VecReplicateLane size rd rn lane)) is_vector (λ rd rn. vector_row (V.VecReplicateLane size rd rn lane)) (λ rd rn. refl)
     (λ rd rn changed f. does L changed (computes_one_vector (Lanes.Replicate (elements_of size) lane) (number_of rd) (number_of rn)) no_code (λ r. f)) rd rn (reported_use rn ∷ []) s m.0 g h
 kept P L (I.AluRX op rd ri mem) s m g h =
-    load_kept2 P L general_reuse (λ d i x. I.AluRX op d i x) (λ d i x. operate (is_some (alu_rx op) || is_some (alu_rxy op)) (alu_rx op) (alu_rxy op) d i x)
-    (λ d i x v. alike_first is_general d i (operate_valid (is_some (alu_rx op) || is_some (alu_rxy op)) (alu_rx op) (alu_rxy op) d i x v)) (λ d i x. (refl, refl))
+    load_kept2 P L general_reuse (I.AluRX op) (λ d i x. operate (is_some (alu_rx op) || is_some (alu_rxy op)) (alu_rx op) (alu_rxy op) d i x) (λ d i x v. alike_first is_general d i (operate_valid (is_some (alu_rx op) || is_some (alu_rxy op)) (alu_rx op) (alu_rxy op) d i x v)) (λ d i x. (refl, refl))
     (λ d i x changed f free. accessed L changed (operand_step (I.AluRX op d i (resolved_operand P.state x))) (λ address r. f) free) rd ri mem s m.0 g h
 kept P L (I.AtomicCas32 rd ri rn mem) s m g h =
-    swap_kept P L (λ d i n x. I.AtomicCas32 d i n x) (compare_and_swap (Some opcodes.CS) opcodes.CSY) (λ d i n x v. alike_first is_general d i (and_left (reuses d i) (is_general n) (and_left (reuses d i && is_general n) (operand_general x) v))) (λ d i n x. (refl, refl))
+    swap_kept P L I.AtomicCas32 (compare_and_swap (Some opcodes.CS) opcodes.CSY) (λ d i n x v. alike_first is_general d i (and_left (reuses d i) (is_general n) (and_left (reuses d i && is_general n) (operand_general x) v))) (λ d i n x. (refl, refl))
     (λ d i n x changed f free. accessed L changed (operand_step (I.AtomicCas32 d i n (resolved_operand P.state x))) (λ address r. f) free) rd ri rn mem s m.0 g h
 kept P L (I.AtomicCas64 rd ri rn mem) s m g h =
-    swap_kept P L (λ d i n x. I.AtomicCas64 d i n x) (compare_and_swap None opcodes.CSG) (λ d i n x v. alike_first is_general d i (and_left (reuses d i) (is_general n) (and_left (reuses d i && is_general n) (operand_general x) v))) (λ d i n x. (refl, refl))
+    swap_kept P L I.AtomicCas64 (compare_and_swap None opcodes.CSG) (λ d i n x v. alike_first is_general d i (and_left (reuses d i) (is_general n) (and_left (reuses d i && is_general n) (operand_general x) v))) (λ d i n x. (refl, refl))
     (λ d i n x changed f free. accessed L changed (operand_step (I.AtomicCas64 d i n (resolved_operand P.state x))) (λ address r. f) free) rd ri rn mem s m.0 g h
 kept P L (I.Jump dest) s m g h = (jump_keeps L _ dest.0, nothing L _)
 kept P L (I.CondBr taken not_taken mask) s m g h = (choice_keeps L _ mask taken.0 not_taken.0, nothing L _)
@@ -280,20 +275,20 @@ kept P L (I.TrapIf mask code) s m g h = (trap_where_keeps L _ mask code, nothing
 kept P L I.Debugtrap s m g h = (debug_keeps L _, nothing L _)
 kept P L I.SequencePoint s m g h = (silence L _, nothing L _)
 kept P L (I.DummyUse reg) s m g h = (silence L _, nothing L _)
-kept P L (I.CmpRX op rn mem) s m g h = store_kept P L (λ a x. I.CmpRX op a x) (λ a x changed f free. accessed L changed (operand_step (I.CmpRX op a (resolved_operand P.state x))) (λ address r. f) free) rn mem s g
+kept P L (I.CmpRX op rn mem) s m g h = store_kept P L (I.CmpRX op) (λ a x changed f free. accessed L changed (operand_step (I.CmpRX op a (resolved_operand P.state x))) (λ address r. f) free) rn mem s g
 kept P L (I.StoreImm8 imm mem) s m g h = accessed L _ (operand_step (I.StoreImm8 imm (resolved_operand P.state (memory_at mem s).0))) (λ address r q a. tt) (memory_listed mem s s g)
 kept P L (I.StoreImm16 imm mem) s m g h = accessed L _ (operand_step (I.StoreImm16 imm (resolved_operand P.state (memory_at mem s).0))) (λ address r q a. tt) (memory_listed mem s s g)
 kept P L (I.StoreImm32SExt16 imm mem) s m g h = accessed L _ (operand_step (I.StoreImm32SExt16 imm (resolved_operand P.state (memory_at mem s).0))) (λ address r q a. tt) (memory_listed mem s s g)
 kept P L (I.StoreImm64SExt16 imm mem) s m g h = accessed L _ (operand_step (I.StoreImm64SExt16 imm (resolved_operand P.state (memory_at mem s).0))) (λ address r q a. tt) (memory_listed mem s s g)
 kept P L (I.LoadAddr rd mem) s m g h =
-    load_kept P L general_def (λ a x. I.LoadAddr a x) (λ rd mem. Some (record { form = address_form rd; operand = mem; accesses = false; operands_valid = is_general rd; reads_scratch = false }))
+    load_kept P L general_def I.LoadAddr (λ rd mem. Some (record { form = address_form rd; operand = mem; accesses = false; operands_valid = is_general rd; reads_scratch = false }))
     (λ a m v. and_left (is_general a) (operand_general m) v) (λ a x. (refl, refl)) (λ a x changed f free. accessed L changed (operand_step (I.LoadAddr a (resolved_operand P.state x))) (λ address r. f) free) rd mem s m.0 g h
 kept P L (I.LoadMultiple64 (Real p) (Real q) mem) s m g h = load_range_kept P L (Real p) (Real q) mem s (λ changed f free. accessed L changed (operand_step (I.LoadMultiple64 (Real p) (Real q) (resolved_operand P.state (memory_at mem s).0))) (λ address r. f) free) (refl, refl) g h
 kept P L (I.LoadMultiple64 (Real p) (Virtual n c) mem) s m g h = absurd m.0
 kept P L (I.LoadMultiple64 (Virtual n c) last mem) s m g h = absurd m.0
 kept P L (I.StoreMultiple64 rt rt2 mem) s m g h = accessed L _ (operand_step (I.StoreMultiple64 rt rt2 (resolved_operand P.state (memory_at mem s).0))) (λ address r q a. tt) (memory_scratch mem (range_requests rt rt2) s s g)
 kept P L (I.AtomicRmw op rd rn mem) s m g h =
-    load_kept2 P L general_def (λ d n x. I.AtomicRmw op d n x) (λ d n x. load_and_operate (atomic_rsy op) d n x) (λ d n x v. change_valid (atomic_rsy op) d n x v) (λ d n x. (refl, refl)) (λ d n x changed f free. accessed L changed (operand_step (I.AtomicRmw op d n (resolved_operand P.state x))) (λ address r. f) free) rd rn mem s m.0 g h
+    load_kept2 P L general_def (I.AtomicRmw op) (λ d n x. load_and_operate (atomic_rsy op) d n x) (λ d n x v. change_valid (atomic_rsy op) d n x v) (λ d n x. (refl, refl)) (λ d n x changed f free. accessed L changed (operand_step (I.AtomicRmw op d n (resolved_operand P.state x))) (λ address r. f) free) rd rn mem s m.0 g h
 kept P L (I.IndirectBr rn targets) s m g h = (branch_keeps L _ (number_of (register_at rn s)) targets.items, nothing L _)
 kept P L (I.JTSequence ridx other mask targets) s m g h = (table_keeps L _ (number_of (register_at ridx s)) mask other.0 targets.items (behind_one ridx (scratch_request ∷ []) s g scratch_target (λ k. scratch_listed [] (after ridx s))), nothing L _)
 kept P L (I.LoadSymbolReloc rd reloc) s m g h = relocation_kept P L rd reloc s m.0 g h
@@ -302,8 +297,7 @@ kept P L (I.Args args) s m g h = (silence L _, nothing L _)
 kept P L (I.Rets rets) s m g h = (silence L _, nothing L _)
 kept P L (I.Vector (V.VecInsertLane size rd ri rn lane base)) s m g h =
     kept_reuse3 P L vector_reuse (λ d i n b. I.Vector (V.VecInsertLane size d i n lane b)) is_general is_general (λ d i n b. vector_row (V.VecInsertLane size d i n lane b)) (λ d i n b. refl)
-    (λ rd ri rn base changed f. does L changed (inserts_lane (elements_of size) (number_of rd) (number_of rn) (number_of base) lane) no_code (λ r. inserts_written (elements_of size) (number_of rd) (number_of rn) (number_of base) lane r changed f)) rd ri rn base (reported_use ri ∷ reported_use rn ∷ reported_use base ∷ []) s
-    m.0 g h
+    (λ rd ri rn base changed f. does L changed (inserts_lane (elements_of size) (number_of rd) (number_of rn) (number_of base) lane) no_code (λ r. inserts_written (elements_of size) (number_of rd) (number_of rn) (number_of base) lane r changed f)) rd ri rn base (reported_use ri ∷ reported_use rn ∷ reported_use base ∷ []) s m.0 g h
 kept P L (I.Vector (V.VecInsertLaneImm size rd ri imm lane)) s m g h =
     kept_reuse1 P L vector_reuse (λ d i. I.Vector (V.VecInsertLaneImm size d i imm lane)) (λ d i. vector_row (V.VecInsertLaneImm size d i imm lane)) (λ d i. refl)
     (λ rd ri changed f. does L changed (generates_vector (Lanes.InsertImmediate (elements_of size) (low_halfword imm) lane) (number_of rd)) no_code (λ r. f)) rd ri (reported_use ri ∷ []) s m.0 g h
@@ -340,8 +334,7 @@ kept P L (I.Vector (V.VecLoadLaneRev size rd ri mem lane)) s m g h =
     (λ d i x v. alike_first is_vector d i (vector_valid (reuses_vector d i) x (vector_memory (V.VecLoadLaneRev size d i x lane)) (lane_accessed (reuses_vector d i) (λ c. load_reversed_opcode c) (number_of d) (reversed_code size) size lane x) v)) (λ d i x. (refl, refl))
     (λ d i x changed f free. accessed L changed (operand_step (I.Vector (V.VecLoadLaneRev size d i (resolved_operand P.state x) lane))) (λ address r. f) free) rd ri mem s m.0 g h
 kept P L (I.Vector (V.VecLoadLaneUndef size rd mem lane)) s m g h =
-    load_kept P L vector_def (λ a x. I.Vector (V.VecLoadLaneUndef size a x lane)) (λ a x. vector_memory (V.VecLoadLaneUndef size a x lane))
-    (λ a x v. vector_valid (is_vector a) x (vector_memory (V.VecLoadLaneUndef size a x lane)) (left_accessed (λ z r. load_left z r) (λ c. load_lane_opcode c) a size lane x) v) (λ a x. (refl, refl))
+    load_kept P L vector_def (λ a x. I.Vector (V.VecLoadLaneUndef size a x lane)) (λ a x. vector_memory (V.VecLoadLaneUndef size a x lane)) (λ a x v. vector_valid (is_vector a) x (vector_memory (V.VecLoadLaneUndef size a x lane)) (left_accessed (λ z r. load_left z r) (λ c. load_lane_opcode c) a size lane x) v) (λ a x. (refl, refl))
     (λ a x changed f free. accessed L changed (operand_step (I.Vector (V.VecLoadLaneUndef size a (resolved_operand P.state x) lane))) (λ address r. f) free) rd mem s m.0 g h
 kept P L (I.Vector (V.VecStoreLane size rd mem lane)) s m g h = store_kept P L (λ a x. I.Vector (V.VecStoreLane size a x lane)) (λ a x changed f free. accessed L changed (operand_step (I.Vector (V.VecStoreLane size a (resolved_operand P.state x) lane))) (λ address r. f) free) rd mem s g
 kept P L (I.Vector (V.VecLoadLaneRevUndef size rd mem lane)) s m g h =

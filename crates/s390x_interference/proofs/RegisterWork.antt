@@ -107,8 +107,7 @@ no_code false h = refl
 
 -- the last clause is a copy for each other instruction on vectors
 vector_work : (L : Layout) (v : VecInst) → WorkIf (is_register_work (I.Vector v)) (instruction_kind L (I.Vector v))
-vector_work L (V.VecRRR op rd rn rm) =
-    work_if (is_register_work (I.Vector (V.VecRRR op rd rn rm))) (instruction_kind L (I.Vector (V.VecRRR op rd rn rm))) (λ h r. vector_stays (binary_operation op) _ _ _ _ _ (divisions_agree op ∙ no_code (is_division op) h))
+vector_work L (V.VecRRR op rd rn rm) = work_if _ _ (λ h r. vector_stays (binary_operation op) _ _ _ _ _ (divisions_agree op ∙ no_code (is_division op) h))
 vector_work L (V.VecRR op rd rn) = λ r. vector_stays (unary_operation op) _ _ _ _ _ (unary_never op)
 vector_work L (V.VecIntCmp op rd rn rm) = λ r. vector_stays (comparison_operation op false) _ _ _ _ _ (comparison_never op false)
 vector_work L (V.VecIntCmpS op rd rn rm) = λ r. vector_stays (comparison_operation op true) _ _ _ _ _ (comparison_never op true)
