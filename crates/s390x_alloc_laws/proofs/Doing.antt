@@ -52,7 +52,7 @@ use Rattle.s390x_alloc_laws.proofs.Vectors.{IsVectorAccess}
 use Rattle.s390x_alloc_laws.specs.Outputs.{KeepsOthers, outputs}
 use Rattle.s390x_alloc_laws.proofs.Effects.{Covers, kept_all, kept_by, coded, written}
 use Rattle.s390x_alloc_laws.proofs.StepKinds.{KindKeeps, performs_keeps, nothing}
-use Rattle.s390x_alloc_laws.proofs.Shapes.{BothKeep, InstKeeps, where_written, one_written, defined_output, defined_passed, scratch_listed, single_valid, first_listed, general_target, general_written}
+use Rattle.s390x_alloc_laws.proofs.Shapes.{general_def, BothKeep, InstKeeps, where_written, one_written, defined_passed, scratch_listed, single_valid, first_listed}
 
 -- one operation, which needs no `%r1`
 pub does : (L : Layout) (changed : List Reg) (operation : Registers → Operation) (code : StopKind → Option TrapKind) → ((r : Registers) → Covers changed (written (operation r).effect)) → BothKeep L changed (Performs false operation code) Unsupported
@@ -126,7 +126,7 @@ relocation_kept P L rd reloc s m g h =
     let changed : List Reg = outputs (items_of (reported_def rd ∷ scratch_request ∷ [])) s in
     let valid : is_general x ≡ true = single_valid P (LoadSymbolReloc x reloc) (is_general x) (two_row (Some opcodes.LGR) (number_of x) 0) refl h in
     let rest = defined_passed rd (scratch_request ∷ []) s s g in
-    (performs_keeps L changed true (computes_immediate Kept (on_doublewords Move) (number_of x) (number_of x) (linked_value L reloc)) no_code (λ r. first_listed reported_def defined_output is_general general_target general_written rd (scratch_request ∷ []) s m g valid) (λ q a. scratch_listed [] (after rd s) q (rest.0 q a)), nothing L changed)
+    (performs_keeps L changed true (computes_immediate Kept (on_doublewords Move) (number_of x) (number_of x) (linked_value L reloc)) no_code (λ r. first_listed general_def rd (scratch_request ∷ []) s m g valid) (λ q a. scratch_listed [] (after rd s) q (rest.0 q a)), nothing L changed)
 
 pub label_kept : (P : Place) (L : Layout) (dst : Reg) (label : MachLabel) (s : List Reg) → IsVirtual dst → MeetsEach s (items_of (reported_def dst ∷ [])) s → refusal P (LabelAddress (register_at dst s) label) ≡ None → InstKeeps L (outputs (items_of (reported_def dst ∷ [])) s) (LabelAddress (register_at dst s) label)
 label_kept P L dst label s m g h =
@@ -134,4 +134,4 @@ label_kept P L dst label s m g h =
     let real = unless (is_general x) BadRegister in
     let place = target_label_cause P.declared.blocks label in
     let valid : is_general x ≡ true = unless_true (is_general x) BadRegister (first_left real place h) in
-    does L (outputs (items_of (reported_def dst ∷ [])) s) (computes_immediate Kept (on_doublewords Move) (number_of x) (number_of x) (block_address L label.0)) no_code (λ r. first_listed reported_def defined_output is_general general_target general_written dst [] s m g valid)
+    does L (outputs (items_of (reported_def dst ∷ [])) s) (computes_immediate Kept (on_doublewords Move) (number_of x) (number_of x) (block_address L label.0)) no_code (λ r. first_listed general_def dst [] s m g valid)

@@ -121,6 +121,27 @@ reused_passed (Real p) xs all s m = (fixed_passed (is_numbered 1 (Real p)) (outp
 reused_passed (Virtual n c) xs all [] m = absurd m
 reused_passed (Virtual n c) xs all (q ∷ s) m = (λ x a. a.1, m.1.1)
 
+-- an output: what is reported of it, by which it is listed and passed, and the registers that it stands for where it passes its test
+pub record Output : Type 0 where
+  pub request : Reg → Option Reported
+  pub listed : IsOutput request
+  pub passed : IsPassed request
+  pub test : Reg → Bool
+  pub targets : Reg → List Reg
+  pub target : IsTarget test targets
+
+abbrev pub general_def : Output
+general_def = record { request = reported_def; listed = defined_output; passed = defined_passed; test = is_general; targets = general_target; target = general_written }
+
+abbrev pub general_reuse : Output
+general_reuse = record { request = reported_reuse; listed = reused_output; passed = reused_passed; test = is_general; targets = general_target; target = general_written }
+
+abbrev pub vector_def : Output
+vector_def = record { request = reported_def; listed = defined_output; passed = defined_passed; test = is_vector; targets = vector_target; target = vector_written }
+
+abbrev pub vector_reuse : Output
+vector_reuse = record { request = reported_reuse; listed = reused_output; passed = reused_passed; test = is_vector; targets = vector_target; target = vector_written }
+
 -- `%r1` is listed where it is reported
 abbrev pub scratch_target : List Reg
 scratch_target = Real (general 1) ∷ []
@@ -162,85 +183,85 @@ pub covers_twice : (a b c : List Reg) → Covers a b → Covers b c → Covers a
 covers_twice a b c f g q m = g q (f q m)
 
 -- the output is the first request
-pub first_listed : (f : Reg → Option Reported) → IsOutput f → (t : Reg → Bool) (T : Reg → List Reg) → IsTarget t T → (a : Reg) (xs : List (Option Reported)) (s : List Reg) → IsVirtual a → MeetsEach s (items_of (f a ∷ xs)) s → t (register_at a s) ≡ true → Covers (outputs (items_of (f a ∷ xs)) s) (T (register_at a s))
-first_listed f F t T target a xs s v m h = covers_twice (outputs (items_of (f a ∷ xs)) s) (register_at a s ∷ []) (T (register_at a s)) (F a xs s s v m) (target (register_at a s) h)
+pub first_listed : (out : Output) (a : Reg) (xs : List (Option Reported)) (s : List Reg) → IsVirtual a → MeetsEach s (items_of (out.request a ∷ xs)) s → out.test (register_at a s) ≡ true → Covers (outputs (items_of (out.request a ∷ xs)) s) (out.targets (register_at a s))
+first_listed out a xs s v m h = covers_twice (outputs (items_of (out.request a ∷ xs)) s) (register_at a s ∷ []) (out.targets (register_at a s)) (out.listed a xs s s v m) (out.target (register_at a s) h)
 
 -- an instruction of one, two, three or four tests, of which the first is that of the output
 abbrev Kept : Layout → (Reg → List Reg) → Inst → Reg → Type 0
 Kept L T j q = (changed : List Reg) → Covers changed (T q) → InstKeeps L changed j
 
-pub kept1 : (P : Place) (L : Layout) (f : Reg → Option Reported) → IsOutput f → (t : Reg → Bool) (T : Reg → List Reg) → IsTarget t T → (mk : Reg → Inst) (row : Reg → Option MachineInstruction) → ((a : Reg) → IsSingle P (mk a) (t a) (row a)) → ((a : Reg) → Kept L T (mk a) a) →
-    (a : Reg) (xs : List (Option Reported)) (s : List Reg) → IsVirtual a → MeetsEach s (items_of (f a ∷ xs)) s → refusal P (mk (register_at a s)) ≡ None → InstKeeps L (outputs (items_of (f a ∷ xs)) s) (mk (register_at a s))
-kept1 P L f F t T target mk row is keeps a xs s v m h =
+pub kept1 : (P : Place) (L : Layout) (out : Output) (mk : Reg → Inst) (row : Reg → Option MachineInstruction) → ((a : Reg) → IsSingle P (mk a) (out.test a) (row a)) → ((a : Reg) → Kept L out.targets (mk a) a) →
+    (a : Reg) (xs : List (Option Reported)) (s : List Reg) → IsVirtual a → MeetsEach s (items_of (out.request a ∷ xs)) s → refusal P (mk (register_at a s)) ≡ None → InstKeeps L (outputs (items_of (out.request a ∷ xs)) s) (mk (register_at a s))
+kept1 P L out mk row is keeps a xs s v m h =
     let x : Reg = register_at a s in
-    keeps x (outputs (items_of (f a ∷ xs)) s) (first_listed f F t T target a xs s v m (single_valid P (mk x) (t x) (row x) (is x) h))
+    keeps x (outputs (items_of (out.request a ∷ xs)) s) (first_listed out a xs s v m (single_valid P (mk x) (out.test x) (row x) (is x) h))
 
-pub kept2 : (P : Place) (L : Layout) (f : Reg → Option Reported) → IsOutput f → (t : Reg → Bool) (T : Reg → List Reg) → IsTarget t T → (mk : Reg → Reg → Inst) (u : Reg → Bool) (row : Reg → Reg → Option MachineInstruction) → ((a b : Reg) → IsSingle P (mk a b) (t a && u b) (row a b)) →
-    ((a b : Reg) → Kept L T (mk a b) a) → (a b : Reg) (xs : List (Option Reported)) (s : List Reg) → IsVirtual a → MeetsEach s (items_of (f a ∷ xs)) s → refusal P (mk (register_at a s) (register_at b (after a s))) ≡ None → InstKeeps L (outputs (items_of (f a ∷ xs)) s) (mk (register_at a s) (register_at b (after a s)))
-kept2 P L f F t T target mk u row is keeps a b xs s v m h =
+pub kept2 : (P : Place) (L : Layout) (out : Output) (mk : Reg → Reg → Inst) (u : Reg → Bool) (row : Reg → Reg → Option MachineInstruction) → ((a b : Reg) → IsSingle P (mk a b) (out.test a && u b) (row a b)) →
+    ((a b : Reg) → Kept L out.targets (mk a b) a) → (a b : Reg) (xs : List (Option Reported)) (s : List Reg) → IsVirtual a → MeetsEach s (items_of (out.request a ∷ xs)) s → refusal P (mk (register_at a s) (register_at b (after a s))) ≡ None → InstKeeps L (outputs (items_of (out.request a ∷ xs)) s) (mk (register_at a s) (register_at b (after a s)))
+kept2 P L out mk u row is keeps a b xs s v m h =
     let x : Reg = register_at a s in let y : Reg = register_at b (after a s) in
-    let valid : (t x && u y) ≡ true = single_valid P (mk x y) (t x && u y) (row x y) (is x y) h in
-    keeps x y (outputs (items_of (f a ∷ xs)) s) (first_listed f F t T target a xs s v m (and_left (t x) (u y) valid))
+    let valid : (out.test x && u y) ≡ true = single_valid P (mk x y) (out.test x && u y) (row x y) (is x y) h in
+    keeps x y (outputs (items_of (out.request a ∷ xs)) s) (first_listed out a xs s v m (and_left (out.test x) (u y) valid))
 
-pub kept3 : (P : Place) (L : Layout) (f : Reg → Option Reported) → IsOutput f → (t : Reg → Bool) (T : Reg → List Reg) → IsTarget t T → (mk : Reg → Reg → Reg → Inst) (u w : Reg → Bool) (row : Reg → Reg → Reg → Option MachineInstruction) → ((a b c : Reg) → IsSingle P (mk a b c) (t a && u b && w c) (row a b c)) →
-    ((a b c : Reg) → Kept L T (mk a b c) a) → (a b c : Reg) (xs : List (Option Reported)) (s : List Reg) → IsVirtual a → MeetsEach s (items_of (f a ∷ xs)) s → refusal P (mk (register_at a s) (register_at b (after a s)) (register_at c (after b (after a s)))) ≡ None →
-    InstKeeps L (outputs (items_of (f a ∷ xs)) s) (mk (register_at a s) (register_at b (after a s)) (register_at c (after b (after a s))))
-kept3 P L f F t T target mk u w row is keeps a b c xs s v m h =
+pub kept3 : (P : Place) (L : Layout) (out : Output) (mk : Reg → Reg → Reg → Inst) (u w : Reg → Bool) (row : Reg → Reg → Reg → Option MachineInstruction) → ((a b c : Reg) → IsSingle P (mk a b c) (out.test a && u b && w c) (row a b c)) →
+    ((a b c : Reg) → Kept L out.targets (mk a b c) a) → (a b c : Reg) (xs : List (Option Reported)) (s : List Reg) → IsVirtual a → MeetsEach s (items_of (out.request a ∷ xs)) s → refusal P (mk (register_at a s) (register_at b (after a s)) (register_at c (after b (after a s)))) ≡ None →
+    InstKeeps L (outputs (items_of (out.request a ∷ xs)) s) (mk (register_at a s) (register_at b (after a s)) (register_at c (after b (after a s))))
+kept3 P L out mk u w row is keeps a b c xs s v m h =
     let x : Reg = register_at a s in let y : Reg = register_at b (after a s) in let z : Reg = register_at c (after b (after a s)) in
-    let valid : (t x && u y && w z) ≡ true = single_valid P (mk x y z) (t x && u y && w z) (row x y z) (is x y z) h in
-    keeps x y z (outputs (items_of (f a ∷ xs)) s) (first_listed f F t T target a xs s v m (and_left (t x) (u y) (and_left (t x && u y) (w z) valid)))
+    let valid : (out.test x && u y && w z) ≡ true = single_valid P (mk x y z) (out.test x && u y && w z) (row x y z) (is x y z) h in
+    keeps x y z (outputs (items_of (out.request a ∷ xs)) s) (first_listed out a xs s v m (and_left (out.test x) (u y) (and_left (out.test x && u y) (w z) valid)))
 
-pub kept4 : (P : Place) (L : Layout) (f : Reg → Option Reported) → IsOutput f → (t : Reg → Bool) (T : Reg → List Reg) → IsTarget t T → (mk : Reg → Reg → Reg → Reg → Inst) (u w z : Reg → Bool) (row : Reg → Reg → Reg → Reg → Option MachineInstruction) →
-    ((a b c d : Reg) → IsSingle P (mk a b c d) (t a && u b && w c && z d) (row a b c d)) → ((a b c d : Reg) → Kept L T (mk a b c d) a) → (a b c d : Reg) (xs : List (Option Reported)) (s : List Reg) → IsVirtual a → MeetsEach s (items_of (f a ∷ xs)) s →
+pub kept4 : (P : Place) (L : Layout) (out : Output) (mk : Reg → Reg → Reg → Reg → Inst) (u w z : Reg → Bool) (row : Reg → Reg → Reg → Reg → Option MachineInstruction) →
+    ((a b c d : Reg) → IsSingle P (mk a b c d) (out.test a && u b && w c && z d) (row a b c d)) → ((a b c d : Reg) → Kept L out.targets (mk a b c d) a) → (a b c d : Reg) (xs : List (Option Reported)) (s : List Reg) → IsVirtual a → MeetsEach s (items_of (out.request a ∷ xs)) s →
     refusal P (mk (register_at a s) (register_at b (after a s)) (register_at c (after b (after a s))) (register_at d (after c (after b (after a s))))) ≡ None →
-    InstKeeps L (outputs (items_of (f a ∷ xs)) s) (mk (register_at a s) (register_at b (after a s)) (register_at c (after b (after a s))) (register_at d (after c (after b (after a s)))))
-kept4 P L f F t T target mk u w z row is keeps a b c d xs s v m h =
+    InstKeeps L (outputs (items_of (out.request a ∷ xs)) s) (mk (register_at a s) (register_at b (after a s)) (register_at c (after b (after a s))) (register_at d (after c (after b (after a s)))))
+kept4 P L out mk u w z row is keeps a b c d xs s v m h =
     let p : Reg = register_at a s in let q : Reg = register_at b (after a s) in
     let r : Reg = register_at c (after b (after a s)) in let o : Reg = register_at d (after c (after b (after a s))) in
-    let valid : (t p && u q && w r && z o) ≡ true = single_valid P (mk p q r o) (t p && u q && w r && z o) (row p q r o) (is p q r o) h in
-    keeps p q r o (outputs (items_of (f a ∷ xs)) s) (first_listed f F t T target a xs s v m (and_left (t p) (u q) (and_left (t p && u q) (w r) (and_left (t p && u q && w r) (z o) valid))))
+    let valid : (out.test p && u q && w r && z o) ≡ true = single_valid P (mk p q r o) (out.test p && u q && w r && z o) (row p q r o) (is p q r o) h in
+    keeps p q r o (outputs (items_of (out.request a ∷ xs)) s) (first_listed out a xs s v m (and_left (out.test p) (u q) (and_left (out.test p && u q) (w r) (and_left (out.test p && u q && w r) (z o) valid))))
 
 -- the output of an input that it has to be
 pub alike_first : (t : Reg → Bool) (x y : Reg) → pass_alike t x y ≡ true → t x ≡ true
 alike_first t x y h = and_left (t x) (t y) (and_left (t x && t y) (nat_eq (number_of x) (number_of y)) h)
 
-pub kept_reuse1 : (P : Place) (L : Layout) (t : Reg → Bool) (T : Reg → List Reg) → IsTarget t T → (mk : Reg → Reg → Inst) (row : Reg → Reg → Option MachineInstruction) → ((d i : Reg) → IsSingle P (mk d i) (pass_alike t d i) (row d i)) → ((d i : Reg) → Kept L T (mk d i) d) →
-    (d i : Reg) (xs : List (Option Reported)) (s : List Reg) → IsVirtual d → MeetsEach s (items_of (reported_reuse d ∷ xs)) s → refusal P (mk (register_at d s) (register_at i (after d s))) ≡ None → InstKeeps L (outputs (items_of (reported_reuse d ∷ xs)) s) (mk (register_at d s) (register_at i (after d s)))
-kept_reuse1 P L t T target mk row is keeps d i xs s v m h =
+pub kept_reuse1 : (P : Place) (L : Layout) (out : Output) (mk : Reg → Reg → Inst) (row : Reg → Reg → Option MachineInstruction) → ((d i : Reg) → IsSingle P (mk d i) (pass_alike out.test d i) (row d i)) → ((d i : Reg) → Kept L out.targets (mk d i) d) →
+    (d i : Reg) (xs : List (Option Reported)) (s : List Reg) → IsVirtual d → MeetsEach s (items_of (out.request d ∷ xs)) s → refusal P (mk (register_at d s) (register_at i (after d s))) ≡ None → InstKeeps L (outputs (items_of (out.request d ∷ xs)) s) (mk (register_at d s) (register_at i (after d s)))
+kept_reuse1 P L out mk row is keeps d i xs s v m h =
     let x : Reg = register_at d s in let y : Reg = register_at i (after d s) in
-    keeps x y (outputs (items_of (reported_reuse d ∷ xs)) s) (first_listed reported_reuse reused_output t T target d xs s v m (alike_first t x y (single_valid P (mk x y) (pass_alike t x y) (row x y) (is x y) h)))
+    keeps x y (outputs (items_of (out.request d ∷ xs)) s) (first_listed out d xs s v m (alike_first out.test x y (single_valid P (mk x y) (pass_alike out.test x y) (row x y) (is x y) h)))
 
 -- with a test of something else beside
-pub kept_reuse1_and : (P : Place) (L : Layout) (t : Reg → Bool) (T : Reg → List Reg) → IsTarget t T → (mk : Reg → Reg → Inst) (more : Bool) (row : Reg → Reg → Option MachineInstruction) → ((d i : Reg) → IsSingle P (mk d i) (pass_alike t d i && more) (row d i)) → ((d i : Reg) → Kept L T (mk d i) d) →
-    (d i : Reg) (xs : List (Option Reported)) (s : List Reg) → IsVirtual d → MeetsEach s (items_of (reported_reuse d ∷ xs)) s → refusal P (mk (register_at d s) (register_at i (after d s))) ≡ None → InstKeeps L (outputs (items_of (reported_reuse d ∷ xs)) s) (mk (register_at d s) (register_at i (after d s)))
-kept_reuse1_and P L t T target mk more row is keeps d i xs s v m h =
+pub kept_reuse1_and : (P : Place) (L : Layout) (out : Output) (mk : Reg → Reg → Inst) (more : Bool) (row : Reg → Reg → Option MachineInstruction) → ((d i : Reg) → IsSingle P (mk d i) (pass_alike out.test d i && more) (row d i)) → ((d i : Reg) → Kept L out.targets (mk d i) d) →
+    (d i : Reg) (xs : List (Option Reported)) (s : List Reg) → IsVirtual d → MeetsEach s (items_of (out.request d ∷ xs)) s → refusal P (mk (register_at d s) (register_at i (after d s))) ≡ None → InstKeeps L (outputs (items_of (out.request d ∷ xs)) s) (mk (register_at d s) (register_at i (after d s)))
+kept_reuse1_and P L out mk more row is keeps d i xs s v m h =
     let x : Reg = register_at d s in let y : Reg = register_at i (after d s) in
-    keeps x y (outputs (items_of (reported_reuse d ∷ xs)) s) (first_listed reported_reuse reused_output t T target d xs s v m (alike_first t x y (and_left (pass_alike t x y) more (single_valid P (mk x y) (pass_alike t x y && more) (row x y) (is x y) h))))
+    keeps x y (outputs (items_of (out.request d ∷ xs)) s) (first_listed out d xs s v m (alike_first out.test x y (and_left (pass_alike out.test x y) more (single_valid P (mk x y) (pass_alike out.test x y && more) (row x y) (is x y) h))))
 
-pub kept_reuse2 : (P : Place) (L : Layout) (t : Reg → Bool) (T : Reg → List Reg) → IsTarget t T → (mk : Reg → Reg → Reg → Inst) (u : Reg → Bool) (row : Reg → Reg → Reg → Option MachineInstruction) → ((d i b : Reg) → IsSingle P (mk d i b) (pass_alike t d i && u b) (row d i b)) →
-    ((d i b : Reg) → Kept L T (mk d i b) d) → (d i b : Reg) (xs : List (Option Reported)) (s : List Reg) → IsVirtual d → MeetsEach s (items_of (reported_reuse d ∷ xs)) s → refusal P (mk (register_at d s) (register_at i (after d s)) (register_at b (after i (after d s)))) ≡ None →
-    InstKeeps L (outputs (items_of (reported_reuse d ∷ xs)) s) (mk (register_at d s) (register_at i (after d s)) (register_at b (after i (after d s))))
-kept_reuse2 P L t T target mk u row is keeps d i b xs s v m h =
+pub kept_reuse2 : (P : Place) (L : Layout) (out : Output) (mk : Reg → Reg → Reg → Inst) (u : Reg → Bool) (row : Reg → Reg → Reg → Option MachineInstruction) → ((d i b : Reg) → IsSingle P (mk d i b) (pass_alike out.test d i && u b) (row d i b)) →
+    ((d i b : Reg) → Kept L out.targets (mk d i b) d) → (d i b : Reg) (xs : List (Option Reported)) (s : List Reg) → IsVirtual d → MeetsEach s (items_of (out.request d ∷ xs)) s → refusal P (mk (register_at d s) (register_at i (after d s)) (register_at b (after i (after d s)))) ≡ None →
+    InstKeeps L (outputs (items_of (out.request d ∷ xs)) s) (mk (register_at d s) (register_at i (after d s)) (register_at b (after i (after d s))))
+kept_reuse2 P L out mk u row is keeps d i b xs s v m h =
     let x : Reg = register_at d s in let y : Reg = register_at i (after d s) in let z : Reg = register_at b (after i (after d s)) in
-    let valid : (pass_alike t x y && u z) ≡ true = single_valid P (mk x y z) (pass_alike t x y && u z) (row x y z) (is x y z) h in
-    keeps x y z (outputs (items_of (reported_reuse d ∷ xs)) s) (first_listed reported_reuse reused_output t T target d xs s v m (alike_first t x y (and_left (pass_alike t x y) (u z) valid)))
+    let valid : (pass_alike out.test x y && u z) ≡ true = single_valid P (mk x y z) (pass_alike out.test x y && u z) (row x y z) (is x y z) h in
+    keeps x y z (outputs (items_of (out.request d ∷ xs)) s) (first_listed out d xs s v m (alike_first out.test x y (and_left (pass_alike out.test x y) (u z) valid)))
 
-pub kept_reuse3 : (P : Place) (L : Layout) (t : Reg → Bool) (T : Reg → List Reg) → IsTarget t T → (mk : Reg → Reg → Reg → Reg → Inst) (u w : Reg → Bool) (row : Reg → Reg → Reg → Reg → Option MachineInstruction) → ((d i b c : Reg) → IsSingle P (mk d i b c) (pass_alike t d i && u b && w c) (row d i b c)) →
-    ((d i b c : Reg) → Kept L T (mk d i b c) d) → (d i b c : Reg) (xs : List (Option Reported)) (s : List Reg) → IsVirtual d → MeetsEach s (items_of (reported_reuse d ∷ xs)) s →
+pub kept_reuse3 : (P : Place) (L : Layout) (out : Output) (mk : Reg → Reg → Reg → Reg → Inst) (u w : Reg → Bool) (row : Reg → Reg → Reg → Reg → Option MachineInstruction) → ((d i b c : Reg) → IsSingle P (mk d i b c) (pass_alike out.test d i && u b && w c) (row d i b c)) →
+    ((d i b c : Reg) → Kept L out.targets (mk d i b c) d) → (d i b c : Reg) (xs : List (Option Reported)) (s : List Reg) → IsVirtual d → MeetsEach s (items_of (out.request d ∷ xs)) s →
     refusal P (mk (register_at d s) (register_at i (after d s)) (register_at b (after i (after d s))) (register_at c (after b (after i (after d s))))) ≡ None →
-    InstKeeps L (outputs (items_of (reported_reuse d ∷ xs)) s) (mk (register_at d s) (register_at i (after d s)) (register_at b (after i (after d s))) (register_at c (after b (after i (after d s)))))
-kept_reuse3 P L t T target mk u w row is keeps d i b c xs s v m h =
+    InstKeeps L (outputs (items_of (out.request d ∷ xs)) s) (mk (register_at d s) (register_at i (after d s)) (register_at b (after i (after d s))) (register_at c (after b (after i (after d s)))))
+kept_reuse3 P L out mk u w row is keeps d i b c xs s v m h =
     let x : Reg = register_at d s in let y : Reg = register_at i (after d s) in
     let z : Reg = register_at b (after i (after d s)) in let o : Reg = register_at c (after b (after i (after d s))) in
-    let valid : (pass_alike t x y && u z && w o) ≡ true = single_valid P (mk x y z o) (pass_alike t x y && u z && w o) (row x y z o) (is x y z o) h in
-    keeps x y z o (outputs (items_of (reported_reuse d ∷ xs)) s) (first_listed reported_reuse reused_output t T target d xs s v m (alike_first t x y (and_left (pass_alike t x y) (u z) (and_left (pass_alike t x y && u z) (w o) valid))))
+    let valid : (pass_alike out.test x y && u z && w o) ≡ true = single_valid P (mk x y z o) (pass_alike out.test x y && u z && w o) (row x y z o) (is x y z o) h in
+    keeps x y z o (outputs (items_of (out.request d ∷ xs)) s) (first_listed out d xs s v m (alike_first out.test x y (and_left (pass_alike out.test x y) (u z) (and_left (pass_alike out.test x y && u z) (w o) valid))))
 
 -- with a test of something else beside
-pub kept1_and : (P : Place) (L : Layout) (f : Reg → Option Reported) → IsOutput f → (t : Reg → Bool) (T : Reg → List Reg) → IsTarget t T → (mk : Reg → Inst) (more : Bool) (row : Reg → Option MachineInstruction) → ((a : Reg) → IsSingle P (mk a) (t a && more) (row a)) → ((a : Reg) → Kept L T (mk a) a) →
-    (a : Reg) (xs : List (Option Reported)) (s : List Reg) → IsVirtual a → MeetsEach s (items_of (f a ∷ xs)) s → refusal P (mk (register_at a s)) ≡ None → InstKeeps L (outputs (items_of (f a ∷ xs)) s) (mk (register_at a s))
-kept1_and P L f F t T target mk more row is keeps a xs s v m h =
+pub kept1_and : (P : Place) (L : Layout) (out : Output) (mk : Reg → Inst) (more : Bool) (row : Reg → Option MachineInstruction) → ((a : Reg) → IsSingle P (mk a) (out.test a && more) (row a)) → ((a : Reg) → Kept L out.targets (mk a) a) →
+    (a : Reg) (xs : List (Option Reported)) (s : List Reg) → IsVirtual a → MeetsEach s (items_of (out.request a ∷ xs)) s → refusal P (mk (register_at a s)) ≡ None → InstKeeps L (outputs (items_of (out.request a ∷ xs)) s) (mk (register_at a s))
+kept1_and P L out mk more row is keeps a xs s v m h =
     let x : Reg = register_at a s in
-    keeps x (outputs (items_of (f a ∷ xs)) s) (first_listed f F t T target a xs s v m (and_left (t x) more (single_valid P (mk x) (t x && more) (row x) (is x) h)))
+    keeps x (outputs (items_of (out.request a ∷ xs)) s) (first_listed out a xs s v m (and_left (out.test x) more (single_valid P (mk x) (out.test x && more) (row x) (is x) h)))
 
 -- ---- what is listed behind inputs
 

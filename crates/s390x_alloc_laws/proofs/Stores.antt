@@ -1,5 +1,5 @@
 -- What an assigned instruction with an operand in memory, or on a pair, may change.
-use Rattle.std.proofs.Common.{◌≡◌, ℕ, zero, suc, ◌+◌, ◌-◌, ◌%◌, ◌≤◌, ◌<◌, nat_lt, nat_le, Bool, true, false, ◌&&◌, List, [], ◌∷◌, ◌++◌, Option, Some, None, sym, ap, ◌∙◌, option_map, arith}
+use Rattle.std.proofs.Common.{◌≡◌, ℕ, zero, suc, ◌+◌, ◌-◌, ◌%◌, ◌≤◌, ◌<◌, nat_lt, nat_le, true, false, ◌&&◌, List, [], ◌∷◌, ◌++◌, Option, Some, None, sym, ap, ◌∙◌, option_map, arith}
 use Rattle.std.specs.Prelude.{⊤}
 use Rattle.std.proofs.lemmas.Bool.{ltb-true, leb-true}
 use Rattle.s390x_base.specs.Registers.{general}
@@ -28,7 +28,7 @@ use Rattle.s390x_alloc_laws.proofs.Accesses.{AreValid, IsAccess, placed_in, acce
 use Rattle.s390x_alloc_laws.specs.Outputs.{IsApart, outputs, generals}
 use Rattle.s390x_alloc_laws.proofs.Effects.{Covers, multiple_targets, pair_targets}
 use Rattle.s390x_alloc_laws.proofs.StepKinds.{WritesOnly, nothing, access_keeps}
-use Rattle.s390x_alloc_laws.proofs.Shapes.{BothKeep, InstKeeps, IsTarget, IsOutput, IsPassed, reused_passed, used_passed, reused_output, scratch_target, memory_scratch, memory_listed, first_listed, general_target}
+use Rattle.s390x_alloc_laws.proofs.Shapes.{Output, general_reuse, BothKeep, InstKeeps, reused_passed, used_passed, scratch_target, memory_scratch, memory_listed, first_listed, general_target}
 
 -- ---- operands in memory
 
@@ -46,14 +46,14 @@ abbrev pub KeepsAccess : Layout → List Reg → Inst → Type 0
 KeepsAccess L written j = (changed : List Reg) → Covers changed written → Covers changed scratch_target → InstKeeps L changed j
 
 -- the output is the first request
-pub load_kept : (P : Place) (L : Layout) (t : Reg → Bool) (T : Reg → List Reg) → IsTarget t T → (f : Reg → Option Reported) → IsOutput f → IsPassed f → (mk : Reg → MemArg → Inst) (o : Reg → MemArg → Option MemoryInstruction) → ((a : Reg) (m : MemArg) → AreValid (o a m) → t a ≡ true) →
-    ((a : Reg) (m : MemArg) → IsAccess P (mk a m) (o a (resolved_operand P.state m))) → ((a : Reg) (m : MemArg) → KeepsAccess L (T a) (placed_in P (mk a m))) → (a : Reg) (m : MemArg) (s : List Reg) → IsVirtual a → MeetsEach s (items_of (f a ∷ memory_requests m)) s →
-    refusal P (mk (register_at a s) (memory_at m (after a s)).0) ≡ None → InstKeeps L (outputs (items_of (f a ∷ memory_requests m)) s) (placed_in P (mk (register_at a s) (memory_at m (after a s)).0))
-load_kept P L t T target f F passed mk o valid is keeps a m s v meet h =
+pub load_kept : (P : Place) (L : Layout) (out : Output) (mk : Reg → MemArg → Inst) (o : Reg → MemArg → Option MemoryInstruction) → ((a : Reg) (m : MemArg) → AreValid (o a m) → out.test a ≡ true) →
+    ((a : Reg) (m : MemArg) → IsAccess P (mk a m) (o a (resolved_operand P.state m))) → ((a : Reg) (m : MemArg) → KeepsAccess L (out.targets a) (placed_in P (mk a m))) → (a : Reg) (m : MemArg) (s : List Reg) → IsVirtual a → MeetsEach s (items_of (out.request a ∷ memory_requests m)) s →
+    refusal P (mk (register_at a s) (memory_at m (after a s)).0) ≡ None → InstKeeps L (outputs (items_of (out.request a ∷ memory_requests m)) s) (placed_in P (mk (register_at a s) (memory_at m (after a s)).0))
+load_kept P L out mk o valid is keeps a m s v meet h =
     let x : Reg = register_at a s in let y : MemArg = (memory_at m (after a s)).0 in
-    let rest = passed a (memory_requests m) s s meet in
-    let test : t x ≡ true = valid x (resolved_operand P.state y) (access_valid P (mk x y) (o x (resolved_operand P.state y)) (is x y) h) in
-    keeps x y (outputs (items_of (f a ∷ memory_requests m)) s) (first_listed f F t T target a (memory_requests m) s v meet test) (λ q z. memory_listed m s (after a s) rest.1 q (rest.0 q z))
+    let rest = out.passed a (memory_requests m) s s meet in
+    let test : out.test x ≡ true = valid x (resolved_operand P.state y) (access_valid P (mk x y) (o x (resolved_operand P.state y)) (is x y) h) in
+    keeps x y (outputs (items_of (out.request a ∷ memory_requests m)) s) (first_listed out a (memory_requests m) s v meet test) (λ q z. memory_listed m s (after a s) rest.1 q (rest.0 q z))
 
 -- no output
 pub store_kept : (P : Place) (L : Layout) (mk : Reg → MemArg → Inst) → ((a : Reg) (m : MemArg) → KeepsAccess L [] (placed_in P (mk a m))) → (a : Reg) (m : MemArg) (s : List Reg) → MeetsEach s (items_of (reported_use a ∷ memory_requests m)) s →
@@ -63,29 +63,29 @@ store_kept P L mk keeps a m s meet =
     keeps (register_at a s) (memory_at m (after a s)).0 (outputs (items_of (reported_use a ∷ memory_requests m)) s) (λ q z. tt) (λ q z. memory_listed m s (after a s) rest.1 q (rest.0 q z))
 
 -- an output and an input behind it
-pub load_kept2 : (P : Place) (L : Layout) (t : Reg → Bool) (T : Reg → List Reg) → IsTarget t T → (f : Reg → Option Reported) → IsOutput f → IsPassed f → (mk : Reg → Reg → MemArg → Inst) (o : Reg → Reg → MemArg → Option MemoryInstruction) → ((a b : Reg) (m : MemArg) → AreValid (o a b m) → t a ≡ true) →
-    ((a b : Reg) (m : MemArg) → IsAccess P (mk a b m) (o a b (resolved_operand P.state m))) → ((a b : Reg) (m : MemArg) → KeepsAccess L (T a) (placed_in P (mk a b m))) → (a b : Reg) (m : MemArg) (s : List Reg) → IsVirtual a → MeetsEach s (items_of (f a ∷ reported_use b ∷ memory_requests m)) s →
-    refusal P (mk (register_at a s) (register_at b (after a s)) (memory_at m (after b (after a s))).0) ≡ None → InstKeeps L (outputs (items_of (f a ∷ reported_use b ∷ memory_requests m)) s) (placed_in P (mk (register_at a s) (register_at b (after a s)) (memory_at m (after b (after a s))).0))
-load_kept2 P L t T target f F passed mk o valid is keeps a b m s v meet h =
+pub load_kept2 : (P : Place) (L : Layout) (out : Output) (mk : Reg → Reg → MemArg → Inst) (o : Reg → Reg → MemArg → Option MemoryInstruction) → ((a b : Reg) (m : MemArg) → AreValid (o a b m) → out.test a ≡ true) →
+    ((a b : Reg) (m : MemArg) → IsAccess P (mk a b m) (o a b (resolved_operand P.state m))) → ((a b : Reg) (m : MemArg) → KeepsAccess L (out.targets a) (placed_in P (mk a b m))) → (a b : Reg) (m : MemArg) (s : List Reg) → IsVirtual a → MeetsEach s (items_of (out.request a ∷ reported_use b ∷ memory_requests m)) s →
+    refusal P (mk (register_at a s) (register_at b (after a s)) (memory_at m (after b (after a s))).0) ≡ None → InstKeeps L (outputs (items_of (out.request a ∷ reported_use b ∷ memory_requests m)) s) (placed_in P (mk (register_at a s) (register_at b (after a s)) (memory_at m (after b (after a s))).0))
+load_kept2 P L out mk o valid is keeps a b m s v meet h =
     let x : Reg = register_at a s in let y : Reg = register_at b (after a s) in let z : MemArg = (memory_at m (after b (after a s))).0 in
-    let first = passed a (reported_use b ∷ memory_requests m) s s meet in
+    let first = out.passed a (reported_use b ∷ memory_requests m) s s meet in
     let rest = used_passed b (memory_requests m) s (after a s) first.1 in
-    let test : t x ≡ true = valid x y (resolved_operand P.state z) (access_valid P (mk x y z) (o x y (resolved_operand P.state z)) (is x y z) h) in
-    keeps x y z (outputs (items_of (f a ∷ reported_use b ∷ memory_requests m)) s) (first_listed f F t T target a (reported_use b ∷ memory_requests m) s v meet test) (λ q w. memory_listed m s (after b (after a s)) rest.1 q (rest.0 q (first.0 q w)))
+    let test : out.test x ≡ true = valid x y (resolved_operand P.state z) (access_valid P (mk x y z) (o x y (resolved_operand P.state z)) (is x y z) h) in
+    keeps x y z (outputs (items_of (out.request a ∷ reported_use b ∷ memory_requests m)) s) (first_listed out a (reported_use b ∷ memory_requests m) s v meet test) (λ q w. memory_listed m s (after b (after a s)) rest.1 q (rest.0 q (first.0 q w)))
 
 -- a swap
 pub swap_kept : (P : Place) (L : Layout) (mk : Reg → Reg → Reg → MemArg → Inst) (o : Reg → Reg → Reg → MemArg → Option MemoryInstruction) → ((a b c : Reg) (m : MemArg) → AreValid (o a b c m) → is_general a ≡ true) → ((a b c : Reg) (m : MemArg) → IsAccess P (mk a b c m) (o a b c (resolved_operand P.state m))) →
-    ((a b c : Reg) (m : MemArg) → KeepsAccess L (general_target a) (placed_in P (mk a b c m))) → IsTarget is_general general_target → (a b c : Reg) (m : MemArg) (s : List Reg) → IsVirtual a → MeetsEach s (items_of (reported_reuse a ∷ reported_use b ∷ reported_use c ∷ memory_requests m)) s →
+    ((a b c : Reg) (m : MemArg) → KeepsAccess L (general_target a) (placed_in P (mk a b c m))) → (a b c : Reg) (m : MemArg) (s : List Reg) → IsVirtual a → MeetsEach s (items_of (reported_reuse a ∷ reported_use b ∷ reported_use c ∷ memory_requests m)) s →
     refusal P (mk (register_at a s) (register_at b (after a s)) (register_at c (after b (after a s))) (memory_at m (after c (after b (after a s)))).0) ≡ None →
     InstKeeps L (outputs (items_of (reported_reuse a ∷ reported_use b ∷ reported_use c ∷ memory_requests m)) s) (placed_in P (mk (register_at a s) (register_at b (after a s)) (register_at c (after b (after a s))) (memory_at m (after c (after b (after a s)))).0))
-swap_kept P L mk o valid is keeps target a b c m s v meet h =
+swap_kept P L mk o valid is keeps a b c m s v meet h =
     let t : List Reg = after b (after a s) in
     let x : Reg = register_at a s in let y : Reg = register_at b (after a s) in let w : Reg = register_at c t in let z : MemArg = (memory_at m (after c t)).0 in
     let first = reused_passed a (reported_use b ∷ reported_use c ∷ memory_requests m) s s meet in
     let second = used_passed b (reported_use c ∷ memory_requests m) s (after a s) first.1 in
     let rest = used_passed c (memory_requests m) s t second.1 in
     let test : is_general x ≡ true = valid x y w (resolved_operand P.state z) (access_valid P (mk x y w z) (o x y w (resolved_operand P.state z)) (is x y w z) h) in
-    keeps x y w z (outputs (items_of (reported_reuse a ∷ reported_use b ∷ reported_use c ∷ memory_requests m)) s) (first_listed reported_reuse reused_output is_general general_target target a (reported_use b ∷ reported_use c ∷ memory_requests m) s v meet test)
+    keeps x y w z (outputs (items_of (reported_reuse a ∷ reported_use b ∷ reported_use c ∷ memory_requests m)) s) (first_listed general_reuse a (reported_use b ∷ reported_use c ∷ memory_requests m) s v meet test)
     (λ q u. memory_listed m s (after c t) rest.1 q (rest.0 q (second.0 q (first.0 q u))))
 
 -- ---- multiples

@@ -15,13 +15,13 @@ far_load_allocatable P =
 pub division_allocatable : (P : Place) → IsAllocatable P division
 division_allocatable P =
     record {
-      stands = (tt, tt, tt, tt);
+      stands = (tt, ((tt, tt), (tt, tt)));
       possible = record { registers = division_registers; meet = (refl, (tt, (refl, (refl, (refl, (refl, (refl, (refl, tt)))))))); instruction = (assigned_operator division division_registers).0; assigned = refl; unrefused = refl };
     }
 
 pub selection_allocatable : (P : Place) → IsAllocatable P selection
 selection_allocatable P =
     record {
-      stands = (tt, tt, tt, tt);
+      stands = (tt, (tt, (tt, (tt, tt))));
       possible = record { registers = selection_registers; meet = (refl, (tt, (refl, (tt, (refl, (tt, (refl, (tt, tt)))))))); instruction = (assigned_operator selection selection_registers).0; assigned = refl; unrefused = refl };
     }

@@ -20,6 +20,8 @@ use Rattle.s390x_inst.specs.Stores.{as_store, by_store}
 use Rattle.s390x_inst.specs.Wholes.{as_whole, by_whole}
 use Rattle.s390x_inst.specs.declared.vec_inst.VecInst.{VecInst}
 use Rattle.s390x_inst.specs.declared.vec_inst.VecInst.TheVariants as V
+use Rattle.s390x_described.specs.Instructions.{described_part, description_of}
+use Rattle.s390x_described.specs.Roles.{Role, WrittenPair, LowRead, ReadPair, InMemory, Described, register}
 use Rattle.s390x_operands.specs.Meets.{Meets}
 use Rattle.s390x_operands.specs.Operands.{operands}
 use Rattle.s390x_operands.specs.declared.constraint.Reported.{Reported}
@@ -69,121 +71,48 @@ abbrev pub IsFreeRange : Reg → Reg → Type 0
 IsFreeRange (Real p) (Real q) = (1 < p.number) ⊎ (q.number < 1)
 IsFreeRange first last = ⊥
 
+-- of what stands in a role
+abbrev pub RoleMayStand : Role → Type 0
+RoleMayStand (WrittenPair d) = IsNotScratch d.hi × IsNotScratch d.lo
+RoleMayStand (LowRead r) = IsNotScratch r
+RoleMayStand (ReadPair d) = IsNotScratch d.hi × IsNotScratch d.lo
+RoleMayStand (InMemory mem) = MemoryMayStand mem
+RoleMayStand r = IsVirtual (register r)
+
+abbrev pub RolesMayStand : List Role → Type 0
+RolesMayStand [] = ⊤
+RolesMayStand (x ∷ xs) = RoleMayStand x × RolesMayStand xs
+
+-- an instruction that is described by the roles of its registers
+abbrev pub DescribedMayStand : Option (Described Inst) → Type 0
+DescribedMayStand None = ⊥
+DescribedMayStand (Some d) = RolesMayStand d.roles
+
 -- of a vector instruction that is no load or store of a whole register
 abbrev pub PartMayStand : VecInst → Type 0
-PartMayStand (V.VecRRR op rd rn rm) = IsVirtual rd × IsVirtual rn × IsVirtual rm
-PartMayStand (V.VecRR op rd rn) = IsVirtual rd × IsVirtual rn
 PartMayStand (V.VecShiftRR shift_op rd rn shift_imm shift_reg) = IsVirtual rd × IsVirtual rn × MayAddress shift_reg
-PartMayStand (V.VecSelect rd rn rm ra) = IsVirtual rd × IsVirtual rn × IsVirtual rm × IsVirtual ra
-PartMayStand (V.VecPermute rd rn rm ra) = IsVirtual rd × IsVirtual rn × IsVirtual rm × IsVirtual ra
-PartMayStand (V.VecBlend rd rn rm ra) = IsVirtual rd × IsVirtual rn × IsVirtual rm × IsVirtual ra
-PartMayStand (V.VecEvaluate imm rd rn rm ra) = IsVirtual rd × IsVirtual rn × IsVirtual rm × IsVirtual ra
-PartMayStand (V.VecPermuteDWImm rd rn rm idx1 idx2) = IsVirtual rd × IsVirtual rn × IsVirtual rm
-PartMayStand (V.VecIntCmp op rd rn rm) = IsVirtual rd × IsVirtual rn × IsVirtual rm
-PartMayStand (V.VecIntCmpS op rd rn rm) = IsVirtual rd × IsVirtual rn × IsVirtual rm
-PartMayStand (V.VecIntEltCmp op rn rm) = IsVirtual rn × IsVirtual rm
-PartMayStand (V.VecInt128SCmpHi tmp rn rm) = IsVirtual tmp × IsVirtual rn × IsVirtual rm
-PartMayStand (V.VecInt128UCmpHi tmp rn rm) = IsVirtual tmp × IsVirtual rn × IsVirtual rm
-PartMayStand (V.VecMov rd rn) = IsVirtual rd × IsVirtual rn
-PartMayStand (V.FpuMove32 rd rn) = IsVirtual rd × IsVirtual rn
-PartMayStand (V.FpuMove64 rd rn) = IsVirtual rd × IsVirtual rn
-PartMayStand (V.FpuCMov32 rd cond ri rm) = IsVirtual rd × IsVirtual ri × IsVirtual rm
-PartMayStand (V.FpuCMov64 rd cond ri rm) = IsVirtual rd × IsVirtual ri × IsVirtual rm
-PartMayStand (V.VecCMov rd cond ri rm) = IsVirtual rd × IsVirtual ri × IsVirtual rm
-PartMayStand (V.MovToVec128 rd rn rm) = IsVirtual rd × IsVirtual rn × IsVirtual rm
-PartMayStand (V.VecImmByteMask rd mask) = IsVirtual rd
-PartMayStand (V.VecImmBitMask size rd start_bit end_bit) = IsVirtual rd
-PartMayStand (V.VecImmReplicate size rd imm) = IsVirtual rd
 PartMayStand (V.VecInsertLane size rd ri rn lane_imm lane_reg) = IsVirtual rd × IsVirtual ri × IsVirtual rn × MayAddress lane_reg
 PartMayStand (V.VecInsertLaneUndef size rd rn lane_imm lane_reg) = IsVirtual rd × IsVirtual rn × MayAddress lane_reg
 PartMayStand (V.VecExtractLane size rd rn lane_imm lane_reg) = IsVirtual rd × IsVirtual rn × MayAddress lane_reg
-PartMayStand (V.VecInsertLaneImm size rd ri imm lane_imm) = IsVirtual rd × IsVirtual ri
-PartMayStand (V.VecInsertLaneImmUndef size rd imm lane_imm) = IsVirtual rd
-PartMayStand (V.VecReplicateLane size rd rn lane_imm) = IsVirtual rd × IsVirtual rn
-PartMayStand (V.VecEltRev lane_count rd rn) = IsVirtual rd × IsVirtual rn
-PartMayStand (V.VecLoadReplicate size rd mem) = IsVirtual rd × MemoryMayStand mem
-PartMayStand (V.VecLoadReplicateRev size rd mem) = IsVirtual rd × MemoryMayStand mem
-PartMayStand (V.VecLoadLane size rd ri mem lane_imm) = IsVirtual rd × IsVirtual ri × MemoryMayStand mem
-PartMayStand (V.VecLoadLaneRev size rd ri mem lane_imm) = IsVirtual rd × IsVirtual ri × MemoryMayStand mem
-PartMayStand (V.VecLoadLaneUndef size rd mem lane_imm) = IsVirtual rd × MemoryMayStand mem
-PartMayStand (V.VecLoadLaneRevUndef size rd mem lane_imm) = IsVirtual rd × MemoryMayStand mem
-PartMayStand (V.VecStoreLane size rd mem lane_imm) = IsVirtual rd × MemoryMayStand mem
-PartMayStand (V.VecStoreLaneRev size rd mem lane_imm) = IsVirtual rd × MemoryMayStand mem
-PartMayStand v = ⊥
+PartMayStand v = RolesMayStand (described_part v).roles
 
 abbrev pub VectorMayStand : VecInst → Type 0
 VectorMayStand v = by_whole (λ w. IsVirtual w.rd × MemoryMayStand w.mem) (PartMayStand v) (as_whole v)
 
--- All other registers are virtual. A `Loop`, a call and an allocation of arguments aren't meant, and the register of a `Ret` isn't reported.
+-- What isn't named here may have the registers of its description, where all of them are virtual but those of pairs and of memory. A `Loop`, a call and
+-- an allocation of arguments have no description and aren't meant, and the register of a `Ret` isn't reported.
 abbrev pub OtherMayStand : Inst → Type 0
 OtherMayStand (I.IndirectBr rn targets) = IsVirtual rn
 OtherMayStand (I.JTSequence ridx default default_cond targets) = IsVirtual ridx
-OtherMayStand (I.Call link info) = ⊥
-OtherMayStand (I.ReturnCall info) = ⊥
-OtherMayStand (I.LoadSymbolReloc rd symbol_reloc) = IsVirtual rd
-OtherMayStand (I.LabelAddress dst label) = IsVirtual dst
 OtherMayStand (I.Args args) = All MayTakeIn args.items
 OtherMayStand (I.Rets rets) = All MayHandBack rets.items
-OtherMayStand (I.DummyUse reg) = IsVirtual reg
 OtherMayStand (I.Vector v) = VectorMayStand v
-OtherMayStand (I.StoreImm8 imm mem) = MemoryMayStand mem
-OtherMayStand (I.StoreImm16 imm mem) = MemoryMayStand mem
-OtherMayStand (I.StoreImm32SExt16 imm mem) = MemoryMayStand mem
-OtherMayStand (I.StoreImm64SExt16 imm mem) = MemoryMayStand mem
 OtherMayStand (I.LoadMultiple64 rt rt2 mem) = IsFreeRange rt rt2 × MemoryMayStand mem
 OtherMayStand (I.StoreMultiple64 rt rt2 mem) = IsFreeRange rt rt2 × MemoryMayStand mem
-OtherMayStand (I.LoadAddr rd mem) = IsVirtual rd × MemoryMayStand mem
 OtherMayStand (I.LoadIndexedAddr rd base index offset size) = IsVirtual rd × MayAddress base × MayAddress index
 OtherMayStand (I.LoadLogicalIndexedAddr rd base index offset size) = IsVirtual rd × MayAddress base × MayAddress index
-OtherMayStand (I.AtomicRmw alu_op rd rn mem) = IsVirtual rd × IsVirtual rn × MemoryMayStand mem
-OtherMayStand (I.AtomicCas32 rd ri rn mem) = IsVirtual rd × IsVirtual ri × IsVirtual rn × MemoryMayStand mem
-OtherMayStand (I.AtomicCas64 rd ri rn mem) = IsVirtual rd × IsVirtual ri × IsVirtual rn × MemoryMayStand mem
-OtherMayStand (I.Mov64 rd rm) = IsVirtual rd × IsVirtual rm
 OtherMayStand (I.MovPReg rd rm) = IsVirtual rd × (rm ≡ general 1 → ⊥)
-OtherMayStand (I.Mov32 rd rm) = IsVirtual rd × IsVirtual rm
-OtherMayStand (I.Mov32Imm rd imm) = IsVirtual rd
-OtherMayStand (I.Mov32SImm16 rd imm) = IsVirtual rd
-OtherMayStand (I.Mov64SImm16 rd imm) = IsVirtual rd
-OtherMayStand (I.Mov64SImm32 rd imm) = IsVirtual rd
-OtherMayStand (I.Mov64UImm16Shifted rd imm) = IsVirtual rd
-OtherMayStand (I.Mov64UImm32Shifted rd imm) = IsVirtual rd
-OtherMayStand (I.Insert64UImm16Shifted rd ri imm) = IsVirtual rd × IsVirtual ri
-OtherMayStand (I.Insert64UImm32Shifted rd ri imm) = IsVirtual rd × IsVirtual ri
-OtherMayStand (I.CMov32 rd cond ri rm) = IsVirtual rd × IsVirtual ri × IsVirtual rm
-OtherMayStand (I.CMov64 rd cond ri rm) = IsVirtual rd × IsVirtual ri × IsVirtual rm
-OtherMayStand (I.CMov32SImm16 rd cond ri imm) = IsVirtual rd × IsVirtual ri
-OtherMayStand (I.CMov64SImm16 rd cond ri imm) = IsVirtual rd × IsVirtual ri
-OtherMayStand (I.Extend rd rn signed from_bits to_bits) = IsVirtual rd × IsVirtual rn
-OtherMayStand (I.LoadAR rd ar) = IsVirtual rd
-OtherMayStand (I.InsertAR rd ri ar) = IsVirtual rd × IsVirtual ri
-OtherMayStand (I.AluRRR alu_op rd rn rm) = IsVirtual rd × IsVirtual rn × IsVirtual rm
-OtherMayStand (I.AluRRSImm16 alu_op rd rn imm) = IsVirtual rd × IsVirtual rn
-OtherMayStand (I.AluRR alu_op rd ri rm) = IsVirtual rd × IsVirtual ri × IsVirtual rm
-OtherMayStand (I.AluRX alu_op rd ri mem) = IsVirtual rd × IsVirtual ri × MemoryMayStand mem
-OtherMayStand (I.AluRSImm16 alu_op rd ri imm) = IsVirtual rd × IsVirtual ri
-OtherMayStand (I.AluRSImm32 alu_op rd ri imm) = IsVirtual rd × IsVirtual ri
-OtherMayStand (I.AluRUImm32 alu_op rd ri imm) = IsVirtual rd × IsVirtual ri
-OtherMayStand (I.AluRUImm16Shifted alu_op rd ri imm) = IsVirtual rd × IsVirtual ri
-OtherMayStand (I.AluRUImm32Shifted alu_op rd ri imm) = IsVirtual rd × IsVirtual ri
-OtherMayStand (I.SMulWide rd rn rm) = IsVirtual rn × IsVirtual rm × IsNotScratch rd.hi × IsNotScratch rd.lo
-OtherMayStand (I.UMulWide rd ri rn) = IsVirtual rn × IsNotScratch rd.hi × IsNotScratch rd.lo × IsNotScratch ri
-OtherMayStand (I.SDivMod32 rd ri rn) = IsVirtual rn × IsNotScratch rd.hi × IsNotScratch rd.lo × IsNotScratch ri
-OtherMayStand (I.SDivMod64 rd ri rn) = IsVirtual rn × IsNotScratch rd.hi × IsNotScratch rd.lo × IsNotScratch ri
-OtherMayStand (I.UDivMod32 rd ri rn) = IsVirtual rn × IsNotScratch rd.hi × IsNotScratch rd.lo × IsNotScratch ri.hi × IsNotScratch ri.lo
-OtherMayStand (I.UDivMod64 rd ri rn) = IsVirtual rn × IsNotScratch rd.hi × IsNotScratch rd.lo × IsNotScratch ri.hi × IsNotScratch ri.lo
-OtherMayStand (I.Flogr rd rn) = IsVirtual rn × IsNotScratch rd.hi × IsNotScratch rd.lo
 OtherMayStand (I.ShiftRR shift_op rd rn shift_imm shift_reg) = IsVirtual rd × IsVirtual rn × MayAddress shift_reg
-OtherMayStand (I.RxSBG op rd ri rn start_bit end_bit rotate_amt) = IsVirtual rd × IsVirtual ri × IsVirtual rn
-OtherMayStand (I.RxSBGTest op rd rn start_bit end_bit rotate_amt) = IsVirtual rd × IsVirtual rn
-OtherMayStand (I.UnaryRR op rd rn) = IsVirtual rd × IsVirtual rn
-OtherMayStand (I.CmpRR op rn rm) = IsVirtual rn × IsVirtual rm
-OtherMayStand (I.CmpRX op rn mem) = IsVirtual rn × MemoryMayStand mem
-OtherMayStand (I.CmpRSImm16 op rn imm) = IsVirtual rn
-OtherMayStand (I.CmpRSImm32 op rn imm) = IsVirtual rn
-OtherMayStand (I.CmpRUImm32 op rn imm) = IsVirtual rn
-OtherMayStand (I.CmpTrapRR op rn rm cond trap_code) = IsVirtual rn × IsVirtual rm
-OtherMayStand (I.CmpTrapRSImm16 op rn imm cond trap_code) = IsVirtual rn
-OtherMayStand (I.CmpTrapRUImm16 op rn imm cond trap_code) = IsVirtual rn
 OtherMayStand (I.Jump dest) = ⊤
 OtherMayStand (I.CondBr taken not_taken mask) = ⊤
 OtherMayStand (I.CondBreak mask) = ⊤
@@ -194,7 +123,7 @@ OtherMayStand (I.Trap code) = ⊤
 OtherMayStand (I.TrapIf mask code) = ⊤
 OtherMayStand I.Debugtrap = ⊤
 OtherMayStand I.SequencePoint = ⊤
-OtherMayStand i = ⊥
+OtherMayStand i = DescribedMayStand (description_of i)
 
 -- the registers of an instruction may stand there, be it a load, a store or another one
 abbrev pub MayStand : Inst → Type 0

@@ -1,6 +1,5 @@
 -- The branches of placed code lead where its layout says.
-use Rattle.std.proofs.Common.{◌≡◌, ℕ, suc, ◌+◌, ◌-◌, ◌*◌, ◌%◌, ◌^◌, ◌<◌, ◌≤◌, inl, inr, [], ◌∷◌, List, length, Some, None, cond, if◌then◌else◌, refl, sym, ap, ◌∙◌, subst, arith, slice_get}
-use Rattle.std.proofs.lemmas.Bool.{lt-ltb, le-ltb}
+use Rattle.std.proofs.Common.{◌≡◌, ℕ, suc, ◌+◌, ◌-◌, ◌*◌, ◌%◌, ◌^◌, ◌<◌, ◌≤◌, inl, inr, [], ◌∷◌, List, length, Some, None, if◌then◌else◌, refl, sym, ap, ◌∙◌, subst, arith, slice_get}
 use Rattle.s390x_base.specs.Regs.{number_of}
 use Rattle.s390x_base.specs.declared.ir.MachLabel.{MachLabel}
 use Rattle.s390x_inst.specs.declared.inst.Inst.{Inst}
@@ -9,7 +8,7 @@ use Rattle.s390x_format.specs.Formats.{length_of}
 use Rattle.s390x_lanes.specs.declared.operators.Signedness.TheVariants.{Signed}
 use Rattle.s390x_operations.specs.Bits.{extended_bits}
 use Rattle.s390x_operations.specs.Effects.{is_selected}
-use Rattle.s390x_operations.specs.State.{CodeImage, IsLoaded, Memory, State, number_at, wrapping_add64}
+use Rattle.s390x_operations.specs.State.{State, wrapping_add64}
 use Rattle.s390x_operations.specs.declared.size.Size.TheVariants.{Doubleword}
 use Rattle.s390x_operations.specs.declared.size.Width.TheVariants.{Bits32}
 use Rattle.s390x_rows.specs.declared.opcodes.TheConstants as opcodes
@@ -23,12 +22,12 @@ use Rattle.s390x_machine.specs.CodeAt.{AllCodeAt, AreBlocks, ImageAt, IsBlock, I
 use Rattle.s390x_machine.specs.Layout.{Layout, block_address, step_address}
 use Rattle.s390x_machine.specs.Machine.{ActionStep, Event, Executed, Interrupted}
 use Rattle.s390x_machine.proofs.Built.{StepAt, step_even, step_small, stand_as, size_as}
-use Rattle.s390x_machine.proofs.Fetching.{StandsAt, byte_at}
+use Rattle.s390x_machine.proofs.Fetching.{StandsAt}
 use Rattle.s390x_machine.proofs.RegisterNumbers.{small_mask}
 use Rattle.s390x_machine.proofs.Rows.{brcl_at}
 use Rattle.s390x_machine.proofs.Simulation.{RowAt}
 use Rattle.s390x_machine.proofs.Standing.{step_at, step_within as bytes_within}
-use Rattle.s390x_machine.proofs.Tables.{listed_block, words_stand}
+use Rattle.s390x_machine.proofs.Tables.{extended_low, extended_high, listed_block, word_at, words_stand}
 use Rattle.s390x_machine.proofs.Trapping.{within_image}
 use Rattle.s390x_emit_laws.specs.Places.{BranchesTo, WordLeads, StepLeads}
 
@@ -42,25 +41,6 @@ leads_by : (L : Layout) (offset mask target : ℕ) → RowAt L (wrapping_add64 L
 leads_by L offset mask target row s at is_loaded event t step = branch_acts mask target s event t (row s at is_loaded event t step)
 
 -- ---- the words of a table
-
-pub word_read : (image : CodeImage) (m : Memory) (offset w : ℕ) → w < 2 ^ 32 → image.base + length image.bytes ≤ 2 ^ 64 → IsLoaded image m → StandsAt image offset (word_bytes w) → number_at m.get (wrapping_add64 image.base offset) 4 ≡ w
-word_read image m offset w lt fits is_loaded s =
-    let b0 = (byte_at image m offset 0 (word_bytes w) fits is_loaded s (omega arith)).1 in
-    let b1 = (byte_at image m offset 1 (word_bytes w) fits is_loaded s (omega arith)).1 in
-    let b2 = (byte_at image m offset 2 (word_bytes w) fits is_loaded s (omega arith)).1 in
-    let b3 = (byte_at image m offset 3 (word_bytes w) fits is_loaded s (omega arith)).1 in
-    omega (arith, b0, b1, b2, b3)
-
--- a word with its sign
-extended_low : (w : ℕ) → w < 2 ^ 31 → extended_bits Signed Bits32 Doubleword w ≡ w
-extended_low w lt =
-    let e : w % 4294967296 ≡ w = omega arith in
-    ap (λ b. cond b (w % 4294967296) (w % 4294967296 + 18446744069414584320)) (lt-ltb (w % 4294967296) 2147483648 (omega arith)) ∙ e
-
-extended_high : (w : ℕ) → 2 ^ 31 ≤ w → w < 2 ^ 32 → extended_bits Signed Bits32 Doubleword w ≡ w + 18446744069414584320
-extended_high w ge lt =
-    let e : w % 4294967296 ≡ w = omega arith in
-    ap (λ b. cond b (w % 4294967296) (w % 4294967296 + 18446744069414584320)) (le-ltb (w % 4294967296) 2147483648 (omega arith)) ∙ ap (λ n. n + 18446744069414584320) e
 
 -- the address of a table plus a word of it is the target's
 pub reaches : (base table j target : ℕ) → table + j < 2 ^ 31 → target < 2 ^ 31 → wrapping_add64 (wrapping_add64 base table) (extended_bits Signed Bits32 Doubleword (table_distance (table + j) j target)) ≡ wrapping_add64 base target
@@ -116,7 +96,7 @@ module _ {L : Layout} {k : ℕ} {s : Step} (x : StepAt L k s) where
       let w1 : StandsAt L.image (o + 20 + 4 * j) (word_bytes (table_distance (o + 20 + 4 * j) (0 + 4 * j) (L.offsets.block l.0))) = subst (λ q. StandsAt L.image (q + 4 * j) (word_bytes (table_distance (q + 4 * j) (0 + 4 * j) (L.offsets.block l.0)))) z w in
       let w2 : StandsAt L.image (o + 20 + 4 * j) (word_bytes (table_distance (o + 20 + 4 * j) (4 * j) (L.offsets.block l.0))) = subst (λ b. StandsAt L.image (o + 20 + 4 * j) (word_bytes (table_distance (o + 20 + 4 * j) b (L.offsets.block l.0)))) n w1 in
       let block : IsBlock L l.0 = listed_block L targets are j l e in
-      ap (λ v. wrapping_add64 (wrapping_add64 L.image.base (o + 20)) (extended_bits Signed Bits32 Doubleword v)) (word_read L.image m (o + 20 + 4 * j) (table_distance (o + 20 + 4 * j) (4 * j) (L.offsets.block l.0)) (omega arith) x.image.fits is_loaded w2)
+      ap (λ v. wrapping_add64 (wrapping_add64 L.image.base (o + 20)) (extended_bits Signed Bits32 Doubleword v)) (word_at L.image m (o + 20 + 4 * j) (table_distance (o + 20 + 4 * j) (4 * j) (L.offsets.block l.0)) (omega arith) x.image.fits is_loaded w2)
       ∙ reaches L.image.base (o + 20) (4 * j) (L.offsets.block l.0) (omega (arith, within_image L (o + 20 + 4 * j) _ w2, x.image.short)) (x.image.block_places l.0 block).1
 
 -- what is left of a step's branches leads to a block of the step's

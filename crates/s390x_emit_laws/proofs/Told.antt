@@ -17,8 +17,8 @@ use Rattle.s390x_inst.specs.declared.inst.Inst.TheVariants as I
 use Rattle.s390x_inst.specs.declared.vec_inst.VecInst.{VecInst}
 use Rattle.s390x_inst.specs.declared.vec_inst.VecInst.TheVariants as V
 use Rattle.s390x_rows.specs.declared.opcodes.TheConstants as opcodes
-use Rattle.s390x_typed_steps.proofs.RelativeRows.{alu_none, locked_none, vector_none}
-use Rattle.s390x_typed_steps.specs.Memory.{load_rows, store_rows, without_relative, StorageForm, RxForm, MemoryInstruction, loaded_memory, operate, load_and_operate, access_vector, access_elements, access_lane, reversed_code, load_lane_opcode, store_lane_opcode, load_reversed_opcode, store_reversed_opcode, is_left_lane, load_left, store_left}
+use Rattle.s390x_typed_steps.proofs.RelativeRows.{rest_none}
+use Rattle.s390x_typed_steps.specs.Memory.{load_rows, store_rows, left_or_lane, without_relative, StorageForm, RxForm, MemoryInstruction, rest_memory, loaded_memory, operate, load_and_operate, access_vector, access_elements, access_lane, reversed_code, load_lane_opcode, store_lane_opcode, load_reversed_opcode, store_reversed_opcode, is_left_lane, load_left, store_left}
 use Rattle.s390x_typed_steps.specs.General.{is_general}
 use Rattle.s390x_typed_steps.specs.Operands.{is_numbered}
 use Rattle.s390x_typed_steps.specs.Ranges.{OperandInRange}
@@ -74,10 +74,12 @@ one_lane L v opcode register (Some code) size lane mem valid = go (is_lane size 
     go true valid = valid.range
     go false valid = absurd (cc)
 
-left_lane : (L : Layout) (left : Bool) (v : Bool) (form : StorageForm) (opcode : ℕ → ℕ) (register : ℕ) (code : Option ℕ) (size lane : ℕ) (mem : MemArg) →
-    ValidMemoryOr L (cond left (access_vector v form mem) (access_lane v opcode register code size lane mem)) (Some BadOperator ≡ None) → OperandInRange mem
-left_lane L true v form opcode register code size lane mem valid = valid.range
-left_lane L false v form opcode register code size lane mem valid = one_lane L v opcode register code size lane mem valid
+left_lane : (L : Layout) (left : (size register : ℕ) → StorageForm) (opcode : ℕ → ℕ) (size lane : ℕ) (rd : Reg) (mem : MemArg) → ValidMemoryOr L (left_or_lane left opcode size lane rd mem) (Some BadOperator ≡ None) → OperandInRange mem
+left_lane L left opcode size lane rd mem valid = go (is_left_lane size lane (number_of rd)) valid
+  where
+    go : (t : Bool) → ValidMemoryOr L (cond t (access_vector (is_vector rd) (left size (number_of rd)) mem) (access_lane (is_vector rd) opcode (number_of rd) (element_code size) size lane mem)) (Some BadOperator ≡ None) → OperandInRange mem
+    go true valid = valid.range
+    go false valid = one_lane L (is_vector rd) opcode (number_of rd) (element_code size) size lane mem valid
 
 -- what has no other rows isn't a step that emission lets pass
 refused : (L : Layout) (o : Option MemoryInstruction) → o ≡ None → ValidMemoryOr L o ⊥ → ⊥
@@ -116,9 +118,9 @@ ranged_vector L (V.VecLoadReplicate size rd mem) valid = elements L opcodes.VLRE
 ranged_vector L (V.VecLoadReplicateRev size rd mem) valid = elements L opcodes.VLBRREP rd (reversed_code size) mem valid
 ranged_vector L (V.VecLoadLane size rd ri mem lane) valid = one_lane L (reuses_vector rd ri) load_lane_opcode (number_of rd) (element_code size) size lane mem valid
 ranged_vector L (V.VecLoadLaneRev size rd ri mem lane) valid = one_lane L (reuses_vector rd ri) load_reversed_opcode (number_of rd) (reversed_code size) size lane mem valid
-ranged_vector L (V.VecLoadLaneUndef size rd mem lane) valid = left_lane L (is_left_lane size lane (number_of rd)) (is_vector rd) (load_left size (number_of rd)) load_lane_opcode (number_of rd) (element_code size) size lane mem valid
+ranged_vector L (V.VecLoadLaneUndef size rd mem lane) valid = left_lane L load_left load_lane_opcode size lane rd mem valid
 ranged_vector L (V.VecLoadLaneRevUndef size rd mem lane) valid = one_lane L (is_vector rd) load_reversed_opcode (number_of rd) (reversed_code size) size lane mem valid
-ranged_vector L (V.VecStoreLane size rd mem lane) valid = left_lane L (is_left_lane size lane (number_of rd)) (is_vector rd) (store_left size (number_of rd)) store_lane_opcode (number_of rd) (element_code size) size lane mem valid
+ranged_vector L (V.VecStoreLane size rd mem lane) valid = left_lane L store_left store_lane_opcode size lane rd mem valid
 ranged_vector L (V.VecStoreLaneRev size rd mem lane) valid = one_lane L (is_vector rd) store_reversed_opcode (number_of rd) (reversed_code size) size lane mem valid
 ranged_vector L v valid = assumption
 
@@ -149,19 +151,16 @@ told_store_loaded : (L : Layout) (op : StoreOp) (rd : Reg) (mem : MemArg) → Va
 told_store_loaded L StoreOps.Store64 rd mem valid e = loaded_told L (store_instruction StoreOps.Store64 rd mem) _ refl (row_range L (number_of rd) (store_rows StoreOps.Store64).rx (store_rows StoreOps.Store64).rxy (store_rows StoreOps.Store64).ril (is_general rd) (is_numbered 1 rd) mem valid) e
 told_store_loaded L op rd mem valid e = loaded_told L (store_instruction op rd mem) _ refl (row_range L (number_of rd) (store_rows op).rx (store_rows op).rxy (store_rows op).ril (is_general rd) (is_numbered 1 rd) mem valid) e
 
-told_loaded_or : (L : Layout) (i : Inst) (o : Option Transfer) →
-    ValidMemoryOr L (by_transfer (λ l. loaded_memory (load_instruction l.op l.rd l.mem)) (λ s. loaded_memory (store_instruction s.op s.rd s.mem)) None o) ⊥ →
+told_loaded_or : (L : Layout) (i : Inst) (rest : Option MemoryInstruction) → without_relative rest ≡ None → (o : Option Transfer) →
+    ValidMemoryOr L (by_transfer (λ l. loaded_memory (load_instruction l.op l.rd l.mem)) (λ s. loaded_memory (store_instruction s.op s.rd s.mem)) (without_relative rest) o) ⊥ →
     loaded_kind L (by_transfer (λ l. load_instruction l.op l.rd l.mem) (λ s. store_instruction s.op s.rd s.mem) i o) ≡ Unsupported → ⊥
-told_loaded_or L i None valid e = absurd valid
-told_loaded_or L i (Some (LoadOf l)) valid e = told_load_loaded L l.op l.rd l.mem valid e
-told_loaded_or L i (Some (StoreOf s)) valid e = told_store_loaded L s.op s.rd s.mem valid e
+told_loaded_or L i rest none None valid e = refused L (without_relative rest) none valid
+told_loaded_or L i rest none (Some (LoadOf l)) valid e = told_load_loaded L l.op l.rd l.mem valid e
+told_loaded_or L i rest none (Some (StoreOf s)) valid e = told_store_loaded L s.op s.rd s.mem valid e
 
 told_loaded : (L : Layout) (i : Inst) → ValidMemoryOr L (loaded_memory i) ⊥ → loaded_kind L i ≡ Unsupported → ⊥
 told_loaded L (I.CmpRX op rn mem) valid e = loaded_told L (I.CmpRX op rn mem) _ refl valid.range e
-told_loaded L (I.AluRX op rd ri mem) valid e = refused L (loaded_memory (I.AluRX op rd ri mem)) (alu_none (is_some (alu_rx op) || is_some (alu_rxy op)) (alu_rx op) (alu_rxy op) rd ri mem) valid
-told_loaded L (I.AtomicRmw op rd rn mem) valid e = refused L (loaded_memory (I.AtomicRmw op rd rn mem)) (locked_none (atomic_rsy op) rd rn mem) valid
-told_loaded L (I.Vector v) valid e = refused L (loaded_memory (I.Vector v)) (vector_none v) valid
-told_loaded L i valid e = told_loaded_or L i (as_transfer i) valid e
+told_loaded L i valid e = told_loaded_or L i (rest_memory i) (rest_none i) (as_transfer i) valid e
 
 pub told : (L : Layout) (s : Step) → IsValidStep L s → step_kind L s ≡ Unsupported → ⊥
 told L (Plain i) valid e = told_instruction L i valid e

@@ -1,6 +1,6 @@
 -- The instructions that are register work.
-use Rattle.std.proofs.Common.{◌≡◌, ℕ, None, Bool, true, false, if◌then◌else◌, nat_lt, IsTrue, refl, sym, ◌∙◌, true≢false}
-use Rattle.std.proofs.lemmas.Bool.{not-true}
+use Rattle.std.proofs.Common.{◌≡◌, ℕ, Some, None, Bool, true, false, cond, not, ◌&&◌, if◌then◌else◌, is_some, nat_lt, IsTrue, refl, sym, ◌∙◌, true≢false}
+use Rattle.s390x_base.specs.declared.trap.TrapKind.TheVariants.{IntegerDivisionByZero}
 use Rattle.s390x_inst.specs.declared.inst.Inst.{Inst}
 use Rattle.s390x_inst.specs.declared.inst.Inst.TheVariants as I
 use Rattle.s390x_inst.specs.declared.vec_inst.VecInst.{VecInst}
@@ -10,6 +10,7 @@ use Rattle.s390x_lanes.specs.declared.operators.VectorOperation.TheVariants as O
 use Rattle.s390x_typed_steps.specs.VectorOpcodes.{is_division}
 use Rattle.s390x_operations.specs.Access.{Untouched}
 use Rattle.s390x_operations.specs.Effects.{access, stop_of_effect, MayRefuse, is_selected}
+use Rattle.s390x_lanes.specs.Relation.{division_overflows}
 use Rattle.s390x_operations.specs.declared.effect.Operation.{Operation}
 use Rattle.s390x_operations.specs.declared.stop.StopKind.{StopKind}
 use Rattle.s390x_operations.specs.State.{Registers}
@@ -19,17 +20,18 @@ use Rattle.s390x_typed_steps.specs.General.{four_bits, low_halfword}
 use Rattle.s390x_operations.specs.declared.size.Size.{Size}
 use Rattle.s390x_operations.specs.declared.size.Size.TheVariants.{Word, Doubleword}
 use Rattle.s390x_operations.specs.declared.effect.CodeRule.TheVariants.{Kept}
-use Rattle.s390x_operations.specs.declared.effect.Effect.TheVariants.{Compute, PutVector}
+use Rattle.s390x_operations.specs.declared.effect.Effect.{Effect}
+use Rattle.s390x_operations.specs.declared.effect.Effect.TheVariants.{Compute, ComputeVector, PutVector}
 use Rattle.s390x_operations.specs.declared.operator.Operator.TheVariants as Operator
 use Rattle.s390x_machine.specs.Computations.{Second, with_rule, computes_immediate, on_doublewords, havocs, moves_where, moves_immediate_where, operand_of, unsigned_word, doubleword, signed_halfword}
 use Rattle.s390x_machine.specs.VectorSteps.{elements_of, element_index}
 use Rattle.s390x_machine.specs.Layout.{Layout}
 use Rattle.s390x_machine.specs.Operands.{performed_where, value_in}
-use Rattle.s390x_machine.specs.StepKinds.{StepKind, instruction_kind}
+use Rattle.s390x_machine.specs.StepKinds.{StepKind, Performs, PerformsWhere, ComparesWide, instruction_kind}
 use Rattle.s390x_machine.specs.VectorOperations.{binary_operation, unary_operation, comparison_operation, element_comparison}
 use Rattle.s390x_machine.proofs.VectorSteps.{computed_vector, is_divide, divisions_agree, unary_never, comparison_never, element_never}
 use Rattle.s390x_interference.specs.Retry.{StaysInRegisters, IsRegisterWork}
-use Rattle.s390x_interference.specs.Loops.{is_vector_work, is_register_work}
+use Rattle.s390x_interference.specs.Loops.{is_register_work}
 
 -- ---- operations
 
@@ -62,51 +64,58 @@ immediate_moves_stay size mask d bits r =
 
 -- ---- instructions
 
-vector_work : (L : Layout) (v : VecInst) → is_vector_work v ≡ true → IsRegisterWork (instruction_kind L (I.Vector v))
-vector_work L (V.VecRRR op rd rn rm) h = λ r. vector_stays (binary_operation op) _ _ _ _ _ (divisions_agree op ∙ not-true (is_division op) h)
-vector_work L (V.VecRR op rd rn) h = λ r. vector_stays (unary_operation op) _ _ _ _ _ (unary_never op)
-vector_work L (V.VecShiftRR op rd rn amount register) h = λ r. plain _ refl refl (λ kind by. true≢false (sym by.1))
-vector_work L (V.VecSelect rd rn rm ra) h = λ r. plain _ refl refl (λ kind by. true≢false (sym by.1))
-vector_work L (V.VecPermute rd rn rm ra) h = λ r. plain _ refl refl (λ kind by. true≢false (sym by.1))
-vector_work L (V.VecBlend rd rn rm ra) h = λ r. plain _ refl refl (λ kind by. true≢false (sym by.1))
-vector_work L (V.VecEvaluate imm rd rn rm ra) h = λ r. plain _ refl refl (λ kind by. true≢false (sym by.1))
-vector_work L (V.VecPermuteDWImm rd rn rm first second) h = λ r. plain _ refl refl (λ kind by. true≢false (sym by.1))
-vector_work L (V.VecIntCmp op rd rn rm) h = λ r. vector_stays (comparison_operation op false) _ _ _ _ _ (comparison_never op false)
-vector_work L (V.VecIntCmpS op rd rn rm) h = λ r. vector_stays (comparison_operation op true) _ _ _ _ _ (comparison_never op true)
-vector_work L (V.VecIntEltCmp op rn rm) h = λ r. vector_stays (element_comparison op) _ _ _ _ _ (element_never op)
-vector_work L (V.VecMov rd rn) h = λ r. plain _ refl refl (λ kind by. true≢false (sym by.1))
-vector_work L (V.FpuMove32 rd rn) h = λ r. plain _ refl refl (λ kind by. by)
-vector_work L (V.FpuMove64 rd rn) h = λ r. plain _ refl refl (λ kind by. by)
-vector_work L (V.MovToVec128 rd rn rm) h = λ r. plain _ refl refl (λ kind by. by)
-vector_work L (V.VecImmByteMask rd mask) h = λ r. plain _ refl refl (λ kind by. true≢false (sym by.1))
-vector_work L (V.VecImmBitMask size rd start end) h = λ r. plain _ refl refl (λ kind by. true≢false (sym by.1))
-vector_work L (V.VecImmReplicate size rd imm) h = λ r. plain _ refl refl (λ kind by. true≢false (sym by.1))
-vector_work L (V.VecInsertLane size rd ri rn lane base) h = λ r. put_stays (nat_lt (element_index r (number_of base) lane) (lane_count (elements_of size))) _ _ _ _ _
-vector_work L (V.VecInsertLaneUndef size rd rn lane base) h = λ r. put_stays (nat_lt (element_index r (number_of base) lane) (lane_count (elements_of size))) _ _ _ _ _
-vector_work L (V.VecExtractLane size rd rn lane base) h = λ r. extract_stays (nat_lt (element_index r (number_of base) lane) (lane_count (elements_of size))) (number_of rd) _ r
-vector_work L (V.VecInsertLaneImm size rd ri imm lane) h = λ r. plain _ refl refl (λ kind by. true≢false (sym by.1))
-vector_work L (V.VecInsertLaneImmUndef size rd imm lane) h = λ r. plain _ refl refl (λ kind by. by)
-vector_work L (V.VecReplicateLane size rd rn lane) h = λ r. plain _ refl refl (λ kind by. true≢false (sym by.1))
-vector_work L (V.VecInt128SCmpHi tmp rn rm) h = tt
-vector_work L (V.VecInt128UCmpHi tmp rn rm) h = tt
-vector_work L (V.VecEltRev count rd rn) h = λ r. plain _ refl refl (λ kind by. by)
-vector_work L (V.VecCMov rd mask ri rm) h = λ r. plain _ refl refl (λ kind by. true≢false (sym by.1))
-vector_work L (V.FpuCMov32 rd mask ri rm) h = λ r. plain _ refl refl (λ kind by. by)
-vector_work L (V.FpuCMov64 rd mask ri rm) h = λ r. plain _ refl refl (λ kind by. by)
-vector_work L _ h = absurd (true≢false (sym h))
-
--- what the list has is register work; of any other nothing is said
+-- what is register work is said to be it; of any other instruction nothing is said
 abbrev WorkIf : Bool → StepKind → Type 0
 WorkIf true k = IsRegisterWork k
 WorkIf false k = Unit {0}
 
-work_if : (listed : Bool) (k : StepKind) → (listed ≡ true → IsRegisterWork k) → WorkIf listed k
+work_if : (is : Bool) (k : StepKind) → (is ≡ true → IsRegisterWork k) → WorkIf is k
 work_if true k work = work refl
 work_if false k work = tt
 
-work_of : (listed : Bool) (k : StepKind) → WorkIf listed k → listed ≡ true → IsRegisterWork k
+work_of : (is : Bool) (k : StepKind) → WorkIf is k → is ≡ true → IsRegisterWork k
 work_of true k work h = work
 work_of false k work h = absurd (true≢false (sym h))
+
+-- a lane's quotient may not fit
+abbrev overflows : Effect → Bool
+overflows (ComputeVector o target first second third fourth) = division_overflows o second third
+overflows _ = false
+
+certain_where : (e : Effect) → overflows e ≡ false → (kind : StopKind) → MayRefuse e kind → ⊥
+certain_where (ComputeVector o target first second third fourth) fits kind by = true≢false (sym by.1 ∙ fits)
+certain_where _ fits kind by = by
+
+-- it stays in registers by computation: so does, with nothing to show, whatever is no such operation
+abbrev ComputesIf : Bool → StepKind → Type 0
+ComputesIf true (Performs needs operation code) = (r : Registers) → (access (operation r).effect ≡ Untouched) × (stop_of_effect (operation r).effect ≡ None) × (overflows (operation r).effect ≡ false)
+ComputesIf true (PerformsWhere mask operation) = (r : Registers) → (access (operation r).effect ≡ Untouched) × (stop_of_effect (operation r).effect ≡ None) × (overflows (operation r).effect ≡ false)
+ComputesIf true (ComparesWide sign tmp n m) = (r : Registers) → (true ≡ true) × (true ≡ true) × (true ≡ true)
+ComputesIf true k = ⊥
+ComputesIf false k = (r : Registers) → (true ≡ true) × (true ≡ true) × (true ≡ true)
+
+by_computation : (is : Bool) (k : StepKind) → ComputesIf is k → WorkIf is k
+by_computation true (Performs needs operation code) h = λ r. plain (operation r) (h r).0 (h r).1 (certain_where (operation r).effect (h r).2)
+by_computation true (PerformsWhere mask operation) h = λ r. plain (operation r) (h r).0 (h r).1 (certain_where (operation r).effect (h r).2)
+by_computation true (ComparesWide sign tmp n m) h = tt
+by_computation true k h = absurd h
+by_computation false k h = tt
+
+no_code : (divides : Bool) → (not (is_some (cond divides (Some IntegerDivisionByZero) None)) && true) ≡ true → divides ≡ false
+no_code true h = absurd (true≢false (sym h))
+no_code false h = refl
+
+-- the last clause is a copy for each other instruction on vectors
+vector_work : (L : Layout) (v : VecInst) → WorkIf (is_register_work (I.Vector v)) (instruction_kind L (I.Vector v))
+vector_work L (V.VecRRR op rd rn rm) = work_if _ _ (λ h r. vector_stays (binary_operation op) _ _ _ _ _ (divisions_agree op ∙ no_code (is_division op) h))
+vector_work L (V.VecRR op rd rn) = λ r. vector_stays (unary_operation op) _ _ _ _ _ (unary_never op)
+vector_work L (V.VecIntCmp op rd rn rm) = λ r. vector_stays (comparison_operation op false) _ _ _ _ _ (comparison_never op false)
+vector_work L (V.VecIntCmpS op rd rn rm) = λ r. vector_stays (comparison_operation op true) _ _ _ _ _ (comparison_never op true)
+vector_work L (V.VecIntEltCmp op rn rm) = λ r. vector_stays (element_comparison op) _ _ _ _ _ (element_never op)
+vector_work L (V.VecInsertLane size rd ri rn lane base) = λ r. put_stays (nat_lt (element_index r (number_of base) lane) (lane_count (elements_of size))) _ _ _ _ _
+vector_work L (V.VecInsertLaneUndef size rd rn lane base) = λ r. put_stays (nat_lt (element_index r (number_of base) lane) (lane_count (elements_of size))) _ _ _ _ _
+vector_work L (V.VecExtractLane size rd rn lane base) = λ r. extract_stays (nat_lt (element_index r (number_of base) lane) (lane_count (elements_of size))) (number_of rd) _ r
+vector_work L v = by_computation (is_register_work (I.Vector v)) (instruction_kind L (I.Vector v)) (λ r. (refl, refl, refl))
 
 -- the last clause is a copy for each other instruction
 work : (L : Layout) (i : Inst) → WorkIf (is_register_work i) (instruction_kind L i)
@@ -114,7 +123,7 @@ work L (I.CMov32 rd mask ri rm) = moves_stay Word unsigned_word (four_bits mask)
 work L (I.CMov64 rd mask ri rm) = moves_stay Doubleword doubleword (four_bits mask) (number_of rd) (number_of rm)
 work L (I.CMov32SImm16 rd mask ri imm) = immediate_moves_stay Word (four_bits mask) (number_of rd) (low_halfword imm)
 work L (I.CMov64SImm16 rd mask ri imm) = immediate_moves_stay Doubleword (four_bits mask) (number_of rd) (low_halfword imm)
-work L (I.Vector v) = work_if (is_vector_work v) (instruction_kind L (I.Vector v)) (vector_work L v)
+work L (I.Vector v) = vector_work L v
 work L i = assumption
 
 pub register_work : (L : Layout) (i : Inst) → IsTrue (is_register_work i) → IsRegisterWork (instruction_kind L i)

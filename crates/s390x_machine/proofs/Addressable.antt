@@ -11,7 +11,7 @@ use Rattle.s390x_base.specs.declared.trap.TrapKind.{TrapKind}
 use Rattle.s390x_inst.specs.declared.args.MemArg.{MemArg}
 use Rattle.s390x_inst.specs.declared.args.MemArg.TheVariants.{BXD12, Symbol}
 use Rattle.s390x_inst.specs.declared.inst.Inst.{Inst}
-use Rattle.s390x_inst.specs.declared.inst.Inst.TheVariants.{LoadAddr, AluRX, AtomicRmw, Vector}
+use Rattle.s390x_inst.specs.declared.inst.Inst.TheVariants.{LoadAddr, Vector}
 use Rattle.s390x_inst.specs.declared.vec_inst.VecInst.{VecInst}
 use Rattle.s390x_inst.specs.declared.vec_inst.VecInst.TheVariants as V
 use Rattle.s390x_typed_steps.specs.SingleInstruction.{SingleInstruction, single_instruction, stop_code}
@@ -27,23 +27,15 @@ use Rattle.s390x_operations.specs.State.{wrapping_add64}
 use Rattle.s390x_machine.proofs.Finalizing.{not_lost}
 use Rattle.s390x_machine.proofs.Operands.{low_below}
 
+-- the last clause of each is a copy for each other instruction
 vector_is_one : (v : VecInst) → (not (is_some (memory (Vector v))) || not (is_some (single_instruction (Vector v)))) ≡ true
-vector_is_one (V.VecLoadReplicate size rd mem) = or_right _ true refl
-vector_is_one (V.VecLoadReplicateRev size rd mem) = or_right _ true refl
-vector_is_one (V.VecLoadLane size rd ri mem lane) = or_right _ true refl
-vector_is_one (V.VecLoadLaneRev size rd ri mem lane) = or_right _ true refl
-vector_is_one (V.VecLoadLaneUndef size rd mem lane) = or_right _ true refl
-vector_is_one (V.VecLoadLaneRevUndef size rd mem lane) = or_right _ true refl
-vector_is_one (V.VecStoreLane size rd mem lane) = or_right _ true refl
-vector_is_one (V.VecStoreLaneRev size rd mem lane) = or_right _ true refl
-vector_is_one v = refl
+vector_is_one (V.VecRR op rd rn) = refl
+vector_is_one v = search or_right
 
 -- no instruction is both one machine instruction and an access of an operand
 is_one : (i : Inst) → (not (is_some (memory i)) || not (is_some (single_instruction i))) ≡ true
-is_one (AluRX op rd ri mem) = or_right _ true refl
-is_one (AtomicRmw op rd rn mem) = or_right _ true refl
 is_one (Vector v) = vector_is_one v
-is_one i = refl
+is_one i = search or_right
 
 memory_alone : (i : Inst) (x : MemoryInstruction) → memory i ≡ Some x → single_instruction i ≡ None
 memory_alone i x e = go (single_instruction i) (subst (λ m. (not (is_some m) || not (is_some (single_instruction i))) ≡ true) e (is_one i))

@@ -1,10 +1,9 @@
 -- Accesses of operands relative to the instruction stand on the boundary of their bytes.
-use Rattle.std.proofs.Common.{◌≡◌, ℕ, ◌%◌, ◌≤◌, inl, inr, ◌⊎◌, Option, Some, None, Bool, true, false, cond, ◌||◌, is_some, get_or, IsTrue, refl, sym, ap, ◌∙◌, subst, arith}
+use Rattle.std.proofs.Common.{◌≡◌, ℕ, ◌%◌, ◌≤◌, inl, inr, ◌⊎◌, Option, Some, None, option_map, Bool, true, false, cond, ◌||◌, get_or, IsTrue, refl, sym, ap, ◌∙◌, subst, arith}
 use Rattle.std.specs.Prelude.{nat_eq, nat_le, ◌&&◌, not}
 use Rattle.std.proofs.lemmas.Bool.{eq-eqb, eqb-true, leb-true}
 use Rattle.s390x_base.specs.Regs.{number_of}
 use Rattle.s390x_base.specs.declared.regs.Reg.{Reg}
-use Rattle.s390x_rows.specs.declared.opcodes.TheConstants as opcodes
 use Rattle.s390x_typed_steps.specs.General.{is_general}
 use Rattle.s390x_base.specs.declared.error.EmitError.TheVariants.{BadAlignment}
 use Rattle.s390x_buffer.specs.State.{is_alignment}
@@ -16,28 +15,26 @@ use Rattle.s390x_inst.specs.declared.store.StoreOp.{StoreOp}
 use Rattle.s390x_inst.specs.declared.store.StoreOp.TheVariants as StoreOps
 use Rattle.s390x_inst.proofs.Transfers.{Transfer, LoadOf, StoreOf, as_transfer, by_transfer}
 use Rattle.s390x_inst.specs.declared.inst.Inst.{Inst}
-use Rattle.s390x_inst.specs.declared.inst.Inst.TheVariants.{AluRX, CmpRX, AtomicRmw, Vector}
-use Rattle.s390x_inst.specs.declared.vec_inst.VecInst.{VecInst}
-use Rattle.s390x_inst.specs.declared.vec_inst.VecInst.TheVariants as V
+use Rattle.s390x_inst.specs.declared.inst.Inst.TheVariants.{CmpRX}
 use Rattle.s390x_inst.specs.declared.ops.CmpOp.{CmpOp}
 use Rattle.s390x_inst.specs.declared.ops.CmpOp.TheVariants as C
+use Rattle.s390x_typed_steps.proofs.RelativeRows.{rest_none}
 use Rattle.s390x_typed_steps.specs.Causes.{bound_cause, relative_access, boundary, alignment_cause}
-use Rattle.s390x_typed_steps.specs.Memory.{StorageForm, RxForm, VrxForm, FloatForm, MemoryInstruction, load_memory, load_rows, store_memory, store_rows, memory, rest_memory, type_of, operate, load_and_operate, access_vector, access_elements, access_lane, reversed_code, is_left_lane, load_lane_opcode, store_lane_opcode, load_reversed_opcode, store_reversed_opcode, vector_memory}
-use Rattle.s390x_typed_steps.specs.VectorInstruction.{element_code, is_lane, is_vector, reuses_vector}
+use Rattle.s390x_typed_steps.specs.Memory.{StorageForm, RxForm, MemoryInstruction, load_memory, load_rows, store_memory, store_rows, memory, rest_memory, type_of, other_rows, with_rows, without_relative}
 use Rattle.s390x_typed_steps.specs.Operands.{is_numbered, is_relative, needs_address}
-use Rattle.s390x_typed_steps.specs.Storage.{alu_rx, alu_rxy, cmp_rx, cmp_rxy, cmp_ril, atomic_rsy, relative_bytes}
+use Rattle.s390x_typed_steps.specs.Storage.{cmp_rx, cmp_rxy, cmp_ril, relative_bytes}
 use Rattle.s390x_typed_steps.specs.declared.mem_inst_type.MemInstType.{MemInstType}
 use Rattle.s390x_operations.specs.State.{Registers, reaches, wrapping_add64}
 use Rattle.s390x_operations.specs.Access.{is_misaligned, reach_fault, fault}
 use Rattle.s390x_operations.specs.Effects.{access}
 use Rattle.s390x_operations.specs.declared.effect.Operation.{Operation}
 use Rattle.s390x_operations.specs.declared.stop.StopKind.TheVariants.{Access, Specification}
-use Rattle.s390x_machine.specs.Aligned.{IsOwn, OwnOperand, IsOnBoundary, relative_row_of, StepAccesses, NeverMisaligned}
+use Rattle.s390x_machine.specs.Aligned.{IsOwn, OwnOperand, IsOnBoundary, relative_row, relative_row_of, StepAccesses, NeverMisaligned}
 use Rattle.s390x_machine.specs.Computations.{comparison}
 use Rattle.s390x_machine.specs.StepKinds.{performed_at, performed_by, performed_in_memory}
 use Rattle.s390x_machine.specs.Layout.{Layout, declarations, constant_address}
 use Rattle.s390x_machine.specs.CodeAt.{AllCodeAt, IsValidMemory, ValidMemoryOr}
-use Rattle.s390x_machine.specs.Storage.{OperandStep, load_step, loaded_value, store_step, stored_value, operand_address, operand_step, rest_operand_step, cmp_forms, loads_at, stores_at, compares_at, aligned_effect, aligned_where}
+use Rattle.s390x_machine.specs.Storage.{OperandStep, accesses_at, load_step, loaded_value, store_step, stored_value, operand_address, operand_step, rest_operand_step, cmp_forms, loads_at, stores_at, compares_at, aligned_effect, aligned_where}
 use Rattle.s390x_machine.proofs.Relative.{first_none, unless_none, label_known, constant_known}
 use Rattle.s390x_machine.proofs.Standing.{image_at}
 
@@ -136,47 +133,16 @@ on_boundary L all x operands_valid own =
 
 -- ---- bytes
 
--- operators on a register and memory have no such row
-no_operate : (have : Bool) (short long : Option ℕ) (rd ri : Reg) (mem : MemArg) (opcode : ℕ) → relative_row_of (operate have short long rd ri mem) ≡ Some opcode → ⊥
-no_operate true short long rd ri mem opcode e = absurd (cc)
-no_operate false short long rd ri mem opcode e = absurd (cc)
-
-no_load_and_operate : (o : Option ℕ) (rd rn : Reg) (mem : MemArg) (opcode : ℕ) → relative_row_of (load_and_operate o rd rn mem) ≡ Some opcode → ⊥
-no_load_and_operate (Some x) rd rn mem opcode e = absurd (cc)
-no_load_and_operate None rd rn mem opcode e = absurd (cc)
-
--- nor has a vector register
-no_elements : (row : ℕ) (rd : Reg) (code : Option ℕ) (mem : MemArg) (opcode : ℕ) → relative_row_of (access_elements row rd code mem) ≡ Some opcode → ⊥
-no_elements row rd None mem opcode e = absurd (cc)
-no_elements row rd (Some code) mem opcode e = absurd (cc)
-
-no_lane : (valid : Bool) (row : ℕ → ℕ) (register : ℕ) (code : Option ℕ) (size lane : ℕ) (mem : MemArg) (opcode : ℕ) → relative_row_of (access_lane valid row register code size lane mem) ≡ Some opcode → ⊥
-no_lane valid row register None size lane mem opcode e = absurd (cc)
-no_lane valid row register (Some code) size lane mem opcode e = go (is_lane size lane) e
+-- what has no other rows has none relative to the instruction
+no_row : (o : Option MemoryInstruction) → without_relative o ≡ None → (opcode : ℕ) → relative_row_of o ≡ Some opcode → ⊥
+no_row None none opcode e = absurd (cc)
+no_row (Some x) none opcode e = go x.form x.accesses none e
   where
-    go : (t : Bool) → relative_row_of (cond t (access_vector valid (VrxForm register (row code) lane) mem) None) ≡ Some opcode → ⊥
-    go true e = absurd (cc)
-    go false e = absurd (cc)
-
-no_left : (t u valid : Bool) (register a b c d : ℕ) (mem : MemArg) (others : Option MemoryInstruction) (opcode : ℕ) → (relative_row_of others ≡ Some opcode → ⊥) → relative_row_of (cond t (access_vector valid (cond u (FloatForm register a b) (FloatForm register c d)) mem) others) ≡ Some opcode → ⊥
-no_left true true valid register a b c d mem others opcode h e = absurd (cc)
-no_left true false valid register a b c d mem others opcode h e = absurd (cc)
-no_left false u valid register a b c d mem others opcode h e = h e
-
-no_vector : (v : VecInst) (opcode : ℕ) → relative_row_of (vector_memory v) ≡ Some opcode → ⊥
-no_vector (V.VecLoadReplicate size rd mem) opcode e = no_elements opcodes.VLREP rd (element_code size) mem opcode e
-no_vector (V.VecLoadReplicateRev size rd mem) opcode e = no_elements opcodes.VLBRREP rd (reversed_code size) mem opcode e
-no_vector (V.VecLoadLane size rd ri mem lane) opcode e = no_lane (reuses_vector rd ri) load_lane_opcode (number_of rd) (element_code size) size lane mem opcode e
-no_vector (V.VecLoadLaneRev size rd ri mem lane) opcode e = no_lane (reuses_vector rd ri) load_reversed_opcode (number_of rd) (reversed_code size) size lane mem opcode e
-no_vector (V.VecLoadLaneUndef size rd mem lane) opcode e =
-    no_left (is_left_lane size lane (number_of rd)) (nat_eq size 32) (is_vector rd) (number_of rd) opcodes.LE opcodes.LEY opcodes.LD opcodes.LDY mem (access_lane (is_vector rd) load_lane_opcode (number_of rd) (element_code size) size lane mem) opcode
-    (no_lane (is_vector rd) load_lane_opcode (number_of rd) (element_code size) size lane mem opcode) e
-no_vector (V.VecLoadLaneRevUndef size rd mem lane) opcode e = no_lane (is_vector rd) load_reversed_opcode (number_of rd) (reversed_code size) size lane mem opcode e
-no_vector (V.VecStoreLane size rd mem lane) opcode e =
-    no_left (is_left_lane size lane (number_of rd)) (nat_eq size 32) (is_vector rd) (number_of rd) opcodes.STE opcodes.STEY opcodes.STD opcodes.STDY mem (access_lane (is_vector rd) store_lane_opcode (number_of rd) (element_code size) size lane mem) opcode
-    (no_lane (is_vector rd) store_lane_opcode (number_of rd) (element_code size) size lane mem opcode) e
-no_vector (V.VecStoreLaneRev size rd mem lane) opcode e = no_lane (is_vector rd) store_reversed_opcode (number_of rd) (reversed_code size) size lane mem opcode e
-no_vector v opcode e = absurd (cc)
+    go : (form : StorageForm) (accesses : Bool) → option_map (with_rows x) (other_rows form accesses) ≡ None → relative_row form accesses ≡ Some opcode → ⊥
+    go (RxForm register short long (Some o)) true none e = absurd (cc)
+    go (RxForm register short long None) true none e = absurd (cc)
+    go (RxForm register short long relative) false none e = absurd (cc)
+    go form accesses none e = absurd (cc)
 
 -- what a row relative to the instruction accesses, where there is one: this computes for each load, also where there is none
 abbrev RowAccesses : Option OperandStep → Option ℕ → Type 0
@@ -191,27 +157,19 @@ store_accesses : (op : StoreOp) (rd : Reg) (mem : MemArg) → RowAccesses (store
 store_accesses StoreOps.Store64 rd mem = λ address r. (refl, refl)
 store_accesses op rd mem = λ address r. (refl, refl)
 
--- of what is neither a load nor a store, that there is no such row
-transfer_bytes_or : (other : Option OperandStep) (o : Option Transfer) (opcode : ℕ) → relative_row_of (by_transfer load_memory store_memory None o) ≡ Some opcode → StepAccesses (by_transfer load_step store_step other o) (relative_bytes opcode)
-transfer_bytes_or other None opcode e = absurd (cc)
-transfer_bytes_or other (Some (LoadOf l)) opcode e = subst (λ o. RowAccesses (load_step l) o) e (load_accesses l.op l.rd l.mem)
-transfer_bytes_or other (Some (StoreOf s)) opcode e = subst (λ o. RowAccesses (store_step s) o) e (store_accesses s.op s.rd s.mem)
+cmp_accesses : (op : CmpOp) (n : ℕ) (mem : MemArg) → RowAccesses (accesses_at (cmp_forms op) mem (compares_at (comparison op) n)) (Some (cmp_ril op))
+cmp_accesses C.CmpS32 n mem = λ address r. (refl, refl)
+cmp_accesses op n mem = λ address r. (refl, refl)
+
+-- of what is none of these, that there is no such row
+transfer_bytes_or : (rest : Option MemoryInstruction) → without_relative rest ≡ None → (other : Option OperandStep) (o : Option Transfer) (opcode : ℕ) → relative_row_of (by_transfer load_memory store_memory rest o) ≡ Some opcode → StepAccesses (by_transfer load_step store_step other o) (relative_bytes opcode)
+transfer_bytes_or rest none other None opcode e = absurd (no_row rest none opcode e)
+transfer_bytes_or rest none other (Some (LoadOf l)) opcode e = subst (λ o. RowAccesses (load_step l) o) e (load_accesses l.op l.rd l.mem)
+transfer_bytes_or rest none other (Some (StoreOf s)) opcode e = subst (λ o. RowAccesses (store_step s) o) e (store_accesses s.op s.rd s.mem)
 
 pub bytes_accessed : (i : Inst) (opcode : ℕ) → relative_row_of (memory i) ≡ Some opcode → StepAccesses (operand_step i) (relative_bytes opcode)
-bytes_accessed (CmpRX C.CmpS32 rn mem) opcode e = let same : opcodes.CRL ≡ opcode = cc in subst (λ o. StepAccesses (operand_step (CmpRX C.CmpS32 rn mem)) (relative_bytes o)) same (λ address r. (refl, refl))
-bytes_accessed (CmpRX C.CmpS32Ext16 rn mem) opcode e = let same : opcodes.CHRL ≡ opcode = cc in subst (λ o. StepAccesses (operand_step (CmpRX C.CmpS32Ext16 rn mem)) (relative_bytes o)) same (λ address r. (refl, refl))
-bytes_accessed (CmpRX C.CmpS64 rn mem) opcode e = let same : opcodes.CGRL ≡ opcode = cc in subst (λ o. StepAccesses (operand_step (CmpRX C.CmpS64 rn mem)) (relative_bytes o)) same (λ address r. (refl, refl))
-bytes_accessed (CmpRX C.CmpS64Ext16 rn mem) opcode e = let same : opcodes.CGHRL ≡ opcode = cc in subst (λ o. StepAccesses (operand_step (CmpRX C.CmpS64Ext16 rn mem)) (relative_bytes o)) same (λ address r. (refl, refl))
-bytes_accessed (CmpRX C.CmpS64Ext32 rn mem) opcode e = let same : opcodes.CGFRL ≡ opcode = cc in subst (λ o. StepAccesses (operand_step (CmpRX C.CmpS64Ext32 rn mem)) (relative_bytes o)) same (λ address r. (refl, refl))
-bytes_accessed (CmpRX C.CmpL32 rn mem) opcode e = let same : opcodes.CLRL ≡ opcode = cc in subst (λ o. StepAccesses (operand_step (CmpRX C.CmpL32 rn mem)) (relative_bytes o)) same (λ address r. (refl, refl))
-bytes_accessed (CmpRX C.CmpL32Ext16 rn mem) opcode e = let same : opcodes.CLHRL ≡ opcode = cc in subst (λ o. StepAccesses (operand_step (CmpRX C.CmpL32Ext16 rn mem)) (relative_bytes o)) same (λ address r. (refl, refl))
-bytes_accessed (CmpRX C.CmpL64 rn mem) opcode e = let same : opcodes.CLGRL ≡ opcode = cc in subst (λ o. StepAccesses (operand_step (CmpRX C.CmpL64 rn mem)) (relative_bytes o)) same (λ address r. (refl, refl))
-bytes_accessed (CmpRX C.CmpL64Ext16 rn mem) opcode e = let same : opcodes.CLGHRL ≡ opcode = cc in subst (λ o. StepAccesses (operand_step (CmpRX C.CmpL64Ext16 rn mem)) (relative_bytes o)) same (λ address r. (refl, refl))
-bytes_accessed (CmpRX C.CmpL64Ext32 rn mem) opcode e = let same : opcodes.CLGFRL ≡ opcode = cc in subst (λ o. StepAccesses (operand_step (CmpRX C.CmpL64Ext32 rn mem)) (relative_bytes o)) same (λ address r. (refl, refl))
-bytes_accessed (AluRX op rd ri mem) opcode e = absurd (no_operate (is_some (alu_rx op) || is_some (alu_rxy op)) (alu_rx op) (alu_rxy op) rd ri mem opcode e)
-bytes_accessed (AtomicRmw op rd rn mem) opcode e = absurd (no_load_and_operate (atomic_rsy op) rd rn mem opcode e)
-bytes_accessed (Vector v) opcode e = absurd (no_vector v opcode e)
-bytes_accessed i opcode e = transfer_bytes_or (rest_operand_step i) (as_transfer i) opcode e
+bytes_accessed (CmpRX op rn mem) opcode e = subst (λ o. RowAccesses (operand_step (CmpRX op rn mem)) o) e (cmp_accesses op (number_of rn) mem)
+bytes_accessed i opcode e = transfer_bytes_or (rest_memory i) (rest_none i) (rest_operand_step i) (as_transfer i) opcode e
 
 -- ---- no stop by alignment
 
@@ -268,18 +226,15 @@ module _ (L : Layout) (all : AllCodeAt L) where
   row_never rd short long None reads mem forms operation is opcode e operands_valid own = absurd (cc)
   row_never rd short long (Some o) reads mem forms operation is opcode e operands_valid own = own_never (number_of rd) short long o mem (is_general rd) reads operands_valid own forms operation is.0 is.1
 
-  transfer_never_or : (m : Option MemoryInstruction) (other : Option OperandStep) (o : Option Transfer) (opcode : ℕ) → relative_row_of (by_transfer load_memory store_memory None o) ≡ Some opcode → ValidMemoryOr L (by_transfer load_memory store_memory m o) ⊥ → OwnOperand (by_transfer load_memory store_memory m o) → NeverMisaligned (performed_by L (by_transfer load_step store_step other o))
-  transfer_never_or m other None opcode e operands_valid own = absurd (cc)
-  transfer_never_or m other (Some (LoadOf l)) opcode e operands_valid own =
+  transfer_never_or : (m : Option MemoryInstruction) → without_relative m ≡ None → (other : Option OperandStep) (o : Option Transfer) (opcode : ℕ) → relative_row_of (by_transfer load_memory store_memory m o) ≡ Some opcode → ValidMemoryOr L (by_transfer load_memory store_memory m o) ⊥ → OwnOperand (by_transfer load_memory store_memory m o) → NeverMisaligned (performed_by L (by_transfer load_step store_step other o))
+  transfer_never_or m none other None opcode e operands_valid own = absurd (no_row m none opcode e)
+  transfer_never_or m none other (Some (LoadOf l)) opcode e operands_valid own =
       let v = loaded_value l.op in
       row_never l.rd (load_rows l.op).rx (load_rows l.op).rxy (load_rows l.op).ril false l.mem v.forms (loads_at v.size v.second (number_of l.rd)) (load_is_aligned l.op (number_of l.rd)) opcode e operands_valid own
-  transfer_never_or m other (Some (StoreOf s)) opcode e operands_valid own =
+  transfer_never_or m none other (Some (StoreOf s)) opcode e operands_valid own =
       let v = stored_value s.op in
       row_never s.rd (store_rows s.op).rx (store_rows s.op).rxy (store_rows s.op).ril (is_numbered 1 s.rd) s.mem v.forms (stores_at v.second (number_of s.rd)) (store_is_aligned s.op (number_of s.rd)) opcode e operands_valid own
 
   pub never_misaligned : (i : Inst) (opcode : ℕ) → relative_row_of (memory i) ≡ Some opcode → ValidMemoryOr L (memory i) ⊥ → OwnOperand (memory i) → NeverMisaligned (performed_in_memory L i)
   never_misaligned (CmpRX op rn mem) opcode e operands_valid own = own_never (number_of rn) (cmp_rx op) (cmp_rxy op) (cmp_ril op) mem (is_general rn) (is_numbered 1 rn) operands_valid own (cmp_forms op) (compares_at (comparison op) (number_of rn)) (cmp_relative op) (cmp_bytes op (number_of rn))
-  never_misaligned (AluRX op rd ri mem) opcode e operands_valid own = absurd (no_operate (is_some (alu_rx op) || is_some (alu_rxy op)) (alu_rx op) (alu_rxy op) rd ri mem opcode e)
-  never_misaligned (AtomicRmw op rd rn mem) opcode e operands_valid own = absurd (no_load_and_operate (atomic_rsy op) rd rn mem opcode e)
-  never_misaligned (Vector v) opcode e operands_valid own = absurd (no_vector v opcode e)
-  never_misaligned i opcode e operands_valid own = transfer_never_or (rest_memory i) (rest_operand_step i) (as_transfer i) opcode e operands_valid own
+  never_misaligned i opcode e operands_valid own = transfer_never_or (rest_memory i) (rest_none i) (rest_operand_step i) (as_transfer i) opcode e operands_valid own

@@ -1,5 +1,5 @@
 -- The rows of the instructions on parts of registers, of shifts, rotations, extensions and conditional moves.
-use Rattle.std.proofs.Common.{◌≡◌, ℕ, ◌+◌, ◌*◌, ◌<◌, ◌≤◌, Some, None, Bool, true, false, cond, ◌&&◌, ◌||◌, refl, sym, ap, ◌∙◌, arith, nat_lt, nat_le, nat_eq, eqb-true, subst, Option}
+use Rattle.std.proofs.Common.{◌≡◌, ℕ, ◌+◌, ◌*◌, ◌<◌, Some, None, Bool, true, false, cond, ◌&&◌, ◌||◌, refl, sym, ap, ◌∙◌, arith, nat_lt, nat_le, nat_eq, eqb-true, subst, Option}
 use Rattle.std.proofs.lemmas.Bool.{le-leb, le-ltb, lt-ltb}
 use Rattle.s390x_format.specs.declared.kind.FormatKind.TheVariants.{Rr, Rre, RrfAb, RrfCde, RiA, RieA, RieF, RieG, RilA, Rsy, Rxy}
 use Rattle.s390x_format.specs.declared.row.Allowed.{Allowed}

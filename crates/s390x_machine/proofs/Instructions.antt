@@ -80,24 +80,15 @@ transfer_runs L k (StoreOf s) b operands_valid = store_runs L k s.op s.rd s.mem 
 
 -- the last clause is a copy for each load
 instruction_runs : (L : Layout) (k : ℕ) (i : Inst) → StepAt L k (Plain i) → IsValidInstruction L i → StepRuns L k
-instruction_runs L k (I.AluRRR op rd rn rm) b operands_valid =
-    alu_three_runs b op (number_of rd) (number_of rn) (number_of rm) (is_general rd && is_general rn && is_general rm) (refl, refl, operands_valid) (three_small rd rn rm)
-instruction_runs L k (I.AluRR op rd ri rm) b operands_valid =
-    computes_two b (reuses rd ri && is_general rm) (alu_two op) (alu_computation op) (alu_two_rule op) (alu_two_rows op) (number_of rd) (number_of rm) (refl, refl, operands_valid) (reused_small rd ri rm)
-instruction_runs L k (I.UnaryRR U.PopcntByte rd rn) b operands_valid =
-    count_runs b 0 (omega arith) refl (number_of rd) (number_of rn) (refl, refl) (two_small rd rn operands_valid)
-instruction_runs L k (I.UnaryRR U.PopcntReg rd rn) b operands_valid =
-    count_runs b 8 (omega arith) refl (number_of rd) (number_of rn) (refl, refl) (two_small rd rn operands_valid)
-instruction_runs L k (I.UnaryRR op rd rn) b operands_valid =
-    computes_two b (is_general rd && is_general rn) (unary_two op) (unary_computation op) (unary_rule op) (unary_rows op) (number_of rd) (number_of rn) (refl, refl, operands_valid) (two_small rd rn)
-instruction_runs L k (I.CmpRR op rn rm) b operands_valid =
-    compares_two b (is_general rn && is_general rm) (cmp_two op) (comparison op) (cmp_rows op) (number_of rn) (number_of rm) (refl, refl, operands_valid) (two_small rn rm)
-instruction_runs L k (I.Mov64 rd rm) b operands_valid =
-    computes_two b (is_general rd && is_general rm) (Some opcodes.LGR) (on_doublewords Move) Kept lgr_row (number_of rd) (number_of rm) (refl, refl, operands_valid) (two_small rd rm)
-instruction_runs L k (I.MovPReg rd rm) b operands_valid =
-    computes_two b (is_general rd && is_general (Real rm)) (Some opcodes.LGR) (on_doublewords Move) Kept lgr_row (number_of rd) (number_of (Real rm)) (refl, refl, operands_valid) (two_small rd (Real rm))
-instruction_runs L k (I.Mov32 rd rm) b operands_valid =
-    computes_two b (is_general rd && is_general rm) (Some opcodes.LR) (on_words Move) Kept lr_row (number_of rd) (number_of rm) (refl, refl, operands_valid) (two_small rd rm)
+instruction_runs L k (I.AluRRR op rd rn rm) b operands_valid = alu_three_runs b op (number_of rd) (number_of rn) (number_of rm) (is_general rd && is_general rn && is_general rm) (refl, refl, operands_valid) (three_small rd rn rm)
+instruction_runs L k (I.AluRR op rd ri rm) b operands_valid = computes_two b (reuses rd ri && is_general rm) (alu_two op) (alu_computation op) (alu_two_rule op) (alu_two_rows op) (number_of rd) (number_of rm) (refl, refl, operands_valid) (reused_small rd ri rm)
+instruction_runs L k (I.UnaryRR U.PopcntByte rd rn) b operands_valid = count_runs b 0 (omega arith) refl (number_of rd) (number_of rn) (refl, refl) (two_small rd rn operands_valid)
+instruction_runs L k (I.UnaryRR U.PopcntReg rd rn) b operands_valid = count_runs b 8 (omega arith) refl (number_of rd) (number_of rn) (refl, refl) (two_small rd rn operands_valid)
+instruction_runs L k (I.UnaryRR op rd rn) b operands_valid = computes_two b (is_general rd && is_general rn) (unary_two op) (unary_computation op) (unary_rule op) (unary_rows op) (number_of rd) (number_of rn) (refl, refl, operands_valid) (two_small rd rn)
+instruction_runs L k (I.CmpRR op rn rm) b operands_valid = compares_two b (is_general rn && is_general rm) (cmp_two op) (comparison op) (cmp_rows op) (number_of rn) (number_of rm) (refl, refl, operands_valid) (two_small rn rm)
+instruction_runs L k (I.Mov64 rd rm) b operands_valid = computes_two b (is_general rd && is_general rm) (Some opcodes.LGR) (on_doublewords Move) Kept lgr_row (number_of rd) (number_of rm) (refl, refl, operands_valid) (two_small rd rm)
+instruction_runs L k (I.MovPReg rd rm) b operands_valid = computes_two b (is_general rd && is_general (Real rm)) (Some opcodes.LGR) (on_doublewords Move) Kept lgr_row (number_of rd) (number_of (Real rm)) (refl, refl, operands_valid) (two_small rd (Real rm))
+instruction_runs L k (I.Mov32 rd rm) b operands_valid = computes_two b (is_general rd && is_general rm) (Some opcodes.LR) (on_words Move) Kept lr_row (number_of rd) (number_of rm) (refl, refl, operands_valid) (two_small rd rm)
 instruction_runs L k (I.AluRRSImm16 op rd rn imm) b operands_valid =
     three_halfword_runs b (on_immediate (alu_computation op) signed_halfword) (alu_two_rule op) (number_of rd) (number_of rn) (low_halfword imm) (is_general rd && is_general rn) (alu_three_halfword op) (alu_halfword op) (three_halfword_rows op) (halfword_rows op) (refl, refl, operands_valid) (two_small rd rn) (halfword_bits imm)
 instruction_runs L k (I.AluRSImm16 op rd ri imm) b operands_valid =
@@ -106,50 +97,34 @@ instruction_runs L k (I.AluRSImm32 op rd ri imm) b operands_valid =
     one_of_word b (reuses rd ri) (alu_signed_word op) (on_immediate (alu_computation op) signed_word) (alu_two_rule op) (signed_word_rows op) (number_of rd) (low_word imm) (refl, refl, operands_valid) (output_small rd ri) (word_bits imm)
 instruction_runs L k (I.CmpRSImm16 op rn imm) b operands_valid =
     compare_of_halfword b (is_general rn) (cmp_halfword op) (compares_on_immediate (comparison op) signed_halfword) (cmp_halfword_rows op) (number_of rn) (low_halfword imm) (refl, refl, operands_valid) (general_number rn) (halfword_bits imm)
-instruction_runs L k (I.CmpRSImm32 op rn imm) b operands_valid =
-    compare_of_word b (is_general rn) (cmp_signed_word op) (compares_on_immediate (comparison op) signed_word) (cmp_signed_word_rows op) (number_of rn) (low_word imm) (refl, refl, operands_valid) (general_number rn) (word_bits imm)
+instruction_runs L k (I.CmpRSImm32 op rn imm) b operands_valid = compare_of_word b (is_general rn) (cmp_signed_word op) (compares_on_immediate (comparison op) signed_word) (cmp_signed_word_rows op) (number_of rn) (low_word imm) (refl, refl, operands_valid) (general_number rn) (word_bits imm)
 instruction_runs L k (I.AluRUImm32 op rd ri imm) b operands_valid =
     one_of_word b (reuses rd ri) (alu_unsigned_word op) (on_immediate (alu_computation op) unsigned_word) (alu_two_rule op) (unsigned_word_rows op) (number_of rd) (low_word (pos imm)) (refl, refl, operands_valid) (output_small rd ri) (word_bits (pos imm))
 instruction_runs L k (I.CmpRUImm32 op rn imm) b operands_valid =
     compare_of_word b (is_general rn) (cmp_unsigned_word op) (compares_on_immediate (comparison op) unsigned_word) (cmp_unsigned_word_rows op) (number_of rn) (low_word (pos imm)) (refl, refl, operands_valid) (general_number rn) (word_bits (pos imm))
-instruction_runs L k (I.Mov32Imm rd imm) b operands_valid =
-    one_of_word b (is_general rd) (Some opcodes.IILF) (on_words Move) Kept iilf_row (number_of rd) (low_word (pos imm)) (refl, refl, operands_valid) (general_number rd) (word_bits (pos imm))
-instruction_runs L k (I.Mov32SImm16 rd imm) b operands_valid =
-    one_of_halfword b (is_general rd) (Some opcodes.LHI) (on_immediate (on_words Move) signed_halfword) Kept lhi_row (number_of rd) (low_halfword imm) (refl, refl, operands_valid) (general_number rd) (halfword_bits imm)
-instruction_runs L k (I.Mov64SImm16 rd imm) b operands_valid =
-    one_of_halfword b (is_general rd) (Some opcodes.LGHI) (on_immediate (on_doublewords Move) signed_halfword) Kept lghi_row (number_of rd) (low_halfword imm) (refl, refl, operands_valid) (general_number rd) (halfword_bits imm)
-instruction_runs L k (I.Mov64SImm32 rd imm) b operands_valid =
-    one_of_word b (is_general rd) (Some opcodes.LGFI) (on_immediate (on_doublewords Move) signed_word) Kept lgfi_row (number_of rd) (low_word imm) (refl, refl, operands_valid) (general_number rd) (word_bits imm)
+instruction_runs L k (I.Mov32Imm rd imm) b operands_valid = one_of_word b (is_general rd) (Some opcodes.IILF) (on_words Move) Kept iilf_row (number_of rd) (low_word (pos imm)) (refl, refl, operands_valid) (general_number rd) (word_bits (pos imm))
+instruction_runs L k (I.Mov32SImm16 rd imm) b operands_valid = one_of_halfword b (is_general rd) (Some opcodes.LHI) (on_immediate (on_words Move) signed_halfword) Kept lhi_row (number_of rd) (low_halfword imm) (refl, refl, operands_valid) (general_number rd) (halfword_bits imm)
+instruction_runs L k (I.Mov64SImm16 rd imm) b operands_valid = one_of_halfword b (is_general rd) (Some opcodes.LGHI) (on_immediate (on_doublewords Move) signed_halfword) Kept lghi_row (number_of rd) (low_halfword imm) (refl, refl, operands_valid) (general_number rd) (halfword_bits imm)
+instruction_runs L k (I.Mov64SImm32 rd imm) b operands_valid = one_of_word b (is_general rd) (Some opcodes.LGFI) (on_immediate (on_doublewords Move) signed_word) Kept lgfi_row (number_of rd) (low_word imm) (refl, refl, operands_valid) (general_number rd) (word_bits imm)
 instruction_runs L k (I.AluRUImm16Shifted op rd ri imm) b operands_valid =
     placed_halfword b (reuses rd ri) (alu_part op imm.shift) (SelectedBits (part_operator op) (part_mask imm.shift)) Set (16 * imm.shift) (part_rows op imm.shift) (number_of rd) (low_halfword (pos imm.bits)) (refl, refl, operands_valid) (output_small rd ri) (halfword_bits (pos imm.bits))
 instruction_runs L k (I.AluRUImm32Shifted op rd ri imm) b operands_valid =
     placed_word b (reuses rd ri) (alu_half op imm.shift) (SelectedBits (part_operator op) (half_mask imm.shift)) Set (32 * imm.shift) (half_rows op imm.shift) (number_of rd) (low_word (pos imm.bits)) (refl, refl, operands_valid) (output_small rd ri) (word_bits (pos imm.bits))
 instruction_runs L k (I.Mov64UImm16Shifted rd imm) b operands_valid =
     placed_halfword b (is_general rd) (load_part imm.shift) Move Kept (16 * imm.shift) (load_part_rows imm.shift) (number_of rd) (low_halfword (pos imm.bits)) (refl, refl, operands_valid) (general_number rd) (halfword_bits (pos imm.bits))
-instruction_runs L k (I.Mov64UImm32Shifted rd imm) b operands_valid =
-    placed_word b (is_general rd) (load_half imm.shift) Move Kept (32 * imm.shift) (load_half_rows imm.shift) (number_of rd) (low_word (pos imm.bits)) (refl, refl, operands_valid) (general_number rd) (word_bits (pos imm.bits))
+instruction_runs L k (I.Mov64UImm32Shifted rd imm) b operands_valid = placed_word b (is_general rd) (load_half imm.shift) Move Kept (32 * imm.shift) (load_half_rows imm.shift) (number_of rd) (low_word (pos imm.bits)) (refl, refl, operands_valid) (general_number rd) (word_bits (pos imm.bits))
 instruction_runs L k (I.Insert64UImm16Shifted rd ri imm) b operands_valid =
     placed_halfword b (reuses rd ri) (insert_part imm.shift) (SelectedBits Select.Insert (part_mask imm.shift)) Kept (16 * imm.shift) (insert_part_rows imm.shift) (number_of rd) (low_halfword (pos imm.bits)) (refl, refl, operands_valid) (output_small rd ri) (halfword_bits (pos imm.bits))
-instruction_runs L k (I.Insert64UImm32Shifted rd ri imm) b operands_valid =
-    inserted_half b (reuses rd ri) imm.shift (number_of rd) (low_word (pos imm.bits)) (refl, refl, operands_valid) (output_small rd ri) (word_bits (pos imm.bits))
-instruction_runs L k (I.Extend rd rn signed from to) b operands_valid =
-    computes_two b (is_general rd && is_general rn) (extend_two signed from to) (extension signed from to) Kept (extend_rows signed from to) (number_of rd) (number_of rn) (refl, refl, operands_valid) (two_small rd rn)
-instruction_runs L k (I.LoadAR rd ar) b operands_valid =
-    copies_runs b (is_general rd && is_access ar) (number_of rd) (four_bits ar) (refl, refl, operands_valid) (λ h. access_small rd ar (general_number rd (and_parts (is_general rd) (is_access ar) h).0))
-instruction_runs L k (I.InsertAR rd ri ar) b operands_valid =
-    copies_runs b (reuses rd ri && is_access ar) (number_of rd) (four_bits ar) (refl, refl, operands_valid) (λ h. access_small rd ar (output_small rd ri (and_parts (reuses rd ri) (is_access ar) h).0))
-instruction_runs L k (I.ShiftRR op rd rn amount register) b operands_valid =
-    shift_runs b op (number_of rd) (number_of rn) (number_of register) amount (refl, refl) (three_small rd rn register operands_valid)
-instruction_runs L k (I.RxSBG op rd ri rn start end amount) b operands_valid =
-    rotate_runs b op (reuses rd ri && is_general rn) (number_of rd) (number_of rn) start end amount (refl, refl, operands_valid) (reused_small rd ri rn)
-instruction_runs L k (I.RxSBGTest op rd rn start end amount) b operands_valid =
-    test_runs b op (is_general rd && is_general rn) (number_of rd) (number_of rn) start end amount (refl, refl, operands_valid) (two_small rd rn)
-instruction_runs L k (I.SMulWide rd rn rm) b operands_valid =
-    signed_runs b (number_of rd.hi) (number_of rn) (number_of rm) (refl, refl) (pair_small2 rd.hi rd.lo rn rm operands_valid)
-instruction_runs L k (I.UMulWide rd ri rn) b operands_valid =
-    logical_runs b (number_of rd.hi) (number_of rn) (refl, refl) (pair_tested_small rd.hi rd.lo rn (reuses rd.lo ri) operands_valid)
-instruction_runs L k (I.Flogr rd rn) b operands_valid =
-    leftmost_runs b (number_of rd.hi) (number_of rn) (refl, refl) (pair_small rd.hi rd.lo rn operands_valid)
+instruction_runs L k (I.Insert64UImm32Shifted rd ri imm) b operands_valid = inserted_half b (reuses rd ri) imm.shift (number_of rd) (low_word (pos imm.bits)) (refl, refl, operands_valid) (output_small rd ri) (word_bits (pos imm.bits))
+instruction_runs L k (I.Extend rd rn signed from to) b operands_valid = computes_two b (is_general rd && is_general rn) (extend_two signed from to) (extension signed from to) Kept (extend_rows signed from to) (number_of rd) (number_of rn) (refl, refl, operands_valid) (two_small rd rn)
+instruction_runs L k (I.LoadAR rd ar) b operands_valid = copies_runs b (is_general rd && is_access ar) (number_of rd) (four_bits ar) (refl, refl, operands_valid) (λ h. access_small rd ar (general_number rd (and_parts (is_general rd) (is_access ar) h).0))
+instruction_runs L k (I.InsertAR rd ri ar) b operands_valid = copies_runs b (reuses rd ri && is_access ar) (number_of rd) (four_bits ar) (refl, refl, operands_valid) (λ h. access_small rd ar (output_small rd ri (and_parts (reuses rd ri) (is_access ar) h).0))
+instruction_runs L k (I.ShiftRR op rd rn amount register) b operands_valid = shift_runs b op (number_of rd) (number_of rn) (number_of register) amount (refl, refl) (three_small rd rn register operands_valid)
+instruction_runs L k (I.RxSBG op rd ri rn start end amount) b operands_valid = rotate_runs b op (reuses rd ri && is_general rn) (number_of rd) (number_of rn) start end amount (refl, refl, operands_valid) (reused_small rd ri rn)
+instruction_runs L k (I.RxSBGTest op rd rn start end amount) b operands_valid = test_runs b op (is_general rd && is_general rn) (number_of rd) (number_of rn) start end amount (refl, refl, operands_valid) (two_small rd rn)
+instruction_runs L k (I.SMulWide rd rn rm) b operands_valid = signed_runs b (number_of rd.hi) (number_of rn) (number_of rm) (refl, refl) (pair_small2 rd.hi rd.lo rn rm operands_valid)
+instruction_runs L k (I.UMulWide rd ri rn) b operands_valid = logical_runs b (number_of rd.hi) (number_of rn) (refl, refl) (pair_tested_small rd.hi rd.lo rn (reuses rd.lo ri) operands_valid)
+instruction_runs L k (I.Flogr rd rn) b operands_valid = leftmost_runs b (number_of rd.hi) (number_of rn) (refl, refl) (pair_small rd.hi rd.lo rn operands_valid)
 instruction_runs L k (I.SDivMod32 rd ri rn) b operands_valid =
     divide_runs b opcodes.DSGFR (DivideSigned Bits32) dsgfr_row (divides_signed Bits32 (number_of rd.hi) (number_of rn)) (signed_coded Bits32 (number_of rd.hi) (number_of rn)) (number_of rd.hi) (number_of rn) (pair_tested_small rd.hi rd.lo rn (reuses rd.lo ri) operands_valid) (λ r q. refl) (refl, refl)
 instruction_runs L k (I.SDivMod64 rd ri rn) b operands_valid =
@@ -158,20 +133,15 @@ instruction_runs L k (I.UDivMod32 rd ri rn) b operands_valid =
     divide_runs b opcodes.DLR (DivideLogical Word) dlr_row (divides_logical Word (number_of rd.hi) (number_of rn)) (logical_coded Word (number_of rd.hi) (number_of rn)) (number_of rd.hi) (number_of rn) (pair_tested_small rd.hi rd.lo rn (reuses_pair rd ri) operands_valid) (λ r q. refl) (refl, refl)
 instruction_runs L k (I.UDivMod64 rd ri rn) b operands_valid =
     divide_runs b opcodes.DLGR (DivideLogical Doubleword) dlgr_row (divides_logical Doubleword (number_of rd.hi) (number_of rn)) (logical_coded Doubleword (number_of rd.hi) (number_of rn)) (number_of rd.hi) (number_of rn) (pair_tested_small rd.hi rd.lo rn (reuses_pair rd ri) operands_valid) (λ r q. refl) (refl, refl)
-instruction_runs L k (I.CmpTrapRR op rn rm mask code) b operands_valid =
-    compare_trap_runs b (is_general rn && is_general rm) (cmp_trap op) (comparison op) (trap_rows op) (number_of rn) (number_of rm) (four_bits mask) code (mask_bits mask) (refl, refl, operands_valid) (two_small rn rm)
+instruction_runs L k (I.CmpTrapRR op rn rm mask code) b operands_valid = compare_trap_runs b (is_general rn && is_general rm) (cmp_trap op) (comparison op) (trap_rows op) (number_of rn) (number_of rm) (four_bits mask) code (mask_bits mask) (refl, refl, operands_valid) (two_small rn rm)
 instruction_runs L k (I.CmpTrapRSImm16 op rn imm mask code) b operands_valid =
     compare_immediate_trap_runs b (is_general rn) (cmp_trap_signed op) (comparison op) (trap_signed_rows op) (number_of rn) (low_halfword imm) (four_bits mask) code (halfword_bits imm) (mask_bits mask) (refl, refl, operands_valid) (general_number rn)
 instruction_runs L k (I.CmpTrapRUImm16 op rn imm mask code) b operands_valid =
     compare_immediate_trap_runs b (is_general rn) (cmp_trap_unsigned op) (comparison op) (trap_unsigned_rows op) (number_of rn) (low_halfword (pos imm)) (four_bits mask) code (halfword_bits (pos imm)) (mask_bits mask) (refl, refl, operands_valid) (general_number rn)
-instruction_runs L k (I.CMov32 rd mask ri rm) b operands_valid =
-    move_where_runs b opcodes.LOCR Word unsigned_word locr_row mask (number_of rd) (number_of rm) (refl, refl) (reused_small rd ri rm operands_valid)
-instruction_runs L k (I.CMov64 rd mask ri rm) b operands_valid =
-    move_where_runs b opcodes.LOCGR Doubleword doubleword locgr_row mask (number_of rd) (number_of rm) (refl, refl) (reused_small rd ri rm operands_valid)
-instruction_runs L k (I.CMov32SImm16 rd mask ri imm) b operands_valid =
-    move_immediate_where_runs b opcodes.LOCHI Word lochi_row mask (number_of rd) (low_halfword imm) (refl, refl) (output_small rd ri operands_valid) (halfword_bits imm)
-instruction_runs L k (I.CMov64SImm16 rd mask ri imm) b operands_valid =
-    move_immediate_where_runs b opcodes.LOCGHI Doubleword locghi_row mask (number_of rd) (low_halfword imm) (refl, refl) (output_small rd ri operands_valid) (halfword_bits imm)
+instruction_runs L k (I.CMov32 rd mask ri rm) b operands_valid = move_where_runs b opcodes.LOCR Word unsigned_word locr_row mask (number_of rd) (number_of rm) (refl, refl) (reused_small rd ri rm operands_valid)
+instruction_runs L k (I.CMov64 rd mask ri rm) b operands_valid = move_where_runs b opcodes.LOCGR Doubleword doubleword locgr_row mask (number_of rd) (number_of rm) (refl, refl) (reused_small rd ri rm operands_valid)
+instruction_runs L k (I.CMov32SImm16 rd mask ri imm) b operands_valid = move_immediate_where_runs b opcodes.LOCHI Word lochi_row mask (number_of rd) (low_halfword imm) (refl, refl) (output_small rd ri operands_valid) (halfword_bits imm)
+instruction_runs L k (I.CMov64SImm16 rd mask ri imm) b operands_valid = move_immediate_where_runs b opcodes.LOCGHI Doubleword locghi_row mask (number_of rd) (low_halfword imm) (refl, refl) (output_small rd ri operands_valid) (halfword_bits imm)
 instruction_runs L k (I.LoadIndexedAddr rd base index offset size) b operands_valid =
     any_runs b (is_general rd && is_general base && is_general index) (indexed_opcode size) (indexed_rows size) (number_of rd) (number_of base) (number_of index) (low_displacement offset) (refl, refl, operands_valid) (three_small rd base index) (displacement_bits offset)
 instruction_runs L k (I.LoadLogicalIndexedAddr rd base index offset size) b operands_valid =
@@ -189,9 +159,7 @@ instruction_runs L k (I.CondBr taken not_taken mask) b operands_valid = condbr_r
 instruction_runs L k (I.IndirectBr rn targets) b operands_valid =
     let row = register_row b (number_of rn) refl (general_number rn operands_valid.0) (nonzero_number rn operands_valid.0 operands_valid.1) in
     address_runs L b.image k (number_of rn) (length_of Rr) targets.items (ap (kind_of_step L) b.at) operands_valid.2 row.0 row.1
-instruction_runs L k (I.Ret link) b operands_valid =
-    let row = register_row b (number_of link) refl (general_number link operands_valid.0) (nonzero_number link operands_valid.0 operands_valid.1) in
-    returns_runs L k (number_of link) (length_of Rr) (ap (kind_of_step L) b.at) row.0 row.1
+instruction_runs L k (I.Ret link) b operands_valid = let row = register_row b (number_of link) refl (general_number link operands_valid.0) (nonzero_number link operands_valid.0 operands_valid.1) in returns_runs L k (number_of link) (length_of Rr) (ap (kind_of_step L) b.at) row.0 row.1
 instruction_runs L k (I.JTSequence ridx other mask targets) b operands_valid =
     jump_by_table_runs b (number_of ridx) mask other.0 targets.items refl refl (general_number ridx operands_valid.0) (nonzero_number ridx operands_valid.0 operands_valid.1) (unscratched_number ridx operands_valid.0 operands_valid.2) (small_mask mask operands_valid.5) operands_valid.3 operands_valid.4
 instruction_runs L k (I.LabelAddress dst label) b operands_valid = label_runs b (number_of dst) label.0 refl refl (general_number dst operands_valid.0) operands_valid.1

@@ -1,5 +1,5 @@
 -- A step that loads its operand's address first, since the machine lacks the row relative to the instruction, runs as that instruction.
-use Rattle.std.proofs.Common.{◌≡◌, ℕ, [], Option, Some, None, true, false, ◌||◌, is_some, refl, subst}
+use Rattle.std.proofs.Common.{◌≡◌, ℕ, [], Option, Some, None, true, false, refl, subst}
 use Rattle.s390x_base.specs.Regs.{number_of}
 use Rattle.s390x_inst.specs.declared.ops.CmpOp.{CmpOp}
 use Rattle.s390x_inst.specs.declared.ops.CmpOp.TheVariants as C
@@ -13,13 +13,13 @@ use Rattle.s390x_inst.specs.declared.store.StoreOp.TheVariants as StoreOps
 use Rattle.s390x_inst.specs.Stores.{store_instruction}
 use Rattle.s390x_inst.proofs.Transfers.{Transfer, LoadOf, StoreOf, as_transfer, by_transfer}
 use Rattle.s390x_inst.specs.declared.inst.Inst.{Inst}
-use Rattle.s390x_inst.specs.declared.inst.Inst.TheVariants.{AluRX, CmpRX, AtomicRmw, Vector}
-use Rattle.s390x_typed_steps.proofs.RelativeRows.{alu_none, locked_none, vector_none}
-use Rattle.s390x_typed_steps.specs.Memory.{RxForm, MemoryInstruction, type_of, load, load_rows, store, store_rows, loaded_memory, without_relative}
+use Rattle.s390x_inst.specs.declared.inst.Inst.TheVariants.{CmpRX}
+use Rattle.s390x_typed_steps.proofs.RelativeRows.{rest_none}
+use Rattle.s390x_typed_steps.specs.Memory.{RxForm, MemoryInstruction, type_of, load, load_rows, store, store_rows, rest_memory, loaded_memory, without_relative}
 use Rattle.s390x_typed_steps.specs.Parts.{memory_or, step_parts}
 use Rattle.s390x_typed_steps.specs.declared.mem_inst_type.MemInstType.{MemInstType}
 use Rattle.s390x_typed_steps.specs.Steps.{Step, LoadedStep}
-use Rattle.s390x_typed_steps.specs.Storage.{alu_rx, alu_rxy, cmp_rx, cmp_rxy, atomic_rsy}
+use Rattle.s390x_typed_steps.specs.Storage.{cmp_rx, cmp_rxy}
 use Rattle.s390x_machine.specs.Computations.{comparison}
 use Rattle.s390x_machine.specs.CodeAt.{ValidMemoryOr}
 use Rattle.s390x_machine.specs.Layout.{Layout}
@@ -73,17 +73,14 @@ store_loaded L k StoreOps.Store64 rd mem b valid = store_by_address L k StoreOps
 store_loaded L k op rd mem b valid = store_by_address L k op rd mem (store_rows op).ril b (refl, refl, refl, valid)
 
 -- a load or a store, or what has no row relative to the instruction
-transfer_or_none : (L : Layout) (k : ℕ) (i : Inst) (o : Option Transfer) →
+transfer_or_none : (L : Layout) (k : ℕ) (i : Inst) (rest : Option MemoryInstruction) → without_relative rest ≡ None → (o : Option Transfer) →
     StepAt L k (LoadedStep (by_transfer (λ l. load_instruction l.op l.rd l.mem) (λ s. store_instruction s.op s.rd s.mem) i o)) →
-    ValidMemoryOr L (by_transfer (λ l. loaded_memory (load_instruction l.op l.rd l.mem)) (λ s. loaded_memory (store_instruction s.op s.rd s.mem)) None o) ⊥ → StepRuns L k
-transfer_or_none L k i None b valid = absurd valid
-transfer_or_none L k i (Some (LoadOf l)) b valid = load_loaded L k l.op l.rd l.mem b valid
-transfer_or_none L k i (Some (StoreOf s)) b valid = store_loaded L k s.op s.rd s.mem b valid
+    ValidMemoryOr L (by_transfer (λ l. loaded_memory (load_instruction l.op l.rd l.mem)) (λ s. loaded_memory (store_instruction s.op s.rd s.mem)) (without_relative rest) o) ⊥ → StepRuns L k
+transfer_or_none L k i rest none None b valid = absurd (refused L (without_relative rest) none valid)
+transfer_or_none L k i rest none (Some (LoadOf l)) b valid = load_loaded L k l.op l.rd l.mem b valid
+transfer_or_none L k i rest none (Some (StoreOf s)) b valid = store_loaded L k s.op s.rd s.mem b valid
 
 pub loaded_runs : (L : Layout) (k : ℕ) (i : Inst) → StepAt L k (LoadedStep i) → ValidMemoryOr L (loaded_memory i) ⊥ → StepRuns L k
 loaded_runs L k (CmpRX op rn mem) b valid =
     compares_in_memory b (comparison op) (cmp_rx op) (cmp_rxy op) None (cmp_short_rows op) (cmp_long_rows op) tt rn mem (record (cmp_forms op) { have_pcrel = false }) (cmp_loaded op (number_of rn), refl, refl, valid)
-loaded_runs L k (AluRX op rd ri mem) b valid = absurd (refused L (loaded_memory (AluRX op rd ri mem)) (alu_none (is_some (alu_rx op) || is_some (alu_rxy op)) (alu_rx op) (alu_rxy op) rd ri mem) valid)
-loaded_runs L k (AtomicRmw op rd rn mem) b valid = absurd (refused L (loaded_memory (AtomicRmw op rd rn mem)) (locked_none (atomic_rsy op) rd rn mem) valid)
-loaded_runs L k (Vector v) b valid = absurd (refused L (loaded_memory (Vector v)) (vector_none v) valid)
-loaded_runs L k i b valid = transfer_or_none L k i (as_transfer i) b valid
+loaded_runs L k i b valid = transfer_or_none L k i (rest_memory i) (rest_none i) (as_transfer i) b valid

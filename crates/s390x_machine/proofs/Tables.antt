@@ -81,12 +81,12 @@ sum_of_signed x y lx ly = go (nat_lt x 9223372036854775808) refl (nat_lt y 92233
         ap (λ z. low Doubleword (z +ℤ signed_number Doubleword y)) ex ∙ ap (λ z. low Doubleword (pos x -ℤ pos 18446744073709551616 +ℤ z)) ey ∙ low_sum (pos x -ℤ pos 18446744073709551616 +ℤ (pos y -ℤ pos 18446744073709551616)) ((x + y) % 2 ^ 64) (x + y) (omega (arith, ints)) (omega arith)
 
 -- a word with its sign
-extended_low : (w : ℕ) → w < 2 ^ 31 → extended_bits Signed Bits32 Doubleword w ≡ w
+pub extended_low : (w : ℕ) → w < 2 ^ 31 → extended_bits Signed Bits32 Doubleword w ≡ w
 extended_low w lt =
     let e : w % 4294967296 ≡ w = omega arith in
     ap (λ b. cond b (w % 4294967296) (w % 4294967296 + 18446744069414584320)) (lt-ltb (w % 4294967296) 2147483648 (omega arith)) ∙ e
 
-extended_high : (w : ℕ) → 2 ^ 31 ≤ w → w < 2 ^ 32 → extended_bits Signed Bits32 Doubleword w ≡ w + 18446744069414584320
+pub extended_high : (w : ℕ) → 2 ^ 31 ≤ w → w < 2 ^ 32 → extended_bits Signed Bits32 Doubleword w ≡ w + 18446744069414584320
 extended_high w ge lt =
     let e : w % 4294967296 ≡ w = omega arith in
     ap (λ b. cond b (w % 4294967296) (w % 4294967296 + 18446744069414584320)) (le-ltb (w % 4294967296) 2147483648 (omega arith)) ∙ ap (λ n. n + 18446744069414584320) e
@@ -116,7 +116,7 @@ adds_word index r =
     with_rule Set (Compute (O.Signed Add) Doubleword 1 (r.general 1) (record { source = InMemory (low Doubleword (pos (address_part r 1 + address_part r index) +ℤ pos 0)); width = Bits32; sign = Signed; reversed = false }))
 
 -- what it is, where the image lies in memory
-word_at : (image : CodeImage) (m : Memory) (offset w : ℕ) → w < 2 ^ 32 → image.base + length image.bytes ≤ 2 ^ 64 → IsLoaded image m → StandsAt image offset (word_bytes w) → number_at m.get (wrapping_add64 image.base offset) 4 ≡ w
+pub word_at : (image : CodeImage) (m : Memory) (offset w : ℕ) → w < 2 ^ 32 → image.base + length image.bytes ≤ 2 ^ 64 → IsLoaded image m → StandsAt image offset (word_bytes w) → number_at m.get (wrapping_add64 image.base offset) 4 ≡ w
 word_at image m offset w lt fits is_loaded s =
     let a = wrapping_add64 image.base offset in
     let b0 = (byte_at image m offset 0 (word_bytes w) fits is_loaded s (omega arith)).1 in

@@ -1,5 +1,5 @@
 -- The rows on vector registers and immediates: each is listed, allows its masks, and its operation is its instruction's. One equation an operator.
-use Rattle.std.proofs.Common.{◌≡◌, ℕ, zero, suc, ◌+◌, ◌*◌, ◌<◌, ◌^◌, ◌==◌, ◌&&◌, [], ◌∷◌, slice_index, ◌⊎◌, inl, inr, Option, Some, None, Bool, true, false, cond, pos, ◌-ℤ◌, refl, sym, ap, ◌∙◌, subst, arith, nat_lt, nat_le, nat_eq, ltb-true, eqb-true}
+use Rattle.std.proofs.Common.{◌≡◌, ℕ, suc, ◌+◌, ◌*◌, ◌<◌, ◌^◌, ◌==◌, ◌&&◌, [], ◌∷◌, slice_index, ◌⊎◌, inl, inr, Option, Some, None, Bool, true, false, cond, pos, ◌-ℤ◌, refl, sym, ap, ◌∙◌, subst, arith, nat_lt, nat_le, nat_eq, ltb-true, eqb-true}
 use Rattle.std.proofs.lemmas.Bool.{lt-ltb, le-leb}
 use Rattle.s390x_inst.specs.declared.vec_ops.VecBinaryOp.{VecBinaryOp}
 use Rattle.s390x_inst.specs.declared.vec_ops.VecBinaryOp.TheVariants as B

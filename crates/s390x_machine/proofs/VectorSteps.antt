@@ -296,12 +296,13 @@ module _ {L : Layout} {k : ℕ} {s : Step} (b : StepAt L k s) where
   abbrev Computes : MachineInstruction → VectorOperation → (target n m a : ℕ) → Type 0
   Computes x o target n m a = (r : Registers) → elements_computed x o r ≡ computed_vector o target (r.vector target) (r.vector n) (r.vector m) (r.vector a)
 
-  -- an operation on two, one or three vector registers that never stops
-  two_vectors_run : {code : ℕ} (x : MachineInstruction) (o : VectorOperation) (d n m : ℕ) → ElementsRow code x o → SlotsFit (layout_of x.format) x.slots → takes_fourth o ≡ false → is_divide o ≡ false → Computes x o d n m 0 → IsVectorRow x (computes_two_vectors o d n m) → StepRuns L k
-  two_vectors_run x o d n m row fit takes never fields is =
-      vector_runs x o (computes_two_vectors o d n m) false row fit
+  -- an operation on two, one or three vector registers. The first may be a division, and so stop
+  two_vectors_run : {code : ℕ} (x : MachineInstruction) (o : VectorOperation) (divides : Bool) (d n m : ℕ) → ElementsRow code x o → SlotsFit (layout_of x.format) x.slots → takes_fourth o ≡ false → is_divide o ≡ divides → Computes x o d n m 0 →
+      kind_of_step L (Some s) ≡ Some (Performs false (computes_two_vectors o d n m) (stop_codes divides)) → step_parts s ≡ row_part x (stop_of divides) ∷ [] → StepRuns L k
+  two_vectors_run x o divides d n m row fit takes agrees fields kind parts =
+      vector_runs x o (computes_two_vectors o d n m) divides row fit
       (λ r. subst (λ (y : Operation). Refines y (computes_two_vectors o d n m r)) (sym (fields r)) (no_fourth o takes d (r.vector d) (r.vector n) (r.vector m) (r.vector 0)))
-      (λ r. subst (λ t. ValuesCoded (computes_two_vectors o d n m r) (stop_codes t)) never (vector_coded o d (r.vector d) (r.vector n) (r.vector m) 0)) is.0 is.1
+      (λ r. subst (λ t. ValuesCoded (computes_two_vectors o d n m r) (stop_codes t)) agrees (vector_coded o d (r.vector d) (r.vector n) (r.vector m) 0)) kind parts
 
   one_vector_runs : {code : ℕ} (x : MachineInstruction) (o : VectorOperation) (d n : ℕ) → ElementsRow code x o → SlotsFit (layout_of x.format) x.slots → takes_second_alone o ≡ true → is_divide o ≡ false → Computes x o d n 0 0 → IsVectorRow x (computes_one_vector o d n) → StepRuns L k
   one_vector_runs x o d n row fit takes never fields is =
@@ -333,7 +334,7 @@ module _ {L : Layout} {k : ℕ} {s : Step} (b : StepAt L k s) where
           let few = small able in
           let row = doublewords_rows d n m first second (ltb-true first 2 tests.0) (ltb-true second 2 tests.1) in
           let fit = fits_vrr_c opcodes.VPDI d n m (4 * first + second) (few_digits (elements_listed row)) few.0 few.1 few.2 (elements_few row) in
-          two_vectors_run (vrr_c opcodes.VPDI d n m (4 * first + second)) (O.PermuteDoublewords first second) d n m row fit refl refl (λ r. refl) (is.0, parts)
+          two_vectors_run (vrr_c opcodes.VPDI d n m (4 * first + second)) (O.PermuteDoublewords first second) false d n m row fit refl refl (λ r. refl) is.0 parts
 
   -- elements shifted by an amount
   shifted_vector_runs : (op : VecShiftOp) (d n base displacement : ℕ) → (d < 32) × (n < 32) × (base < 16) → displacement < 4096 →
@@ -429,14 +430,9 @@ IsVectorStep L s v =
 pub vector_instruction_runs : {L : Layout} {k : ℕ} {s : Step} (b : StepAt L k s) (v : VecInst) → IsVectorStep L s v → StepRuns L k
 vector_instruction_runs b (V.VecRRR op rd rn rm) is =
     let few = three_vectors rd rn rm is.2 in
-    let d = number_of rd in
-    let n = number_of rn in
-    let m = number_of rm in
-    let o = binary_operation op in
-    let row = binary_rows op d n m in
-    vector_runs b (binary_instruction op d n m) o (computes_two_vectors o d n m) (is_division op) row (fits_vrr_c (binary_row op).opcode d n m (binary_row op).code (few_digits (elements_listed row)) few.0 few.1 few.2 (elements_few row))
-    (λ r. no_fourth o (binary_takes op) d (r.vector d) (r.vector n) (r.vector m) (r.vector 0))
-    (λ r. subst (λ t. ValuesCoded (computes_two_vectors o d n m r) (stop_codes t)) (divisions_agree op) (vector_coded o d (r.vector d) (r.vector n) (r.vector m) 0)) is.0 is.1
+    let row = binary_rows op (number_of rd) (number_of rn) (number_of rm) in
+    let fit = fits_vrr_c (binary_row op).opcode (number_of rd) (number_of rn) (number_of rm) (binary_row op).code (few_digits (elements_listed row)) few.0 few.1 few.2 (elements_few row) in
+    two_vectors_run b (binary_instruction op (number_of rd) (number_of rn) (number_of rm)) (binary_operation op) (is_division op) (number_of rd) (number_of rn) (number_of rm) row fit (binary_takes op) (divisions_agree op) (λ r. refl) is.0 is.1
 vector_instruction_runs b (V.VecRR op rd rn) is =
     let few = two_vectors rd rn is.2 in
     let row = unary_rows op (number_of rd) (number_of rn) in
@@ -461,12 +457,12 @@ vector_instruction_runs b (V.VecIntCmp op rd rn rm) is =
     let few = three_vectors rd rn rm is.2 in
     let row = comparison_rows op (number_of rd) (number_of rn) (number_of rm) in
     let fit = fits_vrr_b (comparison_row op).opcode (number_of rd) (number_of rn) (number_of rm) (comparison_row op).code 0 (few_digits (elements_listed row)) few.0 few.1 few.2 (elements_few row) (omega arith) in
-    two_vectors_run b (comparison_instruction op (number_of rd) (number_of rn) (number_of rm) 0) (comparison_operation op false) (number_of rd) (number_of rn) (number_of rm) row fit (comparison_takes op false) (comparison_never op false) (λ r. refl) (is.0, is.1)
+    two_vectors_run b (comparison_instruction op (number_of rd) (number_of rn) (number_of rm) 0) (comparison_operation op false) false (number_of rd) (number_of rn) (number_of rm) row fit (comparison_takes op false) (comparison_never op false) (λ r. refl) is.0 is.1
 vector_instruction_runs b (V.VecIntCmpS op rd rn rm) is =
     let few = three_vectors rd rn rm is.2 in
     let row = asking_rows op (number_of rd) (number_of rn) (number_of rm) in
     let fit = fits_vrr_b (comparison_row op).opcode (number_of rd) (number_of rn) (number_of rm) (comparison_row op).code 1 (few_digits (elements_listed row)) few.0 few.1 few.2 (elements_few row) (omega arith) in
-    two_vectors_run b (comparison_instruction op (number_of rd) (number_of rn) (number_of rm) 1) (comparison_operation op true) (number_of rd) (number_of rn) (number_of rm) row fit (comparison_takes op true) (comparison_never op true) (λ r. refl) (is.0, is.1)
+    two_vectors_run b (comparison_instruction op (number_of rd) (number_of rn) (number_of rm) 1) (comparison_operation op true) false (number_of rd) (number_of rn) (number_of rm) row fit (comparison_takes op true) (comparison_never op true) (λ r. refl) is.0 is.1
 vector_instruction_runs b (V.VecIntEltCmp op rn rm) is =
     let few = two_vectors rn rm is.2 in
     let row = element_rows op (number_of rn) (number_of rm) in

@@ -142,7 +142,8 @@ fn execute<M: Memory>(machine: &mut Machine, memory: &mut M, action: &Action, si
     }
 }
 
-/// The step at an instruction that was fetched, whose row means this. It gets a copy, so that the more frequent steps keep theirs in no place.
+/// The step at an instruction that was fetched, whose row means this. It takes a copy: an instruction that is lent has to
+/// lie in memory, and that of the more frequent steps needn't.
 fn semantics_step<M: Memory>(
     machine: &mut Machine,
     memory: &mut M,

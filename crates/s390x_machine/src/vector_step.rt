@@ -60,12 +60,10 @@ pub fn vector_store_step<M: Memory>(
 {
     let layout = layout_of(storage, &decoded.fields);
     let address = indexed_address(machine, &decoded.fields);
-    let n = layout_bytes(layout) as u64;
-    if !memory.has_all(address, n) {
+    let value = vector_stored(layout, machine.vector(decoded.fields.regs[0]));
+    if !memory.put_reached(address, layout_bytes(layout) as u64, value) {
         return StepEnd::Stopped(StopKind::Access, machine.place);
     }
-    let value = vector_stored(layout, machine.vector(decoded.fields.regs[0]));
-    memory.put_number(address, n, value);
     machine.place = machine
         .place
         .wrapping_add(length(decoded.row.format) as u64);

@@ -42,7 +42,7 @@ use Rattle.s390x_rows.specs.declared.opcodes.TheConstants as opcodes
 use Rattle.s390x_typed_steps.specs.MachineInstruction.{MachineInstruction, rr, rre, rrf_ab, rrf_cde, ri_a, rie_a, rie_d, rie_f, ril_a, rsy, rxy, vri_a, vri_b, vri_c, vrr_a, vrr_b, vrr_c, vrs_a, vrs_b, vrs_c}
 use Rattle.s390x_base.specs.declared.regs.Reg.{Reg}
 use Rattle.s390x_inst.specs.declared.args.MemArg.{MemArg}
-use Rattle.s390x_typed_steps.specs.Memory.{MemoryInstruction, StorageForm, RxForm, RsForm, SiForm, SilForm, VrxForm, FloatForm, access_elements, access_lane, access_vector, compare, is_left_lane, load_and_operate, load_lane_opcode, load_left, load_reversed_opcode, memory, operate, reversed_code, store_lane_opcode, store_left, store_reversed_opcode, vector_memory}
+use Rattle.s390x_typed_steps.specs.Memory.{MemoryInstruction, StorageForm, RxForm, RsForm, SiForm, SilForm, VrxForm, FloatForm, access_elements, access_lane, access_vector, compare, is_left_lane, left_or_lane, load_and_operate, load_lane_opcode, load_left, load_reversed_opcode, memory, operate, reversed_code, store_lane_opcode, store_left, store_reversed_opcode, vector_memory}
 use Rattle.s390x_typed_steps.specs.Storage.{alu_rx, alu_rxy, atomic_rsy, cmp_rx, cmp_rxy, cmp_ril}
 use Rattle.s390x_typed_steps.specs.Opcodes.{alu_three, alu_two, alu_halfword, alu_three_halfword, alu_signed_word, alu_unsigned_word, alu_part, alu_half, cmp_two, cmp_halfword, cmp_signed_word, cmp_unsigned_word, cmp_trap, cmp_trap_signed, cmp_trap_unsigned, extend_to_word, extend_to_doubleword, extend_two, indexed_opcode, insert_half, insert_part, load_half, load_part, logical_indexed_opcode, alu_rows, opcode_of_part, rotate_then, rotate_then_test, shift_opcode, unary_two}
 use Rattle.s390x_typed_steps.specs.General.{low_byte, rotation}
@@ -414,22 +414,16 @@ move_left_asked : (opcode d n : ℕ) → opcode_asked Asked.Base (Some opcode) �
 unfolding machine_rows row_for
 move_left_asked opcode d n h = asked_if Asked.Base (nat_lt d 16 && nat_lt n 16) (rr opcode d n) (vrr_a opcodes.VLR d n 0) (by_opcode Asked.Base opcode (rr opcode d n) refl h) refl
 
+-- the last clause is a copy for each other instruction on vectors
 vector_asked : (v : VecInst) → IsAskedWhere (facility_of (I.Vector v)) (vector_row v)
 unfolding machine_rows row_for opcode_asked always_asked
 vector_asked (V.VecRRR op rd rn rm) = binary_asked op (number_of rd) (number_of rn) (number_of rm)
 vector_asked (V.VecRR op rd rn) = vector_unary_asked op (number_of rd) (number_of rn)
-vector_asked (V.VecSelect rd rn rm ra) = refl
-vector_asked (V.VecPermute rd rn rm ra) = refl
-vector_asked (V.VecBlend rd rn rm ra) = refl
 vector_asked (V.VecIntCmp op rd rn rm) = comparison_asked op (number_of rd) (number_of rn) (number_of rm) 0
 vector_asked (V.VecIntCmpS op rd rn rm) = comparison_asked op (number_of rd) (number_of rn) (number_of rm) 1
 vector_asked (V.VecIntEltCmp op rn rm) = element_asked op (number_of rn) (number_of rm)
-vector_asked (V.VecMov rd rn) = refl
 vector_asked (V.VecShiftRR op rd rn amount register) = vector_shift_asked op (number_of rd) (number_of register) (number_of rn) (low_byte amount)
-vector_asked (V.VecEvaluate imm rd rn rm ra) = refl
 vector_asked (V.VecPermuteDWImm rd rn rm first second) = doublewords_asked (number_of rd) (number_of rn) (number_of rm) first second
-vector_asked (V.MovToVec128 rd rn rm) = refl
-vector_asked (V.VecImmByteMask rd mask) = refl
 vector_asked (V.VecImmReplicate size rd imm) = replicate_asked (element_code size) (number_of rd) _
 vector_asked (V.VecImmBitMask size rd start end) = bit_mask_asked (element_code size) size (number_of rd) start end
 vector_asked (V.VecReplicateLane size rd rn lane) = replicate_lane_asked (element_code size) size (number_of rd) (number_of rn) lane
@@ -440,7 +434,7 @@ vector_asked (V.VecInsertLaneUndef size rd rn lane base) = insert_alone_asked si
 vector_asked (V.VecExtractLane size rd rn lane base) = extract_asked size (number_of rd) (number_of rn) (number_of base) lane
 vector_asked (V.FpuMove32 rd rn) = move_left_asked opcodes.LER (number_of rd) (number_of rn) refl
 vector_asked (V.FpuMove64 rd rn) = move_left_asked opcodes.LDR (number_of rd) (number_of rn) refl
-vector_asked v = tt
+vector_asked v = assumption
 
 -- ---- each instruction
 
@@ -452,15 +446,13 @@ single : (asked : InstructionSet) (valid : Bool) (row : Option MachineInstructio
 single asked valid None h = tt
 single asked valid (Some row) h = h
 
+-- the last clause is a copy for each other instruction
 each_asked : (i : Inst) → IsSingleAsked (facility_of i) (single_instruction i)
 unfolding machine_rows row_for opcode_asked always_asked
 each_asked (I.AluRRR op rd rn rm) = single (alu_facility op) _ _ (three_asked (alu_facility op) (alu_three op) (alu_two op) _ _ _ (alu_three_asked op) (alu_two_asked (alu_facility op) op))
 each_asked (I.AluRR op rd ri rm) = single Asked.Base _ _ (two_asked Asked.Base (alu_two op) _ _ (alu_two_asked Asked.Base op))
 each_asked (I.UnaryRR op rd rn) = single (unary_facility op) _ _ (unary_asked op (number_of rd) (number_of rn))
 each_asked (I.CmpRR op rn rm) = single Asked.Base _ _ (two_asked Asked.Base (cmp_two op) _ _ (cmp_two_asked op))
-each_asked (I.Mov64 rd rm) = refl
-each_asked (I.MovPReg rd rm) = refl
-each_asked (I.Mov32 rd rm) = refl
 each_asked (I.AluRRSImm16 op rd rn imm) = single Asked.Base _ _ (three_halfword_asked Asked.Base (alu_three_halfword op) (alu_halfword op) _ _ _ (alu_three_halfword_asked op) (alu_halfword_asked op))
 each_asked (I.AluRSImm16 op rd ri imm) = single Asked.Base _ _ (halfword_asked Asked.Base (alu_halfword op) _ _ (alu_halfword_asked op))
 each_asked (I.AluRSImm32 op rd ri imm) = single Asked.Base _ _ (word_asked Asked.Base (alu_signed_word op) _ _ (alu_signed_word_asked op))
@@ -468,10 +460,6 @@ each_asked (I.AluRUImm32 op rd ri imm) = single Asked.Base _ _ (word_asked Asked
 each_asked (I.CmpRSImm16 op rn imm) = single Asked.Base _ _ (halfword_asked Asked.Base (cmp_halfword op) _ _ (cmp_halfword_asked op))
 each_asked (I.CmpRSImm32 op rn imm) = single Asked.Base _ _ (word_asked Asked.Base (cmp_signed_word op) _ _ (cmp_signed_word_asked op))
 each_asked (I.CmpRUImm32 op rn imm) = single Asked.Base _ _ (word_asked Asked.Base (cmp_unsigned_word op) _ _ (cmp_unsigned_word_asked op))
-each_asked (I.Mov32Imm rd imm) = refl
-each_asked (I.Mov32SImm16 rd imm) = refl
-each_asked (I.Mov64SImm16 rd imm) = refl
-each_asked (I.Mov64SImm32 rd imm) = refl
 each_asked (I.AluRUImm16Shifted op rd ri imm) = single Asked.Base _ _ (halfword_asked Asked.Base (alu_part op imm.shift) _ _ (part_asked (alu_rows op).parts imm.shift (alu_parts_asked op)))
 each_asked (I.AluRUImm32Shifted op rd ri imm) = single Asked.Base _ _ (word_asked Asked.Base (alu_half op imm.shift) _ _ (part_asked (alu_rows op).halves imm.shift (alu_halves_asked op)))
 each_asked (I.Mov64UImm16Shifted rd imm) = single Asked.Base _ _ (halfword_asked Asked.Base (load_part imm.shift) _ _ (part_asked LOAD_PARTS imm.shift load_parts_asked))
@@ -479,33 +467,18 @@ each_asked (I.Mov64UImm32Shifted rd imm) = single Asked.Base _ _ (word_asked Ask
 each_asked (I.Insert64UImm16Shifted rd ri imm) = single Asked.Base _ _ (halfword_asked Asked.Base (insert_part imm.shift) _ _ (part_asked INSERT_PARTS imm.shift insert_parts_asked))
 each_asked (I.Insert64UImm32Shifted rd ri imm) = single Asked.Base _ _ (word_asked Asked.Base (insert_half imm.shift) _ _ (part_asked INSERT_HALVES imm.shift insert_halves_asked))
 each_asked (I.Extend rd rn signed from to) = single Asked.Base _ _ (two_asked Asked.Base (extend_two signed from to) _ _ (extend_asked signed from to))
-each_asked (I.LoadAR rd ar) = refl
-each_asked (I.InsertAR rd ri ar) = refl
 each_asked (I.ShiftRR op rd rn amount register) =
     by_opcode Asked.Base (shift_opcode op) (rsy (shift_opcode op) (number_of rd) (number_of rn) (number_of register) (low_byte amount)) refl (shift_asked op)
 each_asked (I.RxSBG op rd ri rn start end amount) = single Asked.Base _ _ (rotated_asked Asked.Base (Some (rotate_then op)) (number_of rd) (number_of rn) start end start (rotation amount) (rotate_asked op))
 each_asked (I.RxSBGTest op rd rn start end amount) = single Asked.Base _ _ (rotated_asked Asked.Base (rotate_then_test op) _ _ _ _ _ _ (rotate_test_asked op))
-each_asked (I.SMulWide rd rn rm) = refl
-each_asked (I.UMulWide rd ri rn) = refl
-each_asked (I.Flogr rd rn) = refl
-each_asked (I.SDivMod32 rd ri rn) = refl
-each_asked (I.SDivMod64 rd ri rn) = refl
-each_asked (I.UDivMod32 rd ri rn) = refl
-each_asked (I.UDivMod64 rd ri rn) = refl
 each_asked (I.CmpTrapRR op rn rm mask code) = single Asked.Base _ _ (masked_asked Asked.Base (cmp_trap op) _ _ _ (cmp_trap_asked op))
 each_asked (I.CmpTrapRSImm16 op rn imm mask code) = single Asked.Base _ _ (masked_halfword_asked Asked.Base (cmp_trap_signed op) _ _ _ (cmp_trap_signed_asked op))
 each_asked (I.CmpTrapRUImm16 op rn imm mask code) = single Asked.Base _ _ (masked_halfword_asked Asked.Base (cmp_trap_unsigned op) _ _ _ (cmp_trap_unsigned_asked op))
-each_asked (I.CMov32 rd mask ri rm) = refl
-each_asked (I.CMov64 rd mask ri rm) = refl
-each_asked (I.CMov32SImm16 rd mask ri imm) = refl
-each_asked (I.CMov64SImm16 rd mask ri imm) = refl
 each_asked (I.LoadIndexedAddr rd base index offset size) = single Asked.MIE4 _ _ (indexed_asked Asked.MIE4 (indexed_opcode size) _ _ _ _ (index_asked size))
 each_asked (I.LoadLogicalIndexedAddr rd base index offset size) = single Asked.MIE4 _ _ (indexed_asked Asked.MIE4 (logical_indexed_opcode size) _ _ _ _ (logical_index_asked size))
 each_asked (I.AllocateArgs size) = asked_if Asked.Base (nat_lt size 32768) _ _ refl refl
-each_asked I.Fence = refl
-each_asked I.Nop2 = refl
 each_asked (I.Vector v) = single (facility_of (I.Vector v)) _ _ (vector_asked v)
-each_asked i = tt
+each_asked i = assumption
 
 asked_is_allowed : (f : IsaFlags) (asked : InstructionSet) (o : Option SingleInstruction) → IsSingleAsked asked o → has_facility f asked ≡ true → AllowsSingle f o
 asked_is_allowed f asked None is has = tt
@@ -577,6 +550,12 @@ store_left_asked : (size register : ℕ) → form_asked Asked.Base (store_left s
 unfolding form_asked opcode_asked machine_rows row_for always_asked
 store_left_asked size register = form_if Asked.Base (nat_eq size 32) (FloatForm register opcodes.STE opcodes.STEY) (FloatForm register opcodes.STD opcodes.STDY) refl refl
 
+left_asked : (left : (size register : ℕ) → StorageForm) (opcode : ℕ → ℕ) (size lane : ℕ) (rd : Reg) (mem : MemArg) → form_asked Asked.Base (left size (number_of rd)) ≡ true → ((c : ℕ) → opcode_asked Asked.Base (Some (opcode c)) ≡ true)
+    → memory_asked Asked.Base (left_or_lane left opcode size lane rd mem) ≡ true
+left_asked left opcode size lane rd mem h k =
+    memory_if Asked.Base (is_left_lane size lane (number_of rd)) (access_vector (is_vector rd) (left size (number_of rd)) mem) (access_lane (is_vector rd) opcode (number_of rd) (element_code size) size lane mem)
+    (vector_access_asked Asked.Base (is_vector rd) (left size (number_of rd)) mem h) (one_element_asked Asked.Base (is_vector rd) opcode (number_of rd) (element_code size) size lane mem k)
+
 operate_asked : (op : ALUOp) (rd ri : Reg) (mem : MemArg) → memory_asked Asked.Base (operate (is_some (alu_rx op) || is_some (alu_rxy op)) (alu_rx op) (alu_rxy op) rd ri mem) ≡ true
 unfolding memory_asked form_asked opcode_asked machine_rows row_for always_asked
 operate_asked Alu.Add32 rd ri mem = refl
@@ -598,15 +577,9 @@ vector_memory_asked (V.VecLoadReplicate size rd mem) = elements_asked Asked.Base
 vector_memory_asked (V.VecLoadReplicateRev size rd mem) = elements_asked Asked.VXRS_EXT2 opcodes.VLBRREP rd (reversed_code size) mem refl
 vector_memory_asked (V.VecLoadLane size rd ri mem lane) = one_element_asked Asked.Base (reuses_vector rd ri) load_lane_opcode (number_of rd) (element_code size) size lane mem load_lane_asked
 vector_memory_asked (V.VecLoadLaneRev size rd ri mem lane) = one_element_asked Asked.VXRS_EXT2 (reuses_vector rd ri) load_reversed_opcode (number_of rd) (reversed_code size) size lane mem load_reversed_asked
-vector_memory_asked (V.VecLoadLaneUndef size rd mem lane) =
-    memory_if Asked.Base (is_left_lane size lane (number_of rd)) (access_vector (is_vector rd) (load_left size (number_of rd)) mem) (access_lane (is_vector rd) load_lane_opcode (number_of rd) (element_code size) size lane mem)
-    (vector_access_asked Asked.Base (is_vector rd) (load_left size (number_of rd)) mem (load_left_asked size (number_of rd)))
-    (one_element_asked Asked.Base (is_vector rd) load_lane_opcode (number_of rd) (element_code size) size lane mem load_lane_asked)
+vector_memory_asked (V.VecLoadLaneUndef size rd mem lane) = left_asked load_left load_lane_opcode size lane rd mem (load_left_asked size (number_of rd)) load_lane_asked
 vector_memory_asked (V.VecLoadLaneRevUndef size rd mem lane) = one_element_asked Asked.VXRS_EXT2 (is_vector rd) load_reversed_opcode (number_of rd) (reversed_code size) size lane mem load_reversed_asked
-vector_memory_asked (V.VecStoreLane size rd mem lane) =
-    memory_if Asked.Base (is_left_lane size lane (number_of rd)) (access_vector (is_vector rd) (store_left size (number_of rd)) mem) (access_lane (is_vector rd) store_lane_opcode (number_of rd) (element_code size) size lane mem)
-    (vector_access_asked Asked.Base (is_vector rd) (store_left size (number_of rd)) mem (store_left_asked size (number_of rd)))
-    (one_element_asked Asked.Base (is_vector rd) store_lane_opcode (number_of rd) (element_code size) size lane mem store_lane_asked)
+vector_memory_asked (V.VecStoreLane size rd mem lane) = left_asked store_left store_lane_opcode size lane rd mem (store_left_asked size (number_of rd)) store_lane_asked
 vector_memory_asked (V.VecStoreLaneRev size rd mem lane) = one_element_asked Asked.VXRS_EXT2 (is_vector rd) store_reversed_opcode (number_of rd) (reversed_code size) size lane mem store_reversed_asked
 vector_memory_asked v = refl
 

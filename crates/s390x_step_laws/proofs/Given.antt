@@ -1,5 +1,5 @@
 -- A function's steps do what the steps of its instructions do as they are given.
-use Rattle.std.proofs.Common.{◌≡◌, ℕ, zero, suc, ◌+◌, List, [], ◌∷◌, ◌++◌, map, Bool, true, false, not, ◌&&◌, Option, Some, None, option_map, is_some, ◌||◌, refl, sym, ap, ◌∙◌, subst, true≢false}
+use Rattle.std.proofs.Common.{◌≡◌, ℕ, zero, suc, ◌+◌, List, [], ◌∷◌, ◌++◌, map, Bool, true, false, not, ◌&&◌, Option, Some, None, option_map, refl, sym, ap, ◌∙◌, subst, true≢false}
 use Rattle.std.proofs.lemmas.Bool.{and_parts}
 use Rattle.s390x_base.specs.declared.ir.MachLabel.{MachLabel}
 use Rattle.s390x_base.specs.declared.regs.Reg.{Reg}
@@ -20,14 +20,13 @@ use Rattle.s390x_inst.specs.Stores.{as_store, store_instruction, by_store}
 use Rattle.s390x_inst.specs.declared.state.IsaFlags.{IsaFlags}
 use Rattle.s390x_typed_steps.specs.Baseline.{whole_or_loaded, body_for, tree_for}
 use Rattle.s390x_typed_steps.specs.Folding.{folded_members, fold, body_with_remainder, remainder, branches_of, folded_before, folded_from, folded_trees, next_block}
-use Rattle.s390x_typed_steps.specs.Memory.{StorageForm, RxForm, MemoryInstruction, memory, load_memory, store_memory, other_memory, accesses_relative, has_relative_row, other_rows, with_rows, without_relative}
+use Rattle.s390x_typed_steps.specs.Memory.{StorageForm, RxForm, MemoryInstruction, memory, load_memory, store_memory, rest_memory, other_memory, accesses_relative, has_relative_row, other_rows, with_rows, without_relative}
 use Rattle.s390x_typed_steps.specs.Operands.{is_relative}
 use Rattle.s390x_typed_steps.specs.Steps.{Step, Plain, LoadedStep, Opening, Back, step_of, steps_of, steps_from, step_count, first_step, function_steps}
-use Rattle.s390x_typed_steps.specs.Storage.{alu_rx, alu_rxy, atomic_rsy}
-use Rattle.s390x_typed_steps.specs.Tree.{Remainder, StepBody, Tree, Whole, Loaded, Folded, CallStep, NoLoad, TailOpening, TailJump, empty, leaf, loop_node, prepend}
+use Rattle.s390x_typed_steps.specs.Tree.{Remainder, StepBody, Tree, Whole, empty, leaf, loop_node, prepend}
 use Rattle.s390x_typed_steps.specs.declared.mem_inst_type.MemInstType.{MemInstType}
 use Rattle.s390x_typed_steps.proofs.Folding.{before_count, folded_first_step}
-use Rattle.s390x_typed_steps.proofs.RelativeRows.{alu_none, locked_none, vector_none}
+use Rattle.s390x_typed_steps.proofs.RelativeRows.{rest_none}
 use Rattle.s390x_operations.specs.State.{Registers}
 use Rattle.s390x_machine.specs.Layout.{Layout}
 use Rattle.s390x_machine.specs.Storage.{OperandStep, operand_address, operand_step, loaded_step, is_relative_access, needs_scratch, aligned_where}
@@ -73,17 +72,14 @@ relative_store : (L : Layout) (op : StoreOp) (rd : Reg) (mem : MemArg) → acces
 relative_store L StoreOps.Store64 rd mem e = record { x = _; is = refl; alone = refl; relative = relative_here (memory (store_instruction StoreOps.Store64 rd mem)) mem refl e }
 relative_store L op rd mem e = record { x = _; is = refl; alone = refl; relative = relative_here (memory (store_instruction op rd mem)) mem refl e }
 
-store_or_none : (L : Layout) (i : Inst) (o : Option Store) → accesses_relative (by_store store_memory None o) ≡ true → IsRelativeStep L (by_store (λ s. store_instruction s.op s.rd s.mem) i o)
-store_or_none L i None e = absurd (true≢false (sym e))
-store_or_none L i (Some s) e = relative_store L s.op s.rd s.mem e
+store_or_none : (L : Layout) (i : Inst) (rest : Option MemoryInstruction) → without_relative rest ≡ None → (o : Option Store) → accesses_relative (by_store store_memory rest o) ≡ true → IsRelativeStep L (by_store (λ s. store_instruction s.op s.rd s.mem) i o)
+store_or_none L i rest none None e = absurd (none_relative rest none e)
+store_or_none L i rest none (Some s) e = relative_store L s.op s.rd s.mem e
 
 -- the last clause is a copy for each store, and for each without such a row, loads among them
 relative_other : (L : Layout) (i : Inst) → accesses_relative (other_memory i) ≡ true → IsRelativeStep L i
 relative_other L (I.CmpRX op rn mem) e = record { x = _; is = refl; alone = refl; relative = relative_here (other_memory (I.CmpRX op rn mem)) mem refl e }
-relative_other L (I.AluRX op rd ri mem) e = absurd (none_relative (other_memory (I.AluRX op rd ri mem)) (alu_none (is_some (alu_rx op) || is_some (alu_rxy op)) (alu_rx op) (alu_rxy op) rd ri mem) e)
-relative_other L (I.AtomicRmw op rd rn mem) e = absurd (none_relative (other_memory (I.AtomicRmw op rd rn mem)) (locked_none (atomic_rsy op) rd rn mem) e)
-relative_other L (I.Vector v) e = absurd (none_relative (other_memory (I.Vector v)) (vector_none v) e)
-relative_other L i e = store_or_none L i (as_store i) e
+relative_other L i e = store_or_none L i (rest_memory i) (rest_none i) (as_store i) e
 
 relative_step : (L : Layout) (i : Inst) → accesses_relative (memory i) ≡ true → IsRelativeStep L i
 relative_step L =

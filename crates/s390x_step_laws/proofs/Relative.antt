@@ -1,5 +1,5 @@
 -- On a machine that lacks rows relative to the instruction no step accesses an operand so.
-use Rattle.std.proofs.Common.{◌≡◌, ℕ, zero, suc, ◌+◌, List, [], ◌∷◌, ◌++◌, map, Bool, true, false, not, ◌&&◌, ◌||◌, Option, Some, None, option_map, is_some, cond, ◌⊎◌, inl, inr, refl, sym, ◌∙◌, subst, true≢false, slice_get}
+use Rattle.std.proofs.Common.{◌≡◌, ℕ, zero, suc, ◌+◌, List, [], ◌∷◌, ◌++◌, map, Bool, true, false, not, ◌&&◌, Option, Some, None, option_map, cond, ◌⊎◌, inl, inr, refl, sym, ◌∙◌, subst, true≢false, slice_get}
 use Rattle.s390x_base.specs.Regs.{number_of}
 use Rattle.s390x_base.specs.declared.ir.MachLabel.{MachLabel}
 use Rattle.s390x_base.specs.declared.regs.Reg.{Reg}
@@ -7,7 +7,6 @@ use Rattle.s390x_base.specs.declared.trap.TrapKind.{TrapKind}
 use Rattle.s390x_inst.specs.Emission.{Emission}
 use Rattle.s390x_inst.specs.Loads.{as_load, by_load}
 use Rattle.s390x_inst.specs.Stores.{as_store, by_store}
-use Rattle.s390x_inst.specs.Wholes.{as_whole, by_whole}
 use Rattle.s390x_inst.specs.declared.args.MemArg.{MemArg}
 use Rattle.s390x_inst.specs.declared.args.MemArg.TheVariants.{BXD12, Label, Constant, Symbol, RegOffset}
 use Rattle.s390x_inst.specs.declared.calls.CallInstDest.{CallInstDest}
@@ -17,24 +16,19 @@ use Rattle.s390x_inst.specs.declared.inst.Inst.{Inst}
 use Rattle.s390x_inst.specs.declared.inst.Inst.TheVariants as I
 use Rattle.s390x_inst.specs.declared.load.Load.{Load}
 use Rattle.s390x_inst.specs.declared.store.Store.{Store}
-use Rattle.s390x_inst.specs.declared.whole.WholeAccess.{WholeAccess}
 use Rattle.s390x_inst.specs.declared.state.IsaFlags.{IsaFlags}
-use Rattle.s390x_inst.specs.declared.vec_inst.VecInst.{VecInst}
-use Rattle.s390x_inst.specs.declared.vec_inst.VecInst.TheVariants as V
-use Rattle.s390x_rows.specs.declared.opcodes.TheConstants as opcodes
 use Rattle.s390x_typed_steps.specs.Baseline.{whole_or_loaded, body_for, tree_for}
 use Rattle.s390x_typed_steps.specs.Folding.{folded_members, fold, body_with_remainder, remainder, branches_of, folded_before, folded_from, next_block}
 use Rattle.s390x_typed_steps.specs.MachineInstruction.{MachineInstruction}
-use Rattle.s390x_typed_steps.specs.Memory.{StorageForm, RxForm, VrxForm, MemoryInstruction, memory, load_memory, store_memory, whole_memory, other_memory, accesses_relative, has_relative_row, other_rows, with_rows, without_relative, address_form, storage_row, type_of, fault_code, operate, load_and_operate, access_vector, access_elements, access_lane, vector_memory, load_left, store_left, is_left_lane, load_lane_opcode, load_reversed_opcode, store_lane_opcode, store_reversed_opcode, reversed_code}
+use Rattle.s390x_typed_steps.proofs.RelativeRows.{IsUnrelated, rest_unrelated}
+use Rattle.s390x_typed_steps.specs.Memory.{StorageForm, RxForm, MemoryInstruction, memory, load_memory, store_memory, rest_memory, other_memory, accesses_relative, has_relative_row, other_rows, with_rows, without_relative, address_form, storage_row, type_of, fault_code}
 use Rattle.s390x_typed_steps.specs.Operands.{Finalized, finalized_operand, with_displacement, with_address_loaded, with_long_displacement, needs_address, is_relative, fits_12, fits_20, fits_32}
 use Rattle.s390x_typed_steps.specs.Parts.{CodePart, step_parts, instruction_parts, parts_or, row_part, memory_or, memory_parts, helpers_parts, helper_parts, operand_parts, relative_parts, relative_part, access_parts, trap_here, branch_parts, table_words, row_parts, site_parts, call_part, tail_part, remainder_parts}
 use Rattle.s390x_typed_steps.specs.SingleInstruction.{SingleInstruction, single_instruction, stop_code}
 use Rattle.s390x_typed_steps.specs.StepBody.{Site, AtCall, Remainder, NothingLeft, BranchLeft}
 use Rattle.s390x_typed_steps.specs.Steps.{Step, Plain, Back, step_of, steps_of, steps_from, step_count, function_steps}
-use Rattle.s390x_typed_steps.specs.Storage.{alu_rx, alu_rxy, atomic_rsy}
 use Rattle.s390x_typed_steps.specs.Tree.{StepBody, Tree, Whole, Loaded, Folded, CallStep, NoLoad, TailOpening, TailJump, empty, leaf, loop_node, prepend}
 use Rattle.s390x_typed_steps.specs.VectorComposite.{composite_rows}
-use Rattle.s390x_typed_steps.specs.VectorInstruction.{is_vector, reuses_vector, element_code, is_lane}
 use Rattle.s390x_typed_steps.specs.declared.mem_inst_type.MemInstType.{MemInstType}
 use Rattle.s390x_step_laws.specs.Given.{given_tree, flagged_tree, emitted_trees, emitted_alone}
 use Rattle.s390x_step_laws.specs.Relative.{larl, AccessNothingRelative}
@@ -156,74 +150,25 @@ memory_fine (Some x) others m e h = accessing_fine x m e
 
 -- ---- which instructions access their operands
 
-operates : (have : Bool) (short long : Option ℕ) (rd ri : Reg) (mem : MemArg) → MayAccess (operate have short long rd ri mem)
-operates false short long rd ri mem = tt
-operates true short long rd ri mem = inl refl
+may_be : (o : Option MemoryInstruction) → IsUnrelated o → MayAccess o
+may_be None h = tt
+may_be (Some x) h = inl h.0
 
-locks : (opcode : Option ℕ) (rd rn : Reg) (mem : MemArg) → MayAccess (load_and_operate opcode rd rn mem)
-locks None rd rn mem = tt
-locks (Some opcode) rd rn mem = inl refl
+-- the last clause is a copy for each other instruction
+rest_accesses : (i : Inst) → MayAccess (rest_memory i)
+rest_accesses (I.CmpRX op rn mem) = inl refl
+rest_accesses (I.LoadAddr rd mem) = inr (rd, refl)
+rest_accesses i = may_be (rest_memory i) (rest_unrelated i)
 
-elements : (opcode : ℕ) (rd : Reg) (code : Option ℕ) (mem : MemArg) → MayAccess (access_elements opcode rd code mem)
-elements opcode rd None mem = tt
-elements opcode rd (Some code) mem = inl refl
-
-one_lane : (valid : Bool) (opcode : ℕ → ℕ) (register : ℕ) (code : Option ℕ) (size lane : ℕ) (mem : MemArg) → MayAccess (access_lane valid opcode register code size lane mem)
-one_lane valid opcode register None size lane mem = tt
-one_lane valid opcode register (Some code) size lane mem = go (is_lane size lane)
-  where
-    go : (t : Bool) → MayAccess (cond t (access_vector valid (VrxForm register (opcode code) lane) mem) None)
-    go true = inl refl
-    go false = tt
-
-left_or : (t valid : Bool) (form : StorageForm) (mem : MemArg) (o : Option MemoryInstruction) → MayAccess o → MayAccess (cond t (access_vector valid form mem) o)
-left_or true valid form mem o h = inl refl
-left_or false valid form mem o h = h
-
-whole_or_none : (o : Option WholeAccess) → MayAccess (by_whole whole_memory None o)
-whole_or_none None = tt
-whole_or_none (Some w) = inl refl
-
--- the last clause is a copy for each load and store of a whole register, and for each that has no operand in memory
-vector_accesses : (v : VecInst) → MayAccess (vector_memory v)
-vector_accesses (V.VecLoadReplicate size rd mem) = elements opcodes.VLREP rd (element_code size) mem
-vector_accesses (V.VecLoadReplicateRev size rd mem) = elements opcodes.VLBRREP rd (reversed_code size) mem
-vector_accesses (V.VecLoadLane size rd ri mem lane) = one_lane (reuses_vector rd ri) load_lane_opcode (number_of rd) (element_code size) size lane mem
-vector_accesses (V.VecLoadLaneRev size rd ri mem lane) = one_lane (reuses_vector rd ri) load_reversed_opcode (number_of rd) (reversed_code size) size lane mem
-vector_accesses (V.VecLoadLaneUndef size rd mem lane) =
-    left_or (is_left_lane size lane (number_of rd)) (is_vector rd) (load_left size (number_of rd)) mem (access_lane (is_vector rd) load_lane_opcode (number_of rd) (element_code size) size lane mem) (one_lane (is_vector rd) load_lane_opcode (number_of rd) (element_code size) size lane mem)
-vector_accesses (V.VecLoadLaneRevUndef size rd mem lane) = one_lane (is_vector rd) load_reversed_opcode (number_of rd) (reversed_code size) size lane mem
-vector_accesses (V.VecStoreLane size rd mem lane) =
-    left_or (is_left_lane size lane (number_of rd)) (is_vector rd) (store_left size (number_of rd)) mem (access_lane (is_vector rd) store_lane_opcode (number_of rd) (element_code size) size lane mem) (one_lane (is_vector rd) store_lane_opcode (number_of rd) (element_code size) size lane mem)
-vector_accesses (V.VecStoreLaneRev size rd mem lane) = one_lane (is_vector rd) store_reversed_opcode (number_of rd) (reversed_code size) size lane mem
-vector_accesses v = whole_or_none (as_whole v)
-
-store_or_none : (o : Option Store) → MayAccess (by_store store_memory None o)
-store_or_none None = tt
-store_or_none (Some s) = inl refl
-
--- the last clause is a copy for each store of a register, and for each that has no operand in memory
-other_accesses : (i : Inst) → MayAccess (other_memory i)
-other_accesses (I.AluRX op rd ri mem) = operates (is_some (alu_rx op) || is_some (alu_rxy op)) (alu_rx op) (alu_rxy op) rd ri mem
-other_accesses (I.CmpRX op rn mem) = inl refl
-other_accesses (I.StoreImm8 imm mem) = inl refl
-other_accesses (I.StoreImm16 imm mem) = inl refl
-other_accesses (I.StoreImm32SExt16 imm mem) = inl refl
-other_accesses (I.StoreImm64SExt16 imm mem) = inl refl
-other_accesses (I.LoadMultiple64 rt rt2 mem) = inl refl
-other_accesses (I.StoreMultiple64 rt rt2 mem) = inl refl
-other_accesses (I.LoadAddr rd mem) = inr (rd, refl)
-other_accesses (I.AtomicRmw op rd rn mem) = locks (atomic_rsy op) rd rn mem
-other_accesses (I.AtomicCas32 rd ri rn mem) = inl refl
-other_accesses (I.AtomicCas64 rd ri rn mem) = inl refl
-other_accesses (I.Vector v) = vector_accesses v
-other_accesses i = store_or_none (as_store i)
+other_accesses : (rest : Option MemoryInstruction) → MayAccess rest → (o : Option Store) → MayAccess (by_store store_memory rest o)
+other_accesses rest h None = h
+other_accesses rest h (Some s) = inl refl
 
 may_access : (i : Inst) → MayAccess (memory i)
 may_access i = go (as_load i)
   where
     go : (o : Option Load) → MayAccess (by_load load_memory (other_memory i) o)
-    go None = other_accesses i
+    go None = other_accesses (rest_memory i) (rest_accesses i) (as_store i)
     go (Some l) = inl refl
 
 -- ---- instructions

@@ -191,17 +191,19 @@ load_left size register = cond (nat_eq size 32) (FloatForm register opcodes.LE o
 abbrev pub store_left : (size register : ℕ) → StorageForm
 store_left size register = cond (nat_eq size 32) (FloatForm register opcodes.STE opcodes.STEY) (FloatForm register opcodes.STD opcodes.STDY)
 
+-- one element, by the rows of a float register where it is the leftmost one of such a register
+abbrev pub left_or_lane : (left : (size register : ℕ) → StorageForm) → (opcode : ℕ → ℕ) → (size lane : ℕ) → Reg → MemArg → Option MemoryInstruction
+left_or_lane left opcode size lane rd mem =
+    cond (is_left_lane size lane (number_of rd)) (access_vector (is_vector rd) (left size (number_of rd)) mem)
+    (access_lane (is_vector rd) opcode (number_of rd) (element_code size) size lane mem)
+
 -- loads and stores of one element. Where the other ones may become any, the leftmost one is also loaded as a float register
 abbrev pub lane_memory : VecInst → Option MemoryInstruction
 lane_memory (V.VecLoadLane size rd ri mem lane) = access_lane (reuses_vector rd ri) load_lane_opcode (number_of rd) (element_code size) size lane mem
 lane_memory (V.VecLoadLaneRev size rd ri mem lane) = access_lane (reuses_vector rd ri) load_reversed_opcode (number_of rd) (reversed_code size) size lane mem
-lane_memory (V.VecLoadLaneUndef size rd mem lane) =
-    cond (is_left_lane size lane (number_of rd)) (access_vector (is_vector rd) (load_left size (number_of rd)) mem)
-    (access_lane (is_vector rd) load_lane_opcode (number_of rd) (element_code size) size lane mem)
+lane_memory (V.VecLoadLaneUndef size rd mem lane) = left_or_lane load_left load_lane_opcode size lane rd mem
 lane_memory (V.VecLoadLaneRevUndef size rd mem lane) = access_lane (is_vector rd) load_reversed_opcode (number_of rd) (reversed_code size) size lane mem
-lane_memory (V.VecStoreLane size rd mem lane) =
-    cond (is_left_lane size lane (number_of rd)) (access_vector (is_vector rd) (store_left size (number_of rd)) mem)
-    (access_lane (is_vector rd) store_lane_opcode (number_of rd) (element_code size) size lane mem)
+lane_memory (V.VecStoreLane size rd mem lane) = left_or_lane store_left store_lane_opcode size lane rd mem
 lane_memory (V.VecStoreLaneRev size rd mem lane) = access_lane (is_vector rd) store_reversed_opcode (number_of rd) (reversed_code size) size lane mem
 lane_memory _ = None
 

@@ -82,62 +82,48 @@ move_left_row opcode d n = cond (nat_lt d 16 && nat_lt n 16) (rr opcode d n) (vr
 abbrev pub reuses_vector : (output input : Reg) → Bool
 reuses_vector output input = is_vector output && is_vector input && nat_eq (number_of output) (number_of input)
 
--- the one machine instruction of a vector instruction, where it is one
-abbrev pub vector_row : VecInst → Option MachineInstruction
-vector_row (V.VecRRR op rd rn rm) = Some (vrr_c (binary_row op).opcode (number_of rd) (number_of rn) (number_of rm) (binary_row op).code)
-vector_row (V.VecRR op rd rn) = Some (vrr_a (unary_row op).opcode (number_of rd) (number_of rn) (unary_row op).code)
-vector_row (V.VecSelect rd rn rm ra) = Some (vrr_e opcodes.VSEL (number_of rd) (number_of rn) (number_of rm) (number_of ra))
-vector_row (V.VecPermute rd rn rm ra) = Some (vrr_e opcodes.VPERM (number_of rd) (number_of rn) (number_of rm) (number_of ra))
-vector_row (V.VecBlend rd rn rm ra) = Some (vrr_d opcodes.VBLEND (number_of rd) (number_of rn) (number_of rm) (number_of ra) 0)
-vector_row (V.VecIntCmp op rd rn rm) = Some (vrr_b (comparison_row op).opcode (number_of rd) (number_of rn) (number_of rm) (comparison_row op).code 0)
--- the second mask asks for the condition code
-vector_row (V.VecIntCmpS op rd rn rm) = Some (vrr_b (comparison_row op).opcode (number_of rd) (number_of rn) (number_of rm) (comparison_row op).code 1)
-vector_row (V.VecIntEltCmp op rn rm) = Some (vrr_a (element_comparison_row op).opcode (number_of rn) (number_of rm) (element_comparison_row op).code)
-vector_row (V.VecMov rd rn) = Some (vrr_a opcodes.VLR (number_of rd) (number_of rn) 0)
-vector_row (V.VecShiftRR op rd rn amount register) = Some (vrs_a (shift_row op).opcode (number_of rd) (number_of register) (number_of rn) (shift_row op).code (low_byte amount))
-vector_row (V.VecEvaluate imm rd rn rm ra) = Some (vri_k opcodes.VEVAL (low_byte imm) (number_of rd) (number_of rn) (number_of rm) (number_of ra))
-vector_row (V.VecPermuteDWImm rd rn rm first second) = doublewords_row (number_of rd) (number_of rn) (number_of rm) first second
-vector_row (V.MovToVec128 rd rn rm) = Some (vrr_f opcodes.VLVGP (number_of rd) (number_of rn) (number_of rm))
-vector_row (V.VecImmByteMask rd mask) = Some (vri_a opcodes.VGBM (number_of rd) (low_halfword (pos mask)) 0)
-vector_row (V.VecImmReplicate size rd imm) = replicate_row (element_code size) (number_of rd) (low_halfword imm)
-vector_row (V.VecImmBitMask size rd start end) = bit_mask_row (element_code size) size (number_of rd) start end
-vector_row (V.VecReplicateLane size rd rn lane) = replicate_lane_row (element_code size) size (number_of rd) (number_of rn) lane
-vector_row (V.VecInsertLaneImm size rd ri imm lane) = insert_immediate_row (element_code size) size (number_of rd) (low_halfword imm) lane
-vector_row (V.VecInsertLaneImmUndef size rd imm lane) = insert_immediate_row (element_code size) size (number_of rd) (low_halfword imm) lane
-vector_row (V.VecInsertLane size rd ri rn lane base) = insert_lane_row (element_code size) size (number_of rd) (number_of rn) (number_of base) lane
-vector_row (V.VecInsertLaneUndef size rd rn lane base) = insert_alone_row size (number_of rd) (number_of rn) (number_of base) lane
-vector_row (V.VecExtractLane size rd rn lane base) = extract_row size (number_of rd) (number_of rn) (number_of base) lane
-vector_row (V.FpuMove32 rd rn) = Some (move_left_row opcodes.LER (number_of rd) (number_of rn))
-vector_row (V.FpuMove64 rd rn) = Some (move_left_row opcodes.LDR (number_of rd) (number_of rn))
-vector_row _ = None
+-- the machine instruction of a vector instruction, where it is one, and whether its registers may stand there: real ones of the row's classes, and the
+-- input that has to be the output is it
+pub record VectorInstruction : Type 0 where
+  pub operands_valid : Bool
+  pub row : Option MachineInstruction
 
--- its registers may stand there: real ones of the row's classes, and the input that has to be the output is it
+abbrev pub vector_with : Bool → Option MachineInstruction → VectorInstruction
+vector_with operands_valid row = record { operands_valid = operands_valid; row = row }
+
+abbrev pub vector_instruction : VecInst → VectorInstruction
+vector_instruction (V.VecRRR op rd rn rm) = vector_with (is_vector rd && is_vector rn && is_vector rm) (Some (vrr_c (binary_row op).opcode (number_of rd) (number_of rn) (number_of rm) (binary_row op).code))
+vector_instruction (V.VecRR op rd rn) = vector_with (is_vector rd && is_vector rn) (Some (vrr_a (unary_row op).opcode (number_of rd) (number_of rn) (unary_row op).code))
+vector_instruction (V.VecSelect rd rn rm ra) = vector_with (is_vector rd && is_vector rn && is_vector rm && is_vector ra) (Some (vrr_e opcodes.VSEL (number_of rd) (number_of rn) (number_of rm) (number_of ra)))
+vector_instruction (V.VecPermute rd rn rm ra) = vector_with (is_vector rd && is_vector rn && is_vector rm && is_vector ra) (Some (vrr_e opcodes.VPERM (number_of rd) (number_of rn) (number_of rm) (number_of ra)))
+vector_instruction (V.VecBlend rd rn rm ra) = vector_with (is_vector rd && is_vector rn && is_vector rm && is_vector ra) (Some (vrr_d opcodes.VBLEND (number_of rd) (number_of rn) (number_of rm) (number_of ra) 0))
+vector_instruction (V.VecIntCmp op rd rn rm) = vector_with (is_vector rd && is_vector rn && is_vector rm) (Some (vrr_b (comparison_row op).opcode (number_of rd) (number_of rn) (number_of rm) (comparison_row op).code 0))
+-- the second mask asks for the condition code
+vector_instruction (V.VecIntCmpS op rd rn rm) = vector_with (is_vector rd && is_vector rn && is_vector rm) (Some (vrr_b (comparison_row op).opcode (number_of rd) (number_of rn) (number_of rm) (comparison_row op).code 1))
+vector_instruction (V.VecIntEltCmp op rn rm) = vector_with (is_vector rn && is_vector rm) (Some (vrr_a (element_comparison_row op).opcode (number_of rn) (number_of rm) (element_comparison_row op).code))
+vector_instruction (V.VecMov rd rn) = vector_with (is_vector rd && is_vector rn) (Some (vrr_a opcodes.VLR (number_of rd) (number_of rn) 0))
+vector_instruction (V.VecShiftRR op rd rn amount register) = vector_with (is_vector rd && is_vector rn && is_general register) (Some (vrs_a (shift_row op).opcode (number_of rd) (number_of register) (number_of rn) (shift_row op).code (low_byte amount)))
+vector_instruction (V.VecEvaluate imm rd rn rm ra) = vector_with (is_vector rd && is_vector rn && is_vector rm && is_vector ra) (Some (vri_k opcodes.VEVAL (low_byte imm) (number_of rd) (number_of rn) (number_of rm) (number_of ra)))
+vector_instruction (V.VecPermuteDWImm rd rn rm first second) = vector_with (is_vector rd && is_vector rn && is_vector rm) (doublewords_row (number_of rd) (number_of rn) (number_of rm) first second)
+vector_instruction (V.MovToVec128 rd rn rm) = vector_with (is_vector rd && is_general rn && is_general rm) (Some (vrr_f opcodes.VLVGP (number_of rd) (number_of rn) (number_of rm)))
+vector_instruction (V.VecImmByteMask rd mask) = vector_with (is_vector rd) (Some (vri_a opcodes.VGBM (number_of rd) (low_halfword (pos mask)) 0))
+vector_instruction (V.VecImmReplicate size rd imm) = vector_with (is_vector rd) (replicate_row (element_code size) (number_of rd) (low_halfword imm))
+vector_instruction (V.VecImmBitMask size rd start end) = vector_with (is_vector rd) (bit_mask_row (element_code size) size (number_of rd) start end)
+vector_instruction (V.VecReplicateLane size rd rn lane) = vector_with (is_vector rd && is_vector rn) (replicate_lane_row (element_code size) size (number_of rd) (number_of rn) lane)
+vector_instruction (V.VecInsertLaneImm size rd ri imm lane) = vector_with (reuses_vector rd ri) (insert_immediate_row (element_code size) size (number_of rd) (low_halfword imm) lane)
+vector_instruction (V.VecInsertLaneImmUndef size rd imm lane) = vector_with (is_vector rd) (insert_immediate_row (element_code size) size (number_of rd) (low_halfword imm) lane)
+vector_instruction (V.VecInsertLane size rd ri rn lane base) = vector_with (reuses_vector rd ri && is_general rn && is_general base) (insert_lane_row (element_code size) size (number_of rd) (number_of rn) (number_of base) lane)
+vector_instruction (V.VecInsertLaneUndef size rd rn lane base) = vector_with (is_vector rd && is_general rn && is_general base) (insert_alone_row size (number_of rd) (number_of rn) (number_of base) lane)
+vector_instruction (V.VecExtractLane size rd rn lane base) = vector_with (is_general rd && is_vector rn && is_general base) (extract_row size (number_of rd) (number_of rn) (number_of base) lane)
+vector_instruction (V.FpuMove32 rd rn) = vector_with (is_vector rd && is_vector rn) (Some (move_left_row opcodes.LER (number_of rd) (number_of rn)))
+vector_instruction (V.FpuMove64 rd rn) = vector_with (is_vector rd && is_vector rn) (Some (move_left_row opcodes.LDR (number_of rd) (number_of rn)))
+vector_instruction _ = vector_with false None
+
+abbrev pub vector_row : VecInst → Option MachineInstruction
+vector_row v = (vector_instruction v).row
+
 abbrev pub vector_operands_valid : VecInst → Bool
-vector_operands_valid (V.VecRRR op rd rn rm) = is_vector rd && is_vector rn && is_vector rm
-vector_operands_valid (V.VecRR op rd rn) = is_vector rd && is_vector rn
-vector_operands_valid (V.VecSelect rd rn rm ra) = is_vector rd && is_vector rn && is_vector rm && is_vector ra
-vector_operands_valid (V.VecPermute rd rn rm ra) = is_vector rd && is_vector rn && is_vector rm && is_vector ra
-vector_operands_valid (V.VecBlend rd rn rm ra) = is_vector rd && is_vector rn && is_vector rm && is_vector ra
-vector_operands_valid (V.VecIntCmp op rd rn rm) = is_vector rd && is_vector rn && is_vector rm
-vector_operands_valid (V.VecIntCmpS op rd rn rm) = is_vector rd && is_vector rn && is_vector rm
-vector_operands_valid (V.VecIntEltCmp op rn rm) = is_vector rn && is_vector rm
-vector_operands_valid (V.VecMov rd rn) = is_vector rd && is_vector rn
-vector_operands_valid (V.VecShiftRR op rd rn amount register) = is_vector rd && is_vector rn && is_general register
-vector_operands_valid (V.VecEvaluate imm rd rn rm ra) = is_vector rd && is_vector rn && is_vector rm && is_vector ra
-vector_operands_valid (V.VecPermuteDWImm rd rn rm first second) = is_vector rd && is_vector rn && is_vector rm
-vector_operands_valid (V.MovToVec128 rd rn rm) = is_vector rd && is_general rn && is_general rm
-vector_operands_valid (V.VecImmByteMask rd mask) = is_vector rd
-vector_operands_valid (V.VecImmReplicate size rd imm) = is_vector rd
-vector_operands_valid (V.VecImmBitMask size rd start end) = is_vector rd
-vector_operands_valid (V.VecReplicateLane size rd rn lane) = is_vector rd && is_vector rn
-vector_operands_valid (V.VecInsertLaneImm size rd ri imm lane) = reuses_vector rd ri
-vector_operands_valid (V.VecInsertLaneImmUndef size rd imm lane) = is_vector rd
-vector_operands_valid (V.VecInsertLane size rd ri rn lane base) = reuses_vector rd ri && is_general rn && is_general base
-vector_operands_valid (V.VecInsertLaneUndef size rd rn lane base) = is_vector rd && is_general rn && is_general base
-vector_operands_valid (V.VecExtractLane size rd rn lane base) = is_general rd && is_vector rn && is_general base
-vector_operands_valid (V.FpuMove32 rd rn) = is_vector rd && is_vector rn
-vector_operands_valid (V.FpuMove64 rd rn) = is_vector rd && is_vector rn
-vector_operands_valid _ = false
+vector_operands_valid v = (vector_instruction v).operands_valid
 
 -- a division, which may stop by its values
 abbrev pub divides : VecInst → Bool

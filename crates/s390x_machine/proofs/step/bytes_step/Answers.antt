@@ -1,4 +1,4 @@
-use Rattle.std.proofs.Common.{List, ℕ, refl, sym, subst}
+use Rattle.std.proofs.Common.{List, ℕ, sym, subst}
 use Rattle.s390x_format.specs.Fetch.{IsFetch}
 use Rattle.s390x_machine.specs.Fetch.{Fetches, IsFound, Unknown}
 use Rattle.s390x_machine.specs.State.{memory_of, state_of}
