@@ -1,5 +1,6 @@
 //! The registers of a set, as text.
-ghost use Rattle.std.specs.Prelude.{◌≡◌, ◌++◌, ◌∷◌, [], not, true, OnOk, string_bytes, if◌then◌else◌};
+ghost use Rattle.std.specs.Prelude.{◌≡◌, ◌<◌, ◌++◌, ◌∷◌, [], not, true, OnOk, string_bytes, if◌then◌else◌};
+ghost use Rattle.s390x_base.specs.Registers.{general, vector};
 ghost use Rattle.s390x_base.specs.Sets.{has};
 ghost use Rattle.s390x_operands.specs.declared.constraint.Reported.TheVariants.{Clobbers};
 ghost use Rattle.s390x_job_fields.specs.Atoms.{real_text};
@@ -109,8 +110,33 @@ fn put_register(out: &mut String, register: PReg) -> Result<(), AllocError>
     ensures { OnOk result (string_bytes out.new ≡ string_bytes out.old ++ real_text register) }
 {
     match register.class() {
-        RegClass::Int => put(out, "%r")?,
-        RegClass::Float => put(out, "%v")?,
+        RegClass::Int => put_general_register(out, register.hw_enc()),
+        RegClass::Float => put_vector_register(out, register.hw_enc()),
     }
-    put_small(out, register.hw_enc())
+}
+
+// The general register of a number, whose first digit of two is a one.
+#[inline(always)]
+fn put_general_register(out: &mut String, n: u8) -> Result<(), AllocError>
+    requires { n < 16 }
+    ensures { OnOk result
+        (string_bytes out.new ≡ string_bytes out.old ++ real_text (general n)) }
+{
+    if n < 10 {
+        put(out, "%r")?;
+        return put_char(out, char::from(b'0' + n));
+    }
+    put(out, "%r1")?;
+    put_char(out, char::from(b'0' + (n - 10)))
+}
+
+// The vector register of a number.
+#[inline(always)]
+fn put_vector_register(out: &mut String, n: u8) -> Result<(), AllocError>
+    requires { n < 32 }
+    ensures { OnOk result
+        (string_bytes out.new ≡ string_bytes out.old ++ real_text (vector n)) }
+{
+    put(out, "%v")?;
+    put_small(out, n)
 }
