@@ -26,8 +26,9 @@ pub record IsWrongLine (text : List ℕ) (number : ℕ) : Type 0 where
 
 -- how many first bytes are the same
 abbrev pub common_length : List ℕ → List ℕ → ℕ
+common_length [] ys = 0
+common_length (x ∷ xs) [] = 0
 common_length (x ∷ xs) (y ∷ ys) = if x == y then 1 + common_length xs ys else 0
-common_length _ _ = 0
 
 -- these bytes aren't the same, and this is the number of the first one that differs, or the shorter length
 abbrev pub IsFirstDifference : List ℕ → List ℕ → ℕ → Type 0

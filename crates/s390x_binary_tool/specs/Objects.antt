@@ -27,8 +27,9 @@ pub record IsObjectMember (m : Member) (o : ObjectMember) : Type 0 where
 -- each member is so, in order
 abbrev pub AreObjectMembers : List Member → List ObjectMember → Type 0
 AreObjectMembers [] [] = Unit {0}
+AreObjectMembers [] (o ∷ os) = ⊥
+AreObjectMembers (m ∷ ms) [] = ⊥
 AreObjectMembers (m ∷ ms) (o ∷ os) = IsObjectMember m o × AreObjectMembers ms os
-AreObjectMembers _ _ = ⊥
 
 -- No name comes twice, and a reader of ELF finds in the file the object of the members' finished codes, one behind the other as in a bundle; at every base where linking
 -- has no cause to refuse a member at its start, each relocation's value fits its field, and the ABI's formulas give each member's image there

@@ -20,11 +20,13 @@ IsSpelled Objects words = words ≡ codes "objects" ∷ []
 
 -- the numbers of the command lie in their ranges
 abbrev pub IsInRange : Command → Type 0
+IsInRange Refusal = Unit {0}
 IsInRange (Verify base) = base < 2 ^ 64
 IsInRange (Disassemble base) = base < 2 ^ 64
 IsInRange (Assemble base) = base < 2 ^ 64
 IsInRange (Listing base) = base < 2 ^ 64
-IsInRange _ = Unit {0}
+IsInRange Object = Unit {0}
+IsInRange Objects = Unit {0}
 
 -- these words are this command
 pub record IsForm (words : List (List ℕ)) (command : Command) : Type 0 where

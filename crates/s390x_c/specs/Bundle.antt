@@ -29,10 +29,13 @@ reason_of_bundle cause.NoMemory = by_member 0 0
 
 -- what refuses the functions: emission, linking, or their names and places
 abbrev pub status_of_bundle : BundleError → Status
+status_of_bundle (cause.DuplicateName name) = status.BundleRefused
 status_of_bundle (cause.Emit name error) = status.Refused
+status_of_bundle (cause.EmptyMember name) = status.BundleRefused
+status_of_bundle (cause.TooLong name) = status.BundleRefused
+status_of_bundle (cause.AddressTooHigh name) = status.BundleRefused
 status_of_bundle (cause.Link name error) = status.LinkRefused
 status_of_bundle cause.NoMemory = status.NoMemory
-status_of_bundle _ = status.BundleRefused
 
 -- The buffer begins with the functions' image. No name comes twice, and no emission, place or linking has a cause to refuse one of them. A machine that fetches the
 -- image does only what the functions and their calls of each other allow

@@ -8,12 +8,11 @@ ghost use Rattle.s390x_listing.specs.Lists.{items_in};
 ghost use Rattle.s390x_listing.specs.Operands.{item_text, items_text, kind_text, more_items, operand_text};
 
 use crate::item_list::ItemList;
-use crate::members::put_members;
-use s390x_base::{PReg, PRegSet, Reg, RegClass};
-use s390x_job_fields::atoms::put_reg;
+use crate::members::put_clobbers;
+use s390x_base::{PReg, Reg, RegClass};
 use s390x_job_fields::number::put_char;
 use s390x_operands::{OperandConstraint, OperandKind, Reported};
-use s390x_text_rows::{put, put_natural, put_real, put_small};
+use s390x_text_rows::{Operand, put, put_natural, put_real, put_small};
 use std::alloc::AllocError;
 
 /// Appends the items joined by `, `, or `none`, and a line feed.
@@ -134,15 +133,6 @@ fn put_item(out: &mut String, item: &Reported) -> Result<(), AllocError>
     }
 }
 
-// Real registers whose values are lost.
-fn put_clobbers(out: &mut String, regs: &PRegSet) -> Result<(), AllocError>
-    ensures { OnOk result
-        (string_bytes out.new ≡ string_bytes out.old ++ item_text (Reported.Clobbers regs.now)) }
-{
-    put(out, "clobber ")?;
-    put_members(out, regs)
-}
-
 // An operand with its constraint.
 fn put_operand(
     out: &mut String,
@@ -156,11 +146,11 @@ fn put_operand(
     match constraint {
         OperandConstraint::Reg => {
             put(out, kind_name(kind))?;
-            put_reg(out, reg)
+            reg.put(out)
         }
         OperandConstraint::Any => {
             put(out, "any ")?;
-            put_reg(out, reg)
+            reg.put(out)
         }
         OperandConstraint::FixedReg(preg) => put_placed(out, reg, preg, kind),
         OperandConstraint::Reuse(index) => put_reuse(out, reg, index),
@@ -174,7 +164,7 @@ fn put_placed(out: &mut String, reg: Reg, preg: PReg, kind: OperandKind) -> Resu
         ≡ string_bytes out.old ++ (kind_text kind ++ (reg_text reg ++ 61 ∷ real_text preg))) }
 {
     put(out, kind_name(kind))?;
-    put_reg(out, reg)?;
+    reg.put(out)?;
     put(out, "=")?;
     put_real(out, preg)
 }
@@ -188,7 +178,7 @@ fn put_reuse(out: &mut String, reg: Reg, index: usize) -> Result<(), AllocError>
     put(out, "reuse(")?;
     put_natural(out, index as u64)?;
     put(out, ") ")?;
-    put_reg(out, reg)
+    reg.put(out)
 }
 
 // Whether an operand is read or written.

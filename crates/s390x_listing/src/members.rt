@@ -1,23 +1,23 @@
 //! The registers of a set, as text.
-ghost use Rattle.std.specs.Prelude.{◌≡◌, ◌++◌, ◌∷◌, [], not, true, OnOk, string_bytes, if◌then◌else◌};
+ghost use Rattle.std.specs.Prelude.{◌≡◌, ◌<◌, ◌++◌, ◌∷◌, [], not, true, OnOk, string_bytes, if◌then◌else◌};
+ghost use Rattle.s390x_base.specs.Registers.{general, vector};
 ghost use Rattle.s390x_base.specs.Sets.{has};
+ghost use Rattle.s390x_operands.specs.declared.constraint.Reported.TheVariants.{Clobbers};
 ghost use Rattle.s390x_job_fields.specs.Atoms.{real_text};
-ghost use Rattle.s390x_job_fields.specs.Lists.{list_text};
-ghost use Rattle.s390x_job_fields.specs.Sets.{members_of};
 ghost use Rattle.s390x_listing.specs.Members.{Listed, general_members, members_text, no_member, vector_members};
+ghost use Rattle.s390x_listing.specs.Operands.{item_text};
 
-use s390x_base::{PReg, PRegSet, gpr_preg, vr_preg};
+use s390x_base::{PReg, PRegSet, RegClass, gpr_preg, vr_preg};
 use s390x_job_fields::number::put_char;
-use s390x_text_rows::put_real;
+use s390x_text_rows::{put, put_small};
 use std::alloc::AllocError;
 
-/// Appends a set's members as a list.
-pub fn put_members(out: &mut String, set: &PRegSet) -> Result<(), AllocError>
+/// Appends real registers whose values are lost, as an item.
+pub fn put_clobbers(out: &mut String, set: &PRegSet) -> Result<(), AllocError>
     ensures { OnOk result
-        (string_bytes out.new
-        ≡ string_bytes out.old ++ list_text real_text (members_of (has set.now))) }
+        (string_bytes out.new ≡ string_bytes out.old ++ item_text (Clobbers set.now)) }
 {
-    put_char(out, '[')?;
+    put(out, "clobber [")?;
     let is_first = put_general(out, set)?;
     put_vector(out, set, is_first)?;
     put_char(out, ']')
@@ -97,9 +97,46 @@ fn put_member(out: &mut String, register: PReg, is_first: bool) -> Result<(), Al
         (string_bytes out.new ≡ string_bytes out.old ++ members_text is_first (register ∷ [])) }
 {
     if is_first {
-        put_real(out, register)
+        put_register(out, register)
     } else {
         put_char(out, ',')?;
-        put_real(out, register)
+        put_register(out, register)
     }
+}
+
+// A register, which is written where it stands: a call for it takes a fifth of a list of one.
+#[inline(always)]
+fn put_register(out: &mut String, register: PReg) -> Result<(), AllocError>
+    ensures { OnOk result (string_bytes out.new ≡ string_bytes out.old ++ real_text register) }
+{
+    match register.class() {
+        RegClass::Int => put_general_register(out, register.hw_enc()),
+        RegClass::Float => put_vector_register(out, register.hw_enc()),
+    }
+}
+
+// The general register of a number, whose first digit of two is a one.
+#[inline(always)]
+fn put_general_register(out: &mut String, n: u8) -> Result<(), AllocError>
+    requires { n < 16 }
+    ensures { OnOk result
+        (string_bytes out.new ≡ string_bytes out.old ++ real_text (general n)) }
+{
+    if n < 10 {
+        put(out, "%r")?;
+        return put_char(out, char::from(b'0' + n));
+    }
+    put(out, "%r1")?;
+    put_char(out, char::from(b'0' + (n - 10)))
+}
+
+// The vector register of a number.
+#[inline(always)]
+fn put_vector_register(out: &mut String, n: u8) -> Result<(), AllocError>
+    requires { n < 32 }
+    ensures { OnOk result
+        (string_bytes out.new ≡ string_bytes out.old ++ real_text (vector n)) }
+{
+    put(out, "%v")?;
+    put_small(out, n)
 }

@@ -191,14 +191,19 @@ IsAnswer command input s text = IsJobAnswer command input s text
 -- linking has no cause to refuse the job's code, where the command links it
 abbrev pub Links : JobCommand → Job → Type 0
 Links (Image base) j = (code : MachBufferFinalized) → IsCodeOfJob j code → link_cause_of base j code ≡ None
+Links Emit j = Unit {0}
 Links (Run base steps) j = (code : MachBufferFinalized) → IsCodeOfJob j code → link_cause_of base j code ≡ None
-Links _ j = Unit {0}
+Links Operands j = Unit {0}
+Links Show j = Unit {0}
 
 -- nothing refuses the job: emission has no cause to refuse its function; for `operands` nothing keeps the operands of its instructions from
 -- being reported
 abbrev pub IsUnrefused : JobCommand → Job → Type 0
+IsUnrefused (Image base) j = job_cause j ≡ None
+IsUnrefused Emit j = job_cause j ≡ None
+IsUnrefused (Run base steps) j = job_cause j ≡ None
 IsUnrefused Operands j = operands_cause_of j ≡ None
-IsUnrefused _ j = job_cause j ≡ None
+IsUnrefused Show j = job_cause j ≡ None
 
 -- the input is the text of a job, which nothing refuses, nor its linking, where the command links it
 pub record IsAccepted (command : JobCommand) (input : List ℕ) : Type 0 where

@@ -34,9 +34,11 @@ pub record IsUsage (f : CallContext) : Type 0 where
 
 -- the command is about what the source holds
 abbrev pub IsAboutInput : Command → Type 0
+IsAboutInput (OnJob command) = Unit {0}
 IsAboutInput (Generate count start) = ⊥
 IsAboutInput (Simulate base word count steps start) = ⊥
-IsAboutInput _ = Unit {0}
+IsAboutInput Allocate = Unit {0}
+IsAboutInput (Bundle base) = Unit {0}
 
 -- the answer to a command about what the source holds, and to all of that
 abbrev pub IsInputAnswer : Command → List ℕ → Status → List ℕ → Type 0
@@ -64,9 +66,11 @@ pub record IsInputTooLong (f : CallContext) : Type 0 where
 
 -- how much is read at most: a part of the input for a command about it, and else nothing
 abbrev pub IsReadFor : Command → CallContext → Type 0
+IsReadFor (OnJob command) f = IsPartRead f.left f.left' too_many
 IsReadFor (Generate count start) f = f.left' ≡ f.left
 IsReadFor (Simulate base word count steps start) f = f.left' ≡ f.left
-IsReadFor _ f = IsPartRead f.left f.left' too_many
+IsReadFor Allocate f = IsPartRead f.left f.left' too_many
+IsReadFor (Bundle base) f = IsPartRead f.left f.left' too_many
 
 -- the words are a command, and memory didn't suffice
 pub record IsOutOfMemory (f : CallContext) : Type 0 where

@@ -22,11 +22,14 @@ words_of (Bundle base) = codes "bundle" ∷ decimal base ∷ []
 -- the numbers of the command lie in their ranges
 abbrev pub IsInRange : Command → Type 0
 IsInRange (OnJob (Image base)) = base < 2 ^ 64
+IsInRange (OnJob Emit) = Unit {0}
 IsInRange (OnJob (Run base steps)) = (base < 2 ^ 64) × (steps ≤ 1000000)
+IsInRange (OnJob Operands) = Unit {0}
+IsInRange (OnJob Show) = Unit {0}
 IsInRange (Generate count start) = (count ≤ 100000) × (start < 2 ^ 32)
 IsInRange (Simulate base word count steps start) = (base < 2 ^ 64) × (word < 2 ^ 64) × (0 < count) × (count ≤ 64) × (steps ≤ 1000000) × (start < 2 ^ 32)
+IsInRange Allocate = Unit {0}
 IsInRange (Bundle base) = base < 2 ^ 64
-IsInRange _ = Unit {0}
 
 -- these words are this command
 pub record IsForm (words : List (List ℕ)) (command : Command) : Type 0 where
