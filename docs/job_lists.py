@@ -38,8 +38,8 @@ class JobLists:
         self.coverage, self.found = coverage, found
         clauses = coverage.definitions("s390x_job_lines/specs/Kinds.antt")
         self.kinds = {}
-        for name in ("integer_kinds", "memory_kinds", "control_kinds", "vector_kinds", "kinds"):
-            self.kinds |= {re.findall(r"\w+", patterns)[-1]: body for patterns, body in clauses[name]}
+        for name in ("integer_row", "memory_row", "control_row", "vector_row", "kinds"):
+            self.kinds |= {re.findall(r"\w+", patterns)[-1]: re.sub(r"record { kinds = (.*?); .*", r"\1", body) for patterns, body in clauses[name]}
         kinds = dict(clauses["kinds"])
         self.kinds |= dict.fromkeys(found.loads.names, kinds["(N.Load op)"])
         self.kinds |= dict.fromkeys(found.stores.names, kinds["(N.Store op)"])
