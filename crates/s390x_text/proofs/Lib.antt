@@ -2,6 +2,7 @@ pub mod Agreement
 pub mod Blocks
 pub mod CallTexts
 pub mod Elements
+mod Epilogues
 pub mod Leaves
 pub mod Loops
 pub mod Machines

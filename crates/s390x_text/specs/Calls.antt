@@ -1,10 +1,13 @@
 -- The texts of calls and tail calls (cranelift-codegen, `mod.rs`).
-use Rattle.std.specs.Prelude.{ℕ, Bool, true, cond, ◌&&◌, nat_eq, nat_le, List, [], ◌∷◌, ◌++◌, codes, Option, Some, None}
+use Rattle.std.specs.Prelude.{ℕ, ◌+◌, pos, ◌-ℤ◌, Bool, true, false, cond, ◌&&◌, is_none, nat_eq, nat_le, List, [], ◌∷◌, ◌++◌, codes, Option, Some, None}
 use Rattle.std.specs.Fmt.{decimal}
+use Rattle.s390x_base.specs.Registers.{general}
 use Rattle.s390x_base.specs.declared.regs.Reg.{Reg}
+use Rattle.s390x_base.specs.declared.regs.Reg.TheVariants.{Real}
 use Rattle.s390x_inst.specs.Constructors.{load_of}
 use Rattle.s390x_inst.specs.Emission.{Emission}
-use Rattle.s390x_inst.specs.Frames.{copied_target, epilogue}
+use Rattle.s390x_inst.specs.Frames.{above_stack, caller_at, copied_target, epilogue}
+use Rattle.s390x_inst.specs.declared.state.FrameLayout.{FrameLayout}
 use Rattle.s390x_inst.specs.declared.args.MemArg.TheVariants.{OutgoingArgOffset}
 use Rattle.s390x_inst.specs.declared.calls.CallInfo.{CallInfo}
 use Rattle.s390x_inst.specs.declared.calls.CallInstDest.{CallInstDest}
@@ -17,7 +20,7 @@ use Rattle.s390x_inst.specs.declared.calls.TryCallHandler.{TryCallHandler}
 use Rattle.s390x_inst.specs.declared.calls.TryCallHandler.TheVariants.{Tag, Default}
 use Rattle.s390x_inst.specs.declared.calls.TryCallInfo.{TryCallInfo}
 use Rattle.s390x_inst.specs.declared.inst.Inst.{Inst}
-use Rattle.s390x_inst.specs.declared.inst.Inst.TheVariants.{Call, ReturnCall}
+use Rattle.s390x_inst.specs.declared.inst.Inst.TheVariants.{Call, LoadAddr, ReturnCall}
 use Rattle.s390x_job_fields.specs.Atoms.{reg_text}
 use Rattle.s390x_text_rows.specs.Texts.{Text, fixed_text, both, before_semicolon, instruction_text}
 use Rattle.s390x_text_rows.specs.Operands.{label_text, name_text}
@@ -89,6 +92,15 @@ is_first_saved (Some g) = nat_le 6 g && nat_le g 14
 abbrev pub simple_texts : Emission → List Inst → Text
 simple_texts e [] = fixed_text []
 simple_texts e (i ∷ is) = both (before_semicolon (simple_text true e i)) (simple_texts e is)
+
+-- what sets the stack pointer to the caller's frame, by the tail arguments higher and by the popped bytes lower
+abbrev pub stack_raise : FrameLayout → (popped : ℕ) → Inst
+stack_raise layout popped = LoadAddr (Real (general 15)) (above_stack (pos (caller_at layout + layout.tail_args_size) -ℤ pos popped))
+
+-- a frame saves no registers, and the target is a symbol
+abbrev pub is_only_raised : FrameLayout → CallInstDest → Bool
+is_only_raised layout (Direct name) = nat_eq layout.saved_fprs 0 && is_none layout.first_saved_gpr
+is_only_raised layout (Indirect reg) = false
 
 -- what takes the frame down
 abbrev pub epilogue_text : Emission → (popped : ℕ) → CallInstDest → Text

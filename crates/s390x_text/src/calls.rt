@@ -1,15 +1,16 @@
 //! The texts of calls and tail calls.
-ghost use Rattle.std.specs.Prelude.{◌≡◌, ◌++◌, codes, OnOk, IfOk, string_bytes, true};
+ghost use Rattle.std.specs.Prelude.{◌≡◌, ◌+◌, pos, ◌-ℤ◌, ◌++◌, codes, OnOk, IfOk, None, string_bytes, true};
 ghost use Rattle.std.specs.Fmt.{decimal};
-ghost use Rattle.s390x_inst.specs.Frames.{load_from, copied_target};
+ghost use Rattle.s390x_base.specs.Registers.{general};
+ghost use Rattle.s390x_inst.specs.Frames.{above_stack, load_from, copied_target};
 ghost use Rattle.s390x_text_rows.specs.Texts.{Prints, PrintsWhere, before_semicolon};
 ghost use Rattle.s390x_text_rows.specs.Simple.{simple_text};
-ghost use Rattle.s390x_text.specs.Calls.{branch_and_link_text, popped_text, loaded_text, result_text, results_text, loads_text, handler_text, more_handlers, handlers_text, try_text, plain_call_text, is_first_saved, simple_texts, epilogue_text, tail_branch_text, tail_call_text, call_text};
+ghost use Rattle.s390x_text.specs.Calls.{branch_and_link_text, popped_text, loaded_text, result_text, results_text, loads_text, handler_text, more_handlers, handlers_text, try_text, plain_call_text, is_first_saved, simple_texts, stack_raise, is_only_raised, epilogue_text, tail_branch_text, tail_call_text, call_text};
 
-use s390x_base::Reg;
+use s390x_base::{MachMemFlags, Reg, stack_reg, writable_stack_reg};
 use s390x_inst::{
-    CallInfo, CallInstDest, CallRetPair, EmitState, Inst, MachInstEmitState, MemArg, RetLocation,
-    ReturnCallInfo, TryCallHandler, TryCallInfo, gen_tail_epilogue,
+    CallInfo, CallInstDest, CallRetPair, EmitState, FrameLayout, Inst, MachInstEmitState, MemArg,
+    RetLocation, ReturnCallInfo, TryCallHandler, TryCallInfo, gen_tail_epilogue,
 };
 use s390x_text_rows::{Operand, TextError, put, put_natural, put_simple, spelled1, spelled2};
 use std::alloc::{AllocError, Global};
@@ -270,8 +271,61 @@ fn put_simples(
     Ok(())
 }
 
-// What takes the frame down before a tail call; the register to which the target is copied.
-fn put_epilogue(
+// What sets the stack pointer so many bytes higher and lower: the sizes of a frame and of the tail arguments, and the popped bytes.
+fn raise_of_sizes(outgoing: u32, fixed: u32, clobbers: u32, tail: u32, popped: u32) -> Inst
+    ensures { result
+        ≡ Inst.LoadAddr (Reg.Real (general 15))
+        (above_stack (pos (outgoing + fixed + clobbers + tail) -ℤ pos popped)) }
+{
+    let raised = u64::from(outgoing) + u64::from(fixed) + u64::from(clobbers) + u64::from(tail);
+    let off = raised as i64 - i64::from(popped);
+    Inst::LoadAddr {
+        rd: writable_stack_reg(),
+        mem: MemArg::reg_plus_off(stack_reg(), off, MachMemFlags::trusted()),
+    }
+}
+
+// What sets the stack pointer to the caller's frame.
+fn stack_raise(layout: &FrameLayout, popped: u32) -> Inst
+    ensures { result ≡ stack_raise layout.now popped }
+{
+    raise_of_sizes(
+        layout.outgoing_args_size,
+        layout.fixed_frame_storage_size,
+        layout.clobber_size,
+        layout.tail_args_size,
+        popped,
+    )
+}
+
+// Whether a frame saves no registers, and the target is a symbol: then the stack pointer alone is set.
+fn is_only_raised(layout: &FrameLayout, dest: &CallInstDest) -> bool
+    ensures { result ≡ is_only_raised layout.now dest.now }
+{
+    match dest {
+        CallInstDest::Direct { .. } => layout.saved_fprs == 0 && layout.first_saved_gpr.is_none(),
+        CallInstDest::Indirect { .. } => false,
+    }
+}
+
+// Sets the stack pointer alone before a tail call; no target is copied.
+fn put_short_epilogue(
+    alloc: Global,
+    out: &mut String,
+    state: &EmitState,
+    popped: u32,
+) -> Result<Option<Reg>, TextError>
+    ensures answer { Prints result (string_bytes out.old) (string_bytes out.new)
+        (before_semicolon (simple_text true state.now (stack_raise state.now.layout popped))) }
+    ensures copied { IfOk result (λ copied. copied ≡ None) }
+{
+    let raise = stack_raise(state.frame_layout(), popped);
+    put_before(alloc, out, state, &raise)?;
+    Ok(None)
+}
+
+// What takes the frame down before a tail call, by its list; the register to which the target is copied.
+fn put_listed_epilogue(
     alloc: Global,
     out: &mut String,
     state: &EmitState,
@@ -292,6 +346,26 @@ fn put_epilogue(
             Ok(copied)
         }
         Err(_) => Err(TextError::NoMemory),
+    }
+}
+
+// What takes the frame down before a tail call; the register to which the target is copied. A frame that saves nothing, as most do, needs no list.
+#[tactic(auto, using(crate::proofs::Epilogues::only_raised, crate::proofs::Epilogues::none_copied))]
+fn put_epilogue(
+    alloc: Global,
+    out: &mut String,
+    state: &EmitState,
+    popped: u32,
+    dest: &CallInstDest,
+) -> Result<Option<Reg>, TextError>
+    ensures answer { Prints result (string_bytes out.old) (string_bytes out.new)
+        (epilogue_text state.now popped dest.now) }
+    ensures copied { IfOk result (λ copied. copied ≡ copied_target dest.now) }
+{
+    if is_only_raised(state.frame_layout(), dest) {
+        put_short_epilogue(alloc, out, state, popped)
+    } else {
+        put_listed_epilogue(alloc, out, state, popped, dest)
     }
 }
 

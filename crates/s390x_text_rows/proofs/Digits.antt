@@ -23,3 +23,18 @@ hundreds n a b =
     ∙ ap (λ h. decimal h ++ (48 + n / 10 % 10) ∷ (48 + n % 10) ∷ []) p
     ∙ ap (λ t. decimal (n / 100) ++ (48 + t) ∷ (48 + n % 10) ∷ []) q
     ∙ ap (λ u. decimal (n / 100) ++ (48 + n % 100 / 10) ∷ (48 + u) ∷ []) r
+
+pub ten_thousands : (n : ℕ) → 10000 ≤ n → n < 2 ^ 64 → decimal n ≡ decimal (n / 10000) ++ (48 + n % 10000 / 100 / 10) ∷ (48 + n % 10000 / 100 % 10) ∷ (48 + n % 10000 % 100 / 10) ∷ (48 + n % 10000 % 100 % 10) ∷ []
+ten_thousands n a b =
+    let more : 100 ≤ n = omega (arith, a) in
+    let hundred : 100 ≤ n / 100 = omega (arith, a) in
+    let small : n / 100 < 2 ^ 64 = omega (arith, b) in
+    let p : n / 100 / 100 ≡ n / 10000 = omega arith in
+    let q : n / 100 % 100 ≡ n % 10000 / 100 = omega arith in
+    let r : n % 100 ≡ n % 10000 % 100 = omega arith in
+    hundreds n more b
+    ∙ ap (λ d. d ++ (48 + n % 100 / 10) ∷ (48 + n % 100 % 10) ∷ []) (hundreds (n / 100) hundred small)
+    ∙ append_assoc (decimal (n / 100 / 100)) ((48 + n / 100 % 100 / 10) ∷ (48 + n / 100 % 100 % 10) ∷ []) ((48 + n % 100 / 10) ∷ (48 + n % 100 % 10) ∷ [])
+    ∙ ap (λ h. decimal h ++ (48 + n / 100 % 100 / 10) ∷ (48 + n / 100 % 100 % 10) ∷ (48 + n % 100 / 10) ∷ (48 + n % 100 % 10) ∷ []) p
+    ∙ ap (λ t. decimal (n / 10000) ++ (48 + t / 10) ∷ (48 + t % 10) ∷ (48 + n % 100 / 10) ∷ (48 + n % 100 % 10) ∷ []) q
+    ∙ ap (λ u. decimal (n / 10000) ++ (48 + n % 10000 / 100 / 10) ∷ (48 + n % 10000 / 100 % 10) ∷ (48 + u / 10) ∷ (48 + u % 10) ∷ []) r

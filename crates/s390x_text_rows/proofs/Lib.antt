@@ -1,4 +1,5 @@
 pub mod Joined
+mod Accesses
 mod Digits
 mod Near
 mod OneHelper

@@ -1,6 +1,8 @@
 -- An offset that a displacement of the rows holds needs no helper, nor does an operand that they take relative to the instruction.
-use Rattle.std.proofs.Common.{◌≡◌, ℕ, ℤ, pos, negsuc, unsigned_abs, List, [], ◌∷◌, ◌++◌, Bool, true, false, cond, not, ◌&&◌, ◌||◌, is_some, None, Some, Ok, refl, sym, ap, subst, ◌∙◌, append-nil}
+use Rattle.std.proofs.Common.{◌≡◌, ℕ, ℤ, pos, negsuc, unsigned_abs, List, [], ◌∷◌, ◌++◌, Bool, true, false, cond, not, ◌&&◌, ◌||◌, is_some, Option, None, Some, Result, refl, sym, ap, subst, ◌∙◌}
 use Rattle.std.proofs.lemmas.Bool.{and_parts}
+use Rattle.std.specs.Fmt.{decimal, signed_decimal}
+use Rattle.std.specs.Option.{option_map}
 use Rattle.s390x_base.specs.declared.error.EmitError.TheVariants.{BadOperator, ScratchConflict, OffsetOutOfRange}
 use Rattle.s390x_base.specs.AccessFlags.{AccessFlags}
 use Rattle.s390x_base.specs.declared.regs.Reg.{Reg}
@@ -13,8 +15,12 @@ use Rattle.s390x_typed_steps.specs.Causes.{first_emit_cause, unless, operand_cau
 use Rattle.s390x_typed_steps.specs.Operands.{Finalized, scratch, no_register, needs_address, is_numbered, is_far, fits_12, fits_20, fits_32, with_address_loaded, with_widened, finalized_operand, resolved_operand}
 use Rattle.s390x_typed_steps.specs.declared.mem_inst_type.MemInstType.{MemInstType}
 use Rattle.s390x_address.proofs.Refusing.{wider_12, wider_20}
-use Rattle.s390x_text_rows.specs.Storage.{Rows, type_of_rows, helpers_text, address_cause, near_operand, Opens}
+use Rattle.s390x_text_rows.specs.Operands.{bracketed_register}
+use Rattle.s390x_text_rows.specs.Storage.{Rows, type_of_rows, or_nothing, name_at, memory_text, offset_text, address_cause, access_cause, finalized_text, access_where, at_offset, near_row, near_offset, is_taken}
+use Rattle.s390x_text_rows.specs.Texts.{Text, Prints, fixed_text, instruction_text}
+use Rattle.s390x_text_rows.specs.declared.error.TextError.{TextError}
 use Rattle.s390x_text_rows.specs.declared.error.TextError.TheVariants.{NoRow}
+use Rattle.s390x_text_rows.specs.declared.near_offset.NearOffset.{NearOffset}
 
 and_false : (b : Bool) → (b && false) ≡ false
 and_false true = refl
@@ -131,38 +137,106 @@ neither : (a b : Bool) → (a || b) ≡ false → a ≡ false
 neither true b h = absurd (cc)
 neither false b h = refl
 
-unless_needed : (P : MemArg → Type 0) (needs : Bool) (m operand : MemArg) → Some operand ≡ cond needs None (Some m) → (needs ≡ false → P m) → P operand
-unless_needed P true m operand h f = absurd (cc)
-unless_needed P false m operand h f = let e : m ≡ operand = (cc) in subst P e (f refl)
+-- ---- the texts
 
--- ---- any operand, in any state
-
-chosen : {A : Type 0} (P : A → Type 0) (s t : Bool) (x y z : A) → Some z ≡ cond s (Some x) (cond t (Some y) None) → (s ≡ true → P x) → (s ≡ false → t ≡ true → P y) → P z
-chosen P true t x y z h f g = let e : x ≡ z = (cc) in subst P e (f refl)
-chosen P false true x y z h f g = let e : y ≡ z = (cc) in subst P e (g refl refl)
-chosen P false false x y z h f g = absurd (cc)
-
-near_in : (mi : MemInstType) (e : Emission) (m operand : MemArg) → Some operand ≡ near_operand mi m → IsNear mi (resolved_operand e m) operand
-near_in mi e (RegOffset reg off flags) operand h =
-    chosen (λ o. IsNear mi (RegOffset reg off flags) o) (mi.have_d12 && fits_12 off) (mi.have_d20 && fits_20 off) (BXD12 reg no_register (unsigned_abs off) flags) (BXD20 reg no_register off flags) operand h (near_short mi reg off flags) (near_long mi reg off flags)
-near_in mi e (Label target) operand h =
-    unless_needed (λ o. IsNear mi (Label target) o) _ (Label target) operand h (λ none. stays_near mi (Label target) (not mi.have_pcrel) none (not_false _ none) refl refl refl)
-near_in mi e (Constant c) operand h =
-    unless_needed (λ o. IsNear mi (Constant c) o) _ (Constant c) operand h (λ none. stays_near mi (Constant c) (not mi.have_pcrel) none (not_false _ none) refl refl refl)
-near_in mi e (Symbol name offset flags) operand h =
-    unless_needed (λ o. IsNear mi (Symbol name offset flags) o) (needs_address mi (Symbol name offset flags)) (Symbol name offset flags) operand h
-    (λ none. stays_near mi (Symbol name offset flags) (needs_address mi (Symbol name offset flags)) none (not_false _ (neither _ _ none)) refl refl refl)
-near_in mi e m operand h = absurd (cc)
+abbrev text_of : Option TextError → List ℕ → Text
+text_of c s = record { cause = c; bytes = s }
 
 there : (a b c : Bool) → (a || (b && c)) ≡ true → (a || b) ≡ true
 there false false c h = absurd (cc)
 there a b c h = refl
 
--- nothing is appended, and the access is that of the operand
-pub near_opens : (has : Bool) (r : Rows) (e : Emission) (m operand : MemArg) (mi : MemInstType) (old : List ℕ) → mi ≡ type_of_rows has r → Some operand ≡ near_operand mi m → Opens (Ok operand) old old has r (resolved_operand e m)
-near_opens has r e m operand mi old forms found =
-    let p : IsNear (type_of_rows has r) (resolved_operand e m) operand = subst (λ t. IsNear t (resolved_operand e m) operand) forms (near_in mi e m operand found) in (
-      ap (λ t. cond t (address_cause (operand_cause (type_of_rows has r) (resolved_operand e m))) (Some NoRow)) (there ((type_of_rows has r).have_d12 || (type_of_rows has r).have_d20) (is_some r.relative) (has || not r.accesses) p.0) ∙ ap address_cause p.1,
-      sym (ap (λ (f : Finalized). f.operand) p.2),
-      sym (ap (λ (f : Finalized). old ++ helpers_text f.helpers) p.2 ∙ append-nil old),
-    )
+-- behind no helper, the text is the row's with the operand
+near_text : (has : Bool) (r : Rows) (e : Emission) (m operand : MemArg) (before after : List (List ℕ)) → IsNear (type_of_rows has r) (resolved_operand e m) operand
+    → access_where has r e before m after ≡ fixed_text (instruction_text (name_at r operand) (before ++ (memory_text operand ∷ after)))
+near_text has r e m operand before after p =
+    let mi = type_of_rows has r in
+    let cause : access_cause has r (resolved_operand e m) ≡ None =
+    ap (λ t. cond t (address_cause (operand_cause mi (resolved_operand e m))) (Some NoRow)) (there (mi.have_d12 || mi.have_d20) (is_some r.relative) (has || not r.accesses) p.0) ∙ ap address_cause p.1 in
+    ap (λ c. text_of c (finalized_text r (finalized_operand mi (resolved_operand e m)) before after)) cause
+    ∙ ap (λ (f : Finalized). fixed_text (finalized_text r f before after)) p.2
+
+-- ---- near offsets
+
+mapped : {A B : Type 0} (P : B → Type 0) (f : A → B) (o : Option A) (b : B) → Some b ≡ option_map f o → ((a : A) → o ≡ Some a → P (f a)) → P b
+mapped P f None b h k = absurd (cc)
+mapped P f (Some a) b h k = let e : f a ≡ b = (cc) in subst P e (k a refl)
+
+some_mapped : {A B : Type 0} (f : A → B) (o : Option A) → is_some (option_map f o) ≡ is_some o
+some_mapped f None = refl
+some_mapped f (Some a) = refl
+
+by_row : (P : Type 0) (s t : Bool) (short long : Option ℕ) (o : ℕ) → cond (is_some short && s) short (cond (is_some long && t) long None) ≡ Some o
+    → ((is_some short && s) ≡ true → short ≡ Some o → P) → ((is_some short && s) ≡ false → (is_some long && t) ≡ true → long ≡ Some o → P) → P
+by_row P true t (Some a) long o h f g = f refl h
+by_row P false true (Some a) (Some b) o h f g = g refl refl h
+by_row P false false (Some a) (Some b) o h f g = absurd (cc)
+by_row P false t (Some a) None o h f g = absurd (cc)
+by_row P s true None (Some b) o h f g = g refl refl h
+by_row P s false None (Some b) o h f g = absurd (cc)
+by_row P s t None None o h f g = absurd (cc)
+
+shown_12 : (off : ℤ) → fits_12 off ≡ true → decimal (unsigned_abs off) ≡ signed_decimal off
+shown_12 off h = ap signed_decimal (not_negative off h)
+
+-- the mnemonic of a row with this opcode
+named : (name : ℕ → List ℕ) (row : Option (List ℕ)) (opcode : Option ℕ) (o : ℕ) → row ≡ option_map name opcode → opcode ≡ Some o → row ≡ Some (name o)
+named name row opcode o h k = h ∙ ap (λ x. option_map name x) k
+
+abbrev offset_line : List ℕ → (before : List (List ℕ)) → ℤ → Reg → (after : List (List ℕ)) → Text
+offset_line name before off base after = fixed_text (instruction_text name (before ++ (offset_text off base ∷ after)))
+
+short_line : (has : Bool) (r : Rows) (e : Emission) (base : Reg) (off : ℤ) (flags : AccessFlags) (name : List ℕ) (before after : List (List ℕ)) → fits_12 off ≡ true → r.short ≡ Some name
+    → access_where has r e before (RegOffset base off flags) after ≡ offset_line name before off base after
+short_line has r e base off flags name before after fits row =
+    let there : (is_some r.short && fits_12 off) ≡ true = ap (λ x. is_some x && fits_12 off) row ∙ fits in
+    near_text has r e (RegOffset base off flags) (BXD12 base no_register (unsigned_abs off) flags) before after (near_short (type_of_rows has r) base off flags there)
+    ∙ ap (λ d. fixed_text (instruction_text (or_nothing r.short) (before ++ ((d ++ bracketed_register base) ∷ after)))) (shown_12 off fits)
+    ∙ ap (λ x. offset_line (or_nothing x) before off base after) row
+
+long_line : (has : Bool) (r : Rows) (e : Emission) (base : Reg) (off : ℤ) (flags : AccessFlags) (name : List ℕ) (before after : List (List ℕ)) → (is_some r.short && fits_12 off) ≡ false → fits_20 off ≡ true → r.long ≡ Some name
+    → access_where has r e before (RegOffset base off flags) after ≡ offset_line name before off base after
+long_line has r e base off flags name before after unlike fits row =
+    let there : (is_some r.long && fits_20 off) ≡ true = ap (λ x. is_some x && fits_20 off) row ∙ fits in
+    near_text has r e (RegOffset base off flags) (BXD20 base no_register off flags) before after (near_long (type_of_rows has r) base off flags unlike there)
+    ∙ ap (λ x. offset_line (or_nothing x) before off base after) row
+
+near_access : (has : Bool) (r : Rows) (e : Emission) (m : MemArg) (n : NearOffset) (short long : Option ℕ) (name : ℕ → List ℕ) (before after : List (List ℕ)) → r.short ≡ option_map name short → r.long ≡ option_map name long
+    → Some n ≡ near_offset short long m → access_where has r e before m after ≡ offset_line (name n.opcode) before n.at.off n.at.base after
+near_access has r e (RegOffset base off flags) n short long name before after s l h =
+    mapped (λ (x : NearOffset). access_where has r e before (RegOffset base off flags) after ≡ offset_line (name x.opcode) before x.at.off x.at.base after) (at_offset base off) (near_row short long off) n h
+    (λ o found. by_row (access_where has r e before (RegOffset base off flags) after ≡ offset_line (name o) before off base after) (fits_12 off) (fits_20 off) short long o found
+    (λ p q. short_line has r e base off flags (name o) before after ((and_parts (is_some short) (fits_12 off) p).1) (named name r.short short o s q))
+    (λ p q k. long_line has r e base off flags (name o) before after
+    (ap (λ x. is_some x && fits_12 off) s ∙ ap (λ b. b && fits_12 off) (some_mapped name short) ∙ p)
+    ((and_parts (is_some long) (fits_20 off) q).1) (named name r.long long o l k)))
+near_access has r e m n short long name before after s l h = absurd (cc)
+
+-- what prints the row at the offset prints the access
+pub near_prints : {T : Type 0} (result : Result T TextError) (old new : List ℕ) (has : Bool) (r : Rows) (e : Emission) (m : MemArg) (n : NearOffset) (short long : Option ℕ) (name : ℕ → List ℕ) (shown : List ℕ) (before after : List (List ℕ))
+    → r.short ≡ option_map name short → r.long ≡ option_map name long → Some n ≡ near_offset short long m → shown ≡ name n.opcode
+    → Prints result old new (offset_line shown before n.at.off n.at.base after) → Prints result old new (access_where has r e before m after)
+near_prints result old new has r e m n short long name shown before after s l h q p =
+    subst (λ t. Prints result old new t) (ap (λ x. offset_line x before n.at.off n.at.base after) q ∙ sym (near_access has r e m n short long name before after s l h)) p
+
+-- ---- operands that are taken relative to the instruction
+
+not_true : (b : Bool) → not b ≡ true → b ≡ false
+not_true true h = absurd (cc)
+not_true false h = refl
+
+taken_in : (mi : MemInstType) (e : Emission) (m : MemArg) → is_taken mi m ≡ true → IsNear mi (resolved_operand e m) m
+taken_in mi e (Label target) h = let none = not_true (not mi.have_pcrel) h in stays_near mi (Label target) (not mi.have_pcrel) none (not_false mi.have_pcrel none) refl refl refl
+taken_in mi e (Constant c) h = let none = not_true (not mi.have_pcrel) h in stays_near mi (Constant c) (not mi.have_pcrel) none (not_false mi.have_pcrel none) refl refl refl
+taken_in mi e (Symbol name offset flags) h =
+    let none = not_true (needs_address mi (Symbol name offset flags)) h in
+    stays_near mi (Symbol name offset flags) (needs_address mi (Symbol name offset flags)) none (not_false mi.have_pcrel (neither (not mi.have_pcrel) (not flags.aligned && not mi.have_unaligned_pcrel) none)) refl refl refl
+taken_in mi e m h = absurd (cc)
+
+-- what prints the row with the operand prints the access
+pub taken_prints : {T : Type 0} (result : Result T TextError) (old new : List ℕ) (has : Bool) (r : Rows) (e : Emission) (m : MemArg) (mi : MemInstType) (shown : List ℕ) (before after : List (List ℕ))
+    → mi ≡ type_of_rows has r → is_taken mi m ≡ true → shown ≡ name_at r m
+    → Prints result old new (fixed_text (instruction_text shown (before ++ (memory_text m ∷ after)))) → Prints result old new (access_where has r e before m after)
+taken_prints result old new has r e m mi shown before after forms taken q p =
+    subst (λ t. Prints result old new t)
+    (ap (λ x. fixed_text (instruction_text x (before ++ (memory_text m ∷ after)))) q ∙ sym (near_text has r e m m before after (taken_in (type_of_rows has r) e m (ap (λ t. is_taken t m) (sym forms) ∙ taken)))) p

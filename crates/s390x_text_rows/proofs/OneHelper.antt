@@ -1,6 +1,7 @@
 -- A far offset of rows with an index, and an operand that they don't take relative to the instruction, stand behind one helper.
-use Rattle.std.proofs.Common.{◌≡◌, ℕ, ℤ, unsigned_abs, List, [], ◌∷◌, ◌++◌, Bool, true, false, cond, not, ◌&&◌, ◌||◌, is_some, None, Some, Ok, refl, sym, ap, subst, ◌∙◌, append-nil}
+use Rattle.std.proofs.Common.{◌≡◌, ℕ, ℤ, unsigned_abs, List, [], ◌∷◌, ◌++◌, Bool, true, false, cond, not, ◌&&◌, ◌||◌, is_some, Option, None, Some, Result, Ok, refl, sym, ap, subst, ◌∙◌, append-nil}
 use Rattle.std.proofs.lemmas.Bool.{and_parts}
+use Rattle.std.specs.Option.{option_map}
 use Rattle.std.specs.Prelude.{codes}
 use Rattle.s390x_base.specs.declared.error.EmitError.TheVariants.{BadOperator, ScratchConflict, OffsetOutOfRange}
 use Rattle.s390x_base.specs.AccessFlags.{AccessFlags}
@@ -13,8 +14,13 @@ use Rattle.s390x_inst.specs.declared.inst.Inst.TheVariants.{Mov64SImm32, LoadAdd
 use Rattle.s390x_typed_steps.specs.Causes.{first_emit_cause, unless, operand_cause}
 use Rattle.s390x_typed_steps.specs.Operands.{Finalized, scratch, no_register, needs_address, is_numbered, is_far, fits_12, fits_20, fits_32, with_address_loaded, with_widened, finalized_operand, resolved_operand}
 use Rattle.s390x_typed_steps.specs.declared.mem_inst_type.MemInstType.{MemInstType}
-use Rattle.s390x_text_rows.specs.Storage.{Rows, type_of_rows, helper_text, helpers_text, address_cause, helper_of, has_displacement, at_zero, helped_operand, Opens}
+use Rattle.s390x_format.specs.Stems.{stem_of}
+use Rattle.s390x_text_rows.specs.Storage.{Rows, type_of_rows, rows_of, name_at, memory_text, helper_text, helpers_text, address_cause, access_cause, finalized_text, access_where, helper_of, has_displacement, at_zero, zero_row, zero_text, helped_at, operand_at, helped_operand, Opens}
+use Rattle.s390x_text_rows.specs.Texts.{Text, Prints, fixed_text, instruction_text}
+use Rattle.s390x_text_rows.specs.declared.error.TextError.{TextError}
 use Rattle.s390x_text_rows.specs.declared.error.TextError.TheVariants.{NoRow}
+use Rattle.s390x_text_rows.specs.declared.one_helper.AtZero.{AtZero}
+use Rattle.s390x_text_rows.specs.declared.storage.Rows.{Rows as DeclaredRows}
 
 -- rows with these forms have a displacement, and take an operand behind these helpers in this form
 abbrev Behind : MemInstType → MemArg → Finalized → Type 0
@@ -79,24 +85,35 @@ with_form mi m needs h cause shape =
 
 -- ---- any operand, in any state
 
-held : (P : MemArg → Type 0) (t : Bool) (x operand : MemArg) → Some operand ≡ cond t (Some x) None → (t ≡ true → P x) → P operand
-held P true x operand h f = let e : x ≡ operand = (cc) in subst P e (f refl)
-held P false x operand h f = absurd (cc)
+held : (P : AtZero → Type 0) (t : Bool) (x at : AtZero) → cond t (Some x) None ≡ Some at → (t ≡ true → P x) → P at
+held P true x at h f = let e : x ≡ at = (cc) in subst P e (f refl)
+held P false x at h f = absurd (cc)
 
-helped_in : (mi : MemInstType) (e : Emission) (m operand : MemArg) → Some operand ≡ helped_operand mi m → IsHelped mi e m operand
-helped_in mi e (RegOffset reg off flags) operand h =
-    held (λ o. IsHelped mi e (RegOffset reg off flags) o) (has_displacement mi && mi.have_index && not (is_numbered 1 reg) && is_far off) (at_zero mi reg scratch flags) operand h
+abbrev offset_at : Reg → AtZero
+offset_at base = record { base = base; index = scratch }
+
+abbrev address_at : AtZero
+address_at = record { base = scratch; index = no_register }
+
+helped_in : (mi : MemInstType) (e : Emission) (m : MemArg) (at : AtZero) → helped_at mi m ≡ Some at → IsHelped mi e m (operand_at mi m at)
+helped_in mi e (RegOffset reg off flags) at h =
+    held (λ x. IsHelped mi e (RegOffset reg off flags) (operand_at mi (RegOffset reg off flags) x)) (has_displacement mi && mi.have_index && not (is_numbered 1 reg) && is_far off) (offset_at reg) at h
     (λ t. let p = offset_tests (has_displacement mi) mi.have_index (is_numbered 1 reg) (is_far off) t in far_loaded mi reg off flags p.0 p.1 p.2 p.3)
-helped_in mi e (Label target) operand h =
-    held (λ o. IsHelped mi e (Label target) o) (has_displacement mi && not mi.have_pcrel) (at_zero mi scratch no_register (flags_of (Label target))) operand h
+helped_in mi e (Label target) at h =
+    held (λ x. IsHelped mi e (Label target) (operand_at mi (Label target) x)) (has_displacement mi && not mi.have_pcrel) address_at at h
     (λ t. with_form mi (Label target) (not mi.have_pcrel) t refl refl)
-helped_in mi e (Constant c) operand h =
-    held (λ o. IsHelped mi e (Constant c) o) (has_displacement mi && not mi.have_pcrel) (at_zero mi scratch no_register (flags_of (Constant c))) operand h
+helped_in mi e (Constant c) at h =
+    held (λ x. IsHelped mi e (Constant c) (operand_at mi (Constant c) x)) (has_displacement mi && not mi.have_pcrel) address_at at h
     (λ t. with_form mi (Constant c) (not mi.have_pcrel) t refl refl)
-helped_in mi e (Symbol name offset flags) operand h =
-    held (λ o. IsHelped mi e (Symbol name offset flags) o) (has_displacement mi && needs_address mi (Symbol name offset flags)) (at_zero mi scratch no_register flags) operand h
+helped_in mi e (Symbol name offset flags) at h =
+    held (λ x. IsHelped mi e (Symbol name offset flags) (operand_at mi (Symbol name offset flags) x)) (has_displacement mi && needs_address mi (Symbol name offset flags)) address_at at h
     (λ t. with_form mi (Symbol name offset flags) (needs_address mi (Symbol name offset flags)) t refl refl)
-helped_in mi e m operand h = absurd (cc)
+helped_in mi e m at h = absurd (cc)
+
+-- the operand behind its one helper
+operand_in : (P : MemArg → Type 0) (f : AtZero → MemArg) (o : Option AtZero) (operand : MemArg) → Some operand ≡ option_map f o → ((at : AtZero) → o ≡ Some at → P (f at)) → P operand
+operand_in P f None operand h k = absurd (cc)
+operand_in P f (Some at) operand h k = let e : f at ≡ operand = (cc) in subst P e (k at refl)
 
 with_displacements : (a b c : Bool) → (a || b) ≡ true → (a || b || c) ≡ true
 with_displacements true b c h = refl
@@ -107,8 +124,48 @@ with_displacements false false c h = absurd (cc)
 pub helped_opens : (has : Bool) (r : Rows) (e : Emission) (m operand : MemArg) (mi : MemInstType) (old new : List ℕ) → mi ≡ type_of_rows has r → Some operand ≡ helped_operand mi m
     → new ≡ old ++ (helper_text (helper_of m) ++ codes " ; ") → Opens (Ok operand) old new has r (resolved_operand e m)
 helped_opens has r e m operand mi old new forms found appended =
-    let p : IsHelped (type_of_rows has r) e m operand = subst (λ t. IsHelped t e m operand) forms (helped_in mi e m operand found) in (
+    let p : IsHelped (type_of_rows has r) e m operand = subst (λ t. IsHelped t e m operand) forms (operand_in (λ o. IsHelped mi e m o) (operand_at mi m) (helped_at mi m) operand found (helped_in mi e m)) in (
       ap (λ t. cond t (address_cause (operand_cause (type_of_rows has r) (resolved_operand e m))) (Some NoRow)) (with_displacements (is_some r.short) (is_some r.long) (is_some r.relative) p.0) ∙ ap address_cause p.1,
       sym (ap (λ (f : Finalized). f.operand) p.2),
       appended ∙ ap (λ t. old ++ t) (sym (append-nil (helper_text (helper_of m) ++ codes " ; "))) ∙ sym (ap (λ (f : Finalized). old ++ helpers_text f.helpers) p.2),
     )
+
+-- ---- the texts
+
+abbrev helped_line : List ℕ → List ℕ → List (List ℕ) → List ℕ → Text
+helped_line helper name before place = fixed_text ((helper ++ codes " ; ") ++ instruction_text name (before ++ (place ∷ [])))
+
+-- the row at the displacement zero
+zero_line : (short long : Option ℕ) (relative : Option (List ℕ)) (index accesses has : Bool) (o : ℕ) (base at_index : Reg) (flags : AccessFlags) (m : MemArg) (before : List (List ℕ)) → zero_row short long ≡ Some o →
+    let r : Rows = record { short = option_map stem_of short; long = option_map stem_of long; relative = relative; index = index; accesses = accesses } in
+    let z = at_zero (type_of_rows has r) base at_index flags in
+    helped_line (helper_text (helper_of m)) (name_at r z) before (memory_text z) ≡ helped_line (helper_text (helper_of m)) (stem_of o) before (zero_text base at_index)
+zero_line (Some a) long relative index accesses has o base at_index flags m before h =
+    let e : a ≡ o = (cc) in ap (λ x. helped_line (helper_text (helper_of m)) (stem_of x) before (zero_text base at_index)) e
+zero_line None (Some a) relative index accesses has o base at_index flags m before h =
+    let e : a ≡ o = (cc) in ap (λ x. helped_line (helper_text (helper_of m)) (stem_of x) before (zero_text base at_index)) e
+zero_line None None relative index accesses has o base at_index flags m before h = absurd (cc)
+
+abbrev text_of : Option TextError → List ℕ → Text
+text_of c s = record { cause = c; bytes = s }
+
+helped_access : (has : Bool) (rows : DeclaredRows) (e : Emission) (m : MemArg) (o : ℕ) (at : AtZero) (before : List (List ℕ)) → zero_row rows.short rows.long ≡ Some o → helped_at (type_of_rows has (rows_of rows)) m ≡ Some at
+    → access_where has (rows_of rows) e before m [] ≡ helped_line (helper_text (helper_of m)) (stem_of o) before (zero_text at.base at.index)
+helped_access has rows e m o at before row found =
+    let r = rows_of rows in
+    let mi = type_of_rows has r in
+    let z = operand_at mi m at in
+    let p : IsHelped mi e m z = helped_in mi e m at found in
+    let cause : access_cause has r (resolved_operand e m) ≡ None =
+    ap (λ t. cond t (address_cause (operand_cause mi (resolved_operand e m))) (Some NoRow)) (with_displacements (is_some r.short) (is_some r.long) (is_some r.relative) p.0) ∙ ap address_cause p.1 in
+    ap (λ c. text_of c (finalized_text r (finalized_operand mi (resolved_operand e m)) before [])) cause
+    ∙ ap (λ (f : Finalized). fixed_text (finalized_text r f before [])) p.2
+    ∙ ap (λ t. fixed_text (t ++ instruction_text (name_at r z) (before ++ (memory_text z ∷ [])))) (append-nil (helper_text (helper_of m) ++ codes " ; "))
+    ∙ zero_line rows.short rows.long r.relative r.index r.accesses has o at.base at.index (flags_of m) m before row
+
+-- what prints the helper and the row prints the access
+pub helped_prints : {T : Type 0} (result : Result T TextError) (old new : List ℕ) (has : Bool) (rows : DeclaredRows) (e : Emission) (m : MemArg) (o : ℕ) (at : AtZero) (before : List (List ℕ))
+    → zero_row rows.short rows.long ≡ Some o → helped_at (type_of_rows has (rows_of rows)) m ≡ Some at
+    → Prints result old new (fixed_text ((helper_text (helper_of m) ++ codes " ; ") ++ instruction_text (stem_of o) (before ++ (zero_text at.base at.index ∷ []))))
+    → Prints result old new (access_where has (rows_of rows) e before m [])
+helped_prints result old new has rows e m o at before row found p = subst (λ t. Prints result old new t) (sym (helped_access has rows e m o at before row found)) p

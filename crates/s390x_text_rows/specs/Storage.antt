@@ -1,5 +1,5 @@
 -- The texts of memory operands, and of instructions that have one (cranelift-codegen, `args.rs` and `mod.rs`).
-use Rattle.std.specs.Prelude.{◌≡◌, ℕ, unsigned_abs, List, [], ◌∷◌, ◌++◌, codes, Bool, true, false, cond, not, ◌&&◌, ◌||◌, is_some, Option, Some, None, Result, MatchResult}
+use Rattle.std.specs.Prelude.{◌≡◌, ℕ, ℤ, List, [], ◌∷◌, ◌++◌, codes, Bool, true, false, cond, not, ◌&&◌, ◌||◌, is_some, Option, Some, None, Result, MatchResult}
 use Rattle.std.specs.Fmt.{decimal, signed_decimal}
 use Rattle.std.specs.Option.{option_map}
 use Rattle.s390x_base.specs.declared.error.EmitError.{EmitError}
@@ -15,7 +15,7 @@ use Rattle.s390x_inst.specs.Stores.{as_store, by_store}
 use Rattle.s390x_inst.specs.declared.inst.Inst.{Inst}
 use Rattle.s390x_inst.specs.declared.inst.Inst.TheVariants as I
 use Rattle.s390x_inst.specs.Memory.{flags_of}
-use Rattle.s390x_typed_steps.specs.Operands.{Finalized, scratch, no_register, needs_address, is_numbered, is_far, fits_12, fits_20, with_long_displacement, finalized_operand, resolved_operand}
+use Rattle.s390x_typed_steps.specs.Operands.{Finalized, scratch, no_register, needs_address, is_numbered, is_relative, is_far, fits_12, fits_20, with_long_displacement, finalized_operand, resolved_operand}
 use Rattle.s390x_typed_steps.specs.Causes.{operand_cause}
 use Rattle.s390x_typed_steps.specs.Memory.{load_rows, store_rows}
 use Rattle.s390x_typed_steps.specs.declared.access_rows.RegisterRows.{RegisterRows}
@@ -24,10 +24,12 @@ use Rattle.s390x_format.specs.Stems.{stem_of}
 use Rattle.s390x_rows.specs.declared.opcodes.TheConstants as opcodes
 use Rattle.s390x_job_fields.specs.Atoms.{reg_text}
 use Rattle.s390x_text_rows.specs.Texts.{Text, instruction_text, RefusedBy}
-use Rattle.s390x_text_rows.specs.Operands.{is_zero, label_text, name_text, reused_text}
+use Rattle.s390x_text_rows.specs.Operands.{bracketed_register, is_zero, label_text, name_text, reused_text}
 use Rattle.s390x_text_rows.specs.Mnemonics.{alu_short_name, alu_long_name, atomic_name, cmp_short_name, cmp_long_name, cmp_relative_name}
 use Rattle.s390x_text_rows.specs.declared.error.TextError.{TextError}
 use Rattle.s390x_text_rows.specs.declared.error.TextError.TheVariants.{NoRow, Virtual, Address}
+use Rattle.s390x_text_rows.specs.declared.near_offset.NearOffset.{NearOffset}
+use Rattle.s390x_text_rows.specs.declared.one_helper.AtZero.{AtZero}
 use Rattle.s390x_text_rows.specs.declared.storage.Rows.{Rows as DeclaredRows}
 
 -- ---- operands
@@ -56,6 +58,10 @@ is_virtual (OutgoingArgOffset off) = true
 is_virtual (SlotOffset off) = true
 is_virtual (SpillOffset off) = true
 is_virtual m = false
+
+-- a base behind an offset: `D(B)`, or `D`
+abbrev pub offset_text : ℤ → (base : Reg) → List ℕ
+offset_text off base = signed_decimal off ++ bracketed_register base
 
 -- the text of an operand by itself, or its refusal
 abbrev pub operand_alone : MemArg → Text
@@ -136,20 +142,22 @@ address_cause (Some e) = Some (Address e)
 abbrev pub access_cause : (has_relative : Bool) → Rows → MemArg → Option TextError
 access_cause has r m = cond (has_row r) (address_cause (operand_cause (type_of_rows has r) m)) (Some NoRow)
 
--- the operand itself, where the rows have a form for it
-abbrev pub operand_with_form : MemInstType → MemArg → Option MemArg
-operand_with_form mi m = cond (needs_address mi m) None (Some m)
+-- the opcode of the first row whose displacement holds an offset, of those with a displacement of 12 and of 20 bits
+abbrev pub near_row : (short long : Option ℕ) → ℤ → Option ℕ
+near_row short long off = cond (is_some short && fits_12 off) short (cond (is_some long && fits_20 off) long None)
 
--- the operand in place of an offset that a displacement of the rows holds, or of one that they take relative to the instruction; none in place of any
--- other operand
-abbrev pub near_operand : MemInstType → MemArg → Option MemArg
-near_operand mi (RegOffset reg off flags) =
-    cond (mi.have_d12 && fits_12 off) (Some (BXD12 reg no_register (unsigned_abs off) flags))
-    (cond (mi.have_d20 && fits_20 off) (Some (BXD20 reg no_register off flags)) None)
-near_operand mi (Label target) = operand_with_form mi (Label target)
-near_operand mi (Constant c) = operand_with_form mi (Constant c)
-near_operand mi (Symbol name offset flags) = operand_with_form mi (Symbol name offset flags)
-near_operand mi m = None
+-- the access by a row at an offset and a base
+abbrev pub at_offset : (base : Reg) → ℤ → (opcode : ℕ) → NearOffset
+at_offset base off opcode = record { opcode = opcode; at = record { base = base; off = off } }
+
+-- the access at an offset that a displacement holds; none at any other operand
+abbrev pub near_offset : (short long : Option ℕ) → MemArg → Option NearOffset
+near_offset short long (RegOffset base off flags) = option_map (at_offset base off) (near_row short long off)
+near_offset short long m = None
+
+-- an operand relative to the instruction that the rows take
+abbrev pub is_taken : MemInstType → MemArg → Bool
+is_taken mi m = is_relative m && not (needs_address mi m)
 
 -- the helper of an operand: it loads an offset, or else an address
 abbrev pub helper_of : MemArg → Inst
@@ -164,18 +172,34 @@ has_displacement mi = mi.have_d12 || mi.have_d20
 abbrev pub at_zero : MemInstType → (base index : Reg) → AccessFlags → MemArg
 at_zero mi base index flags = with_long_displacement mi (BXD12 base index 0 flags)
 
--- the operand itself behind the load of its address, where the rows have no form for it
-abbrev pub behind_address : MemInstType → MemArg → Option MemArg
-behind_address mi m = cond (has_displacement mi && needs_address mi m) (Some (at_zero mi scratch no_register (flags_of m))) None
+-- the opcode of the row that has a displacement of zero, of those with a displacement of 12 and of 20 bits
+abbrev pub zero_row : (short long : Option ℕ) → Option ℕ
+zero_row short long = cond (is_some short) short long
 
--- the operand in place of an offset that no displacement holds, behind its load as an index, or of one that the rows don't take relative to the
--- instruction, behind the load of its address; none in place of any other operand
+-- a base and an index at the displacement zero: `0(X,B)`
+abbrev pub zero_text : (base index : Reg) → List ℕ
+zero_text base index = decimal 0 ++ sum_text base index
+
+-- the operand behind the load of its address, where the rows have a displacement and no form for it
+abbrev pub behind_address : MemInstType → MemArg → Option AtZero
+behind_address mi m = cond (has_displacement mi && needs_address mi m) (Some (record { base = scratch; index = no_register })) None
+
+-- the base and the index in place of an offset that no displacement holds, behind its load as an index, or of an operand that the rows don't take
+-- relative to the instruction, behind the load of its address; none in place of any other operand
+abbrev pub helped_at : MemInstType → MemArg → Option AtZero
+helped_at mi (RegOffset reg off flags) = cond (has_displacement mi && mi.have_index && not (is_numbered 1 reg) && is_far off) (Some (record { base = reg; index = scratch })) None
+helped_at mi (Label target) = behind_address mi (Label target)
+helped_at mi (Constant c) = behind_address mi (Constant c)
+helped_at mi (Symbol name offset flags) = behind_address mi (Symbol name offset flags)
+helped_at mi m = None
+
+-- the operand that stands there
+abbrev pub operand_at : MemInstType → MemArg → AtZero → MemArg
+operand_at mi m at = at_zero mi at.base at.index (flags_of m)
+
+-- the operand of the access behind its one helper
 abbrev pub helped_operand : MemInstType → MemArg → Option MemArg
-helped_operand mi (RegOffset reg off flags) = cond (has_displacement mi && mi.have_index && not (is_numbered 1 reg) && is_far off) (Some (at_zero mi reg scratch flags)) None
-helped_operand mi (Label target) = behind_address mi (Label target)
-helped_operand mi (Constant c) = behind_address mi (Constant c)
-helped_operand mi (Symbol name offset flags) = behind_address mi (Symbol name offset flags)
-helped_operand mi m = None
+helped_operand mi m = option_map (operand_at mi m) (helped_at mi m)
 
 -- what a call answers that appends the helpers of an operand, and gives the operand of the access
 abbrev pub Opens : Result MemArg TextError → (old new : List ℕ) → (has_relative : Bool) → Rows → MemArg → Type 0
@@ -202,6 +226,10 @@ access r e before m after = access_where true r e before m after
 abbrev pub load_mnemonics : LoadOp → Rows
 load_mnemonics op = rx_of (load_rows op)
 
+-- the operand of a load
+abbrev pub load_operand : Inst → Option MemArg
+load_operand i = by_load (λ l. Some l.mem) None (as_load i)
+
 -- loads, on a machine that has rows relative to the instruction or lacks them
 abbrev pub load_text : (has_relative : Bool) → Emission → Inst → Option Text
 load_text has e i = by_load (λ l. Some (access_where has (load_mnemonics l.op) e (reg_text l.rd ∷ []) l.mem [])) None (as_load i)
@@ -217,6 +245,10 @@ immediate_store_text has e _ = None
 -- the mnemonics of a store
 abbrev pub store_mnemonics : StoreOp → Rows
 store_mnemonics op = rx_of (store_rows op)
+
+-- the operand of a store of a register
+abbrev pub store_operand : Inst → Option MemArg
+store_operand i = by_store (λ s. Some s.mem) None (as_store i)
 
 -- stores
 abbrev pub store_text : (has_relative : Bool) → Emission → Inst → Option Text

@@ -4,6 +4,8 @@ use Rattle.std.specs.Prelude.{ℕ, List, [], ◌++◌, codes, cond, nat_eq}
 use Rattle.s390x_format.specs.Stems.{stem_of}
 use Rattle.s390x_typed_steps.specs.VectorOpcodes.{binary_row, unary_row, shift_row, comparison_row, element_comparison_row}
 use Rattle.s390x_typed_steps.specs.declared.vector_opcode.VectorOpcode.{VectorOpcode}
+use Rattle.s390x_text_rows.specs.declared.vector_mnemonics.Letters.{Letters}
+use Rattle.s390x_text_rows.specs.declared.vector_mnemonics.Letters.TheVariants.{Nothing, B, H, F, G, Q, Hw}
 use Rattle.s390x_text_rows.specs.declared.vector_mnemonics.Mnemonic.{Mnemonic}
 use Rattle.s390x_typed_steps.specs.Memory.{layout_rows}
 use Rattle.s390x_inst.specs.Wholes.{by_direction}
@@ -16,9 +18,19 @@ use Rattle.s390x_inst.specs.declared.vec_ops.VecShiftOp.{VecShiftOp}
 use Rattle.s390x_inst.specs.declared.vec_ops.VecIntCmpOp.{VecIntCmpOp}
 use Rattle.s390x_inst.specs.declared.vec_ops.VecIntEltCmpOp.{VecIntEltCmpOp}
 
+-- what stands behind a stem
+abbrev pub letters_text : Letters → List ℕ
+letters_text Nothing = []
+letters_text B = codes "b"
+letters_text H = codes "h"
+letters_text F = codes "f"
+letters_text G = codes "g"
+letters_text Q = codes "q"
+letters_text Hw = codes "hw"
+
 -- a mnemonic in two parts
 abbrev pub mnemonic_text : Mnemonic → List ℕ
-mnemonic_text m = stem_of m.opcode ++ m.letters.now
+mnemonic_text m = stem_of m.opcode ++ letters_text m.letters
 
 -- the letter of the elements' size, by its code
 abbrev pub size_letter : ℕ → List ℕ

@@ -1,20 +1,80 @@
 //! The texts of integer instructions with an operand in memory.
 ghost use Rattle.std.specs.Prelude.{◌≡◌, ◌∷◌, [], None, Some, string_bytes};
+ghost use Rattle.std.specs.Option.{option_map};
 ghost use Rattle.s390x_job_fields.specs.Atoms.{reg_text};
 ghost use Rattle.s390x_text_rows.specs.Texts.{Prints, PrintsWhere};
 ghost use Rattle.s390x_text_rows.specs.Operands.{reused_text};
 ghost use Rattle.s390x_text_rows.specs.Mnemonics.{alu_short_name, alu_long_name, cmp_short_name, cmp_long_name, cmp_relative_name};
-ghost use Rattle.s390x_text_rows.specs.Storage.{rx, address_rows, access_where, load_text, store_text, immediate_store_text, storage_operator_text};
+ghost use Rattle.s390x_text_rows.specs.Storage.{rx, address_rows, access_where, load_operand, load_text, store_operand, store_text, immediate_store_text, storage_operator_text};
 
 use crate::arithmetic::reused_operand;
 use crate::error::TextError;
+use crate::near_offset::{near_access, put_near};
 use crate::operand::Reused;
-use crate::storage::{Place, address_rows, rows_access, rs_access_then, rs_access3, rx_access};
+use crate::storage::{
+    Place, address_rows, other_rx_access, rows_access, rs_access_then, rs_access3, rx_access,
+};
 use s390x_base::{Reg, Writable};
 use s390x_inst::{ALUOp, CmpOp, EmitState, Inst, MemArg};
 use s390x_rows::opcodes;
 use s390x_typed_steps::{RegisterRows, rows_of_alu, rows_of_cmp, rows_of_load, rows_of_store};
 use std::alloc::Global;
+
+// The operand of a load, where it stands; None for another instruction.
+#[rattlefmt::skip]
+fn load_operand(inst: &Inst) -> Option<&MemArg>
+    ensures { option_map (λ m. m.now) result ≡ load_operand inst.now }
+{
+    match inst {
+        Inst::Load32 { mem, .. } | Inst::Load32ZExt8 { mem, .. } | Inst::Load32SExt8 { mem, .. } | Inst::Load32ZExt16 { mem, .. }
+        | Inst::Load32SExt16 { mem, .. } | Inst::Load64 { mem, .. } | Inst::Load64ZExt8 { mem, .. } | Inst::Load64SExt8 { mem, .. }
+        | Inst::Load64ZExt16 { mem, .. } | Inst::Load64SExt16 { mem, .. } | Inst::Load64ZExt32 { mem, .. } | Inst::Load64SExt32 { mem, .. }
+        | Inst::LoadRev16 { mem, .. } | Inst::LoadRev32 { mem, .. } | Inst::LoadRev64 { mem, .. } => Some(mem),
+        _ => None,
+    }
+}
+
+// The operand of a store of a register, where it stands; None for another instruction.
+#[rattlefmt::skip]
+fn store_operand(inst: &Inst) -> Option<&MemArg>
+    ensures { option_map (λ m. m.now) result ≡ store_operand inst.now }
+{
+    match inst {
+        Inst::Store8 { mem, .. } | Inst::Store16 { mem, .. } | Inst::Store32 { mem, .. } | Inst::Store64 { mem, .. }
+        | Inst::StoreRev16 { mem, .. } | Inst::StoreRev32 { mem, .. } | Inst::StoreRev64 { mem, .. } => Some(mem),
+        _ => None,
+    }
+}
+
+// Appends the text of a load at an operand that is no near offset; None for another instruction. It isn't copied out of its instruction.
+#[inline(never)]
+fn put_any_load(
+    alloc: Global,
+    out: &mut String,
+    has_relative: bool,
+    state: &EmitState,
+    inst: &Inst,
+) -> Option<Result<(), TextError>>
+    ensures { PrintsWhere result (string_bytes out.old) (string_bytes out.new)
+        (load_text has_relative state.now inst.now) }
+{
+    match inst.as_load() {
+        Some(load) => match load_operand(inst) {
+            Some(mem) => {
+                let place = Place {
+                    alloc,
+                    has_relative,
+                    state,
+                    mem,
+                };
+                let rd = load.rd.to_reg();
+                Some(other_rx_access(out, place, rows_of_load(load.op), &rd))
+            }
+            None => None,
+        },
+        None => None,
+    }
+}
 
 /// Appends the text of a load, on a machine that has rows relative to the instruction or lacks them; None for another instruction.
 pub fn put_load(
@@ -28,17 +88,10 @@ pub fn put_load(
         (load_text has_relative state.now inst.now) }
 {
     match inst.as_load() {
-        Some(load) => Some(rx_access(
-            out,
-            Place {
-                alloc,
-                has_relative,
-                state,
-                mem: &load.mem,
-            },
-            rows_of_load(load.op),
-            &load.rd,
-        )),
+        Some(load) => match near_access(rows_of_load(load.op), &load.mem) {
+            Some(near) => Some(put_near(out, load.rd.to_reg(), near)),
+            None => put_any_load(alloc, out, has_relative, state, inst),
+        },
         None => None,
     }
 }
@@ -64,6 +117,36 @@ fn put_immediate_store(
     }
 }
 
+// Appends the text of a store of a register at an operand that is no near offset; of another instruction, as a store of an immediate.
+#[inline(never)]
+fn put_any_store(
+    alloc: Global,
+    out: &mut String,
+    has_relative: bool,
+    state: &EmitState,
+    inst: &Inst,
+) -> Option<Result<(), TextError>>
+    ensures { PrintsWhere result (string_bytes out.old) (string_bytes out.new)
+        (store_text has_relative state.now inst.now) }
+{
+    match inst.as_store() {
+        Some(store) => match store_operand(inst) {
+            Some(mem) => {
+                let place = Place {
+                    alloc,
+                    has_relative,
+                    state,
+                    mem,
+                };
+                let rd = store.rd;
+                Some(other_rx_access(out, place, rows_of_store(store.op), &rd))
+            }
+            None => None,
+        },
+        None => put_immediate_store(alloc, out, has_relative, state, inst),
+    }
+}
+
 /// Appends the text of a store, likewise; None for another instruction.
 pub fn put_store(
     alloc: Global,
@@ -76,17 +159,10 @@ pub fn put_store(
         (store_text has_relative state.now inst.now) }
 {
     match inst.as_store() {
-        Some(store) => Some(rx_access(
-            out,
-            Place {
-                alloc,
-                has_relative,
-                state,
-                mem: &store.mem,
-            },
-            rows_of_store(store.op),
-            &store.rd,
-        )),
+        Some(store) => match near_access(rows_of_store(store.op), &store.mem) {
+            Some(near) => Some(put_near(out, store.rd, near)),
+            None => put_any_store(alloc, out, has_relative, state, inst),
+        },
         None => put_immediate_store(alloc, out, has_relative, state, inst),
     }
 }

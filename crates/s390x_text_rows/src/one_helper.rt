@@ -2,12 +2,32 @@
 ghost use Rattle.std.specs.Prelude.{◌≡◌};
 ghost use Rattle.s390x_inst.specs.declared.args.MemArg.TheVariants.{RegOffset};
 ghost use Rattle.s390x_typed_steps.specs.Operands.{is_far};
-ghost use Rattle.s390x_text_rows.specs.Storage.{has_displacement, at_zero, behind_address, helped_operand};
+ghost use Rattle.s390x_text_rows.specs.Storage.{has_displacement, zero_text, at_zero, behind_address, helped_at, helped_operand};
 
+use crate::operand::Operand;
+use crate::piece::put_small;
+use crate::sum::put_sum;
 use s390x_address::{is_numbered, needs_address};
 use s390x_base::{MachMemFlags, Reg, SImm20, UImm12, spilltmp_reg, zero_reg};
 use s390x_inst::MemArg;
 use s390x_typed_steps::MemInstType;
+use std::alloc::AllocError;
+
+/// A base and an index at the displacement zero.
+#[derive(Clone, Copy)]
+pub struct AtZero {
+    pub base: Reg,
+    pub index: Reg,
+}
+
+impl Operand for AtZero {
+    ghost shown = { λ a. zero_text a.base a.index };
+
+    fn put(&self, out: &mut String) -> Result<(), AllocError> {
+        put_small(out, 0)?;
+        put_sum(out, &self.base, &self.index)
+    }
+}
 
 // Whether an immediate holds an offset, and no displacement does.
 fn is_far(off: i64) -> bool
@@ -47,31 +67,37 @@ fn at_zero(mi: MemInstType, base: Reg, index: Reg, flags: MachMemFlags) -> MemAr
     }
 }
 
-// The operand behind the load of its offset as an index.
-fn behind_offset(mi: MemInstType, reg: Reg, off: i64, flags: MachMemFlags) -> Option<MemArg>
-    ensures { result ≡ helped_operand mi (RegOffset reg off flags) }
+// The place behind the load of an offset as an index.
+fn behind_offset(mi: MemInstType, reg: Reg, off: i64, flags: MachMemFlags) -> Option<AtZero>
+    ensures { result ≡ helped_at mi (RegOffset reg off flags) }
 {
     if has_displacement(mi) && mi.have_index && !is_numbered(1, &reg) && is_far(off) {
-        Some(at_zero(mi, reg, spilltmp_reg(), flags))
+        Some(AtZero {
+            base: reg,
+            index: spilltmp_reg(),
+        })
     } else {
         None
     }
 }
 
-// The operand behind the load of its address, where the rows have no form for it.
-fn behind_address(mi: MemInstType, mem: &MemArg) -> Option<MemArg>
+// The place behind the load of an address, where the rows have no form for the operand.
+fn behind_address(mi: MemInstType, mem: &MemArg) -> Option<AtZero>
     ensures { result ≡ behind_address mi mem.now }
 {
     if has_displacement(mi) && needs_address(mi, mem) {
-        Some(at_zero(mi, spilltmp_reg(), zero_reg(), mem.get_flags()))
+        Some(AtZero {
+            base: spilltmp_reg(),
+            index: zero_reg(),
+        })
     } else {
         None
     }
 }
 
-/// The operand of an access behind one helper, where it is a far offset or one that the rows don't take relative to the instruction.
-pub fn helped_operand(mi: MemInstType, mem: &MemArg) -> Option<MemArg>
-    ensures { result ≡ helped_operand mi mem.now }
+/// Where an operand stands behind one helper: a far offset, or one that the rows don't take relative to the instruction.
+pub fn helped_at(mi: MemInstType, mem: &MemArg) -> Option<AtZero>
+    ensures { result ≡ helped_at mi mem.now }
 {
     match mem {
         MemArg::RegOffset { reg, off, flags } => behind_offset(mi, *reg, *off, *flags),
@@ -79,5 +105,15 @@ pub fn helped_operand(mi: MemInstType, mem: &MemArg) -> Option<MemArg>
             behind_address(mi, mem)
         }
         _ => None,
+    }
+}
+
+/// The operand of an access behind one helper.
+pub fn helped_operand(mi: MemInstType, mem: &MemArg) -> Option<MemArg>
+    ensures { result ≡ helped_operand mi mem.now }
+{
+    match helped_at(mi, mem) {
+        Some(at) => Some(at_zero(mi, at.base, at.index, mem.get_flags())),
+        None => None,
     }
 }

@@ -24,6 +24,7 @@ pub trait Operand {
 impl Operand for Reg {
     ghost shown = { reg_text };
 
+    #[inline(always)]
     fn put(&self, out: &mut String) -> Result<(), AllocError> {
         put_reg(out, self)
     }
@@ -32,6 +33,7 @@ impl Operand for Reg {
 impl Operand for Writable<Reg> {
     ghost shown = { reg_text };
 
+    #[inline(always)]
     fn put(&self, out: &mut String) -> Result<(), AllocError> {
         put_reg(out, &self.to_reg())
     }
@@ -256,8 +258,8 @@ pub fn is_zero(r: &Reg) -> bool
     *r == zero_reg()
 }
 
-// A register in brackets; nothing for `%r0`.
-fn put_bracketed(out: &mut String, r: &Reg) -> Result<(), AllocError>
+/// Appends a register in brackets; nothing for `%r0`.
+pub fn put_bracketed(out: &mut String, r: &Reg) -> Result<(), AllocError>
     ensures { OnOk result
         (string_bytes out.new ≡ string_bytes out.old ++ bracketed_register r.now) }
 {

@@ -1,5 +1,5 @@
 //! What texts are put together of: literals, letters and numbers, which are appended where the caller stands.
-ghost use Rattle.std.specs.Prelude.{◌≡◌, ◌+◌, ◌/◌, ◌%◌, ◌<◌, ◌++◌, ◌∷◌, [], OnOk, string_bytes};
+ghost use Rattle.std.specs.Prelude.{◌≡◌, ◌+◌, ◌/◌, ◌%◌, ◌<◌, ◌≤◌, ◌++◌, ◌∷◌, [], OnOk, string_bytes};
 ghost use Rattle.std.specs.Fmt.{decimal, signed_decimal};
 
 use s390x_job_fields::number::put_char;
@@ -36,15 +36,43 @@ fn put_two_digits(out: &mut String, n: u8) -> Result<(), AllocError>
     put_char(out, char::from(b'0' + n % 10))
 }
 
-/// Appends a number in decimal, by two digits at a time.
+// Appends a number below 10000 by four digits.
+#[inline(always)]
+fn put_four_digits(out: &mut String, n: u16) -> Result<(), AllocError>
+    requires { n < 10000 }
+    ensures { OnOk result
+        (string_bytes out.new
+        ≡ string_bytes out.old
+        ++ (48 + n / 100 / 10) ∷ (48 + n / 100 % 10) ∷ (48 + n % 100 / 10) ∷ (48 + n % 100 % 10)
+        ∷ []) }
+{
+    put_two_digits(out, (n / 100) as u8)?;
+    put_two_digits(out, (n % 100) as u8)
+}
+
+// Appends a number of three or four digits.
+#[inline(always)]
+fn put_medium(out: &mut String, n: u16) -> Result<(), AllocError>
+    requires at_least { 100 ≤ n }
+    requires below { n < 10000 }
+    ensures { OnOk result (string_bytes out.new ≡ string_bytes out.old ++ decimal n) }
+{
+    put_small(out, (n / 100) as u8)?;
+    put_two_digits(out, (n % 100) as u8)
+}
+
+/// Appends a number in decimal, by four digits at a time.
 pub fn put_natural(out: &mut String, n: u64) -> Result<(), AllocError>
     ensures { OnOk result (string_bytes out.new ≡ string_bytes out.old ++ decimal n) }
 {
     if n < 100 {
         return put_small(out, n as u8);
     }
-    put_natural(out, n / 100)?;
-    put_two_digits(out, (n % 100) as u8)
+    if n < 10000 {
+        return put_medium(out, n as u16);
+    }
+    put_natural(out, n / 10000)?;
+    put_four_digits(out, (n % 10000) as u16)
 }
 
 /// Appends a number in decimal, with its sign where it is negative.

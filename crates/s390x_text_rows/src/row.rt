@@ -2,7 +2,7 @@
 ghost use Rattle.std.specs.Prelude.{◌≡◌, ◌++◌, ◌∷◌, [], OnOk, string_bytes};
 ghost use Rattle.std.specs.Option.{option_map};
 ghost use Rattle.s390x_format.specs.Stems.{stem_of};
-ghost use Rattle.s390x_text_rows.specs.Texts.{Prints, answer_of, row, instruction_text, fixed_text};
+ghost use Rattle.s390x_text_rows.specs.Texts.{Prints, answer_of, row, operands, instruction_text, fixed_text};
 ghost use Rattle.s390x_text_rows.specs.Operands.{cond_text};
 ghost use Rattle.s390x_text_rows.specs.Integer.{three_text, conditional_row};
 ghost use Rattle.s390x_text_rows.specs.VectorMnemonics.{mnemonic_text};
@@ -10,7 +10,7 @@ ghost use Rattle.s390x_text_rows.specs.VectorMnemonics.{mnemonic_text};
 use crate::error::TextError;
 use crate::operand::{Operand, cond_name};
 use crate::piece::put;
-use crate::vector_mnemonics::Mnemonic;
+use crate::vector_mnemonics::{Mnemonic, put_letters};
 use s390x_base::{Cond, Reg, Writable};
 use s390x_format::stem;
 use std::alloc::AllocError;
@@ -24,6 +24,19 @@ pub fn text_result(written: Result<(), AllocError>) -> Result<(), TextError>
         Ok(()) => Ok(()),
         Err(error) => Err(TextError::from(error)),
     }
+}
+
+// Appends 2 operands behind a space.
+#[inline(always)]
+fn put_operands2<A: Operand, B: Operand>(out: &mut String, a: &A, b: &B) -> Result<(), AllocError>
+    ensures { OnOk result
+        (string_bytes out.new
+        ≡ string_bytes out.old ++ operands (A.shown a.now ∷ B.shown b.now ∷ [])) }
+{
+    put(out, " ")?;
+    a.put(out)?;
+    put(out, ", ")?;
+    b.put(out)
 }
 
 /// Appends a row with one operand.
@@ -108,7 +121,22 @@ pub fn lettered2<A: Operand, B: Operand>(
         ++ instruction_text (mnemonic_text mnemonic) (A.shown a.now ∷ B.shown b.now ∷ [])) }
 {
     put(out, stem(mnemonic.opcode))?;
-    spelled2(out, mnemonic.letters, a, b)
+    put_letters(out, mnemonic.letters)?;
+    put_operands2(out, a, b)
+}
+
+/// Appends such a row, as an answer of a text. An error comes for want of memory alone.
+pub fn fixed_lettered2<A: Operand, B: Operand>(
+    out: &mut String,
+    mnemonic: Mnemonic,
+    a: &A,
+    b: &B,
+) -> Result<(), TextError>
+    ensures { Prints result (string_bytes out.old) (string_bytes out.new)
+        (fixed_text
+        (instruction_text (mnemonic_text mnemonic) (A.shown a.now ∷ B.shown b.now ∷ []))) }
+{
+    Ok(lettered2(out, mnemonic, a, b)?)
 }
 
 /// With 3 operands.

@@ -1,26 +1,24 @@
 //! How an instruction with an operand in memory is put together: helpers, mnemonic and operands.
-ghost use Rattle.std.specs.Prelude.{◌≡◌, ◌++◌, ◌∷◌, [], ◌&&◌, codes, cond, unsigned_abs, OnOk, None, Some, string_bytes};
+ghost use Rattle.std.specs.Prelude.{◌≡◌, ◌++◌, ◌∷◌, [], codes, OnOk, IfSome, None, Some, string_bytes};
 ghost use Rattle.std.specs.Option.{option_map};
-ghost use Rattle.s390x_inst.specs.declared.args.MemArg.TheVariants.{RegOffset};
-ghost use Rattle.s390x_typed_steps.specs.Operands.{fits_12, fits_20, resolved_operand};
+ghost use Rattle.s390x_typed_steps.specs.Operands.{resolved_operand};
 ghost use Rattle.s390x_format.specs.Stems.{stem_of};
-ghost use Rattle.s390x_text_rows.specs.Texts.{Prints, instruction_text};
+ghost use Rattle.s390x_text_rows.specs.Texts.{Prints, fixed_text, instruction_text};
 ghost use Rattle.s390x_text_rows.specs.VectorMnemonics.{mnemonic_text};
-ghost use Rattle.s390x_text_rows.specs.Storage.{sum_text, memory_text, is_virtual, rx, rs, rx_of, address_rows, rows_of, has_row, type_of_rows, name_at, helper_text, helpers_text, operand_with_form, near_operand, helper_of, Opens, access_where};
+ghost use Rattle.s390x_text_rows.specs.Storage.{memory_text, is_virtual, rx, rs, rx_of, address_rows, rows_of, has_row, type_of_rows, name_at, helper_text, helpers_text, helper_of, zero_row, zero_text, helped_at, is_taken, Opens, access_where};
 
 use crate::error::TextError;
-use crate::one_helper::helped_operand;
-use crate::operand::{Operand, is_zero};
+use crate::near_offset::{long_opcode, near_offset};
+use crate::one_helper::{AtZero, helped_at, helped_operand};
+use crate::operand::Operand;
 use crate::piece::{put, put_integer, put_natural};
-use crate::register_names::put_reg;
-use crate::row::{lettered2, spelled2, spelled3};
+use crate::row::{fixed_lettered2, fixed2, fixed3, lettered2, spelled2, spelled3};
+use crate::sum::put_sum;
 use crate::vector_mnemonics::Mnemonic;
 use s390x_address::{mem_finalize, needs_address};
-use s390x_base::{MachMemFlags, Reg, SImm20, UImm12, spilltmp_reg, zero_reg};
+use s390x_base::spilltmp_reg;
 use s390x_format::stem;
 use s390x_inst::{EmitState, Inst, MemArg};
-use s390x_job_fields::atoms::put_name;
-use s390x_job_fields::number::put_char;
 use s390x_rows::opcodes;
 use s390x_typed_steps::{MemInstType, RegisterRows};
 use std::alloc::{AllocError, Global};
@@ -38,6 +36,13 @@ pub struct Rows {
     pub index: bool,
     /// Whether they access memory.
     pub accesses: bool,
+}
+
+// An access at the displacement zero, by the row with this opcode.
+#[derive(Clone, Copy)]
+struct ZeroAccess {
+    opcode: u16,
+    at: AtZero,
 }
 
 /// An operand in memory, and where its instruction stands.
@@ -62,31 +67,6 @@ pub fn address_rows() -> Rows
         index: true,
         accesses: false,
     }
-}
-
-// A base and an index behind a displacement.
-#[inline(always)]
-fn put_sum(out: &mut String, base: &Reg, index: &Reg) -> Result<(), AllocError>
-    ensures { OnOk result
-        (string_bytes out.new ≡ string_bytes out.old ++ sum_text base.now index.now) }
-{
-    if is_zero(base) {
-        if is_zero(index) {
-            return Ok(());
-        }
-        put_char(out, '(')?;
-        put_reg(out, index)?;
-        return put(out, ",)");
-    }
-    put_char(out, '(')?;
-    if is_zero(index) {
-        put_reg(out, base)?;
-        return put_char(out, ')');
-    }
-    put_reg(out, index)?;
-    put_char(out, ',')?;
-    put_reg(out, base)?;
-    put_char(out, ')')
 }
 
 impl Operand for MemArg {
@@ -119,7 +99,7 @@ impl Operand for MemArg {
                 put(out, ")]")
             }
             MemArg::Symbol { name, offset, .. } => {
-                put_name(out, *name)?;
+                name.put(out)?;
                 put(out, " + ")?;
                 put_integer(out, i64::from(*offset))
             }
@@ -185,6 +165,13 @@ impl Rows {
     }
 }
 
+// The opcode of the row that has a displacement of zero.
+fn zero_row(short: Option<u16>, long: Option<u16>) -> Option<u16>
+    ensures { result ≡ zero_row short long }
+{
+    if short.is_some() { short } else { long }
+}
+
 // An instruction that comes before an access.
 fn put_helper(out: &mut String, helper: &Inst) -> Result<(), AllocError>
     ensures { OnOk result (string_bytes out.new ≡ string_bytes out.old ++ helper_text helper.now) }
@@ -213,78 +200,6 @@ fn put_helpers(out: &mut String, helpers: &[Inst]) -> Result<(), AllocError>
         put_before(out, helper)?;
     }
     Ok(())
-}
-
-// The offset as an unsigned displacement of 12 bits, where the rows have one.
-fn short_displacement(mi: MemInstType, off: i64) -> Option<UImm12>
-    ensures { result ≡ cond (mi.have_d12 && fits_12 off) (Some (unsigned_abs off)) None }
-{
-    if mi.have_d12 && 0 <= off && off <= 4095 {
-        UImm12::maybe_from_u64(off as u64)
-    } else {
-        None
-    }
-}
-
-// The offset as a signed displacement of 20 bits, where the rows have one.
-fn long_displacement(mi: MemInstType, off: i64) -> Option<SImm20>
-    ensures { result ≡ cond (mi.have_d20 && fits_20 off) (Some off) None }
-{
-    if mi.have_d20 && -524288 <= off && off <= 524287 {
-        SImm20::maybe_from_i64(off)
-    } else {
-        None
-    }
-}
-
-// The operand in place of an offset, where a displacement of the rows holds it.
-#[inline(always)]
-fn near_offset(mi: MemInstType, reg: Reg, off: i64, flags: MachMemFlags) -> Option<MemArg>
-    ensures { result ≡ near_operand mi (RegOffset reg off flags) }
-{
-    let index = zero_reg();
-    match short_displacement(mi, off) {
-        Some(disp) => Some(MemArg::BXD12 {
-            base: reg,
-            index,
-            disp,
-            flags,
-        }),
-        None => match long_displacement(mi, off) {
-            Some(disp) => Some(MemArg::BXD20 {
-                base: reg,
-                index,
-                disp,
-                flags,
-            }),
-            None => None,
-        },
-    }
-}
-
-// The operand itself, where the rows have a form for it.
-fn operand_with_form(mi: MemInstType, mem: &MemArg) -> Option<MemArg>
-    ensures { result ≡ operand_with_form mi mem.now }
-{
-    if needs_address(mi, mem) {
-        None
-    } else {
-        Some(*mem)
-    }
-}
-
-// The operand of an access that needs no helper, where it is an offset or relative to the instruction.
-#[inline(always)]
-fn near_operand(mi: MemInstType, mem: &MemArg) -> Option<MemArg>
-    ensures { result ≡ near_operand mi mem.now }
-{
-    match mem {
-        MemArg::RegOffset { reg, off, flags } => near_offset(mi, *reg, *off, *flags),
-        MemArg::Label { .. } | MemArg::Constant { .. } | MemArg::Symbol { .. } => operand_with_form(
-            mi, mem,
-        ),
-        _ => None,
-    }
 }
 
 // The helper of an operand that has one.
@@ -346,16 +261,95 @@ fn open_helped(out: &mut String, place: Place, rows: &Rows) -> Result<MemArg, Te
     }
 }
 
-// Appends the helpers of an operand, and gives the operand of the access, where it may be seen at once that there are no helpers.
+// The access behind one helper, where it is told at once.
 #[inline(always)]
-fn open_access(out: &mut String, place: Place, rows: &Rows) -> Result<MemArg, TextError>
-    ensures { Opens result (string_bytes out.old) (string_bytes out.new) place.entry.has_relative
-        (rows_of rows.now) (resolved_operand place.entry.state.now place.entry.mem.now) }
+fn zero_access(rows: &Rows, has_relative: bool, mem: &MemArg) -> Option<ZeroAccess>
+    ensures { IfSome result
+        (λ z. (zero_row rows.now.short rows.now.long ≡ Some z.opcode)
+        × (helped_at (type_of_rows has_relative (rows_of rows.now)) mem.now ≡ Some z.at)) }
 {
-    match near_operand(rows.inst_type(place.has_relative), place.mem) {
-        Some(operand) => Ok(operand),
-        None => open_helped(out, place, rows),
+    let opcode = zero_row(rows.short, rows.long)?;
+    let at = helped_at(rows.inst_type(has_relative), mem)?;
+    Some(ZeroAccess { opcode, at })
+}
+
+// Appends the one helper of an operand, and the access behind it.
+fn put_helped<A: Operand>(
+    out: &mut String,
+    mem: &MemArg,
+    zero: ZeroAccess,
+    a: &A,
+) -> Result<(), TextError>
+    ensures { Prints result (string_bytes out.old) (string_bytes out.new)
+        (fixed_text
+        ((helper_text (helper_of mem.now) ++ codes " ; ")
+        ++ instruction_text (stem_of zero.opcode)
+        (A.shown a.now ∷ zero_text zero.at.base zero.at.index ∷ []))) }
+{
+    put_one_helper(out, mem)?;
+    Ok(spelled2(out, stem(zero.opcode), a, &zero.at)?)
+}
+
+// Appends the text of an access with one operand before that in memory, by a list of helpers.
+fn listed_access<A: Operand>(
+    out: &mut String,
+    place: Place,
+    rows: &Rows,
+    a: &A,
+) -> Result<(), TextError>
+    ensures { Prints result (string_bytes out.old) (string_bytes out.new)
+        (access_where place.entry.has_relative (rows_of rows.now) place.entry.state.now
+        (A.shown a.now ∷ []) place.entry.mem.now []) }
+{
+    let operand = open_listed(out, place, rows)?;
+    Ok(spelled2(out, rows.name_at(&operand), a, &operand)?)
+}
+
+// Appends the text of an access at an operand that is neither a near offset nor taken relative to the instruction.
+fn helped_access<A: Operand>(
+    out: &mut String,
+    place: Place,
+    rows: &Rows,
+    a: &A,
+) -> Result<(), TextError>
+    ensures { Prints result (string_bytes out.old) (string_bytes out.new)
+        (access_where place.entry.has_relative (rows_of rows.now) place.entry.state.now
+        (A.shown a.now ∷ []) place.entry.mem.now []) }
+{
+    match zero_access(rows, place.has_relative, place.mem) {
+        Some(zero) => put_helped(out, place.mem, zero, a),
+        None => listed_access(out, place, rows, a),
     }
+}
+
+// Whether the rows take an operand relative to the instruction.
+fn is_taken(mi: MemInstType, mem: &MemArg) -> bool
+    ensures { result ≡ is_taken mi mem.now }
+{
+    match mem {
+        MemArg::Label { .. } | MemArg::Constant { .. } | MemArg::Symbol { .. } => {
+            !needs_address(mi, mem)
+        }
+        _ => false,
+    }
+}
+
+// Appends the text of an access at an operand that is no near offset. It stands apart from those at one, which need less room.
+#[inline(never)]
+fn other_access<A: Operand>(
+    out: &mut String,
+    place: Place,
+    rows: &Rows,
+    a: &A,
+) -> Result<(), TextError>
+    ensures { Prints result (string_bytes out.old) (string_bytes out.new)
+        (access_where place.entry.has_relative (rows_of rows.now) place.entry.state.now
+        (A.shown a.now ∷ []) place.entry.mem.now []) }
+{
+    if is_taken(rows.inst_type(place.has_relative), place.mem) {
+        return fixed2(out, rows.name_at(place.mem), a, place.mem);
+    }
+    helped_access(out, place, rows, a)
 }
 
 /// Appends the text of an access with one operand before that in memory.
@@ -369,18 +363,37 @@ pub fn rows_access<A: Operand>(
         (access_where place.entry.has_relative (rows_of rows.now) place.entry.state.now
         (A.shown a.now ∷ []) place.entry.mem.now []) }
 {
-    let operand = open_access(out, place, rows)?;
-    Ok(spelled2(out, rows.name_at(&operand), a, &operand)?)
+    match near_offset(rows.short, rows.long, place.mem) {
+        Some(near) => fixed2(out, stem(near.opcode), a, &near.at),
+        None => other_access(out, place, rows, a),
+    }
 }
 
-// An opcode of two digits as one of any length.
-fn long_opcode(opcode: Option<u8>) -> Option<u16>
-    ensures { result ≡ opcode }
+// Rows of formats RX, RXY and RIL-B.
+fn register_rows(rows: RegisterRows) -> Rows
+    ensures { rows_of result ≡ rx_of rows }
 {
-    match opcode {
-        Some(opcode) => Some(u16::from(opcode)),
-        None => None,
+    Rows {
+        short: long_opcode(rows.rx),
+        long: rows.rxy,
+        relative: rows.ril,
+        index: true,
+        accesses: true,
     }
+}
+
+/// Appends the text of an access by rows of formats RX, RXY and RIL-B, with one operand before that in memory, which is no near offset.
+pub fn other_rx_access<A: Operand>(
+    out: &mut String,
+    place: Place,
+    rows: RegisterRows,
+    a: &A,
+) -> Result<(), TextError>
+    ensures { Prints result (string_bytes out.old) (string_bytes out.new)
+        (access_where place.entry.has_relative (rx_of rows) place.entry.state.now
+        (A.shown a.now ∷ []) place.entry.mem.now []) }
+{
+    other_access(out, place, &register_rows(rows), a)
 }
 
 /// Appends the text of an access by rows of formats RX, RXY and RIL-B, with one operand before that in memory.
@@ -394,14 +407,7 @@ pub fn rx_access<A: Operand>(
         (access_where place.entry.has_relative (rx_of rows) place.entry.state.now
         (A.shown a.now ∷ []) place.entry.mem.now []) }
 {
-    let access = Rows {
-        short: long_opcode(rows.rx),
-        long: rows.rxy,
-        relative: rows.ril,
-        index: true,
-        accesses: true,
-    };
-    rows_access(out, place, &access, a)
+    rows_access(out, place, &register_rows(rows), a)
 }
 
 /// Appends the text of an access by a row of format VRX, with an operand on either side of that in memory.
@@ -423,7 +429,10 @@ pub fn vrx_access<A: Operand, B: Operand>(
         index: true,
         accesses: true,
     };
-    let operand = open_access(out, place, &rows)?;
+    if let Some(near) = near_offset(opcode, None, place.mem) {
+        return fixed3(out, stem(near.opcode), a, &near.at, b);
+    }
+    let operand = open_helped(out, place, &rows)?;
     Ok(spelled3(out, rows.name_at(&operand), a, &operand, b)?)
 }
 
@@ -446,8 +455,8 @@ fn put_lettered<A: Operand>(
     }
 }
 
-/// Appends the text of an access by a row of format VRX whose mnemonic has two parts, with one operand before that in memory.
-pub fn access_lettered<A: Operand>(
+// Appends the text of an access by a row of format VRX whose mnemonic has two parts, at an operand that is no near offset.
+fn other_lettered<A: Operand>(
     out: &mut String,
     place: Place,
     mnemonic: Mnemonic,
@@ -464,8 +473,25 @@ pub fn access_lettered<A: Operand>(
         index: true,
         accesses: true,
     };
-    let operand = open_access(out, place, &rows)?;
+    let operand = open_helped(out, place, &rows)?;
     Ok(put_lettered(out, mnemonic, a, &operand)?)
+}
+
+/// Appends the text of an access by a row of format VRX whose mnemonic has two parts, with one operand before that in memory.
+pub fn access_lettered<A: Operand>(
+    out: &mut String,
+    place: Place,
+    mnemonic: Mnemonic,
+    a: &A,
+) -> Result<(), TextError>
+    ensures { Prints result (string_bytes out.old) (string_bytes out.new)
+        (access_where place.entry.has_relative (rx (Some (mnemonic_text mnemonic)) None None)
+        place.entry.state.now (A.shown a.now ∷ []) place.entry.mem.now []) }
+{
+    match near_offset(Some(mnemonic.opcode), None, place.mem) {
+        Some(near) => fixed_lettered2(out, mnemonic, a, &near.at),
+        None => other_lettered(out, place, mnemonic, a),
+    }
 }
 
 /// Appends the text of an access by a row of format VRX whose mnemonic has two parts, with one operand before that in memory;
@@ -507,7 +533,10 @@ pub fn rs_access3<A: Operand, B: Operand>(
         index: false,
         accesses: true,
     };
-    let operand = open_access(out, place, &rows)?;
+    if let Some(near) = near_offset(short, long, place.mem) {
+        return fixed3(out, stem(near.opcode), a, b, &near.at);
+    }
+    let operand = open_helped(out, place, &rows)?;
     Ok(spelled3(out, rows.name_at(&operand), a, b, &operand)?)
 }
 
@@ -531,6 +560,9 @@ pub fn rs_access_then<A: Operand>(
         index: false,
         accesses: true,
     };
-    let operand = open_access(out, place, &rows)?;
+    if let Some(near) = near_offset(short, long, place.mem) {
+        return fixed2(out, stem(near.opcode), &near.at, a);
+    }
+    let operand = open_helped(out, place, &rows)?;
     Ok(spelled2(out, rows.name_at(&operand), &operand, a)?)
 }

@@ -19,7 +19,8 @@ use crate::row::{
     text_result,
 };
 use crate::vector_mnemonics::{
-    vec_binary_name, vec_compare_name, vec_element_compare_name, vec_shift_name, vec_unary_name,
+    put_letters, vec_binary_name, vec_compare_name, vec_element_compare_name, vec_shift_name,
+    vec_unary_name,
 };
 use s390x_base::{Cond, Reg, Writable};
 use s390x_format::stem;
@@ -203,7 +204,7 @@ fn put_compare_set(
 {
     let name = vec_compare_name(op);
     put(out, stem(name.opcode))?;
-    put(out, name.letters)?;
+    put_letters(out, name.letters)?;
     spelled3(out, "s", &rd, &rn, &rm)
 }
 

@@ -15,7 +15,7 @@ use crate::storage::{Place, access_lettered, lettered_access, rx_access, vrx_acc
 use crate::vector::{
     lane_row, put_vec_binary, put_vec_lane, put_vec_move, put_vec_operator, reversed_row,
 };
-use crate::vector_mnemonics::{Mnemonic, whole_name};
+use crate::vector_mnemonics::{Letters, Mnemonic, whole_name};
 use s390x_base::Reg;
 use s390x_inst::{Direction, EmitState, MemArg, VecInst, WholeLayout};
 use s390x_rows::opcodes;
@@ -27,10 +27,10 @@ fn replicated_name(opcode: u16, size: u32) -> Option<Mnemonic>
     ensures { option_map mnemonic_text result ≡ replicated_name (stem_of opcode) size }
 {
     let letters = match size {
-        8 => "b",
-        16 => "h",
-        32 => "f",
-        64 => "g",
+        8 => Letters::B,
+        16 => Letters::H,
+        32 => Letters::F,
+        64 => Letters::G,
         _ => return None,
     };
     Some(Mnemonic { opcode, letters })
@@ -41,9 +41,9 @@ fn reversed_replicated_name(opcode: u16, size: u32) -> Option<Mnemonic>
     ensures { option_map mnemonic_text result ≡ reversed_replicated_name (stem_of opcode) size }
 {
     let letters = match size {
-        16 => "h",
-        32 => "f",
-        64 => "g",
+        16 => Letters::H,
+        32 => Letters::F,
+        64 => Letters::G,
         _ => return None,
     };
     Some(Mnemonic { opcode, letters })

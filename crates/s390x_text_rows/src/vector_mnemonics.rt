@@ -1,7 +1,8 @@
 //! The mnemonics of vector operators, and of loads and stores of whole registers, by their rows.
-ghost use Rattle.std.specs.Prelude.{◌≡◌};
-ghost use Rattle.s390x_text_rows.specs.VectorMnemonics.{mnemonic_text, size_letter, sized_mnemonic, binary_letters, whole_letters, vec_binary_name, vec_unary_name, vec_shift_name, vec_compare_name, vec_element_compare_name, whole_name};
+ghost use Rattle.std.specs.Prelude.{◌≡◌, ◌++◌, OnOk, string_bytes};
+ghost use Rattle.s390x_text_rows.specs.VectorMnemonics.{letters_text, mnemonic_text, size_letter, sized_mnemonic, binary_letters, whole_letters, vec_binary_name, vec_unary_name, vec_shift_name, vec_compare_name, vec_element_compare_name, whole_name};
 
+use crate::piece::put;
 use s390x_inst::{
     Direction, VecBinaryOp, VecIntCmpOp, VecIntEltCmpOp, VecShiftOp, VecUnaryOp, WholeLayout,
 };
@@ -9,26 +10,53 @@ use s390x_typed_steps::{
     VectorOpcode, row_of_vec_binary, row_of_vec_comparison, row_of_vec_element_comparison,
     row_of_vec_shift, row_of_vec_unary, rows_of_layout,
 };
+use std::alloc::AllocError;
+
+/// What stands behind a stem.
+#[derive(Clone, Copy)]
+pub enum Letters {
+    Nothing,
+    B,
+    H,
+    F,
+    G,
+    Q,
+    Hw,
+}
 
 /// A mnemonic in two parts.
 #[derive(Clone, Copy)]
 pub struct Mnemonic {
     /// The opcode of a machine row, whose stem it begins with.
     pub opcode: u16,
-    /// What stands behind it.
-    pub letters: &'static str,
+    pub letters: Letters,
+}
+
+/// Appends letters, each by a literal, which is copied without a call.
+pub fn put_letters(out: &mut String, letters: Letters) -> Result<(), AllocError>
+    ensures { OnOk result (string_bytes out.new ≡ string_bytes out.old ++ letters_text letters) }
+{
+    match letters {
+        Letters::Nothing => Ok(()),
+        Letters::B => put(out, "b"),
+        Letters::H => put(out, "h"),
+        Letters::F => put(out, "f"),
+        Letters::G => put(out, "g"),
+        Letters::Q => put(out, "q"),
+        Letters::Hw => put(out, "hw"),
+    }
 }
 
 // The letter of the elements' size, by its code.
-fn size_letter(code: u8) -> &'static str
-    ensures { result.now ≡ size_letter code }
+fn size_letter(code: u8) -> Letters
+    ensures { letters_text result ≡ size_letter code }
 {
     match code {
-        0 => "b",
-        1 => "h",
-        2 => "f",
-        3 => "g",
-        _ => "q",
+        0 => Letters::B,
+        1 => Letters::H,
+        2 => Letters::F,
+        3 => Letters::G,
+        _ => Letters::Q,
     }
 }
 
@@ -43,11 +71,11 @@ fn sized_mnemonic(row: VectorOpcode) -> Mnemonic
 }
 
 // What stands behind the stem: nothing where the row has one size alone, and `hw` where `h` would make another row's stem.
-fn binary_letters(op: VecBinaryOp, code: u8) -> &'static str
-    ensures { result.now ≡ binary_letters op code }
+fn binary_letters(op: VecBinaryOp, code: u8) -> Letters
+    ensures { letters_text result ≡ binary_letters op code }
 {
     match op {
-        VecBinaryOp::Mul16x8 => "hw",
+        VecBinaryOp::Mul16x8 => Letters::Hw,
         VecBinaryOp::Add128Cout
         | VecBinaryOp::Sub128Cout
         | VecBinaryOp::And128
@@ -64,7 +92,7 @@ fn binary_letters(op: VecBinaryOp, code: u8) -> &'static str
         | VecBinaryOp::AShRByByte128
         | VecBinaryOp::LShLByBit128
         | VecBinaryOp::LShRByBit128
-        | VecBinaryOp::AShRByBit128 => "",
+        | VecBinaryOp::AShRByBit128 => Letters::Nothing,
         _ => size_letter(code),
     }
 }
@@ -114,10 +142,14 @@ pub fn vec_element_compare_name(op: VecIntEltCmpOp) -> Mnemonic
 }
 
 // What stands behind the stem of a load or a store of a whole register: nothing where its row has one size alone.
-fn whole_letters(mask: u8) -> &'static str
-    ensures { result.now ≡ whole_letters mask }
+fn whole_letters(mask: u8) -> Letters
+    ensures { letters_text result ≡ whole_letters mask }
 {
-    if mask == 0 { "" } else { size_letter(mask) }
+    if mask == 0 {
+        Letters::Nothing
+    } else {
+        size_letter(mask)
+    }
 }
 
 /// A load or a store of a whole register.
