@@ -7,7 +7,7 @@ ghost use Rattle.s390x_inst.specs.declared.inst.Inst.TheVariants.{Vector};
 ghost use Rattle.s390x_typed_steps.specs.Memory.{memory};
 ghost use Rattle.s390x_typed_steps.specs.VectorOpcodes.{is_division};
 ghost use Rattle.s390x_emit_int.specs.Plain.{IsPlain, IsRegister};
-ghost use Rattle.s390x_emit_int.specs.declared.fast_path.FastPath.TheVariants.{Load, Store, Access, Branch, Register};
+ghost use Rattle.s390x_emit_int.specs.declared.fast_path.FastPath.TheVariants.{Load, Store, Whole, Access, Branch, Register};
 
 use s390x_inst::{ALUOp, Inst, VecBinaryOp, VecInst};
 
@@ -18,8 +18,9 @@ pub enum FastPath {
     Load,
     /// A store of a general register.
     Store,
-    /// A store of an immediate, the load of an address, an operator or a comparison with an operand in memory, or a load or a store of a vector
-    /// register as it stands.
+    /// A load or a store of a vector register as it stands.
+    Whole,
+    /// A store of an immediate, the load of an address, or an operator or a comparison with an operand in memory.
     Access,
     /// A branch to labels or to the address in a register.
     Branch,
@@ -110,13 +111,14 @@ fn is_base_binary(op: VecBinaryOp) -> bool
 fn vector_path(inst: &VecInst) -> FastPath
     ensures load { result ≡ Load → IsPlain (Vector inst.now) }
     ensures store { result ≡ Store → IsPlain (Vector inst.now) }
+    ensures whole { result ≡ Whole → IsPlain (Vector inst.now) }
     ensures access { result ≡ Access → IsPlain (Vector inst.now) }
     ensures branch { result ≡ Branch
         → IsPlain (Vector inst.now) × (None ≡ memory (Vector inst.now)) }
     ensures register { result ≡ Register → IsRegister (Vector inst.now) }
 {
     match inst {
-        VecInst::VecLoad { .. } | VecInst::VecStore { .. } => FastPath::Access,
+        VecInst::VecLoad { .. } | VecInst::VecStore { .. } => FastPath::Whole,
         VecInst::VecRRR { op, .. } => {
             if is_base_binary(*op) {
                 FastPath::Register
@@ -133,6 +135,7 @@ fn vector_path(inst: &VecInst) -> FastPath
 pub fn fast_path_of(inst: &Inst) -> FastPath
     ensures load { result ≡ Load → IsPlain inst.now }
     ensures store { result ≡ Store → IsPlain inst.now }
+    ensures whole { result ≡ Whole → IsPlain inst.now }
     ensures access { result ≡ Access → IsPlain inst.now }
     ensures branch { result ≡ Branch → IsPlain inst.now × (None ≡ memory inst.now) }
     ensures register { result ≡ Register → IsRegister inst.now }

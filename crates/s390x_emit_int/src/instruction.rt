@@ -1,7 +1,8 @@
 //! Emitting one instruction that is no `Loop`.
 #![tactic(auto, using(s390x_buffer::proofs::Extending::extends_on, s390x_buffer::proofs::Extending::extends_same))]
 
-ghost use Rattle.std.specs.Prelude.{◌≡◌, ℕ, ◌<◌, ◌&&◌, [], ◌∷◌, Some, None, true, length, OnOk};
+ghost use Rattle.std.specs.Prelude.{◌≡◌, ℕ, ◌<◌, ◌&&◌, [], ◌∷◌, Some, None, true, is_some, length, OnOk, IfSome};
+ghost use Rattle.std.specs.Option.{option_map};
 ghost use Rattle.s390x_base.specs.Regs.{number_of};
 ghost use Rattle.s390x_buffer.specs.Extends.{Extends};
 ghost use Rattle.s390x_buffer.specs.State.{put_cause};
@@ -38,9 +39,9 @@ use s390x_buffer::{LabelUse, MachBuffer};
 use s390x_emit_rows::{
     encode_rrr, encode_single, memory_of_load, memory_of_store, memory_rows, stop_code,
 };
-use s390x_emit_vec::encode_vector;
+use s390x_emit_vec::{encode_vector, vector_memory_rows};
 use s390x_enc::{enc_e, enc_ril_b, enc_ril_c, enc_rr};
-use s390x_inst::{EmitState, Inst, IsaFlags, MemArg};
+use s390x_inst::{EmitState, Inst, IsaFlags, MemArg, VecInst};
 use s390x_rows::opcodes;
 
 // A code whose last four bytes are half of the distance to a label; the buffer's end fills it in.
@@ -508,6 +509,54 @@ fn emit_store(
     }
 }
 
+// The rows of a load or a store of a vector register as it stands. Each of the two has an arm of its own, in which they are found by its variant.
+#[inline(always)]
+fn whole_rows(inst: &Inst) -> Option<MemoryInst>
+    ensures row { is_some result ≡ true
+        → option_map memory_instruction_of result ≡ memory inst.now }
+    ensures encodes { IfSome result (λ x. may_encode x ≡ true) }
+{
+    match inst {
+        Inst::Vector(inst) => match inst {
+            VecInst::VecLoad { .. } => vector_memory_rows(inst),
+            VecInst::VecStore { .. } => vector_memory_rows(inst),
+            _ => None,
+        },
+        _ => None,
+    }
+}
+
+// Emits a load or a store of a vector register as it stands, which is asked first.
+fn emit_whole(
+    sink: &mut MachBuffer,
+    state: &EmitState,
+    depth: u32,
+    inst: &Inst,
+    after: MachLabel,
+) -> Result<(), EmitError>
+    requires single_instruction { None ≡ single_instruction inst.now }
+    requires room { HasRoom sink.old }
+    ensures answer { OnOk result
+        ((memory_cause_or (declared_in sink.old) (memory (resolved_instruction state.now inst.now))
+        (branch_cause sink.old.block_count depth inst.now) ≡ None)
+        × (sink.new
+        ≡ apply_all sink.old
+        (leaf_fragments (length sink.old.labels) after.0
+        (resolved_instruction state.now inst.now)))) }
+    ensures only_memory { (flags : IsaFlags)
+        → MembersFit sink.old after.0 depth
+        (instruction_size (resolved_instruction state.now inst.now))
+        (leaf_cause flags (declared_in sink.old) (length sink.old.labels) state.now.nominal
+        depth (resolved_instruction state.now inst.now)) → OnlyOutOfMemory result }
+    ensures range { OnOk result (InRange (resolved_instruction state.now inst.now)) }
+    ensures kept { Extends sink.old sink.new }
+{
+    match whole_rows(inst) {
+        Some(found) => emit_access(sink, state, &found),
+        None => emit_memory_or_control(sink, state, depth, inst, after),
+    }
+}
+
 // An instruction whose facility is there, and which the stack sizes and the labels allow, where no cause of its own refuses it.
 #[tactic(auto, using(s390x_buffer::proofs::Extending::extends_on, s390x_buffer::proofs::Extending::extends_same, crate::proofs::Single::no_single))]
 fn emit_allowed(
@@ -623,6 +672,7 @@ pub fn emit_leaf(
     match fast_path_of(inst) {
         FastPath::Load => emit_load(sink, state, depth, inst, after),
         FastPath::Store => emit_store(sink, state, depth, inst, after),
+        FastPath::Whole => emit_whole(sink, state, depth, inst, after),
         FastPath::Access => emit_memory_or_control(sink, state, depth, inst, after),
         FastPath::Branch => emit_control(sink, depth, inst, after),
         FastPath::Register => emit_register(sink, depth, inst, after),

@@ -28,6 +28,15 @@ returns-in-Store-clause-answer c =
 pub returns-in-Store-clause-only_memory : goal.returns-in-Store-clause-only_memory
 returns-in-Store-clause-only_memory c = c.emit_store.ensures.only_memory c.args.flags
 
+pub returns-in-Whole-clause-answer : goal.returns-in-Whole-clause-answer
+returns-in-Whole-clause-answer c =
+    let s = c.args.sink.now in
+    let plain = c.fast_path_of.ensures.whole c.in-Whole.is in
+    on_ok c.emit_whole.result c.emit_whole.ensures.answer (λ h. (leaf_plain c.args.flags c.args.state.now (declared_in s) (length s.labels) c.args.state.now.nominal c.args.depth c.args.inst.now plain c.reveal_label_range.ensures h.0, h.1))
+
+pub returns-in-Whole-clause-only_memory : goal.returns-in-Whole-clause-only_memory
+returns-in-Whole-clause-only_memory c = c.emit_whole.ensures.only_memory c.args.flags
+
 pub returns-in-Access-clause-answer : goal.returns-in-Access-clause-answer
 returns-in-Access-clause-answer c =
     let s = c.args.sink.now in
