@@ -1,6 +1,6 @@
 //! Emitting a function: its blocks, and then its constants.
 
-ghost use Rattle.std.specs.Prelude.{◌≡◌, ◌≢◌, ℕ, ◌+◌, ◌<◌, ◌≤◌, ◌⊎◌, List, OnOk, length, map, cond, None, Some, MatchResult, nat_lt, false};
+ghost use Rattle.std.specs.Prelude.{◌≡◌, ◌≢◌, ℕ, ◌+◌, ◌-◌, ◌<◌, ◌≤◌, ◌⊎◌, ◌++◌, [], ◌∷◌, List, OnOk, length, take, map, cond, None, Some, MatchResult, nat_lt, false};
 ghost use Rattle.s390x_base.specs.declared.error.EmitError.TheVariants.{NoMemory, LabelOutOfRange, BadStackState};
 ghost use Rattle.s390x_buffer.specs.Extends.{Extends};
 ghost use Rattle.s390x_buffer.specs.State.{IsUnbound, constant_of, new_cause, put_cause, fresh_buffer, limit, label_limit};
@@ -16,7 +16,7 @@ ghost use Rattle.s390x_typed_steps.specs.Ranges.{AllInRange, BlocksInRange};
 ghost use Rattle.s390x_emit_int.specs.Function.{tree_of, trees_of, folded_trees_of, constants_of, number_of_next, IsFinishedCode, start_cause, code_length_cause, checked_cause, function_cause};
 ghost use Rattle.s390x_emit_int.specs.Fragments.{apply_all};
 ghost use Rattle.s390x_emit_int.specs.CodeSize.{AreCounted};
-ghost use Rattle.s390x_emit_int.specs.LastChoice.{tree_with_choice};
+ghost use Rattle.s390x_emit_int.specs.LastChoice.{choice_of};
 ghost use Rattle.s390x_emit_int.specs.Members.{block_members_of};
 ghost use Rattle.s390x_emit_int.specs.Room.{HasRoom, MembersFit, TreeFits, OnlyOutOfMemory};
 
@@ -151,9 +151,11 @@ fn emit_before_choice(
     flags: IsaFlags,
     sink: &mut MachBuffer,
     state: &EmitState,
-    others: &[Inst],
+    insts: &[Inst],
     choice: LastChoice,
 ) -> Result<(), EmitError>
+    requires last { insts.now ≡ take (length insts.now - 1) insts.now ++ choice_of choice ∷ [] }
+    requires some { 0 < length insts.now }
     requires start { state.now.nominal ≡ 0 }
     requires room { HasRoom sink.old }
     requires apart { choice.taken.0 ≢ choice.not_taken.0 }
@@ -162,22 +164,23 @@ fn emit_before_choice(
         ≡ apply_all sink.old
         (fragments (length sink.old.labels) 0
         (folded_members choice.not_taken.0
-        (tree_with_choice flags state.now others.now choice)))) }
+        (block_members_of flags state.now insts.now)))) }
     ensures short { OnOk result
-        (length sink.old.bytes + tree_size (tree_with_choice flags state.now others.now choice)
+        (length sink.old.bytes + tree_size (block_members_of flags state.now insts.now)
         < limit) }
     ensures cause { OnOk result
         (block_cause flags (declared_in sink.old) (length sink.old.labels)
-        (tree_with_choice flags state.now others.now choice) ≡ None) }
+        (block_members_of flags state.now insts.now) ≡ None) }
     ensures only_memory { MembersFit sink.old 0 0
-        (tree_size (tree_with_choice flags state.now others.now choice))
+        (tree_size (block_members_of flags state.now insts.now))
         (block_cause flags (declared_in sink.old) (length sink.old.labels)
-        (tree_with_choice flags state.now others.now choice)) → OnlyOutOfMemory result }
+        (block_members_of flags state.now insts.now)) → OnlyOutOfMemory result }
     ensures ranges { OnOk result
-        (AllInRange (tree_with_choice flags state.now others.now choice)) }
+        (AllInRange (block_members_of flags state.now insts.now)) }
     ensures declared { declared_in sink.new ≡ declared_in sink.old }
 {
     let mut behind = *state;
+    let others = &insts[..insts.len() - 1];
     emit_block_members(alloc, flags, sink, &mut behind, others)?;
     match end_cause(&behind) {
         Some(error) => Err(error),
@@ -253,7 +256,7 @@ fn emit_block(
     ensures declared { declared_in sink.new ≡ declared_in sink.old }
 {
     match last_choice(&block.insts, next) {
-        Some((others, choice)) => emit_before_choice(alloc, flags, sink, state, others, choice),
+        Some(choice) => emit_before_choice(alloc, flags, sink, state, &block.insts, choice),
         None => emit_any_block(alloc, flags, sink, state, block, next),
     }
 }

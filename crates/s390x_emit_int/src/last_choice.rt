@@ -1,7 +1,7 @@
 //! A choice at a block's end of which one branch stays: that one alone is put, and nothing is left to be folded.
 #![tactic(auto, using(s390x_buffer::proofs::Extending::extends_on, s390x_buffer::proofs::Extending::extends_same))]
 
-ghost use Rattle.std.specs.Prelude.{◌≡◌, ◌≢◌, ◌+◌, ◌<◌, ◌++◌, [], ◌∷◌, Some, None, length, nat_lt, OnOk, IfSome};
+ghost use Rattle.std.specs.Prelude.{◌≡◌, ◌≢◌, ◌+◌, ◌-◌, ◌<◌, ◌++◌, [], ◌∷◌, Some, None, length, take, nat_lt, OnOk, IfSome};
 ghost use Rattle.s390x_base.specs.declared.error.EmitError.TheVariants.{LabelOutOfRange};
 ghost use Rattle.s390x_buffer.specs.Extends.{Extends};
 ghost use Rattle.s390x_buffer.specs.State.{limit};
@@ -54,17 +54,23 @@ fn choice_before(inst: &Inst, next: MachLabel) -> Option<LastChoice>
     }
 }
 
-/// The instructions of a block before its last one, and the choice that this is, where the choice's second branch leads to the next block and its first
-/// one doesn't.
-pub fn last_choice(insts: &[Inst], next: Option<MachLabel>) -> Option<(&[Inst], LastChoice)>
-    ensures { IfSome result
-        (λ p. (insts.now ≡ p.0.now ++ choice_of p.1 ∷ [])
-        × (number_of_next next ≡ Some p.1.not_taken.0) × (p.1.taken.0 ≢ p.1.not_taken.0)) }
+/// The choice that a block's last instruction is, where its second branch leads to the next block and its first one doesn't.
+#[tactic(auto, using(crate::proofs::LastChoice::list_end))]
+pub fn last_choice(insts: &[Inst], next: Option<MachLabel>) -> Option<LastChoice>
+    ensures last { IfSome result
+        (λ choice. insts.now ≡ take (length insts.now - 1) insts.now ++ choice_of choice ∷ []) }
+    ensures some { IfSome result (λ _. 0 < length insts.now) }
+    ensures next { IfSome result
+        (λ choice. (number_of_next next ≡ Some choice.not_taken.0)
+        × (choice.taken.0 ≢ choice.not_taken.0)) }
 {
-    let next = next?;
-    let (last, others) = insts.split_last()?;
-    let choice = choice_before(last, next)?;
-    Some((others, choice))
+    match next {
+        Some(next) => match insts.last() {
+            Some(last) => choice_before(last, next),
+            None => None,
+        },
+        None => None,
+    }
 }
 
 // Why a choice can't stand there: one of its labels names no block, or there is no room for both its branches.
