@@ -1,6 +1,6 @@
 //! Emitting a function: its blocks, and then its constants.
 
-ghost use Rattle.std.specs.Prelude.{◌≡◌, ◌≢◌, ℕ, ◌+◌, ◌-◌, ◌<◌, ◌≤◌, ◌⊎◌, ◌++◌, [], ◌∷◌, List, OnOk, length, take, map, cond, None, Some, MatchResult, nat_lt, false};
+ghost use Rattle.std.specs.Prelude.{◌≡◌, ◌≢◌, ℕ, ◌+◌, ◌<◌, ◌≤◌, ◌⊎◌, List, OnOk, length, map, cond, None, Some, MatchResult, nat_lt, false};
 ghost use Rattle.s390x_base.specs.declared.error.EmitError.TheVariants.{NoMemory, LabelOutOfRange, BadStackState};
 ghost use Rattle.s390x_buffer.specs.Extends.{Extends};
 ghost use Rattle.s390x_buffer.specs.State.{IsUnbound, constant_of, new_cause, put_cause, fresh_buffer, limit, label_limit};
@@ -16,7 +16,7 @@ ghost use Rattle.s390x_typed_steps.specs.Ranges.{AllInRange, BlocksInRange};
 ghost use Rattle.s390x_emit_int.specs.Function.{tree_of, trees_of, folded_trees_of, constants_of, number_of_next, IsFinishedCode, start_cause, code_length_cause, checked_cause, function_cause};
 ghost use Rattle.s390x_emit_int.specs.Fragments.{apply_all};
 ghost use Rattle.s390x_emit_int.specs.CodeSize.{AreCounted};
-ghost use Rattle.s390x_emit_int.specs.LastChoice.{choice_of};
+ghost use Rattle.s390x_emit_int.specs.LastChoice.{IsLastOf};
 ghost use Rattle.s390x_emit_int.specs.Members.{block_members_of};
 ghost use Rattle.s390x_emit_int.specs.Room.{HasRoom, MembersFit, TreeFits, OnlyOutOfMemory};
 
@@ -154,8 +154,7 @@ fn emit_before_choice(
     insts: &[Inst],
     choice: LastChoice,
 ) -> Result<(), EmitError>
-    requires last { insts.now ≡ take (length insts.now - 1) insts.now ++ choice_of choice ∷ [] }
-    requires some { 0 < length insts.now }
+    requires last { IsLastOf insts.now choice }
     requires start { state.now.nominal ≡ 0 }
     requires room { HasRoom sink.old }
     requires apart { choice.taken.0 ≢ choice.not_taken.0 }

@@ -1,7 +1,7 @@
 //! A choice at a block's end of which one branch stays: that one alone is put, and nothing is left to be folded.
 #![tactic(auto, using(s390x_buffer::proofs::Extending::extends_on, s390x_buffer::proofs::Extending::extends_same))]
 
-ghost use Rattle.std.specs.Prelude.{◌≡◌, ◌≢◌, ◌+◌, ◌-◌, ◌<◌, ◌++◌, [], ◌∷◌, Some, None, length, take, nat_lt, OnOk, IfSome};
+ghost use Rattle.std.specs.Prelude.{◌≡◌, ◌≢◌, ◌+◌, ◌<◌, Some, None, length, nat_lt, OnOk, IfSome};
 ghost use Rattle.s390x_base.specs.declared.error.EmitError.TheVariants.{LabelOutOfRange};
 ghost use Rattle.s390x_buffer.specs.Extends.{Extends};
 ghost use Rattle.s390x_buffer.specs.State.{limit};
@@ -10,7 +10,7 @@ ghost use Rattle.s390x_typed_steps.specs.Ranges.{IsConditionMask};
 ghost use Rattle.s390x_emit_int.specs.Emission.{branch};
 ghost use Rattle.s390x_emit_int.specs.Fragments.{StartStep, apply};
 ghost use Rattle.s390x_emit_int.specs.Function.{number_of_next};
-ghost use Rattle.s390x_emit_int.specs.LastChoice.{choice_of};
+ghost use Rattle.s390x_emit_int.specs.LastChoice.{choice_of, IsLastOf};
 ghost use Rattle.s390x_emit_int.specs.Room.{MembersFit, OnlyOutOfMemory};
 
 use crate::causes::{cause_unless, two_labels_cause};
@@ -55,11 +55,8 @@ fn choice_before(inst: &Inst, next: MachLabel) -> Option<LastChoice>
 }
 
 /// The choice that a block's last instruction is, where its second branch leads to the next block and its first one doesn't.
-#[tactic(auto, using(crate::proofs::LastChoice::list_end))]
 pub fn last_choice(insts: &[Inst], next: Option<MachLabel>) -> Option<LastChoice>
-    ensures last { IfSome result
-        (λ choice. insts.now ≡ take (length insts.now - 1) insts.now ++ choice_of choice ∷ []) }
-    ensures some { IfSome result (λ _. 0 < length insts.now) }
+    ensures last { IfSome result (IsLastOf insts.now) }
     ensures next { IfSome result
         (λ choice. (number_of_next next ≡ Some choice.not_taken.0)
         × (choice.taken.0 ≢ choice.not_taken.0)) }
@@ -74,14 +71,14 @@ pub fn last_choice(insts: &[Inst], next: Option<MachLabel>) -> Option<LastChoice
 }
 
 // Why a choice can't stand there: one of its labels names no block, or there is no room for both its branches.
-fn choice_cause(sink: &MachBuffer, choice: LastChoice) -> Option<EmitError>
+fn choice_cause(sink: &MachBuffer, taken: MachLabel, not_taken: MachLabel) -> Option<EmitError>
     ensures { result
         ≡ first_emit_cause
-        (first_emit_cause (target_label_cause sink.now.block_count choice.taken)
-        (target_label_cause sink.now.block_count choice.not_taken))
+        (first_emit_cause (target_label_cause sink.now.block_count taken)
+        (target_label_cause sink.now.block_count not_taken))
         (unless (nat_lt (length sink.now.bytes + 12) limit) LabelOutOfRange) }
 {
-    match two_labels_cause(sink.block_count(), choice.taken, choice.not_taken) {
+    match two_labels_cause(sink.block_count(), taken, not_taken) {
         Some(error) => Some(error),
         None => cause_unless(
             u64::from(sink.cur_offset()) + 12 < LIMIT,
@@ -107,10 +104,15 @@ pub fn put_last_choice(sink: &mut MachBuffer, choice: LastChoice) -> Result<(), 
         (target_label_cause sink.old.block_count choice.not_taken)) → OnlyOutOfMemory result }
     ensures kept { Extends sink.old sink.new }
 {
+    let LastChoice {
+        taken,
+        not_taken,
+        cond,
+    } = choice;
     reveal_label_range(sink);
     sink.start_step()?;
-    match choice_cause(sink, choice) {
+    match choice_cause(sink, taken, not_taken) {
         Some(error) => Err(error),
-        None => put_branch(sink, choice.cond.bits(), choice.taken),
+        None => put_branch(sink, cond.bits(), taken),
     }
 }
