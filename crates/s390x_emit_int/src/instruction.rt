@@ -635,8 +635,8 @@ fn emit_register(
     }
 }
 
-// A buffer has no more labels than there are numbers.
-fn reveal_label_range(sink: &MachBuffer)
+/// A buffer has no more labels than there are numbers.
+pub fn reveal_label_range(sink: &MachBuffer)
     ensures { numbers_cause (length sink.now.labels) 0 ≡ None }
 {
     let _count = sink.label_count();
