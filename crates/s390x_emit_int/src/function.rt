@@ -107,6 +107,7 @@ fn length_cause(lengths: Lengths, constants: &[ConstantData]) -> Option<EmitErro
 
 // Emits the members of a block in order, each with its step place and each of its calls a safepoint, where no cause refuses one. The state is then the one
 // behind them.
+#[inline(always)]
 fn emit_block_members(
     alloc: Global,
     flags: IsaFlags,
