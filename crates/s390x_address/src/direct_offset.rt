@@ -157,6 +157,7 @@ pub struct FarAccess {
 }
 
 // The code of the row of format RX at a base and the index `%r1`, where its registers may stand there.
+#[inline(always)]
 fn short_indexed_code(opcode: u8, register: Reg, base: Reg) -> Option<Code>
     ensures { IfSome result
         (λ code. code
@@ -169,6 +170,7 @@ fn short_indexed_code(opcode: u8, register: Reg, base: Reg) -> Option<Code>
 }
 
 // The code of the row of format RXY at a base and the index `%r1`, where its registers may stand there.
+#[inline(always)]
 fn rxy_indexed_code(opcode: u16, register: Reg, base: Reg) -> Option<Code>
     ensures { IfSome result
         (λ code. code
@@ -188,6 +190,7 @@ fn rxy_indexed_code(opcode: u16, register: Reg, base: Reg) -> Option<Code>
 }
 
 // Its code, where an instruction has that row and none of format RX.
+#[inline(always)]
 fn long_indexed_code(opcode: Option<u16>, register: Reg, base: Reg) -> Option<Code>
     ensures { (ril_opcode : Option ℕ) (accesses : Bool) (flags : AccessFlags)
         → IfSome result
@@ -199,6 +202,7 @@ fn long_indexed_code(opcode: Option<u16>, register: Reg, base: Reg) -> Option<Co
 }
 
 // The code of the shorter row with a general register that there is, at a base and the index `%r1`.
+#[inline(always)]
 fn register_indexed_code(
     short_opcode: Option<u8>,
     long_opcode: Option<u16>,
@@ -217,6 +221,7 @@ fn register_indexed_code(
 }
 
 // The code of the row of format VRX at a base and the index `%r1`, where its registers and its mask may stand there.
+#[inline(always)]
 fn vector_indexed_code(opcode: u16, register: Reg, base: Reg, mask: u8) -> Option<Code>
     ensures { (accesses : Bool) (flags : AccessFlags)
         → IfSome result
@@ -226,6 +231,7 @@ fn vector_indexed_code(opcode: u16, register: Reg, base: Reg, mask: u8) -> Optio
 }
 
 // The code at a base and the index `%r1` of an instruction by one general or vector register.
+#[inline(always)]
 fn indexed_code(rows: &StorageRows, base: Reg) -> Option<Code>
     ensures { (accesses : Bool) (flags : AccessFlags)
         → IfSome result
@@ -248,6 +254,7 @@ fn indexed_code(rows: &StorageRows, base: Reg) -> Option<Code>
 }
 
 // The offset that a helper loads, where it is one of these.
+#[inline(always)]
 fn helper_offset(off: i128) -> Option<i32>
     ensures { result ≡ (if is_far off then Some off else None) }
 {
@@ -259,6 +266,7 @@ fn helper_offset(off: i128) -> Option<i32>
 }
 
 /// The access at a base and an offset of an instruction by one general or vector register that doesn't read `%r1`, where a helper loads the offset.
+#[inline(always)]
 pub fn far_access(rows: &StorageRows, base: Reg, off: i128) -> Option<FarAccess>
     ensures { (accesses operands_valid : Bool) (flags : AccessFlags)
         → IfSome result

@@ -136,6 +136,7 @@ fn put_offset(sink: &mut MachBuffer, off: i32) -> Result<(), EmitError>
 }
 
 // The load of an offset into `%r1`, and then the code of a row with the trap of its faults.
+#[inline(never)]
 fn put_far_row(
     sink: &mut MachBuffer,
     far: &FarAccess,
@@ -543,6 +544,7 @@ impl MemoryInst {
     }
 
     // The helpers and the access, by a lowering, of an instruction with valid registers, where no other cause refuses it.
+    #[inline(never)]
     fn emit_lowered(&self, sink: &mut MachBuffer, state: &EmitState) -> Result<(), EmitError>
         requires encodes { may_encode self.now ≡ true }
         requires valid { (self.now.operands_valid && operand_general self.now.operand) ≡ true }
@@ -597,6 +599,7 @@ impl MemoryInst {
     }
 
     // Its access behind the load of its offset, where that is its one helper, and neither its base nor a register that it reads is `%r1`.
+    #[inline(always)]
     fn far_access(&self, state: &EmitState) -> Option<FarAccess>
         ensures { IfSome result
             (λ far. IsBehind (in_state state.now (memory_instruction_of self.now))
@@ -612,7 +615,7 @@ impl MemoryInst {
     }
 
     // The helpers and the access of an instruction with valid registers and some helper, where no other cause refuses it.
-    #[inline(never)]
+    #[inline(always)]
     fn emit_helped(&self, sink: &mut MachBuffer, state: &EmitState) -> Result<(), EmitError>
         requires encodes { may_encode self.now ≡ true }
         requires valid { (self.now.operands_valid && operand_general self.now.operand) ≡ true }
@@ -631,7 +634,11 @@ impl MemoryInst {
     {
         match self.far_access(state) {
             Some(far) => put_far_row(sink, &far, self.fault_code()),
-            None => self.emit_lowered(sink, state),
+            // by a copy: what a call borrows is made whole in memory before the code is looked for
+            None => {
+                let rest = *self;
+                rest.emit_lowered(sink, state)
+            }
         }
     }
 
@@ -655,11 +662,7 @@ impl MemoryInst {
     {
         match self.plain_code(state) {
             Some(code) => put_row(sink, &code, self.fault_code()),
-            // by a copy: what a call borrows is made whole in memory before the code is looked for
-            None => {
-                let rest = *self;
-                rest.emit_helped(sink, state)
-            }
+            None => self.emit_helped(sink, state),
         }
     }
 

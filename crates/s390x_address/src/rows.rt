@@ -118,6 +118,7 @@ pub enum StorageRows {
 }
 
 /// The code of a row with a mask. No row has one of more than four bits. Refused where a register or the mask can't be encoded.
+#[inline(always)]
 pub fn masked_code(
     opcode: u16,
     v1: Reg,

@@ -16,6 +16,7 @@ pub mod Binding
 pub mod Joining
 pub mod OnlyMemory
 pub mod Plain
+pub mod LastChoice
 pub mod Leaves
 pub mod Collecting
 pub mod Starts

@@ -33,11 +33,11 @@ use Rattle.s390x_emit_int.specs.BlockEnds.{bytes_to, continuation_bytes, instruc
 use Rattle.s390x_emit_int.specs.Members.{member_of, block_members_of}
 
 -- there is a last step
-abbrev IsFull : Tree → Type 0
+abbrev pub IsFull : Tree → Type 0
 IsFull empty = ⊥
 IsFull t = Unit {0}
 
-folded_joined : (next : ℕ) (t u : Tree) → IsFull u → folded_members next (joined t u) ≡ joined t (folded_members next u)
+pub folded_joined : (next : ℕ) (t u : Tree) → IsFull u → folded_members next (joined t u) ≡ joined t (folded_members next u)
 folded_joined next empty u full = refl
 folded_joined next (leaf b empty) empty full = absurd full
 folded_joined next (leaf b empty) (leaf c rest) full = refl

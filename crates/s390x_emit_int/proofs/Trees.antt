@@ -23,7 +23,7 @@ use Rattle.s390x_emit_int.proofs.Runs.{Grows, run-append, opened, opened_labels,
 use Rattle.s390x_emit_int.proofs.Starts.{Same, same_run}
 
 -- the fragments of one tree come before those of the other
-fragments_joined : (t u : Tree) (n after : ℕ) → fragments n after (joined t u) ≡ fragments n after t ++ fragments (n + fresh_labels t) after u
+pub fragments_joined : (t u : Tree) (n after : ℕ) → fragments n after (joined t u) ≡ fragments n after t ++ fragments (n + fresh_labels t) after u
 fragments_joined empty u n after = let e : n ≡ n + 0 = omega arith in ap (λ k. fragments k after u) e
 fragments_joined (leaf b t) u n after =
     let own = body_fragments n after b in
@@ -69,7 +69,7 @@ joined_run own rest s n after begins =
 pub own_run : (own : Tree) (s : BufferState) (n after : ℕ) → Begins own → apply_all s (fragments n after own) ≡ apply_all (apply s StartStep) (own_fragments n after own)
 own_run own s n after begins = ap (apply_all s) (begins n after)
 
-ranges_joined : (t u : Tree) → AllInRange t → AllInRange u → AllInRange (joined t u)
+pub ranges_joined : (t u : Tree) → AllInRange t → AllInRange u → AllInRange (joined t u)
 ranges_joined empty u f r = r
 ranges_joined (leaf b t) u f r = (f.0, ranges_joined t u f.1 r)
 ranges_joined (loop_node mask members t) u f r = (f.0, f.1, ranges_joined t u f.2 r)

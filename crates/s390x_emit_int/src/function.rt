@@ -1,6 +1,6 @@
 //! Emitting a function: its blocks, and then its constants.
 
-ghost use Rattle.std.specs.Prelude.{◌≡◌, ℕ, ◌+◌, ◌<◌, ◌≤◌, ◌⊎◌, List, OnOk, length, map, cond, None, Some, MatchResult, nat_lt, false};
+ghost use Rattle.std.specs.Prelude.{◌≡◌, ◌≢◌, ℕ, ◌+◌, ◌<◌, ◌≤◌, ◌⊎◌, List, OnOk, length, map, cond, None, Some, MatchResult, nat_lt, false};
 ghost use Rattle.s390x_base.specs.declared.error.EmitError.TheVariants.{NoMemory, LabelOutOfRange, BadStackState};
 ghost use Rattle.s390x_buffer.specs.Extends.{Extends};
 ghost use Rattle.s390x_buffer.specs.State.{IsUnbound, constant_of, new_cause, put_cause, fresh_buffer, limit, label_limit};
@@ -8,7 +8,7 @@ ghost use Rattle.s390x_buffer.specs.Constants.{constants_end};
 ghost use Rattle.s390x_inst.specs.declared.state.IsaFlags.{IsaFlags};
 ghost use Rattle.s390x_typed_steps.specs.Causes.{unless, declared_in, declared_of, block_cause, blocks_cause, nominal_behind, tree_cause};
 ghost use Rattle.s390x_typed_steps.specs.Tree.{Tree, block_tree};
-ghost use Rattle.s390x_typed_steps.specs.Folding.{folded_before, folded_trees, peak, peak_from};
+ghost use Rattle.s390x_typed_steps.specs.Folding.{folded_before, folded_members, folded_trees, peak, peak_from};
 ghost use Rattle.s390x_typed_steps.specs.Sizes.{tree_size, blocks_size};
 ghost use Rattle.s390x_buffer.specs.declared.entries.RecordedBranches.TheVariants.{NoBranch};
 ghost use Rattle.s390x_emit_int.specs.Emission.{fragments, function_fragments};
@@ -16,12 +16,14 @@ ghost use Rattle.s390x_typed_steps.specs.Ranges.{AllInRange, BlocksInRange};
 ghost use Rattle.s390x_emit_int.specs.Function.{tree_of, trees_of, folded_trees_of, constants_of, number_of_next, IsFinishedCode, start_cause, code_length_cause, checked_cause, function_cause};
 ghost use Rattle.s390x_emit_int.specs.Fragments.{apply_all};
 ghost use Rattle.s390x_emit_int.specs.CodeSize.{AreCounted};
+ghost use Rattle.s390x_emit_int.specs.LastChoice.{IsLastOf};
 ghost use Rattle.s390x_emit_int.specs.Members.{block_members_of};
 ghost use Rattle.s390x_emit_int.specs.Room.{HasRoom, MembersFit, TreeFits, OnlyOutOfMemory};
 
 use crate::check::{CodeSize, check_block};
 use crate::context::Context;
 use crate::folding::folded_bytes;
+use crate::last_choice::{LastChoice, last_choice, put_last_choice};
 use crate::stack::{advance, end_cause, mark_safepoint};
 use crate::tree::emit_inst;
 use s390x_base::{ConstantData, EmitError, MachLabel};
@@ -105,6 +107,7 @@ fn length_cause(lengths: Lengths, constants: &[ConstantData]) -> Option<EmitErro
 
 // Emits the members of a block in order, each with its step place and each of its calls a safepoint, where no cause refuses one. The state is then the one
 // behind them.
+#[inline(always)]
 fn emit_block_members(
     alloc: Global,
     flags: IsaFlags,
@@ -142,8 +145,51 @@ fn emit_block_members(
     Ok(())
 }
 
+// A block that begins at the nominal size 0 and has to end there, and whose last instruction is a choice of which one branch stays, where no cause refuses it.
+// The branch that stays is put at once, and no other one.
+fn emit_before_choice(
+    alloc: Global,
+    flags: IsaFlags,
+    sink: &mut MachBuffer,
+    state: &EmitState,
+    insts: &[Inst],
+    choice: LastChoice,
+) -> Result<(), EmitError>
+    requires last { IsLastOf insts.now choice }
+    requires start { state.now.nominal ≡ 0 }
+    requires room { HasRoom sink.old }
+    requires apart { choice.taken.0 ≢ choice.not_taken.0 }
+    ensures answer { OnOk result
+        (sink.new
+        ≡ apply_all sink.old
+        (fragments (length sink.old.labels) 0
+        (folded_members choice.not_taken.0
+        (block_members_of flags state.now insts.now)))) }
+    ensures short { OnOk result
+        (length sink.old.bytes + tree_size (block_members_of flags state.now insts.now)
+        < limit) }
+    ensures cause { OnOk result
+        (block_cause flags (declared_in sink.old) (length sink.old.labels)
+        (block_members_of flags state.now insts.now) ≡ None) }
+    ensures only_memory { MembersFit sink.old 0 0
+        (tree_size (block_members_of flags state.now insts.now))
+        (block_cause flags (declared_in sink.old) (length sink.old.labels)
+        (block_members_of flags state.now insts.now)) → OnlyOutOfMemory result }
+    ensures ranges { OnOk result
+        (AllInRange (block_members_of flags state.now insts.now)) }
+    ensures declared { declared_in sink.new ≡ declared_in sink.old }
+{
+    let mut behind = *state;
+    let others = &insts[..insts.len() - 1];
+    emit_block_members(alloc, flags, sink, &mut behind, others)?;
+    match end_cause(&behind) {
+        Some(error) => Err(error),
+        None => put_last_choice(sink, choice),
+    }
+}
+
 // A block that begins at the nominal size 0 and has to end there, where no cause refuses it. At its end its last branches are folded, before the next block.
-fn emit_block(
+fn emit_any_block(
     alloc: Global,
     flags: IsaFlags,
     sink: &mut MachBuffer,
@@ -177,6 +223,41 @@ fn emit_block(
     match end_cause(&behind) {
         Some(error) => Err(error),
         None => sink.end_block(next),
+    }
+}
+
+// A block that begins at the nominal size 0 and has to end there, where no cause refuses it. Of its last branches what is left before the next block stands
+// at its end.
+fn emit_block(
+    alloc: Global,
+    flags: IsaFlags,
+    sink: &mut MachBuffer,
+    state: &EmitState,
+    block: &Block,
+    next: Option<MachLabel>,
+) -> Result<(), EmitError>
+    requires start { state.now.nominal ≡ 0 }
+    requires room { HasRoom sink.old }
+    requires clear { sink.old.branches ≡ NoBranch }
+    ensures answer { OnOk result
+        (sink.new
+        ≡ apply_all sink.old
+        (fragments (length sink.old.labels) 0
+        (folded_before (number_of_next next) (tree_of flags state.now block.now)))) }
+    ensures short { OnOk result
+        (length sink.old.bytes + tree_size (tree_of flags state.now block.now) < limit) }
+    ensures cause { OnOk result
+        (block_cause flags (declared_in sink.old) (length sink.old.labels)
+        (tree_of flags state.now block.now) ≡ None) }
+    ensures only_memory { MembersFit sink.old 0 0 (tree_size (tree_of flags state.now block.now))
+        (block_cause flags (declared_in sink.old) (length sink.old.labels)
+        (tree_of flags state.now block.now)) → OnlyOutOfMemory result }
+    ensures ranges { OnOk result (AllInRange (tree_of flags state.now block.now)) }
+    ensures declared { declared_in sink.new ≡ declared_in sink.old }
+{
+    match last_choice(&block.insts, next) {
+        Some(choice) => emit_before_choice(alloc, flags, sink, state, &block.insts, choice),
+        None => emit_any_block(alloc, flags, sink, state, block, next),
     }
 }
 

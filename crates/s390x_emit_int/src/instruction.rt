@@ -1,7 +1,7 @@
 //! Emitting one instruction that is no `Loop`.
 #![tactic(auto, using(s390x_buffer::proofs::Extending::extends_on, s390x_buffer::proofs::Extending::extends_same))]
 
-ghost use Rattle.std.specs.Prelude.{◌≡◌, ℕ, ◌<◌, ◌&&◌, [], ◌∷◌, Some, None, true, is_some, length, OnOk, IfSome};
+ghost use Rattle.std.specs.Prelude.{◌≡◌, ℕ, ◌<◌, ◌&&◌, [], ◌∷◌, Some, None, true, length, OnOk, IfSome};
 ghost use Rattle.std.specs.Option.{option_map};
 ghost use Rattle.s390x_base.specs.Regs.{number_of};
 ghost use Rattle.s390x_buffer.specs.Extends.{Extends};
@@ -41,7 +41,7 @@ use s390x_emit_rows::{
 };
 use s390x_emit_vec::{encode_vector, vector_memory_rows};
 use s390x_enc::{enc_e, enc_ril_b, enc_ril_c, enc_rr};
-use s390x_inst::{EmitState, Inst, IsaFlags, MemArg, VecInst};
+use s390x_inst::{EmitState, Inst, IsaFlags, Load, LoadOp, MemArg, Store, StoreOp, VecInst};
 use s390x_rows::opcodes;
 
 // A code whose last four bytes are half of the distance to a label; the buffer's end fills it in.
@@ -416,6 +416,42 @@ fn emit_control(
     }
 }
 
+// By these rows with an operand in memory, where there are any; else an instruction that names a place, goes elsewhere or ends the run. No cause of its own
+// refuses it.
+#[inline(always)]
+fn emit_rows_or_control(
+    sink: &mut MachBuffer,
+    state: &EmitState,
+    depth: u32,
+    inst: &Inst,
+    after: MachLabel,
+    rows: Option<MemoryInst>,
+) -> Result<(), EmitError>
+    requires row { option_map memory_instruction_of rows ≡ memory inst.now }
+    requires encodes { IfSome rows (λ x. may_encode x ≡ true) }
+    requires single_instruction { None ≡ single_instruction inst.now }
+    requires room { HasRoom sink.old }
+    ensures answer { OnOk result
+        ((memory_cause_or (declared_in sink.old) (memory (resolved_instruction state.now inst.now))
+        (branch_cause sink.old.block_count depth inst.now) ≡ None)
+        × (sink.new
+        ≡ apply_all sink.old
+        (leaf_fragments (length sink.old.labels) after.0
+        (resolved_instruction state.now inst.now)))) }
+    ensures only_memory { (flags : IsaFlags)
+        → MembersFit sink.old after.0 depth
+        (instruction_size (resolved_instruction state.now inst.now))
+        (leaf_cause flags (declared_in sink.old) (length sink.old.labels) state.now.nominal
+        depth (resolved_instruction state.now inst.now)) → OnlyOutOfMemory result }
+    ensures range { OnOk result (InRange (resolved_instruction state.now inst.now)) }
+    ensures kept { Extends sink.old sink.new }
+{
+    match rows {
+        Some(found) => emit_access(sink, state, &found),
+        None => emit_control(sink, depth, inst, after),
+    }
+}
+
 // An instruction that isn't one machine instruction, where no cause of its own refuses it.
 fn emit_memory_or_control(
     sink: &mut MachBuffer,
@@ -441,13 +477,11 @@ fn emit_memory_or_control(
     ensures range { OnOk result (InRange (resolved_instruction state.now inst.now)) }
     ensures kept { Extends sink.old sink.new }
 {
-    match memory_rows(inst) {
-        Some(found) => emit_access(sink, state, &found),
-        None => emit_control(sink, depth, inst, after),
-    }
+    emit_rows_or_control(sink, state, depth, inst, after, memory_rows(inst))
 }
 
-// Emits a load of a general register, which is asked first: its rows go to its access with no copy of them between.
+// Emits a load of a general register, which is asked first: its rows go to its access with no copy of them between. That of a doubleword, which is met most
+// often, has an arm of its own, in which they are constants.
 fn emit_load(
     sink: &mut MachBuffer,
     state: &EmitState,
@@ -472,13 +506,24 @@ fn emit_load(
     ensures range { OnOk result (InRange (resolved_instruction state.now inst.now)) }
     ensures kept { Extends sink.old sink.new }
 {
-    match inst.as_load() {
-        Some(load) => emit_access(sink, state, &memory_of_load(&load)),
-        None => emit_memory_or_control(sink, state, depth, inst, after),
+    match inst {
+        Inst::Load64 { rd, mem } => {
+            let load = Load {
+                op: LoadOp::Load64,
+                rd: *rd,
+                mem: *mem,
+            };
+            let found = memory_of_load(&load);
+            emit_rows_or_control(sink, state, depth, inst, after, Some(found))
+        }
+        _ => match inst.as_load() {
+            Some(load) => emit_access(sink, state, &memory_of_load(&load)),
+            None => emit_memory_or_control(sink, state, depth, inst, after),
+        },
     }
 }
 
-// Emits a store of a general register, which is asked first.
+// Emits a store of a general register, which is asked first; that of a doubleword has an arm of its own.
 fn emit_store(
     sink: &mut MachBuffer,
     state: &EmitState,
@@ -503,30 +548,25 @@ fn emit_store(
     ensures range { OnOk result (InRange (resolved_instruction state.now inst.now)) }
     ensures kept { Extends sink.old sink.new }
 {
-    match inst.as_store() {
-        Some(store) => emit_access(sink, state, &memory_of_store(&store)),
-        None => emit_memory_or_control(sink, state, depth, inst, after),
-    }
-}
-
-// The rows of a load or a store of a vector register as it stands. Each of the two has an arm of its own, in which they are found by its variant.
-#[inline(always)]
-fn whole_rows(inst: &Inst) -> Option<MemoryInst>
-    ensures row { is_some result ≡ true
-        → option_map memory_instruction_of result ≡ memory inst.now }
-    ensures encodes { IfSome result (λ x. may_encode x ≡ true) }
-{
     match inst {
-        Inst::Vector(inst) => match inst {
-            VecInst::VecLoad { .. } => vector_memory_rows(inst),
-            VecInst::VecStore { .. } => vector_memory_rows(inst),
-            _ => None,
+        Inst::Store64 { rd, mem } => {
+            let store = Store {
+                op: StoreOp::Store64,
+                rd: *rd,
+                mem: *mem,
+            };
+            let found = memory_of_store(&store);
+            emit_rows_or_control(sink, state, depth, inst, after, Some(found))
+        }
+        _ => match inst.as_store() {
+            Some(store) => emit_access(sink, state, &memory_of_store(&store)),
+            None => emit_memory_or_control(sink, state, depth, inst, after),
         },
-        _ => None,
     }
 }
 
-// Emits a load or a store of a vector register as it stands, which is asked first.
+// Emits a load or a store of a vector register as it stands, which is asked first. Each of the two has an arm of its own, in which its rows are found by its
+// variant.
 fn emit_whole(
     sink: &mut MachBuffer,
     state: &EmitState,
@@ -551,9 +591,17 @@ fn emit_whole(
     ensures range { OnOk result (InRange (resolved_instruction state.now inst.now)) }
     ensures kept { Extends sink.old sink.new }
 {
-    match whole_rows(inst) {
-        Some(found) => emit_access(sink, state, &found),
-        None => emit_memory_or_control(sink, state, depth, inst, after),
+    match inst {
+        Inst::Vector(vector) => match vector {
+            VecInst::VecLoad { .. } => {
+                emit_rows_or_control(sink, state, depth, inst, after, vector_memory_rows(vector))
+            }
+            VecInst::VecStore { .. } => {
+                emit_rows_or_control(sink, state, depth, inst, after, vector_memory_rows(vector))
+            }
+            _ => emit_memory_or_control(sink, state, depth, inst, after),
+        },
+        _ => emit_memory_or_control(sink, state, depth, inst, after),
     }
 }
 
@@ -635,8 +683,8 @@ fn emit_register(
     }
 }
 
-// A buffer has no more labels than there are numbers.
-fn reveal_label_range(sink: &MachBuffer)
+/// A buffer has no more labels than there are numbers.
+pub fn reveal_label_range(sink: &MachBuffer)
     ensures { numbers_cause (length sink.now.labels) 0 ≡ None }
 {
     let _count = sink.label_count();

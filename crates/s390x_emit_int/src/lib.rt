@@ -17,6 +17,7 @@ mod function;
 mod headline;
 mod image;
 mod instruction;
+mod last_choice;
 mod stack;
 mod symbol;
 mod table;
