@@ -1040,13 +1040,13 @@ pub enum Inst {
         rn: Reg,
         rm: Reg,
     },
-    /// Tells whether `rn` is greater than `rm`, signed; `tmp` may change.
+    /// Whether `rn` is greater than `rm`, signed; `tmp` may change.
     VecInt128SCmpHi {
         tmp: Reg,
         rn: Reg,
         rm: Reg,
     },
-    /// Tells whether `rn` is greater than `rm`, unsigned; `tmp` may change.
+    /// Whether `rn` is greater than `rm`, unsigned; `tmp` may change.
     VecInt128UCmpHi {
         tmp: Reg,
         rn: Reg,
