@@ -20,11 +20,13 @@ use std::alloc::Global;
 /// - `BundleRefused`, where it is the text of others: the line of the first cause by which they have none (`BundleError` of `s390x_bundle`);
 /// - `Syntax`, where it is the text of no functions: the number of its first wrong line;
 /// - `NoMemory`, which may come in place of any of these.
-pub fn bundle_reply(alloc: Global, base: u64, input: &[u8]) -> Reply
-    requires { length input.now < bundle_limit }
-    ensures { IsBundleAnswer base input.now result.status (cow_str_bytes result.text) }
+///
+/// The input's memory is given back once it is read.
+pub fn bundle_reply(alloc: Global, base: u64, input: Vec<u8>) -> Reply
+    requires { length input.items < bundle_limit }
+    ensures { IsBundleAnswer base input.items result.status (cow_str_bytes result.text) }
 {
-    match read_bundle(alloc, input) {
+    match read_bundle(alloc, &input) {
         Ok(functions) => image_of_functions(alloc, base, input, functions),
         Err(BundleTextError::Syntax { line }) => syntax(alloc, line),
         Err(BundleTextError::NoMemory) => no_memory(),
@@ -32,10 +34,11 @@ pub fn bundle_reply(alloc: Global, base: u64, input: &[u8]) -> Reply
 }
 
 // The image at this base of these functions, which are those of the input.
-fn image_of_functions(alloc: Global, base: u64, input: &[u8], functions: Vec<NamedJob>) -> Reply
-    requires { AreFunctionsOf input.now functions.items }
-    ensures { IsBundleAnswer base input.now result.status (cow_str_bytes result.text) }
+fn image_of_functions(alloc: Global, base: u64, input: Vec<u8>, functions: Vec<NamedJob>) -> Reply
+    requires { AreFunctionsOf input.items functions.items }
+    ensures { IsBundleAnswer base input.items result.status (cow_str_bytes result.text) }
 {
+    drop(input);
     let Ok(members) = members_of(alloc, functions) else {
         return no_memory();
     };

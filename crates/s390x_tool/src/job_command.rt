@@ -22,13 +22,16 @@ use s390x_text::{TextError, valid_blocks_have_texts};
 use std::alloc::Global;
 use std::borrow::CowStr;
 
-/// The answer to a command and its whole input.
-pub fn answer(alloc: Global, command: JobCommand, input: &[u8]) -> Reply
-    requires { length input.now < text_limit }
-    ensures { IsAnswer command input.now result.status (cow_str_bytes result.text) }
+/// The answer to a command and its whole input, whose memory is given back once it is read.
+pub fn answer(alloc: Global, command: JobCommand, input: Vec<u8>) -> Reply
+    requires { length input.items < text_limit }
+    ensures { IsAnswer command input.items result.status (cow_str_bytes result.text) }
 {
-    match read_lines(alloc, input) {
-        Ok(job) => reply_to_job(alloc, command, &job),
+    match read_lines(alloc, &input) {
+        Ok(job) => {
+            drop(input);
+            reply_to_job(alloc, command, &job)
+        }
         Err(LineError::Syntax { line }) => syntax(alloc, line),
         Err(LineError::NoMemory) => no_memory(),
     }
@@ -76,7 +79,8 @@ fn show(alloc: Global, job: &Job) -> Reply
     ensures { IsShowReply job.now result.status (cow_str_bytes result.text) }
 {
     match emit_function(alloc, &job.function, &job.info, job.state) {
-        Ok(_) => {
+        Ok(code) => {
+            drop(code);
             valid_blocks_have_texts();
             texts(alloc, job)
         }

@@ -113,21 +113,21 @@ fn reply_to<S: Source>(alloc: Global, words: &[String], source: &mut S) -> Reply
             start,
         } => simulate(alloc, base, word, count, steps, start),
         command => match read_input(alloc, source) {
-            Ok(input) => answer_to_input(alloc, command, &input),
+            Ok(input) => answer_to_input(alloc, command, input),
             Err(error) => unread(error),
         },
     }
 }
 
 // The answer to a command about what the source held, and to all of that.
-fn answer_to_input(alloc: Global, command: Command, input: &[u8]) -> Reply
+fn answer_to_input(alloc: Global, command: Command, input: Vec<u8>) -> Reply
     requires about { IsAboutInput command }
-    requires short { length input.now < too_many }
-    ensures { IsInputAnswer command input.now result.status (cow_str_bytes result.text) }
+    requires short { length input.items < too_many }
+    ensures { IsInputAnswer command input.items result.status (cow_str_bytes result.text) }
 {
     match command {
         Command::OnJob(command) => answer(alloc, command, input),
-        Command::Allocate => alloc_reply(alloc, input),
+        Command::Allocate => alloc_reply(alloc, &input),
         Command::Bundle { base } => bundle_reply(alloc, base, input),
         Command::Generate { .. } | Command::Simulate { .. } => unreachable!(),
     }
