@@ -6,7 +6,7 @@ and a line with several names, count as one. A lemma goes whole where its type n
 import collections, pathlib, re, sys
 
 ROOT = pathlib.Path(__file__).resolve().parent.parent / "crates"
-FILES = {p: p.read_text() for p in sorted(ROOT.rglob("*")) if p.suffix in (".rt", ".antt")}
+FILES = {p: p.read_text() for p in sorted(ROOT.rglob("*")) if p.suffix in (".rt", ".antt") and "out" not in p.parts}
 
 
 def depth(line):
