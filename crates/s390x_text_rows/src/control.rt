@@ -12,7 +12,7 @@ use crate::register_names::put_reg;
 use crate::row::{fixed1, fixed2, spelled1, text_result};
 use s390x_base::{Cond, MachLabel, Reg, TrapCode, Writable};
 use s390x_inst::{ArgPair, Inst, RetPair, SymbolReloc};
-use s390x_job_fields::atoms::put_trap;
+use s390x_job_fields::atoms::{put_name, put_trap};
 use std::alloc::AllocError;
 
 // A branch to a block under a condition.
@@ -225,7 +225,7 @@ fn put_reloc(out: &mut String, reloc: SymbolReloc) -> Result<(), AllocError>
 {
     match reloc {
         SymbolReloc::Absolute { name, offset } => {
-            name.put(out)?;
+            put_name(out, name)?;
             put(out, " + ")?;
             put_integer(out, offset)
         }
