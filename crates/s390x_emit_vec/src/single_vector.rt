@@ -1,10 +1,13 @@
 //! The look-up of a vector instruction.
 ghost use Rattle.std.specs.Prelude.{◌≡◌, ◌<◌, ◌&&◌, pos};
 ghost use Rattle.s390x_base.specs.Regs.{number_of};
-ghost use Rattle.s390x_typed_steps.specs.General.{low_halfword, low_byte};
-ghost use Rattle.s390x_typed_steps.specs.SingleCode.{single_code};
+ghost use Rattle.s390x_rows.specs.declared.opcodes.TheConstants as opcodes;
+ghost use Rattle.s390x_typed_steps.specs.General.{is_general, low_halfword, low_byte};
+ghost use Rattle.s390x_typed_steps.specs.MachineInstruction.{vri_a, vrs_a};
+ghost use Rattle.s390x_typed_steps.specs.SingleCode.{code_where, single_code};
 ghost use Rattle.s390x_typed_steps.specs.SingleInstruction.{single_with};
 ghost use Rattle.s390x_typed_steps.specs.VectorInstruction.{bit_mask_row, is_vector, element_code, doublewords_row, replicate_row, vector_row, vector_operands_valid, vector_stop};
+ghost use Rattle.s390x_typed_steps.specs.VectorOpcodes.{shift_row};
 
 use crate::codes::{
     bit_mask, blended_vectors, compared_vectors, evaluated_vectors, four_vectors, immediate_vector,
@@ -17,8 +20,8 @@ use crate::lanes::{
 use crate::opcodes::{
     binary_row, comparison_row, element_comparison_row, is_division, shift_row, unary_row,
 };
-use s390x_base::{Code, EmitError, Reg, TrapCode};
-use s390x_inst::{VecInst, rows};
+use s390x_base::{Code, EmitError, Reg, TrapCode, Writable};
+use s390x_inst::{VecInst, VecShiftOp, rows};
 use s390x_rows::opcodes;
 use s390x_typed_steps::{VectorOpcode, bits_of_halfword, bits_of_unsigned_halfword, low_byte};
 
@@ -27,6 +30,39 @@ fn displacement_of(imm: u8) -> u32
     ensures below { result < 4096 }
 {
     u32::from(imm)
+}
+
+// A shift or rotation of each element, by an amount and a register.
+#[inline(always)]
+fn shifted(
+    op: VecShiftOp,
+    rd: Writable<Reg>,
+    rn: Reg,
+    amount: u8,
+    register: Reg,
+) -> Result<Code, EmitError>
+    ensures { result
+        ≡ code_where (is_vector rd && is_vector rn && is_general register)
+        (vrs_a (shift_row op).opcode (number_of rd) (number_of register) (number_of rn)
+        (shift_row op).code (low_byte amount)) }
+{
+    let row = shift_row(op);
+    let amount = displacement_of(amount);
+    shifted_vector(row, rd.to_reg(), rn, register, amount)
+}
+
+// A byte of ones for each bit of a mask.
+#[inline(always)]
+fn byte_mask(rd: Writable<Reg>, mask: u16) -> Result<Code, EmitError>
+    ensures { result
+        ≡ code_where (is_vector rd)
+        (vri_a opcodes.VGBM (number_of rd) (low_halfword (pos mask)) 0) }
+{
+    let row = VectorOpcode {
+        opcode: opcodes::VGBM,
+        code: 0,
+    };
+    immediate_vector(row, rd.to_reg(), bits_of_unsigned_halfword(mask))
 }
 
 // Two doublewords, by their numbers 0 and 1.
@@ -118,12 +154,11 @@ fn encode_any(inst: &VecInst) -> Option<Result<Code, EmitError>>
             VecMov { rd, rn } =>
                 { let row = VectorOpcode { opcode: opcodes::VLR, code: 0 }; Some(two_vectors(row, rd.to_reg(), *rn)) },
             VecShiftRR { shift_op, rd, rn, shift_imm, shift_reg } =>
-                Some(shifted_vector(shift_row(*shift_op), rd.to_reg(), *rn, *shift_reg, displacement_of(*shift_imm))),
+                Some(shifted(*shift_op, *rd, *rn, *shift_imm, *shift_reg)),
             VecEvaluate { imm, rd, rn, rm, ra } => Some(evaluated_vectors(low_byte(*imm), rd.to_reg(), *rn, *rm, *ra)),
             VecPermuteDWImm { rd, rn, rm, idx1, idx2 } => doublewords(rd.to_reg(), *rn, *rm, *idx1, *idx2),
             MovToVec128 { rd, rn, rm } => Some(joined_registers(rd.to_reg(), *rn, *rm)),
-            VecImmByteMask { rd, mask } =>
-                { let row = VectorOpcode { opcode: opcodes::VGBM, code: 0 }; Some(immediate_vector(row, rd.to_reg(), bits_of_unsigned_halfword(*mask))) },
+            VecImmByteMask { rd, mask } => Some(byte_mask(*rd, *mask)),
             VecImmReplicate { size, rd, imm } => replicate_immediate(*size, rd.to_reg(), *imm),
             VecImmBitMask { size, rd, start_bit, end_bit } => bit_mask_of(*size, rd.to_reg(), *start_bit, *end_bit),
             VecReplicateLane { size, rd, rn, lane_imm } => replicated_lane_of(*size, rd.to_reg(), *rn, *lane_imm),
