@@ -5,7 +5,16 @@
 times() {
     awk -v n="$count" -v unit="$1" 'BEGIN {
         gsub(/\\n/, "\n", unit)
-        for (i = 0; i < n; i++) { text = unit; gsub(/{i}/, i, text); gsub(/{j}/, i + 1, text); printf "%s", text }
+        parts = 0
+        while (match(unit, /[{][ij][}]/)) {
+            piece[parts] = substr(unit, 1, RSTART - 1)
+            more[parts++] = substr(unit, RSTART + 1, 1) == "j"
+            unit = substr(unit, RSTART + 3)
+        }
+        for (i = 0; i < n; i++) {
+            for (k = 0; k < parts; k++) printf "%s%d", piece[k], i + more[k]
+            printf "%s", unit
+        }
     }'
 }
 
