@@ -8,6 +8,7 @@ pub mod Passing
 pub mod Peaks
 pub mod Emitting
 pub mod EachEmitter
+pub mod Doublewords
 pub mod Ends
 pub mod Patching
 pub mod Blocks

@@ -18,6 +18,7 @@ ghost use Rattle.s390x_typed_steps.specs.General.{is_general, is_nonzero};
 ghost use Rattle.s390x_typed_steps.specs.Sizes.{instruction_size};
 ghost use Rattle.s390x_emit_int.specs.Fragments.{Put, PutTrapping, apply, apply_all, Link};
 ghost use Rattle.s390x_emit_int.specs.Emission.{branch, jump_fragments, where_fragments, choice_fragments, part_fragments, branch_fragments, branch_size, leaf_fragments};
+ghost use Rattle.s390x_emit_int.specs.Doubleword.{instruction_of};
 ghost use Rattle.s390x_emit_int.specs.Plain.{IsRegister};
 ghost use Rattle.s390x_emit_int.specs.Room.{FitsWithoutCause, MembersFit, OnlyOutOfMemory, HasRoom};
 ghost use Rattle.s390x_buffer.specs.declared.label_use.LabelUse.TheVariants.{BranchRIL};
@@ -30,6 +31,7 @@ ghost use Rattle.s390x_address.specs.Rows.{memory_instruction_of, in_state, may_
 
 use crate::causes::{branch_cause, label_cause, outer_cause, two_labels_cause};
 use crate::composite::emit_composite;
+use crate::doubleword::{Doubleword, far_code, near_code, put_far, put_near};
 use crate::fast_path::{FastPath, fast_path_of};
 use crate::symbol::emit_symbol_load;
 use crate::table::emit_table;
@@ -480,8 +482,9 @@ fn emit_memory_or_control(
     emit_rows_or_control(sink, state, depth, inst, after, memory_rows(inst))
 }
 
-// Emits a load of a general register, which is asked first: its rows go to its access with no copy of them between. That of a doubleword, which is met most
-// often, has an arm of its own, in which they are constants.
+// Emits a load of a general register: its rows go to its access with no copy of them between. That of a doubleword has an arm of its own, in which they are
+// constants.
+#[inline(never)]
 fn emit_load(
     sink: &mut MachBuffer,
     state: &EmitState,
@@ -523,7 +526,8 @@ fn emit_load(
     }
 }
 
-// Emits a store of a general register, which is asked first; that of a doubleword has an arm of its own.
+// Emits a store of a general register; that of a doubleword has an arm of its own.
+#[inline(never)]
 fn emit_store(
     sink: &mut MachBuffer,
     state: &EmitState,
@@ -562,6 +566,160 @@ fn emit_store(
             Some(store) => emit_access(sink, state, &memory_of_store(&store)),
             None => emit_memory_or_control(sink, state, depth, inst, after),
         },
+    }
+}
+
+// A load or a store of a doubleword behind the load of its offset, or one that is refused.
+#[inline(never)]
+fn emit_far_doubleword(
+    sink: &mut MachBuffer,
+    state: &EmitState,
+    depth: u32,
+    inst: &Inst,
+    after: MachLabel,
+    access: Doubleword,
+) -> Result<(), EmitError>
+    requires row { Some (instruction_of access) ≡ memory inst.now }
+    requires single_instruction { None ≡ single_instruction inst.now }
+    requires room { HasRoom sink.old }
+    ensures answer { OnOk result
+        ((memory_cause_or (declared_in sink.old) (memory (resolved_instruction state.now inst.now))
+        (branch_cause sink.old.block_count depth inst.now) ≡ None)
+        × (sink.new
+        ≡ apply_all sink.old
+        (leaf_fragments (length sink.old.labels) after.0
+        (resolved_instruction state.now inst.now)))) }
+    ensures only_memory { (flags : IsaFlags)
+        → MembersFit sink.old after.0 depth
+        (instruction_size (resolved_instruction state.now inst.now))
+        (leaf_cause flags (declared_in sink.old) (length sink.old.labels) state.now.nominal
+        depth (resolved_instruction state.now inst.now)) → OnlyOutOfMemory result }
+    ensures range { OnOk result (InRange (resolved_instruction state.now inst.now)) }
+    ensures kept { Extends sink.old sink.new }
+{
+    match far_code(&access) {
+        Some(far) => put_far(sink, &access, &far),
+        None => emit_memory_or_control(sink, state, depth, inst, after),
+    }
+}
+
+// A load or a store of a doubleword at a register and an offset: by its code at once, where a displacement holds the offset.
+#[inline(always)]
+fn emit_doubleword(
+    sink: &mut MachBuffer,
+    state: &EmitState,
+    depth: u32,
+    inst: &Inst,
+    after: MachLabel,
+    access: Doubleword,
+) -> Result<(), EmitError>
+    requires row { Some (instruction_of access) ≡ memory inst.now }
+    requires single_instruction { None ≡ single_instruction inst.now }
+    requires room { HasRoom sink.old }
+    ensures answer { OnOk result
+        ((memory_cause_or (declared_in sink.old) (memory (resolved_instruction state.now inst.now))
+        (branch_cause sink.old.block_count depth inst.now) ≡ None)
+        × (sink.new
+        ≡ apply_all sink.old
+        (leaf_fragments (length sink.old.labels) after.0
+        (resolved_instruction state.now inst.now)))) }
+    ensures only_memory { (flags : IsaFlags)
+        → MembersFit sink.old after.0 depth
+        (instruction_size (resolved_instruction state.now inst.now))
+        (leaf_cause flags (declared_in sink.old) (length sink.old.labels) state.now.nominal
+        depth (resolved_instruction state.now inst.now)) → OnlyOutOfMemory result }
+    ensures range { OnOk result (InRange (resolved_instruction state.now inst.now)) }
+    ensures kept { Extends sink.old sink.new }
+{
+    match near_code(&access) {
+        Some(code) => put_near(sink, &access, &code),
+        None => emit_far_doubleword(sink, state, depth, inst, after, access),
+    }
+}
+
+// Emits a load of a general register: that of a doubleword at a register and an offset, which is met most often, by its code at once.
+fn emit_any_load(
+    sink: &mut MachBuffer,
+    state: &EmitState,
+    depth: u32,
+    inst: &Inst,
+    after: MachLabel,
+) -> Result<(), EmitError>
+    requires single_instruction { None ≡ single_instruction inst.now }
+    requires room { HasRoom sink.old }
+    ensures answer { OnOk result
+        ((memory_cause_or (declared_in sink.old) (memory (resolved_instruction state.now inst.now))
+        (branch_cause sink.old.block_count depth inst.now) ≡ None)
+        × (sink.new
+        ≡ apply_all sink.old
+        (leaf_fragments (length sink.old.labels) after.0
+        (resolved_instruction state.now inst.now)))) }
+    ensures only_memory { (flags : IsaFlags)
+        → MembersFit sink.old after.0 depth
+        (instruction_size (resolved_instruction state.now inst.now))
+        (leaf_cause flags (declared_in sink.old) (length sink.old.labels) state.now.nominal
+        depth (resolved_instruction state.now inst.now)) → OnlyOutOfMemory result }
+    ensures range { OnOk result (InRange (resolved_instruction state.now inst.now)) }
+    ensures kept { Extends sink.old sink.new }
+{
+    match inst {
+        Inst::Load64 { rd, mem } => match mem {
+            MemArg::RegOffset { reg, off, flags } => {
+                let access = Doubleword {
+                    stores: false,
+                    register: rd.to_reg(),
+                    base: *reg,
+                    off: *off,
+                    flags: *flags,
+                };
+                emit_doubleword(sink, state, depth, inst, after, access)
+            }
+            _ => emit_load(sink, state, depth, inst, after),
+        },
+        _ => emit_load(sink, state, depth, inst, after),
+    }
+}
+
+// Emits a store of a general register: that of a doubleword at a register and an offset by its code at once.
+fn emit_any_store(
+    sink: &mut MachBuffer,
+    state: &EmitState,
+    depth: u32,
+    inst: &Inst,
+    after: MachLabel,
+) -> Result<(), EmitError>
+    requires single_instruction { None ≡ single_instruction inst.now }
+    requires room { HasRoom sink.old }
+    ensures answer { OnOk result
+        ((memory_cause_or (declared_in sink.old) (memory (resolved_instruction state.now inst.now))
+        (branch_cause sink.old.block_count depth inst.now) ≡ None)
+        × (sink.new
+        ≡ apply_all sink.old
+        (leaf_fragments (length sink.old.labels) after.0
+        (resolved_instruction state.now inst.now)))) }
+    ensures only_memory { (flags : IsaFlags)
+        → MembersFit sink.old after.0 depth
+        (instruction_size (resolved_instruction state.now inst.now))
+        (leaf_cause flags (declared_in sink.old) (length sink.old.labels) state.now.nominal
+        depth (resolved_instruction state.now inst.now)) → OnlyOutOfMemory result }
+    ensures range { OnOk result (InRange (resolved_instruction state.now inst.now)) }
+    ensures kept { Extends sink.old sink.new }
+{
+    match inst {
+        Inst::Store64 { rd, mem } => match mem {
+            MemArg::RegOffset { reg, off, flags } => {
+                let access = Doubleword {
+                    stores: true,
+                    register: *rd,
+                    base: *reg,
+                    off: *off,
+                    flags: *flags,
+                };
+                emit_doubleword(sink, state, depth, inst, after, access)
+            }
+            _ => emit_store(sink, state, depth, inst, after),
+        },
+        _ => emit_store(sink, state, depth, inst, after),
     }
 }
 
@@ -718,8 +876,8 @@ pub fn emit_leaf(
 {
     reveal_label_range(sink);
     match fast_path_of(inst) {
-        FastPath::Load => emit_load(sink, state, depth, inst, after),
-        FastPath::Store => emit_store(sink, state, depth, inst, after),
+        FastPath::Load => emit_any_load(sink, state, depth, inst, after),
+        FastPath::Store => emit_any_store(sink, state, depth, inst, after),
         FastPath::Whole => emit_whole(sink, state, depth, inst, after),
         FastPath::Access => emit_memory_or_control(sink, state, depth, inst, after),
         FastPath::Branch => emit_control(sink, depth, inst, after),

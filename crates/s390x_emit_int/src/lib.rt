@@ -10,6 +10,7 @@ mod completeness;
 mod composite;
 mod conditional;
 mod context;
+mod doubleword;
 mod emit;
 mod fast_path;
 mod folding;

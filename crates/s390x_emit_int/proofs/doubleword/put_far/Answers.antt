@@ -1,0 +1,32 @@
+use Rattle.std.proofs.Common.{◌+◌, [], ◌∷◌, ◌++◌, Some, sym, ap, length, ◌∙◌}
+use Rattle.s390x_buffer.specs.State.{put_cause}
+use Rattle.s390x_inst.specs.declared.inst.Inst.TheVariants.{Mov64SImm32}
+use Rattle.s390x_typed_steps.specs.Memory.{type_of, storage_row, fault_code}
+use Rattle.s390x_typed_steps.specs.Operands.{scratch, finalized_operand}
+use Rattle.s390x_typed_steps.specs.Parts.{access_parts, helpers_parts, parts_size}
+use Rattle.s390x_address.specs.Appended.{with_parts}
+use Rattle.s390x_address.proofs.Displacing.{row_found, behind_parts, far_row_size}
+use Rattle.s390x_emit_int.specs.Doubleword.{instruction_of}
+use Rattle.s390x_emit_int.proofs.Answering.{on_ok}
+use Rattle.s390x_emit_int.proofs.doubleword.put_far.Goals as goal
+
+pub returns-clause-answer : goal.returns-clause-answer
+returns-clause-answer c =
+    let s = c.args.sink.now in
+    let x = instruction_of c.args.access.now in
+    let f = finalized_operand (type_of x.form x.accesses) x.operand in
+    let helpers = Mov64SImm32 scratch c.args.far.now.off ∷ [] in
+    let behind = c.requires.0 in
+    row_found (storage_row x.form f.operand) c.args.far.now.code behind.2 (λ m row same.
+    on_ok c.put_far_row.result (c.put_far_row.ensures.answer m same) (λ h.
+    h ∙ ap (λ k. with_parts s (helpers_parts helpers ++ access_parts (Some m) k)) c.trap_code.ensures ∙ ap (with_parts s) (sym (behind_parts x.form (fault_code x) f helpers m behind.0 behind.1 row))))
+
+pub returns-clause-only_memory : goal.returns-clause-only_memory
+returns-clause-only_memory c = λ put.
+    let s = c.args.sink.now in
+    let x = instruction_of c.args.access.now in
+    let f = finalized_operand (type_of x.form x.accesses) x.operand in
+    let off = c.args.far.now.off in
+    let behind = c.requires.0 in
+    row_found (storage_row x.form f.operand) c.args.far.now.code behind.2 (λ m row same.
+    c.put_far_row.ensures.only_memory (ap (λ n. put_cause s n) (ap (λ n. 6 + n) (ap length same) ∙ sym (far_row_size off (fault_code x) m) ∙ ap parts_size (sym (behind_parts x.form (fault_code x) f (Mov64SImm32 scratch off ∷ []) m behind.0 behind.1 row))) ∙ put))
