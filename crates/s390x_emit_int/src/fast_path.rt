@@ -7,7 +7,7 @@ ghost use Rattle.s390x_inst.specs.declared.inst.Inst.TheVariants.{Vector};
 ghost use Rattle.s390x_typed_steps.specs.Memory.{memory};
 ghost use Rattle.s390x_typed_steps.specs.VectorOpcodes.{is_division};
 ghost use Rattle.s390x_emit_int.specs.Plain.{IsPlain, IsRegister};
-ghost use Rattle.s390x_emit_int.specs.declared.fast_path.FastPath.TheVariants.{Load, Store, Whole, Access, Branch, Register};
+ghost use Rattle.s390x_emit_int.specs.declared.fast_path.FastPath.TheVariants.{Load, Store, Load64, Store64, Whole, Access, Branch, Register};
 
 use s390x_inst::{ALUOp, Inst, VecBinaryOp, VecInst};
 
@@ -18,6 +18,10 @@ pub enum FastPath {
     Load,
     /// A store of a general register.
     Store,
+    /// The load of a doubleword into a general register, which is met most often.
+    Load64,
+    /// The store of one.
+    Store64,
     /// A load or a store of a vector register as it stands.
     Whole,
     /// A store of an immediate, the load of an address, or an operator or a comparison with an operand in memory.
@@ -111,6 +115,8 @@ fn is_base_binary(op: VecBinaryOp) -> bool
 fn vector_path(inst: &VecInst) -> FastPath
     ensures load { result ≡ Load → IsPlain (Vector inst.now) }
     ensures store { result ≡ Store → IsPlain (Vector inst.now) }
+    ensures load64 { result ≡ Load64 → IsPlain (Vector inst.now) }
+    ensures store64 { result ≡ Store64 → IsPlain (Vector inst.now) }
     ensures whole { result ≡ Whole → IsPlain (Vector inst.now) }
     ensures access { result ≡ Access → IsPlain (Vector inst.now) }
     ensures branch { result ≡ Branch
@@ -135,12 +141,16 @@ fn vector_path(inst: &VecInst) -> FastPath
 pub fn fast_path_of(inst: &Inst) -> FastPath
     ensures load { result ≡ Load → IsPlain inst.now }
     ensures store { result ≡ Store → IsPlain inst.now }
+    ensures load64 { result ≡ Load64 → IsPlain inst.now }
+    ensures store64 { result ≡ Store64 → IsPlain inst.now }
     ensures whole { result ≡ Whole → IsPlain inst.now }
     ensures access { result ≡ Access → IsPlain inst.now }
     ensures branch { result ≡ Branch → IsPlain inst.now × (None ≡ memory inst.now) }
     ensures register { result ≡ Register → IsRegister inst.now }
 {
     match inst {
+        Inst::Load64 { .. } => FastPath::Load64,
+        Inst::Store64 { .. } => FastPath::Store64,
         Inst::LoadAddr { .. }
         | Inst::StoreImm8 { .. }
         | Inst::StoreImm16 { .. }

@@ -637,8 +637,8 @@ fn emit_doubleword(
     }
 }
 
-// Emits a load of a general register: that of a doubleword at a register and an offset, which is met most often, by its code at once.
-fn emit_any_load(
+// Emits the load of a doubleword: at a register and an offset by its code at once, else as another load.
+fn emit_load64(
     sink: &mut MachBuffer,
     state: &EmitState,
     depth: u32,
@@ -680,8 +680,8 @@ fn emit_any_load(
     }
 }
 
-// Emits a store of a general register: that of a doubleword at a register and an offset by its code at once.
-fn emit_any_store(
+// Emits the store of a doubleword: at a register and an offset by its code at once, else as another store.
+fn emit_store64(
     sink: &mut MachBuffer,
     state: &EmitState,
     depth: u32,
@@ -876,8 +876,10 @@ pub fn emit_leaf(
 {
     reveal_label_range(sink);
     match fast_path_of(inst) {
-        FastPath::Load => emit_any_load(sink, state, depth, inst, after),
-        FastPath::Store => emit_any_store(sink, state, depth, inst, after),
+        FastPath::Load64 => emit_load64(sink, state, depth, inst, after),
+        FastPath::Store64 => emit_store64(sink, state, depth, inst, after),
+        FastPath::Load => emit_load(sink, state, depth, inst, after),
+        FastPath::Store => emit_store(sink, state, depth, inst, after),
         FastPath::Whole => emit_whole(sink, state, depth, inst, after),
         FastPath::Access => emit_memory_or_control(sink, state, depth, inst, after),
         FastPath::Branch => emit_control(sink, depth, inst, after),

@@ -14,19 +14,37 @@ pub returns-in-Load-clause-answer : goal.returns-in-Load-clause-answer
 returns-in-Load-clause-answer c =
     let s = c.args.sink.now in
     let plain = c.fast_path_of.ensures.load c.in-Load.is in
-    on_ok c.emit_any_load.result c.emit_any_load.ensures.answer (λ h. (leaf_plain c.args.flags c.args.state.now (declared_in s) (length s.labels) c.args.state.now.nominal c.args.depth c.args.inst.now plain c.reveal_label_range.ensures h.0, h.1))
+    on_ok c.emit_load.result c.emit_load.ensures.answer (λ h. (leaf_plain c.args.flags c.args.state.now (declared_in s) (length s.labels) c.args.state.now.nominal c.args.depth c.args.inst.now plain c.reveal_label_range.ensures h.0, h.1))
 
 pub returns-in-Load-clause-only_memory : goal.returns-in-Load-clause-only_memory
-returns-in-Load-clause-only_memory c = c.emit_any_load.ensures.only_memory c.args.flags
+returns-in-Load-clause-only_memory c = c.emit_load.ensures.only_memory c.args.flags
 
 pub returns-in-Store-clause-answer : goal.returns-in-Store-clause-answer
 returns-in-Store-clause-answer c =
     let s = c.args.sink.now in
     let plain = c.fast_path_of.ensures.store c.in-Store.is in
-    on_ok c.emit_any_store.result c.emit_any_store.ensures.answer (λ h. (leaf_plain c.args.flags c.args.state.now (declared_in s) (length s.labels) c.args.state.now.nominal c.args.depth c.args.inst.now plain c.reveal_label_range.ensures h.0, h.1))
+    on_ok c.emit_store.result c.emit_store.ensures.answer (λ h. (leaf_plain c.args.flags c.args.state.now (declared_in s) (length s.labels) c.args.state.now.nominal c.args.depth c.args.inst.now plain c.reveal_label_range.ensures h.0, h.1))
 
 pub returns-in-Store-clause-only_memory : goal.returns-in-Store-clause-only_memory
-returns-in-Store-clause-only_memory c = c.emit_any_store.ensures.only_memory c.args.flags
+returns-in-Store-clause-only_memory c = c.emit_store.ensures.only_memory c.args.flags
+
+pub returns-in-Load64-clause-answer : goal.returns-in-Load64-clause-answer
+returns-in-Load64-clause-answer c =
+    let s = c.args.sink.now in
+    let plain = c.fast_path_of.ensures.load64 c.in-Load64.is in
+    on_ok c.emit_load64.result c.emit_load64.ensures.answer (λ h. (leaf_plain c.args.flags c.args.state.now (declared_in s) (length s.labels) c.args.state.now.nominal c.args.depth c.args.inst.now plain c.reveal_label_range.ensures h.0, h.1))
+
+pub returns-in-Load64-clause-only_memory : goal.returns-in-Load64-clause-only_memory
+returns-in-Load64-clause-only_memory c = c.emit_load64.ensures.only_memory c.args.flags
+
+pub returns-in-Store64-clause-answer : goal.returns-in-Store64-clause-answer
+returns-in-Store64-clause-answer c =
+    let s = c.args.sink.now in
+    let plain = c.fast_path_of.ensures.store64 c.in-Store64.is in
+    on_ok c.emit_store64.result c.emit_store64.ensures.answer (λ h. (leaf_plain c.args.flags c.args.state.now (declared_in s) (length s.labels) c.args.state.now.nominal c.args.depth c.args.inst.now plain c.reveal_label_range.ensures h.0, h.1))
+
+pub returns-in-Store64-clause-only_memory : goal.returns-in-Store64-clause-only_memory
+returns-in-Store64-clause-only_memory c = c.emit_store64.ensures.only_memory c.args.flags
 
 pub returns-in-Whole-clause-answer : goal.returns-in-Whole-clause-answer
 returns-in-Whole-clause-answer c =
