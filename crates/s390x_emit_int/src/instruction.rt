@@ -637,7 +637,7 @@ fn emit_doubleword(
     }
 }
 
-// Emits a load of a general register: that of a doubleword at a register and an offset, which is met most often, by its code at once.
+// Emits the load of a doubleword: at a register and an offset by its code at once, else as another load.
 fn emit_load64(
     sink: &mut MachBuffer,
     state: &EmitState,
@@ -680,7 +680,7 @@ fn emit_load64(
     }
 }
 
-// Emits a store of a general register: that of a doubleword at a register and an offset by its code at once.
+// Emits the store of a doubleword: at a register and an offset by its code at once, else as another store.
 fn emit_store64(
     sink: &mut MachBuffer,
     state: &EmitState,
