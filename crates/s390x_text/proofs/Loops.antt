@@ -3,15 +3,17 @@ use Rattle.std.proofs.Common.{◌≡◌, ℕ, ◌+◌, ◌<◌, List, ◌∷◌,
 use Rattle.std.proofs.Common.{Vec, Global}
 use Rattle.std.proofs.Math.Dec.{eqb-suc-zero}
 use Rattle.std.proofs.lemmas.List.{drop_more}
-use Rattle.std.specs.Prelude.{◌==◌, Option, None, codes, Result, Ok, Err, MatchResult, IsErrAnd}
+use Rattle.std.specs.Prelude.{◌==◌, Option, None, not, codes, Result, Ok, Err, MatchResult, IsErrAnd}
 use Rattle.s390x_inst.specs.Emission.{Emission}
 use Rattle.s390x_inst.specs.declared.state.IsaFlags.{IsaFlags}
 use Rattle.s390x_inst.specs.declared.inst.Inst.{Inst, Row_of-Inst, end_of-Inst, more_of-Inst, items-the_row-Inst, items_hidden-the_row-Inst-0, out-Inst, roll-Inst, roll-out-Inst}
 use Rattle.s390x_inst.specs.declared.inst.Inst.TheBlock.{hidden-the_row-Inst-0}
 use Rattle.s390x_inst.specs.declared.inst.Inst.TheOpen as O
+use Rattle.s390x_inst.specs.declared.inst.Inst.TheVariants as I
 use Rattle.s390x_inst.specs.declared.inst.Inst.TheViews as V
 use denote.Hole.Carrier
 use Rattle.s390x_text_rows.proofs.Joined.{more_texts}
+use Rattle.s390x_text_rows.specs.Simple.{simple_text}
 use Rattle.s390x_text_rows.specs.Texts.{Text, first_cause, both, RefusedBy}
 use Rattle.s390x_text_rows.specs.declared.error.TextError.{TextError}
 use Rattle.s390x_text_rows.specs.declared.error.TextError.TheVariants.{NoMemory}
@@ -116,6 +118,13 @@ pub plain : (flags : IsaFlags) (depth : ℕ) (e : Emission) (i : Inst) → ((c :
 plain flags depth e i h =
     subst (λ j. (inst_text flags depth e j ≡ leaf_text flags e j) × (after e j ≡ leaf_after e j)) (roll-out-Inst i)
     (plain_out flags depth e (out-Inst i) (λ c v p. h c v (sym (roll-out-Inst i) ∙ ap roll-Inst p ∙ V.rolls-Loop c v)))
+
+-- one that is no call and allocates no arguments has the text of a row, and leaves the state
+pub one_row : (flags : IsaFlags) (e : Emission) (i : Inst) → ((link info : _) → i ≡ I.Call link info → ⊥) → ((info : _) → i ≡ I.ReturnCall info → ⊥) → ((size : _) → i ≡ I.AllocateArgs size → ⊥) → (leaf_text flags e i ≡ simple_text (not flags.no_relative_memory) e i) × (leaf_after e i ≡ e)
+one_row flags e (I.Call link info) call tail allocation = absurd (call link info refl)
+one_row flags e (I.ReturnCall info) call tail allocation = absurd (tail info refl)
+one_row flags e (I.AllocateArgs size) call tail allocation = absurd (allocation size refl)
+one_row flags e i call tail allocation = (refl, refl)
 
 -- ---- answers
 

@@ -3,9 +3,9 @@ ghost use Rattle.std.specs.Prelude.{◌≡◌, ◌+◌, pos, ◌-ℤ◌, ◌++�
 ghost use Rattle.std.specs.Fmt.{decimal};
 ghost use Rattle.s390x_base.specs.Registers.{general};
 ghost use Rattle.s390x_inst.specs.Frames.{above_stack, load_from, copied_target};
-ghost use Rattle.s390x_text_rows.specs.Texts.{Prints, PrintsWhere, before_semicolon};
+ghost use Rattle.s390x_text_rows.specs.Texts.{Prints, before_semicolon};
 ghost use Rattle.s390x_text_rows.specs.Simple.{simple_text};
-ghost use Rattle.s390x_text.specs.Calls.{branch_and_link_text, popped_text, loaded_text, result_text, results_text, loads_text, handler_text, more_handlers, handlers_text, try_text, plain_call_text, is_first_saved, simple_texts, stack_raise, is_only_raised, epilogue_text, tail_branch_text, tail_call_text, call_text};
+ghost use Rattle.s390x_text.specs.Calls.{branch_and_link_text, popped_text, loaded_text, result_text, results_text, loads_text, handler_text, more_handlers, handlers_text, try_text, plain_call_text, is_first_saved, simple_texts, stack_raise, is_only_raised, epilogue_text, tail_branch_text, tail_call_text};
 
 use s390x_base::{MachMemFlags, Reg, stack_reg, writable_stack_reg};
 use s390x_inst::{
@@ -217,7 +217,9 @@ fn put_call_head(out: &mut String, link: Reg, info: &CallInfo) -> Result<(), All
     put_popped(out, info.callee_pop_size)
 }
 
-fn put_plain_call(
+/// Appends the text of a call. `NoRow` where a result on the stack that has to be loaded is an `I8X8`.
+#[inline(always)]
+pub fn put_plain_call(
     alloc: Global,
     out: &mut String,
     state: &EmitState,
@@ -400,7 +402,9 @@ fn put_tail(
     put_popped(out, popped)
 }
 
-fn put_tail_call(
+/// Appends the text of a tail call. `NoRow` where its frame saves general registers from one outside 6 to 14 on.
+#[inline(never)]
+pub fn put_tail_call(
     alloc: Global,
     out: &mut String,
     state: &EmitState,
@@ -411,22 +415,4 @@ fn put_tail_call(
 {
     let copied = put_epilogue(alloc, out, state, info.callee_pop_size, &info.dest)?;
     Ok(put_tail(out, &info.dest, copied, info.callee_pop_size)?)
-}
-
-/// Appends the text of a call or a tail call; None for another instruction. `NoRow` also where a result on the stack that has to be loaded is
-/// an `I8X8`, and where a tail call's frame saves general registers from one outside 6 to 14 on.
-pub fn put_call(
-    alloc: Global,
-    out: &mut String,
-    state: &EmitState,
-    inst: &Inst,
-) -> Option<Result<(), TextError>>
-    ensures { PrintsWhere result (string_bytes out.old) (string_bytes out.new)
-        (call_text state.now inst.now) }
-{
-    match inst {
-        Inst::Call { link, info } => Some(put_plain_call(alloc, out, state, link.to_reg(), info)),
-        Inst::ReturnCall { info } => Some(put_tail_call(alloc, out, state, info)),
-        _ => None,
-    }
 }

@@ -1,12 +1,14 @@
 //! The text of an instruction.
-ghost use Rattle.std.specs.Prelude.{◌≡◌, ◌+◌, ◌==◌, ◌++◌, length, codes, None, IfOk, OnOk, OnErr, MatchResult, string_bytes};
+ghost use Rattle.std.specs.Prelude.{◌≡◌, ◌+◌, ◌==◌, ◌++◌, length, codes, not, None, IfOk, OnOk, OnErr, MatchResult, string_bytes};
 ghost use Rattle.s390x_text_rows.specs.Texts.{RefusedBy, Prints, before_semicolon};
 ghost use Rattle.s390x_text_rows.specs.Operands.{cond_text};
+ghost use Rattle.s390x_text_rows.specs.Simple.{simple_text};
+ghost use Rattle.s390x_text.specs.Calls.{plain_call_text};
 ghost use Rattle.s390x_text.specs.Instructions.{leaf_text, leaf_after, after, insts_after, inst_text, insts_text, text_of_loop, back_text};
 
-use crate::calls::put_call;
-use s390x_base::Cond;
-use s390x_inst::{EmitInfo, EmitState, Inst, IsaFlags};
+use crate::calls::{put_plain_call, put_tail_call};
+use s390x_base::{Cond, Reg, Writable};
+use s390x_inst::{CallInfo, EmitInfo, EmitState, Inst, IsaFlags};
 use s390x_text_rows::{TextError, cond_name, put, put_simple};
 use std::alloc::{AllocError, Global};
 
@@ -17,38 +19,45 @@ pub struct Context {
     pub depth: u32,
 }
 
-// Appends the text of an instruction that is no `Loop`.
-fn put_leaf(
+// Appends the text of a call, and goes on to the state behind it.
+#[inline(never)]
+fn put_called(
+    alloc: Global,
+    out: &mut String,
+    state: &mut EmitState,
+    link: &Writable<Reg>,
+    info: &CallInfo,
+) -> Result<(), TextError>
+    ensures answer { Prints result (string_bytes out.old) (string_bytes out.new)
+        (plain_call_text state.old link.now info.now) }
+    ensures after { IfOk result (λ _. state.new ≡ record state.old { nominal = 0; outgoing = 0 }) }
+{
+    put_plain_call(alloc, out, state, link.to_reg(), info)?;
+    state.set_nominal(0);
+    state.set_outgoing(0);
+    Ok(())
+}
+
+// Appends the text of an instruction that allocates so many bytes of arguments, and goes on to the state behind it.
+#[inline(never)]
+fn put_allocation(
     alloc: Global,
     out: &mut String,
     flags: IsaFlags,
-    state: &EmitState,
+    state: &mut EmitState,
     inst: &Inst,
+    size: u32,
 ) -> Result<(), TextError>
-    ensures { Prints result (string_bytes out.old) (string_bytes out.new)
-        (leaf_text flags state.now inst.now) }
+    ensures answer { Prints result (string_bytes out.old) (string_bytes out.new)
+        (simple_text (not flags.no_relative_memory) state.old inst.now) }
+    ensures after { IfOk result (λ _. state.new ≡ record state.old { nominal = size }) }
 {
-    match put_call(alloc, out, state, inst) {
-        Some(answer) => answer,
-        None => put_simple(alloc, out, !flags.no_relative_memory, state, inst),
-    }
+    put_simple(alloc, out, !flags.no_relative_memory, state, inst)?;
+    state.set_nominal(size);
+    Ok(())
 }
 
-// The state behind an instruction that is no `Loop`.
-fn advance(state: &mut EmitState, inst: &Inst)
-    ensures { state.new ≡ leaf_after state.old inst.now }
-{
-    match inst {
-        Inst::AllocateArgs { size } => state.set_nominal(*size),
-        Inst::Call { .. } => {
-            state.set_nominal(0);
-            state.set_outgoing(0);
-        }
-        _ => {}
-    }
-}
-
-// The text and the state behind an instruction that is no `Loop`.
+// The text and the state behind an instruction that is no `Loop`. Most leave the state.
 fn put_one(
     alloc: Global,
     out: &mut String,
@@ -60,9 +69,12 @@ fn put_one(
         (leaf_text flags state.old inst.now) }
     ensures after { IfOk result (λ _. state.new ≡ leaf_after state.old inst.now) }
 {
-    put_leaf(alloc, out, flags, state, inst)?;
-    advance(state, inst);
-    Ok(())
+    match inst {
+        Inst::Call { link, info } => put_called(alloc, out, state, link, info),
+        Inst::ReturnCall { info } => put_tail_call(alloc, out, state, info),
+        Inst::AllocateArgs { size } => put_allocation(alloc, out, flags, state, inst, *size),
+        _ => put_simple(alloc, out, !flags.no_relative_memory, state, inst),
+    }
 }
 
 // The back branch of a loop, and the label behind it.

@@ -59,6 +59,7 @@ fn put_unary(out: &mut String, op: UnaryOp, rd: &Writable<Reg>, rn: &Reg) -> Res
 }
 
 /// Appends the text of an operator with an output and two inputs in registers.
+#[inline(never)]
 #[tactic(auto, unfolding(crate::specs::Mnemonics::alu_three_name, crate::specs::Mnemonics::alu_two_name))]
 pub fn put_alu_three(
     out: &mut String,
@@ -75,6 +76,7 @@ pub fn put_alu_three(
 }
 
 /// Appends the text of an operator on registers and immediates; None for another instruction.
+#[inline(never)]
 #[tactic(auto, unfolding(crate::specs::Mnemonics::alu_three_name, crate::specs::Mnemonics::alu_two_name, crate::specs::Mnemonics::alu_three_halfword_name, crate::specs::Mnemonics::alu_halfword_name))]
 pub fn put_arithmetic(out: &mut String, inst: &Inst) -> Option<Result<(), TextError>>
     ensures { PrintsWhere result (string_bytes out.old) (string_bytes out.new)

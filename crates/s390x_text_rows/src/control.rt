@@ -220,28 +220,28 @@ fn put_allocate(out: &mut String, size: u32) -> Result<(), AllocError>
 }
 
 // A symbol plus an offset.
-fn put_reloc(out: &mut String, reloc: SymbolReloc) -> Result<(), AllocError>
-    ensures { OnOk result (string_bytes out.new ≡ string_bytes out.old ++ reloc_text reloc) }
+fn put_reloc(out: &mut String, reloc: &SymbolReloc) -> Result<(), AllocError>
+    ensures { OnOk result (string_bytes out.new ≡ string_bytes out.old ++ reloc_text reloc.now) }
 {
     match reloc {
         SymbolReloc::Absolute { name, offset } => {
-            put_name(out, name)?;
+            put_name(out, *name)?;
             put(out, " + ")?;
-            put_integer(out, offset)
+            put_integer(out, *offset)
         }
     }
 }
 
 fn put_symbol_load(
     out: &mut String,
-    rd: Writable<Reg>,
-    reloc: SymbolReloc,
+    rd: &Writable<Reg>,
+    reloc: &SymbolReloc,
 ) -> Result<(), AllocError>
     ensures { OnOk result
         (string_bytes out.new
         ≡ string_bytes out.old
         ++ (codes "bras %r1, 12 ; data "
-        ++ (reloc_text reloc ++ (codes " ; lg " ++ (reg_text rd ++ codes ", 0(%r1)"))))) }
+        ++ (reloc_text reloc.now ++ (codes " ; lg " ++ (reg_text rd.now ++ codes ", 0(%r1)"))))) }
 {
     put(out, "bras %r1, 12 ; data ")?;
     put_reloc(out, reloc)?;
@@ -251,6 +251,7 @@ fn put_symbol_load(
 }
 
 /// Appends the text of a branch to one of two blocks.
+#[inline(never)]
 pub fn put_conditional_branch(
     out: &mut String,
     cond: Cond,
@@ -266,6 +267,7 @@ pub fn put_conditional_branch(
 }
 
 /// Appends the text of a trap under a condition.
+#[inline(never)]
 pub fn put_conditional_trap(out: &mut String, cond: Cond, code: TrapCode) -> Result<(), TextError>
     ensures { Prints result (string_bytes out.old) (string_bytes out.new)
         (fixed_text ((codes "jg" ++ (cond_text cond ++ codes " .+2 # trap=")) ++ trap_text code)) }
@@ -274,21 +276,23 @@ pub fn put_conditional_trap(out: &mut String, cond: Cond, code: TrapCode) -> Res
 }
 
 /// Appends the text of a load of a symbol's address from behind a branch.
+#[inline(never)]
 pub fn put_symbol_address(
     out: &mut String,
-    rd: Writable<Reg>,
-    reloc: SymbolReloc,
+    rd: &Writable<Reg>,
+    reloc: &SymbolReloc,
 ) -> Result<(), TextError>
     ensures { Prints result (string_bytes out.old) (string_bytes out.new)
         (fixed_text
         (codes "bras %r1, 12 ; data "
-        ++ (reloc_text reloc ++ (codes " ; lg " ++ (reg_text rd ++ codes ", 0(%r1)"))))) }
+        ++ (reloc_text reloc.now ++ (codes " ; lg " ++ (reg_text rd.now ++ codes ", 0(%r1)"))))) }
 {
     Ok(put_symbol_load(out, rd, reloc)?)
 }
 
 /// Appends the text of an instruction that goes elsewhere, ends a run, names a place or has no bytes; None for another one. Loops, calls and
 /// tail calls aren't among them.
+#[inline(never)]
 pub fn put_control(out: &mut String, inst: &Inst) -> Option<Result<(), TextError>>
     ensures { PrintsWhere result (string_bytes out.old) (string_bytes out.new)
         (control_text inst.now) }
@@ -317,7 +321,7 @@ pub fn put_control(out: &mut String, inst: &Inst) -> Option<Result<(), TextError
         Inst::CondBreak { cond } => Some(text_result(put_jump(out, *cond, " 1f"))),
         Inst::AllocateArgs { size } => Some(text_result(put_allocate(out, *size))),
         Inst::LoadSymbolReloc { rd, symbol_reloc } => {
-            Some(text_result(put_symbol_load(out, *rd, *symbol_reloc)))
+            Some(text_result(put_symbol_load(out, rd, symbol_reloc)))
         }
         Inst::LabelAddress { dst, label } => Some(fixed2(out, "label_address", dst, label)),
         Inst::Args { args } => Some(text_result(put_args(out, args))),

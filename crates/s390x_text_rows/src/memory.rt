@@ -15,35 +15,43 @@ use crate::storage::{
     Place, address_rows, other_rx_access, rows_access, rs_access_then, rs_access3, rx_access,
 };
 use s390x_base::{Reg, Writable};
-use s390x_inst::{ALUOp, CmpOp, EmitState, Inst, MemArg};
+use s390x_inst::{ALUOp, CmpOp, EmitState, Inst, MemArg, inst_table};
 use s390x_rows::opcodes;
 use s390x_typed_steps::{RegisterRows, rows_of_alu, rows_of_cmp, rows_of_load, rows_of_store};
 use std::alloc::Global;
 
+// The operand of a load, where it stands.
+macro_rules! of_load {
+    (($inst:expr) operators $operators:tt moves $moves:tt loads { $($load:ident $fields:tt)* } $($rest:tt)*) => {
+        match $inst {
+            $(Inst::$load { mem, .. } => Some(mem),)*
+            _ => None,
+        }
+    };
+}
+
+// The operand of a store, where it stands.
+macro_rules! of_store {
+    (($inst:expr) operators $operators:tt moves $moves:tt loads $loads:tt stores { $($store:ident $fields:tt)* } $($rest:tt)*) => {
+        match $inst {
+            $(Inst::$store { mem, .. } => Some(mem),)*
+            _ => None,
+        }
+    };
+}
+
 // The operand of a load, where it stands; None for another instruction.
-#[rattlefmt::skip]
 fn load_operand(inst: &Inst) -> Option<&MemArg>
     ensures { option_map (λ m. m.now) result ≡ load_operand inst.now }
 {
-    match inst {
-        Inst::Load32 { mem, .. } | Inst::Load32ZExt8 { mem, .. } | Inst::Load32SExt8 { mem, .. } | Inst::Load32ZExt16 { mem, .. }
-        | Inst::Load32SExt16 { mem, .. } | Inst::Load64 { mem, .. } | Inst::Load64ZExt8 { mem, .. } | Inst::Load64SExt8 { mem, .. }
-        | Inst::Load64ZExt16 { mem, .. } | Inst::Load64SExt16 { mem, .. } | Inst::Load64ZExt32 { mem, .. } | Inst::Load64SExt32 { mem, .. }
-        | Inst::LoadRev16 { mem, .. } | Inst::LoadRev32 { mem, .. } | Inst::LoadRev64 { mem, .. } => Some(mem),
-        _ => None,
-    }
+    inst_table!(of_load, inst)
 }
 
 // The operand of a store of a register, where it stands; None for another instruction.
-#[rattlefmt::skip]
 fn store_operand(inst: &Inst) -> Option<&MemArg>
     ensures { option_map (λ m. m.now) result ≡ store_operand inst.now }
 {
-    match inst {
-        Inst::Store8 { mem, .. } | Inst::Store16 { mem, .. } | Inst::Store32 { mem, .. } | Inst::Store64 { mem, .. }
-        | Inst::StoreRev16 { mem, .. } | Inst::StoreRev32 { mem, .. } | Inst::StoreRev64 { mem, .. } => Some(mem),
-        _ => None,
-    }
+    inst_table!(of_store, inst)
 }
 
 // Appends the text of a load at an operand that is no near offset; None for another instruction. It isn't copied out of its instruction.
@@ -97,6 +105,7 @@ pub fn put_load(
 }
 
 // Appends the text of a store of an immediate; None for another instruction.
+#[inline(never)]
 #[rattlefmt::skip]
 fn put_immediate_store(
     alloc: Global,
@@ -201,6 +210,7 @@ fn put_comparison(out: &mut String, place: Place, op: CmpOp, rn: &Reg) -> Result
 }
 
 /// Appends the text of a load of an address.
+#[inline(never)]
 pub fn put_address(
     alloc: Global,
     out: &mut String,
@@ -223,6 +233,7 @@ pub fn put_address(
 
 /// Appends the text of an operator with an operand in memory, of a multiple, of an address or of a locked access; None for another
 /// instruction.
+#[inline(never)]
 #[rattlefmt::skip]
 #[tactic(auto, unfolding(crate::specs::Mnemonics::atomic_name))]
 pub fn put_storage_operator(

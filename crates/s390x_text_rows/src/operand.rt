@@ -5,10 +5,10 @@ ghost use Rattle.s390x_job_fields.specs.Atoms.{reg_text, real_text};
 ghost use Rattle.s390x_text_rows.specs.Operands.{reused_text, rotated_text, halves_text, pair_text, reused_pair_text, reused_low_text, is_zero, bracketed_register, amount_text, access_register_text, float_text, cond_text, label_text, name_text, indexed_text};
 
 use crate::piece::{put, put_integer, put_natural};
-use crate::register_names::{put_real, put_reg};
+use crate::register_names::{put_real, put_reg, put_virtual};
 use s390x_base::{
-    Cond, ExternalName, MachLabel, PReg, Reg, RegPair, SImm20, UImm16Shifted, UImm32Shifted,
-    Writable, zero_reg,
+    Cond, ExternalName, MachLabel, PReg, Reg, RegClass, RegPair, SImm20, UImm16Shifted,
+    UImm32Shifted, Writable, zero_reg,
 };
 use std::alloc::AllocError;
 
@@ -258,17 +258,41 @@ pub fn is_zero(r: &Reg) -> bool
     *r == zero_reg()
 }
 
-/// Appends a register in brackets; nothing for `%r0`.
+// Appends a real register in brackets; nothing for `%r0`.
+fn put_bracketed_real(out: &mut String, real: PReg) -> Result<(), AllocError>
+    ensures { OnOk result
+        (string_bytes out.new ≡ string_bytes out.old ++ bracketed_register (Reg.Real real)) }
+{
+    if is_zero(&Reg::Real(real)) {
+        return Ok(());
+    }
+    put(out, "(")?;
+    put_real(out, real)?;
+    put(out, ")")
+}
+
+// Appends a virtual register in brackets.
+#[inline(never)]
+fn put_bracketed_virtual(out: &mut String, num: u32, class: RegClass) -> Result<(), AllocError>
+    ensures { OnOk result
+        (string_bytes out.new
+        ≡ string_bytes out.old ++ bracketed_register (Reg.Virtual num class)) }
+{
+    put(out, "(")?;
+    put_virtual(out, num, class)?;
+    put(out, ")")
+}
+
+/// Appends a register in brackets; nothing for `%r0`. Its number alone is handed on, so that a copy of it needs no place in memory.
+#[inline(always)]
 pub fn put_bracketed(out: &mut String, r: &Reg) -> Result<(), AllocError>
     ensures { OnOk result
         (string_bytes out.new ≡ string_bytes out.old ++ bracketed_register r.now) }
 {
-    if is_zero(r) {
-        return Ok(());
+    match r {
+        Reg::Real(real) => put_bracketed_real(out, *real),
+        Reg::Virtual { num, class } => put_bracketed_virtual(out, *num, *class),
     }
-    put(out, "(")?;
-    put_reg(out, r)?;
-    put(out, ")")
 }
 
 /// A number and the register that is added to it: a shift's amount, or a lane.

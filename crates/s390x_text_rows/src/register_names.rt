@@ -17,8 +17,8 @@ pub fn put_real(out: &mut String, r: PReg) -> Result<(), AllocError>
     put_small(out, r.hw_enc())
 }
 
-// Appends a virtual register.
-fn put_virtual(out: &mut String, num: u32, class: RegClass) -> Result<(), AllocError>
+/// Appends a virtual register.
+pub fn put_virtual(out: &mut String, num: u32, class: RegClass) -> Result<(), AllocError>
     ensures { OnOk result
         (string_bytes out.new ≡ string_bytes out.old ++ reg_text (Reg.Virtual num class)) }
 {

@@ -107,6 +107,16 @@ pub fn spelled4<A: Operand, B: Operand, C: Operand, D: Operand>(
     d.put(out)
 }
 
+// Appends a mnemonic of two parts. It stands apart, so that of the operands behind it literals are copied without a call.
+#[inline(never)]
+fn put_mnemonic(out: &mut String, mnemonic: Mnemonic) -> Result<(), AllocError>
+    ensures { OnOk result
+        (string_bytes out.new ≡ string_bytes out.old ++ mnemonic_text mnemonic) }
+{
+    put(out, stem(mnemonic.opcode))?;
+    put_letters(out, mnemonic.letters)
+}
+
 /// Appends a row whose mnemonic has two parts, with 2 operands.
 #[inline(always)]
 pub fn lettered2<A: Operand, B: Operand>(
@@ -120,12 +130,12 @@ pub fn lettered2<A: Operand, B: Operand>(
         ≡ string_bytes out.old
         ++ instruction_text (mnemonic_text mnemonic) (A.shown a.now ∷ B.shown b.now ∷ [])) }
 {
-    put(out, stem(mnemonic.opcode))?;
-    put_letters(out, mnemonic.letters)?;
+    put_mnemonic(out, mnemonic)?;
     put_operands2(out, a, b)
 }
 
 /// Appends such a row, as an answer of a text. An error comes for want of memory alone.
+#[inline(always)]
 pub fn fixed_lettered2<A: Operand, B: Operand>(
     out: &mut String,
     mnemonic: Mnemonic,

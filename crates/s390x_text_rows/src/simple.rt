@@ -33,6 +33,7 @@ fn put_other(
 }
 
 // Appends the text of an instruction without an operand in memory, or of another one.
+#[inline(never)]
 fn put_register(
     alloc: Global,
     out: &mut String,
@@ -60,7 +61,9 @@ fn put_register(
     }
 }
 
-// Appends the text of an instruction that is neither a loop nor a call, by one group after the other.
+// Appends the text of an instruction that is neither a loop nor a call, by one group after the other. It stands apart from those
+// that are printed at once, which need less room.
+#[inline(never)]
 fn put_general(
     alloc: Global,
     out: &mut String,
@@ -108,7 +111,7 @@ pub fn put_simple(
             cond,
         } => put_conditional_branch(out, *cond, *taken, *not_taken),
         Inst::TrapIf { cond, trap_code } => put_conditional_trap(out, *cond, *trap_code),
-        Inst::LoadSymbolReloc { rd, symbol_reloc } => put_symbol_address(out, *rd, *symbol_reloc),
+        Inst::LoadSymbolReloc { rd, symbol_reloc } => put_symbol_address(out, rd, symbol_reloc),
         Inst::AluRRSImm16 { .. }
         | Inst::AluRR { .. }
         | Inst::AluRSImm16 { .. }

@@ -456,6 +456,7 @@ fn put_lettered<A: Operand>(
 }
 
 // Appends the text of an access by a row of format VRX whose mnemonic has two parts, at an operand that is no near offset.
+#[inline(never)]
 fn other_lettered<A: Operand>(
     out: &mut String,
     place: Place,
@@ -478,6 +479,7 @@ fn other_lettered<A: Operand>(
 }
 
 /// Appends the text of an access by a row of format VRX whose mnemonic has two parts, with one operand before that in memory.
+#[inline(always)]
 pub fn access_lettered<A: Operand>(
     out: &mut String,
     place: Place,

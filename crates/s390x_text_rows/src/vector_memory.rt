@@ -128,6 +128,7 @@ fn put_store_lane(
 }
 
 // Appends the text of a load or a store of a whole register as it stands in memory.
+#[inline(never)]
 fn put_straight<A: Operand>(
     alloc: Global,
     out: &mut String,
@@ -199,6 +200,7 @@ pub fn put_vec_part(
 }
 
 // Appends the text of an instruction on vector or float registers, by one group after the other.
+#[inline(never)]
 fn put_any(
     alloc: Global,
     out: &mut String,
@@ -227,6 +229,7 @@ fn put_any(
 }
 
 /// Appends the text of an instruction on vector or float registers.
+#[inline(never)]
 pub fn put_vector(
     alloc: Global,
     out: &mut String,

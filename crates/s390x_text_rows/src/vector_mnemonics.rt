@@ -153,6 +153,7 @@ fn whole_letters(mask: u8) -> Letters
 }
 
 /// A load or a store of a whole register.
+#[inline(always)]
 #[tactic(auto, unfolding(crate::specs::VectorMnemonics::whole_name))]
 pub fn whole_name(direction: Direction, layout: WholeLayout) -> Mnemonic
     ensures { mnemonic_text result ≡ whole_name direction layout }
