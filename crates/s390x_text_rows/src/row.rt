@@ -107,8 +107,8 @@ pub fn spelled4<A: Operand, B: Operand, C: Operand, D: Operand>(
     d.put(out)
 }
 
-// Appends a mnemonic of two parts. It stands apart, so that of the operands behind it literals are copied without a call.
-#[inline(never)]
+// Appends a mnemonic of two parts. That of a row which is known where it is called is a literal, which is copied without a call.
+#[inline(always)]
 fn put_mnemonic(out: &mut String, mnemonic: Mnemonic) -> Result<(), AllocError>
     ensures { OnOk result
         (string_bytes out.new ≡ string_bytes out.old ++ mnemonic_text mnemonic) }
