@@ -28,8 +28,8 @@ def variants():
     for file, name in (("inst.rt", "Inst"), ("vec_inst.rt", "VecInst")):
         with open(os.path.join(CRATES, "s390x_inst", "src", file)) as source:
             body = re.search(rf"^pub enum {name} \{{\n(.*?)^\}}", source.read(), re.S | re.M).group(1)
-        for variant, fields in re.findall(r"^    (\w+)(?: \{\n(.*?)^    \}|\([^)]*\))?,$", body, re.S | re.M):
-            found[variant] = re.findall(r"^        (\w+): (.*),$", fields, re.M)
+        for variant, fields in re.findall(r"^    (\w+)(?: \{ (.*) \}|\([^)]*\))?,$", body, re.M):
+            found[variant] = re.findall(r"(\w+): ([^,]+)", fields)
     del found["Vector"]  # what it holds is told by its own name
     return found
 

@@ -31,8 +31,8 @@ def enums(name):
 
 
 def variants(body):
-    for found in re.finditer(r"((?:    ///[^\n]*\n)*)    (\w+)(?: \{\n(.*?)\n    \})?(?:\([^\n]*\))?,(?=\n|$)", body + "\n", re.S):
-        yield found[1], found[2], re.findall(r"^        (\w+): ([^\n]*),$", found[3] or "", re.M)
+    for found in re.finditer(r"((?:    ///[^\n]*\n)*)    (\w+)(?: \{ ([^\n]*) \})?(?:\([^\n]*\))?,(?=\n|$)", body + "\n"):
+        yield found[1], found[2], re.findall(r"(\w+): ([^,]+)", found[3] or "")
 
 
 def operators(out):
