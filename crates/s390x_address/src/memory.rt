@@ -98,13 +98,9 @@ fn put_trapping(sink: &mut MachBuffer, code: &Code, trap_code: TrapCode) -> Resu
     sink.put_code(code)
 }
 
-/// Appends the code of a row, with the trap of its faults. It answers want of memory, or the buffer's refusal.
+// The code of a row, with the trap of its faults.
 #[inline(always)]
-pub fn put_row(
-    sink: &mut MachBuffer,
-    code: &Code,
-    trap_code: Option<TrapCode>,
-) -> Result<(), EmitError>
+fn put_row(sink: &mut MachBuffer, code: &Code, trap_code: Option<TrapCode>) -> Result<(), EmitError>
     ensures answer { (m : MachineInstruction) → code.now ≡ bytes_of m
         → OnOk result (sink.new ≡ with_parts sink.old (access_parts (Some m) trap_code)) }
     ensures only_memory { put_cause sink.old (length code.now) ≡ None
@@ -140,9 +136,9 @@ fn put_offset(sink: &mut MachBuffer, off: i32) -> Result<(), EmitError>
     sink.put_code(&code)
 }
 
-/// Appends the load of an offset into `%r1`, and then the code of a row with the trap of its faults. It answers want of memory, or the buffer's refusal.
+// The load of an offset into `%r1`, and then the code of a row with the trap of its faults.
 #[inline(never)]
-pub fn put_far_row(
+fn put_far_row(
     sink: &mut MachBuffer,
     far: &FarAccess,
     trap_code: Option<TrapCode>,
@@ -591,7 +587,7 @@ impl MemoryInst {
         }
     }
 
-    // Its code, where it is behind no helper and a displacement holds its offset, or its operand has one.
+    // Its code, where it is behind no helper and a displacement holds its offset.
     #[inline(always)]
     fn plain_code(&self, state: &EmitState) -> Option<Code>
         ensures { IfSome result
@@ -599,7 +595,7 @@ impl MemoryInst {
     {
         match self.base_and_offset(state) {
             Some((base, off)) => offset_code(&self.rows, base, off),
-            None => standing_code(&self.rows, &self.operand),
+            None => None,
         }
     }
 
@@ -616,6 +612,30 @@ impl MemoryInst {
         match self.base_and_offset(state) {
             Some((base, off)) => far_access(&self.rows, base, off),
             None => None,
+        }
+    }
+
+    // The helpers and the access of an instruction with valid registers that is at no register and offset, where no other cause refuses it.
+    #[inline(never)]
+    fn emit_other(&self, sink: &mut MachBuffer, state: &EmitState) -> Result<(), EmitError>
+        requires encodes { may_encode self.now ≡ true }
+        requires valid { (self.now.operands_valid && operand_general self.now.operand) ≡ true }
+        ensures answer { OnOk result
+            ((memory_cause (declared_in sink.old)
+            (in_state state.now (memory_instruction_of self.now)) ≡ None)
+            × (sink.new
+            ≡ with_parts sink.old
+            (memory_parts (in_state state.now (memory_instruction_of self.now))))) }
+        ensures only_memory { put_cause sink.old
+            (parts_size (memory_parts (in_state state.now (memory_instruction_of self.now)))) ≡ None
+            → memory_cause (declared_in sink.old)
+            (in_state state.now (memory_instruction_of self.now)) ≡ None
+            → IfErr result (λ e. e ≡ NoMemory) }
+        ensures kept { Extends sink.old sink.new }
+    {
+        match standing_code(&self.rows, &self.operand) {
+            Some(code) => put_row(sink, &code, self.fault_code()),
+            None => self.emit_lowered(sink, state),
         }
     }
 
@@ -642,7 +662,7 @@ impl MemoryInst {
             // by a copy: what a call borrows is made whole in memory before the code is looked for
             None => {
                 let rest = *self;
-                rest.emit_lowered(sink, state)
+                rest.emit_other(sink, state)
             }
         }
     }
