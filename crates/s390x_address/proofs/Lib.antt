@@ -7,3 +7,4 @@ pub mod Lowered
 pub mod Putting
 pub mod Refusing
 pub mod Sizes
+pub mod Standing

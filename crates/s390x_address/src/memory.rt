@@ -26,6 +26,7 @@ use crate::direct_offset::{FarAccess, far_access, offset_code};
 use crate::lowering::{Lowering, frame_offset, lower_operand};
 use crate::relative::{addend_fits, put_relative, relative_bytes, relative_size, target_cause};
 use crate::rows::{StorageRow, StorageRows};
+use crate::standing_operand::standing_code;
 use s390x_base::{Code, EmitError, Reg, RegClass, TrapCode, spilltmp_reg, stack_reg};
 use s390x_buffer::MachBuffer;
 use s390x_enc::enc_ril_a;
@@ -97,9 +98,13 @@ fn put_trapping(sink: &mut MachBuffer, code: &Code, trap_code: TrapCode) -> Resu
     sink.put_code(code)
 }
 
-// The code of a row, with the trap of its faults.
+/// Appends the code of a row, with the trap of its faults. It answers want of memory, or the buffer's refusal.
 #[inline(always)]
-fn put_row(sink: &mut MachBuffer, code: &Code, trap_code: Option<TrapCode>) -> Result<(), EmitError>
+pub fn put_row(
+    sink: &mut MachBuffer,
+    code: &Code,
+    trap_code: Option<TrapCode>,
+) -> Result<(), EmitError>
     ensures answer { (m : MachineInstruction) → code.now ≡ bytes_of m
         → OnOk result (sink.new ≡ with_parts sink.old (access_parts (Some m) trap_code)) }
     ensures only_memory { put_cause sink.old (length code.now) ≡ None
@@ -135,9 +140,9 @@ fn put_offset(sink: &mut MachBuffer, off: i32) -> Result<(), EmitError>
     sink.put_code(&code)
 }
 
-// The load of an offset into `%r1`, and then the code of a row with the trap of its faults.
+/// Appends the load of an offset into `%r1`, and then the code of a row with the trap of its faults. It answers want of memory, or the buffer's refusal.
 #[inline(never)]
-fn put_far_row(
+pub fn put_far_row(
     sink: &mut MachBuffer,
     far: &FarAccess,
     trap_code: Option<TrapCode>,
@@ -586,7 +591,7 @@ impl MemoryInst {
         }
     }
 
-    // Its code, where it is behind no helper and a displacement holds its offset.
+    // Its code, where it is behind no helper and a displacement holds its offset, or its operand has one.
     #[inline(always)]
     fn plain_code(&self, state: &EmitState) -> Option<Code>
         ensures { IfSome result
@@ -594,7 +599,7 @@ impl MemoryInst {
     {
         match self.base_and_offset(state) {
             Some((base, off)) => offset_code(&self.rows, base, off),
-            None => None,
+            None => standing_code(&self.rows, &self.operand),
         }
     }
 
