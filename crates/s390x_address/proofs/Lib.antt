@@ -1,5 +1,6 @@
 pub mod Displacing
 pub mod Encoding
+pub mod SymbolAccess
 pub mod Loading
 pub mod OnlyMemory
 pub mod Planning

@@ -5,6 +5,7 @@ mod addressing_modes;
 mod direct_offset;
 mod emitters;
 mod finalize;
+mod linkable;
 mod lowering;
 mod memory;
 mod relative;

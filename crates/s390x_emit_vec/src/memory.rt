@@ -309,9 +309,7 @@ fn lane_memory(inst: &VecInst) -> Option<MemoryInst>
             VecLoadLane { size, rd, ri, mem, lane_imm } =>
                 reused_lane(LaneAccess::Load, rd.to_reg(), *ri, element_code(*size), Element { size: *size, lane: *lane_imm }, mem),
             VecLoadLaneRev { size, rd, ri, mem, lane_imm } =>
-                reused_lane(
-                    LaneAccess::LoadReversed, rd.to_reg(), *ri, reversed_code(*size), Element { size: *size, lane: *lane_imm }, mem
-                ),
+                reused_lane(LaneAccess::LoadReversed, rd.to_reg(), *ri, reversed_code(*size), Element { size: *size, lane: *lane_imm }, mem),
             VecLoadLaneUndef { size, rd, mem, lane_imm } => load_alone(*size, rd.to_reg(), *lane_imm, mem),
             VecLoadLaneRevUndef { size, rd, mem, lane_imm } =>
                 lane_of(LaneAccess::LoadReversed, rd.to_reg(), reversed_code(*size), Element { size: *size, lane: *lane_imm }, mem),

@@ -6,7 +6,7 @@ ghost use Rattle.s390x_typed_steps.specs.General.{is_general, low_halfword, low_
 ghost use Rattle.s390x_typed_steps.specs.MachineInstruction.{vri_a, vrs_a};
 ghost use Rattle.s390x_typed_steps.specs.SingleCode.{code_where, single_code};
 ghost use Rattle.s390x_typed_steps.specs.SingleInstruction.{single_with};
-ghost use Rattle.s390x_typed_steps.specs.VectorInstruction.{bit_mask_row, is_vector, element_code, doublewords_row, replicate_row, vector_row, vector_operands_valid, vector_stop};
+ghost use Rattle.s390x_typed_steps.specs.VectorInstruction.{bit_mask_row, divides, is_vector, element_code, doublewords_row, replicate_row, vector_row, vector_operands_valid, vector_stop};
 ghost use Rattle.s390x_typed_steps.specs.VectorOpcodes.{shift_row};
 
 use crate::codes::{
@@ -128,9 +128,9 @@ pub fn encode_vector(inst: &VecInst) -> Option<Result<Code, EmitError>>
     ensures { result
         ≡ single_code (single_with (vector_operands_valid inst.now) (vector_row inst.now)) }
 {
-    match inst {
-        VecInst::VecRRR { op, rd, rn, rm } => {
-            Some(three_vectors(binary_row(*op), rd.to_reg(), *rn, *rm))
+    rows! { inst,
+        VecInst {
+            VecRRR { op, rd, rn, rm } => Some(three_vectors(binary_row(*op), rd.to_reg(), *rn, *rm)),
         }
         _ => encode_any(inst),
     }
@@ -151,8 +151,7 @@ fn encode_any(inst: &VecInst) -> Option<Result<Code, EmitError>>
             VecIntCmp { op, rd, rn, rm } => Some(compared_vectors(comparison_row(*op), rd.to_reg(), *rn, *rm, 0)),
             VecIntCmpS { op, rd, rn, rm } => Some(compared_vectors(comparison_row(*op), rd.to_reg(), *rn, *rm, 1)),
             VecIntEltCmp { op, rn, rm } => Some(two_vectors(element_comparison_row(*op), *rn, *rm)),
-            VecMov { rd, rn } =>
-                { let row = VectorOpcode { opcode: opcodes::VLR, code: 0 }; Some(two_vectors(row, rd.to_reg(), *rn)) },
+            VecMov { rd, rn } => Some(two_vectors(VectorOpcode { opcode: opcodes::VLR, code: 0 }, rd.to_reg(), *rn)),
             VecShiftRR { shift_op, rd, rn, shift_imm, shift_reg } =>
                 Some(shifted(*shift_op, *rd, *rn, *shift_imm, *shift_reg)),
             VecEvaluate { imm, rd, rn, rm, ra } => Some(evaluated_vectors(low_byte(*imm), rd.to_reg(), *rn, *rm, *ra)),
@@ -179,10 +178,19 @@ fn encode_any(inst: &VecInst) -> Option<Result<Code, EmitError>>
 pub fn stop_of(inst: &VecInst) -> Option<TrapCode>
     ensures { result ≡ vector_stop inst.now }
 {
+    if divides(inst) {
+        Some(TrapCode::INTEGER_DIVISION_BY_ZERO)
+    } else {
+        None
+    }
+}
+
+// Whether it divides, and may so stop by its values.
+fn divides(inst: &VecInst) -> bool
+    ensures { result ≡ divides inst.now }
+{
     match inst {
-        VecInst::VecRRR { op, .. } if is_division(*op) => {
-            Some(TrapCode::INTEGER_DIVISION_BY_ZERO)
-        }
-        _ => None,
+        VecInst::VecRRR { op, .. } => is_division(*op),
+        _ => false,
     }
 }

@@ -1,38 +1,39 @@
 -- Reading a line gives back the line that was printed, and what is read is in its ranges.
-use Rattle.std.proofs.Common.{◌≡◌, ℕ, Bool, true, false, List, [], ◌∷◌, ◌++◌, refl, sym, ap, ◌∙◌, subst, append_assoc}
-use Rattle.std.specs.Prelude.{codes, if◌then◌else◌}
+use Rattle.std.proofs.Common.{◌≡◌, ℕ, zero, suc, Bool, true, false, ◌&&◌, List, [], ◌∷◌, ◌++◌, refl, sym, ap, ◌∙◌, subst, append_assoc}
+use Rattle.std.specs.Prelude.{codes, if◌then◌else◌, slice_index_or}
+use Rattle.std.proofs.lemmas.Bool.{and_parts}
 use Rattle.s390x_job_fields.specs.Marks.{before_mark, from_mark}
 use Rattle.s390x_job_lines.specs.Names.{line_name_of, name_text}
 use Rattle.s390x_inst.specs.declared.state.IsaFlags.{IsaFlags}
 use Rattle.s390x_job_fields.specs.Bytes.{facility_text, facilities_text}
 use Rattle.s390x_job_lines.specs.Kinds.{kinds}
+use Rattle.s390x_job_lines.specs.Slots.{slot_of}
+use Rattle.s390x_job_lines.specs.declared.name_hash.TheConstants.{ALL_NAMES}
 use Rattle.s390x_job_fields.specs.Fields.{Field, Kind, KFlags, FFlags, kind_of, spell, value_as, after_as}
 use Rattle.s390x_job_lines.specs.Line.{Line, fields_text, line_text, AllFields, kinds_of, IsLine, line_fields_of, line_with, line_of}
-use Rattle.s390x_job_lines.specs.declared.inst_name.IntegerName.TheVariants as IntegerIs
-use Rattle.s390x_inst.specs.declared.load.LoadOp.TheVariants as LoadOps
-use Rattle.s390x_inst.specs.declared.store.StoreOp.TheVariants as StoreOps
-use Rattle.s390x_inst.specs.declared.whole.Direction.TheVariants as Directions
-use Rattle.s390x_inst.specs.declared.whole.WholeLayout.TheVariants as Layouts
-use Rattle.s390x_job_lines.specs.declared.inst_name.MemoryName.TheVariants as MemoryIs
-use Rattle.s390x_job_lines.specs.declared.inst_name.ControlName.TheVariants as ControlIs
-use Rattle.s390x_job_lines.specs.declared.inst_name.VectorName.TheVariants as VectorIs
 use Rattle.s390x_job_lines.specs.declared.name.LineName.{LineName}
 use Rattle.s390x_job_lines.specs.declared.name.LineName.TheVariants as N
-use Rattle.s390x_job_lines.proofs.Slots.{name-round_trip}
-use Rattle.s390x_job_fields.proofs.Avoids.{Avoids, Avoids-append, Avoids-fewer, Avoids-test, marks, IsOneWord, Ends, front-is, back-is}
+use Rattle.s390x_job_lines.proofs.Slots.{name-round_trip, name-slot}
+use Rattle.s390x_job_fields.proofs.Avoids.{Avoids, avoids, Avoids-append, Avoids-fewer, Avoids-test, marks, IsOneWord, Ends, front-is, back-is}
 use Rattle.s390x_job_fields.proofs.Fields.{Rest, field-round_trip, field-after, field-feed}
 use Rattle.s390x_job_fields.proofs.Ranges.{value-ok, value-kind}
 
+abbrev all_of : (LineName → Bool) → List LineName → Bool
+all_of f [] = true
+all_of f (x ∷ xs) = f x && all_of f xs
+
+holds_at : (f : LineName → Bool) (xs : List LineName) (k : ℕ) → all_of f xs ≡ true → f N.EndLine ≡ true → f (slice_index_or xs k N.EndLine) ≡ true
+holds_at f [] k h e = e
+holds_at f (x ∷ xs) zero h e = (and_parts (f x) (all_of f xs) h).0
+holds_at f (x ∷ xs) (suc k) h e = holds_at f xs k (and_parts (f x) (all_of f xs) h).1 e
+
+-- what holds of each name that the table lists holds of each name, since it stands at its slot
+each_name : (f : LineName → Bool) → all_of f ALL_NAMES ≡ true → f N.EndLine ≡ true → (n : LineName) → f n ≡ true
+each_name f h e n =
+    subst (λ m. f m ≡ true) (name-slot n) (holds_at f ALL_NAMES (slot_of (name_text n)) h e)
+
 name-one_word : (n : LineName) → IsOneWord (name_text n)
-name-one_word (N.Integer IntegerIs.AluRRR) = Avoids-test marks (name_text (N.Integer IntegerIs.AluRRR)) refl
-name-one_word (N.Load LoadOps.Load32) = Avoids-test marks (name_text (N.Load LoadOps.Load32)) refl
-name-one_word (N.Store StoreOps.Store64) = Avoids-test marks (name_text (N.Store StoreOps.Store64)) refl
-name-one_word (N.Memory MemoryIs.LoadAddr) = Avoids-test marks (name_text (N.Memory MemoryIs.LoadAddr)) refl
-name-one_word (N.Control ControlIs.Fence) = Avoids-test marks (name_text (N.Control ControlIs.Fence)) refl
-name-one_word (N.Vector VectorIs.VecRRR) = Avoids-test marks (name_text (N.Vector VectorIs.VecRRR)) refl
-name-one_word (N.Whole Directions.Load Layouts.Straight) = Avoids-test marks (name_text (N.Whole Directions.Load Layouts.Straight)) refl
-name-one_word (N.Whole Directions.Store Layouts.Straight) = Avoids-test marks (name_text (N.Whole Directions.Store Layouts.Straight)) refl
-name-one_word n = Avoids-test marks (name_text n) refl
+name-one_word n = Avoids-test marks (name_text n) (each_name (λ m. avoids marks (name_text m)) refl refl n)
 
 -- facilities stand last
 abbrev is_facilities : Kind → Bool
@@ -45,11 +46,7 @@ proper (k ∷ []) = true
 proper (k ∷ l ∷ ks) = if is_facilities k then false else proper (l ∷ ks)
 
 kinds_proper : (n : LineName) → proper (kinds n) ≡ true
-kinds_proper (N.Integer IntegerIs.AluRRR) = refl
-kinds_proper (N.Memory MemoryIs.LoadAddr) = refl
-kinds_proper (N.Control ControlIs.Fence) = refl
-kinds_proper (N.Vector VectorIs.VecRRR) = refl
-kinds_proper n = refl
+kinds_proper n = each_name (λ m. proper (kinds m)) refl refl n
 
 flags_split : (f : IsaFlags) (r : List ℕ) → facilities_text f ++ r ≡ facility_text f.has_mie3 (codes "mie3") ++ (facility_text f.has_mie4 (codes "mie4") ++ (facility_text f.has_vxrs_ext2 (codes "vxrs_ext2") ++ (facility_text f.has_vxrs_ext3 (codes "vxrs_ext3") ++ (facility_text f.no_relative_memory (codes "norel") ++ r))))
 flags_split f r = simp append_assoc

@@ -26,12 +26,12 @@ name_at w = slice_index_or ALL_NAMES (slot_of w) N.EndLine
 
 pub name-slot : (n : LineName) → name_at (name_text n) ≡ n
 unfolding slot_of
-name-slot (N.Integer IntegerIs.AluRRR) = refl
+name-slot (N.Integer IntegerIs.CmpRR) = refl
 name-slot (N.Load LoadOps.Load32) = refl
 name-slot (N.Store StoreOps.Store64) = refl
 name-slot (N.Memory MemoryIs.LoadAddr) = refl
 name-slot (N.Control ControlIs.Fence) = refl
-name-slot (N.Vector VectorIs.VecRRR) = refl
+name-slot (N.Vector VectorIs.VecSelect) = refl
 name-slot (N.Whole Directions.Load Layouts.Straight) = refl
 name-slot (N.Whole Directions.Store Layouts.Straight) = refl
 name-slot n = refl

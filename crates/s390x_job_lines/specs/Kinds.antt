@@ -43,7 +43,7 @@ use Rattle.s390x_job_lines.specs.declared.inst_name.VectorName.TheVariants as Ve
 use Rattle.s390x_job_lines.specs.declared.name.LineName.{LineName}
 use Rattle.s390x_job_lines.specs.declared.name.LineName.TheVariants as N
 
--- what takes the value of a field of this kind; no instruction has a field of the kinds of the last clause
+-- what takes the value of a field of this kind; no instruction has a field of the last four kinds
 abbrev pub Takes : Kind → Type 0 → Type 0
 Takes KReg T = Reg → T
 Takes KReal T = RealRegister → T
@@ -76,7 +76,10 @@ Takes KTarget T = CallInstDest → T
 Takes KTry T = TryPart → T
 Takes (KOption w) T = Option ℕ → T
 Takes KReloc T = SymbolReloc → T
-Takes k T = T
+Takes KName T = T
+Takes KBytes T = T
+Takes KStart T = T
+Takes KFlags T = T
 
 -- what takes the values of fields of these kinds, one after another
 abbrev pub TakesEach : List Kind → Type 0 → Type 0

@@ -15,7 +15,7 @@ use Rattle.s390x_inst.specs.declared.store.StoreOp.{StoreOp}
 use Rattle.s390x_inst.specs.declared.store.StoreOp.TheVariants as StoreOps
 use Rattle.s390x_inst.proofs.Transfers.{Transfer, LoadOf, StoreOf, as_transfer, by_transfer}
 use Rattle.s390x_inst.specs.declared.inst.Inst.{Inst}
-use Rattle.s390x_inst.specs.declared.inst.Inst.TheVariants.{CmpRX}
+use Rattle.s390x_inst.specs.declared.inst.Inst.TheVariants as I
 use Rattle.s390x_inst.specs.declared.ops.CmpOp.{CmpOp}
 use Rattle.s390x_inst.specs.declared.ops.CmpOp.TheVariants as C
 use Rattle.s390x_typed_steps.proofs.RelativeRows.{rest_none}
@@ -168,7 +168,7 @@ transfer_bytes_or rest none other (Some (LoadOf l)) opcode e = subst (λ o. RowA
 transfer_bytes_or rest none other (Some (StoreOf s)) opcode e = subst (λ o. RowAccesses (store_step s) o) e (store_accesses s.op s.rd s.mem)
 
 pub bytes_accessed : (i : Inst) (opcode : ℕ) → relative_row_of (memory i) ≡ Some opcode → StepAccesses (operand_step i) (relative_bytes opcode)
-bytes_accessed (CmpRX op rn mem) opcode e = subst (λ o. RowAccesses (operand_step (CmpRX op rn mem)) o) e (cmp_accesses op (number_of rn) mem)
+bytes_accessed (I.CmpRX op rn mem) opcode e = subst (λ o. RowAccesses (operand_step (I.CmpRX op rn mem)) o) e (cmp_accesses op (number_of rn) mem)
 bytes_accessed i opcode e = transfer_bytes_or (rest_memory i) (rest_none i) (rest_operand_step i) (as_transfer i) opcode e
 
 -- ---- no stop by alignment
@@ -236,5 +236,5 @@ module _ (L : Layout) (all : AllCodeAt L) where
       row_never s.rd (store_rows s.op).rx (store_rows s.op).rxy (store_rows s.op).ril (is_numbered 1 s.rd) s.mem v.forms (stores_at v.second (number_of s.rd)) (store_is_aligned s.op (number_of s.rd)) opcode e operands_valid own
 
   pub never_misaligned : (i : Inst) (opcode : ℕ) → relative_row_of (memory i) ≡ Some opcode → ValidMemoryOr L (memory i) ⊥ → OwnOperand (memory i) → NeverMisaligned (performed_in_memory L i)
-  never_misaligned (CmpRX op rn mem) opcode e operands_valid own = own_never (number_of rn) (cmp_rx op) (cmp_rxy op) (cmp_ril op) mem (is_general rn) (is_numbered 1 rn) operands_valid own (cmp_forms op) (compares_at (comparison op) (number_of rn)) (cmp_relative op) (cmp_bytes op (number_of rn))
+  never_misaligned (I.CmpRX op rn mem) opcode e operands_valid own = own_never (number_of rn) (cmp_rx op) (cmp_rxy op) (cmp_ril op) mem (is_general rn) (is_numbered 1 rn) operands_valid own (cmp_forms op) (compares_at (comparison op) (number_of rn)) (cmp_relative op) (cmp_bytes op (number_of rn))
   never_misaligned i opcode e operands_valid own = transfer_never_or (rest_memory i) (rest_none i) (rest_operand_step i) (as_transfer i) opcode e operands_valid own

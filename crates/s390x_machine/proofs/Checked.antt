@@ -10,7 +10,7 @@ use Rattle.s390x_inst.specs.declared.inst.Inst.{Inst}
 use Rattle.s390x_inst.specs.declared.inst.Inst.TheVariants as I
 use Rattle.s390x_typed_steps.specs.Calls.{is_target, site_labels}
 use Rattle.s390x_typed_steps.specs.Causes.{first_emit_cause, unless, facility_cause, target_label_cause, labels_cause, cause_or, loses_scratch, addend_fits, target_cause, memory_cause_or, instruction_cause, numbers_cause, leaf_cause, remainder_cause}
-use Rattle.s390x_typed_steps.specs.Causes.{nesting_cause, fresh_labels, tree_cause, block_cause, blocks_cause, nominal_behind, instruction_fresh_labels, body_cause, body_fresh_labels, body_nominal_after}
+use Rattle.s390x_typed_steps.specs.Causes.{branch_cause, nesting_cause, fresh_labels, tree_cause, block_cause, blocks_cause, nominal_behind, instruction_fresh_labels, body_cause, body_fresh_labels, body_nominal_after}
 use Rattle.s390x_typed_steps.specs.SingleInstruction.{SingleInstruction, single_instruction}
 use Rattle.s390x_typed_steps.specs.General.{is_general, is_nonzero, is_scratch}
 use Rattle.s390x_typed_steps.specs.Memory.{StorageForm, MemoryInstruction, memory, loaded_memory, without_relative, other_rows, with_rows, type_of}
@@ -25,7 +25,7 @@ use Rattle.s390x_typed_steps.specs.VectorComposite.{composite_cause}
 use Rattle.s390x_operations.specs.State.{CodeImage}
 use Rattle.s390x_machine.specs.Functions.{function_layout}
 use Rattle.s390x_machine.specs.Layout.{Layout, declarations}
-use Rattle.s390x_machine.specs.CodeAt.{IsBlock, AreBlocks, OperandsValidOr, ValidMemoryOr, IsValidStep}
+use Rattle.s390x_machine.specs.CodeAt.{IsBlock, AreBlocks, IsValidBranch, OperandsValidOr, ValidMemoryOr, IsValidStep}
 use Rattle.s390x_machine.proofs.Functions.{count_of}
 use Rattle.s390x_machine.proofs.Relative.{first_none, unless_none}
 
@@ -53,10 +53,16 @@ module _ (L : Layout) where
       }
   valid_other (Some x) m others e range = unless_none x.operands_valid BadRegister e
 
-  valid_single : (o : Option SingleInstruction) (m : Option MemoryInstruction) → cause_or o (memory_cause_or (declarations L) m (Some BadOperator)) ≡ None → MemoryInRange m → OperandsValidOr o (ValidMemoryOr L m ⊥)
-  valid_single None None e range = absurd (cc)
-  valid_single None (Some x) e range = valid_other None (Some x) (Some BadOperator) e range
-  valid_single (Some x) m e range = unless_none x.operands_valid BadRegister e
+  -- where an instruction has no causes of its own, what is asked of it besides holds
+  abbrev AskedOr : Option EmitError → Type 0 → Type 0
+  AskedOr None asked = asked
+  AskedOr (Some c) asked = Unit {0}
+
+  valid_asked : (o : Option SingleInstruction) (m : Option MemoryInstruction) (others : Option EmitError) (asked : Type 0) → AskedOr others asked → cause_or o (memory_cause_or (declarations L) m others) ≡ None → MemoryInRange m → OperandsValidOr o (ValidMemoryOr L m asked)
+  valid_asked None None None asked own e range = own
+  valid_asked None None (Some c) asked own e range = absurd (cc)
+  valid_asked None (Some x) others asked own e range = valid_other None (Some x) others e range
+  valid_asked (Some x) m others asked own e range = unless_none x.operands_valid BadRegister e
 
   block_of : (l : MachLabel) → target_label_cause L.block_count l ≡ None → IsBlock L l.0
   block_of l e = ltb-true l.0 L.block_count (unless_none (nat_lt l.0 L.block_count) UnboundLabel e)
@@ -81,21 +87,17 @@ module _ (L : Layout) where
       let general = and_parts (is_general ridx) (is_nonzero ridx) (unless_none (is_general ridx && is_nonzero ridx) BadRegister registers.0) in
       (general.0, general.1, unless_none (not (is_scratch ridx)) ScratchConflict scratch.0, block_of other labels.0, blocks_of targets.items labels.1, range.0)
   valid_step flags nominal depth after (I.CondBreak mask) e range le = (range.0, le (ltb-true 0 depth (unless_none (nat_lt 0 depth) Rattle.s390x_base.specs.declared.error.EmitError.TheVariants.BreakOutsideLoop e)))
-  valid_step flags nominal depth after I.Nop0 e range le = tt
-  valid_step flags nominal depth after (I.Args args) e range le = tt
-  valid_step flags nominal depth after (I.Rets rets) e range le = tt
-  valid_step flags nominal depth after (I.DummyUse reg) e range le = tt
-  valid_step flags nominal depth after I.SequencePoint e range le = tt
   valid_step flags nominal depth after (I.AllocateArgs size) e range le = refl
   valid_step flags nominal depth after (I.LabelAddress dst label) e range le =
       let parts = first_none (unless (is_general dst) BadRegister) (target_label_cause L.block_count label) e in
       (unless_none (is_general dst) BadRegister parts.0, block_of label parts.1)
   valid_step flags nominal depth after (I.LoadSymbolReloc rd reloc) e range le = unless_none (is_general rd) BadRegister e
-  valid_step flags nominal depth after (I.Trap code) e range le = tt
   valid_step flags nominal depth after (I.TrapIf mask code) e range le = range.0
-  valid_step flags nominal depth after I.Debugtrap e range le = tt
   valid_step flags nominal depth after (I.Vector v) e range le = valid_other (single_instruction (I.Vector v)) (memory (I.Vector v)) (composite_cause v) (first_none (facility_cause flags (I.Vector v)) (cause_or (single_instruction (I.Vector v)) (memory_cause_or (declarations L) (memory (I.Vector v)) (composite_cause v))) e).1 range.1
-  valid_step flags nominal depth after i e range le = valid_single (single_instruction i) (memory i) (first_none (facility_cause flags i) (cause_or (single_instruction i) (memory_cause_or (declarations L) (memory i) (Some BadOperator))) e).1 range.1
+  -- a copy for each other instruction
+  valid_step flags nominal depth after i e range le =
+      valid_asked (single_instruction i) (memory i) (branch_cause L.block_count depth i) (IsValidBranch L i) tt
+      (first_none (facility_cause flags i) (cause_or (single_instruction i) (memory_cause_or (declarations L) (memory i) (branch_cause L.block_count depth i))) e).1 range.1
 
   -- the operand is the same in other rows
   range_kept : (o : Option MemoryInstruction) → MemoryInRange o → MemoryInRange (without_relative o)
@@ -121,7 +123,7 @@ module _ (L : Layout) where
   valid_body flags n nominal depth after (Folded r i) e range le = absurd range.1
   valid_body flags n nominal depth after (Loaded i) e range le =
       let parts = first_none (first_emit_cause (facility_cause flags i) (memory_cause_or (declarations L) (loaded_memory i) (Some BadOperator))) (numbers_cause n 0) e in
-      valid_single None (loaded_memory i) (first_none (facility_cause flags i) (memory_cause_or (declarations L) (loaded_memory i) (Some BadOperator)) parts.0).1 (range_kept (memory i) range.1)
+      valid_asked None (loaded_memory i) (Some BadOperator) ⊥ tt (first_none (facility_cause flags i) (memory_cause_or (declarations L) (loaded_memory i) (Some BadOperator)) parts.0).1 (range_kept (memory i) range.1)
   valid_body flags n nominal depth after (CallStep c) e range le =
       let later = first_emit_cause (unless (nat_eq c.popped nominal && (nat_eq c.popped 0 || nat_eq depth 0)) BadStackState) (labels_cause L.block_count (site_labels c.sites)) in
       let registers = first_none (unless (is_general c.link && is_target c.target) BadRegister) later e in

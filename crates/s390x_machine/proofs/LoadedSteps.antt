@@ -13,7 +13,7 @@ use Rattle.s390x_inst.specs.declared.store.StoreOp.TheVariants as StoreOps
 use Rattle.s390x_inst.specs.Stores.{store_instruction}
 use Rattle.s390x_inst.proofs.Transfers.{Transfer, LoadOf, StoreOf, as_transfer, by_transfer}
 use Rattle.s390x_inst.specs.declared.inst.Inst.{Inst}
-use Rattle.s390x_inst.specs.declared.inst.Inst.TheVariants.{CmpRX}
+use Rattle.s390x_inst.specs.declared.inst.Inst.TheVariants as I
 use Rattle.s390x_typed_steps.proofs.RelativeRows.{rest_none}
 use Rattle.s390x_typed_steps.specs.Memory.{RxForm, MemoryInstruction, type_of, load, load_rows, store, store_rows, rest_memory, loaded_memory, without_relative}
 use Rattle.s390x_typed_steps.specs.Parts.{memory_or, step_parts}
@@ -81,6 +81,6 @@ transfer_or_none L k i rest none (Some (LoadOf l)) b valid = load_loaded L k l.o
 transfer_or_none L k i rest none (Some (StoreOf s)) b valid = store_loaded L k s.op s.rd s.mem b valid
 
 pub loaded_runs : (L : Layout) (k : ℕ) (i : Inst) → StepAt L k (LoadedStep i) → ValidMemoryOr L (loaded_memory i) ⊥ → StepRuns L k
-loaded_runs L k (CmpRX op rn mem) b valid =
+loaded_runs L k (I.CmpRX op rn mem) b valid =
     compares_in_memory b (comparison op) (cmp_rx op) (cmp_rxy op) None (cmp_short_rows op) (cmp_long_rows op) tt rn mem (record (cmp_forms op) { have_pcrel = false }) (cmp_loaded op (number_of rn), refl, refl, valid)
 loaded_runs L k i b valid = transfer_or_none L k i (rest_memory i) (rest_none i) (as_transfer i) b valid

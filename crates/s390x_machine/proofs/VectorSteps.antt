@@ -41,7 +41,7 @@ use Rattle.s390x_operations.specs.declared.stop.StopKind.{StopKind}
 use Rattle.s390x_operations.specs.declared.stop.StopKind.TheVariants.{Divide}
 use Rattle.s390x_rows.specs.declared.opcodes.TheConstants as opcodes
 use Rattle.s390x_typed_steps.specs.General.{is_general, low_halfword, low_byte}
-use Rattle.s390x_typed_steps.specs.MachineInstruction.{MachineInstruction, bytes_of, size_of, rr, vri_b, vri_c, vri_a, vri_k, vrr_a, vrr_c, vrr_d, vrr_e, vrr_f, vrs_a}
+use Rattle.s390x_typed_steps.specs.MachineInstruction.{MachineInstruction, bytes_of, size_of, rr, vri_b, vri_c, vri_a, vri_k, vrr_a, vrr_b, vrr_c, vrr_d, vrr_e, vrr_f, vrs_a}
 use Rattle.s390x_typed_steps.specs.Parts.{step_parts, row_part, parts_or}
 use Rattle.s390x_typed_steps.specs.SingleInstruction.{single_with}
 use Rattle.s390x_typed_steps.specs.Steps.{Step}
@@ -70,7 +70,7 @@ use Rattle.s390x_machine.proofs.Simulation.{ValuesCoded, Coded}
 use Rattle.s390x_machine.proofs.Stops.{only_by, never_by_values}
 use Rattle.s390x_machine.proofs.Trapping.{division_late, late_code}
 use Rattle.s390x_machine.proofs.VectorLanes.{IsOptionalRow, alone_inserted_runs, inserts_never, lane_extracted_runs, lane_inserted_runs, lane_runs}
-use Rattle.s390x_machine.proofs.VectorRows.{ElementsRow, elements_listed, elements_allowed, elements_operation, elements_few, binary_instruction, binary_rows, unary_instruction, unary_rows, comparison_instruction, comparison_rows, asking_rows, element_instruction, element_rows, vector_row_of}
+use Rattle.s390x_machine.proofs.VectorRows.{ElementsRow, elements_listed, elements_allowed, elements_operation, elements_few, binary_rows, unary_rows, comparison_rows, asking_rows, element_rows, vector_row_of}
 use Rattle.s390x_machine.proofs.VectorRows.{select_row, permute_row, blend_row, move_row, opcode_in, allowed_in, fits_vrr_a, fits_vrr_b, fits_vrr_c, fits_vrr_d, fits_vrr_e}
 use Rattle.s390x_machine.proofs.VectorRows.{evaluate_row, doublewords_rows, byte_mask_row, replicate_rows, join_row, shift_rows, shift_allowed, shift_code, shift_operation, small_displacement, code_of_size, HasSize, Sized, size_of_elements, lane_rows, bit_mask_rows, insert_rows, ler_row, ldr_row, fits_vri_b, fits_vri_c, fits_vri_a, fits_vri_k, fits_vrr_f, fits_vrs_a}
 
@@ -316,6 +316,24 @@ module _ {L : Layout} {k : ℕ} {s : Step} (b : StepAt L k s) where
       (λ r. subst (λ (y : Operation). Refines y (computes_three_vectors o d n m a r)) (sym (fields r)) (exactly (computes_three_vectors o d n m a r)))
       (λ r. subst (λ t. ValuesCoded (computes_three_vectors o d n m a r) (stop_codes t)) never (vector_coded o d (r.vector d) (r.vector n) (r.vector m) (r.vector a))) is.0 is.1
 
+  -- by their formats
+  vrr_a_runs : (opcode code d n : ℕ) (o : VectorOperation) → ElementsRow code (vrr_a opcode d n code) o → (d < 32) × (n < 32) → takes_second_alone o ≡ true → is_divide o ≡ false → IsVectorRow (vrr_a opcode d n code) (computes_one_vector o d n) → StepRuns L k
+  vrr_a_runs opcode code d n o row few takes never is =
+      one_vector_runs (vrr_a opcode d n code) o d n row (fits_vrr_a opcode d n code (few_digits (elements_listed row)) few.0 few.1 (elements_few row)) takes never (λ r. refl) is
+
+  vrr_b_runs : (opcode code d n m asks : ℕ) (o : VectorOperation) → ElementsRow code (vrr_b opcode d n m code asks) o → (d < 32) × (n < 32) × (m < 32) → asks < 16 → takes_fourth o ≡ false → is_divide o ≡ false → IsVectorRow (vrr_b opcode d n m code asks) (computes_two_vectors o d n m) → StepRuns L k
+  vrr_b_runs opcode code d n m asks o row few asked takes never is =
+      two_vectors_run (vrr_b opcode d n m code asks) o false d n m row (fits_vrr_b opcode d n m code asks (few_digits (elements_listed row)) few.0 few.1 few.2 (elements_few row) asked) takes never (λ r. refl) is.0 is.1
+
+  vrr_c_runs : (opcode code d n m : ℕ) (o : VectorOperation) (divides : Bool) → ElementsRow code (vrr_c opcode d n m code) o → (d < 32) × (n < 32) × (m < 32) → takes_fourth o ≡ false → is_divide o ≡ divides →
+      kind_of_step L (Some s) ≡ Some (Performs false (computes_two_vectors o d n m) (stop_codes divides)) → step_parts s ≡ row_part (vrr_c opcode d n m code) (stop_of divides) ∷ [] → StepRuns L k
+  vrr_c_runs opcode code d n m o divides row few takes agrees kind parts =
+      two_vectors_run (vrr_c opcode d n m code) o divides d n m row (fits_vrr_c opcode d n m code (few_digits (elements_listed row)) few.0 few.1 few.2 (elements_few row)) takes agrees (λ r. refl) kind parts
+
+  vrr_e_runs : (opcode d n m a : ℕ) (o : VectorOperation) → ElementsRow 0 (vrr_e opcode d n m a) o → (d < 32) × (n < 32) × (m < 32) × (a < 32) → is_divide o ≡ false → IsVectorRow (vrr_e opcode d n m a) (computes_three_vectors o d n m a) → StepRuns L k
+  vrr_e_runs opcode d n m a o row few never is =
+      three_vectors_run (vrr_e opcode d n m a) o d n m a row (fits_vrr_e opcode d n m a (few_digits (elements_listed row)) few.0 few.1 few.2 few.3) never (λ r. refl) is
+
   generated_runs : {code : ℕ} (x : MachineInstruction) (o : VectorOperation) (d : ℕ) → ElementsRow code x o → SlotsFit (layout_of x.format) x.slots → takes_none o ≡ true → is_divide o ≡ false → Computes x o d 0 0 0 → IsVectorRow x (generates_vector o d) → StepRuns L k
   generated_runs x o d row fit takes never fields is =
       vector_runs x o (generates_vector o d) false row fit
@@ -428,51 +446,19 @@ IsVectorStep L s v =
     (kind_of_step L (Some s) ≡ Some (kind_or (on_vectors (divides v) (vector_operation v)) Unsupported)) × (step_parts s ≡ parts_or single (vector_stop v) []) × OperandsValidOr single ⊥
 
 pub vector_instruction_runs : {L : Layout} {k : ℕ} {s : Step} (b : StepAt L k s) (v : VecInst) → IsVectorStep L s v → StepRuns L k
-vector_instruction_runs b (V.VecRRR op rd rn rm) is =
-    let few = three_vectors rd rn rm is.2 in
-    let row = binary_rows op (number_of rd) (number_of rn) (number_of rm) in
-    let fit = fits_vrr_c (binary_row op).opcode (number_of rd) (number_of rn) (number_of rm) (binary_row op).code (few_digits (elements_listed row)) few.0 few.1 few.2 (elements_few row) in
-    two_vectors_run b (binary_instruction op (number_of rd) (number_of rn) (number_of rm)) (binary_operation op) (is_division op) (number_of rd) (number_of rn) (number_of rm) row fit (binary_takes op) (divisions_agree op) (λ r. refl) is.0 is.1
-vector_instruction_runs b (V.VecRR op rd rn) is =
-    let few = two_vectors rd rn is.2 in
-    let row = unary_rows op (number_of rd) (number_of rn) in
-    let fit = fits_vrr_a (unary_row op).opcode (number_of rd) (number_of rn) (unary_row op).code (few_digits (elements_listed row)) few.0 few.1 (elements_few row) in
-    one_vector_runs b (unary_instruction op (number_of rd) (number_of rn)) (unary_operation op) (number_of rd) (number_of rn) row fit (unary_takes op) (unary_never op) (λ r. refl) (is.0, is.1)
-vector_instruction_runs b (V.VecSelect rd rn rm ra) is =
-    let few = four_vectors rd rn rm ra is.2 in
-    let row = select_row (number_of rd) (number_of rn) (number_of rm) (number_of ra) in
-    let fit = fits_vrr_e opcodes.VSEL (number_of rd) (number_of rn) (number_of rm) (number_of ra) (few_digits (elements_listed row)) few.0 few.1 few.2 few.3 in
-    three_vectors_run b (vrr_e opcodes.VSEL (number_of rd) (number_of rn) (number_of rm) (number_of ra)) O.Select (number_of rd) (number_of rn) (number_of rm) (number_of ra) row fit refl (λ r. refl) (is.0, is.1)
-vector_instruction_runs b (V.VecPermute rd rn rm ra) is =
-    let few = four_vectors rd rn rm ra is.2 in
-    let row = permute_row (number_of rd) (number_of rn) (number_of rm) (number_of ra) in
-    let fit = fits_vrr_e opcodes.VPERM (number_of rd) (number_of rn) (number_of rm) (number_of ra) (few_digits (elements_listed row)) few.0 few.1 few.2 few.3 in
-    three_vectors_run b (vrr_e opcodes.VPERM (number_of rd) (number_of rn) (number_of rm) (number_of ra)) O.Permute (number_of rd) (number_of rn) (number_of rm) (number_of ra) row fit refl (λ r. refl) (is.0, is.1)
+vector_instruction_runs b (V.VecRRR op rd rn rm) is = vrr_c_runs b (binary_row op).opcode (binary_row op).code (number_of rd) (number_of rn) (number_of rm) (binary_operation op) (is_division op) (binary_rows op (number_of rd) (number_of rn) (number_of rm)) (three_vectors rd rn rm is.2) (binary_takes op) (divisions_agree op) is.0 is.1
+vector_instruction_runs b (V.VecRR op rd rn) is = vrr_a_runs b (unary_row op).opcode (unary_row op).code (number_of rd) (number_of rn) (unary_operation op) (unary_rows op (number_of rd) (number_of rn)) (two_vectors rd rn is.2) (unary_takes op) (unary_never op) (is.0, is.1)
+vector_instruction_runs b (V.VecSelect rd rn rm ra) is = vrr_e_runs b opcodes.VSEL (number_of rd) (number_of rn) (number_of rm) (number_of ra) O.Select (select_row (number_of rd) (number_of rn) (number_of rm) (number_of ra)) (four_vectors rd rn rm ra is.2) refl (is.0, is.1)
+vector_instruction_runs b (V.VecPermute rd rn rm ra) is = vrr_e_runs b opcodes.VPERM (number_of rd) (number_of rn) (number_of rm) (number_of ra) O.Permute (permute_row (number_of rd) (number_of rn) (number_of rm) (number_of ra)) (four_vectors rd rn rm ra is.2) refl (is.0, is.1)
 vector_instruction_runs b (V.VecBlend rd rn rm ra) is =
     let few = four_vectors rd rn rm ra is.2 in
     let row = blend_row (number_of rd) (number_of rn) (number_of rm) (number_of ra) in
     let fit = fits_vrr_d opcodes.VBLEND (number_of rd) (number_of rn) (number_of rm) (number_of ra) 0 (few_digits (elements_listed row)) few.0 few.1 few.2 few.3 (omega arith) in
     three_vectors_run b (vrr_d opcodes.VBLEND (number_of rd) (number_of rn) (number_of rm) (number_of ra) 0) O.Blend (number_of rd) (number_of rn) (number_of rm) (number_of ra) row fit refl (λ r. refl) (is.0, is.1)
-vector_instruction_runs b (V.VecIntCmp op rd rn rm) is =
-    let few = three_vectors rd rn rm is.2 in
-    let row = comparison_rows op (number_of rd) (number_of rn) (number_of rm) in
-    let fit = fits_vrr_b (comparison_row op).opcode (number_of rd) (number_of rn) (number_of rm) (comparison_row op).code 0 (few_digits (elements_listed row)) few.0 few.1 few.2 (elements_few row) (omega arith) in
-    two_vectors_run b (comparison_instruction op (number_of rd) (number_of rn) (number_of rm) 0) (comparison_operation op false) false (number_of rd) (number_of rn) (number_of rm) row fit (comparison_takes op false) (comparison_never op false) (λ r. refl) is.0 is.1
-vector_instruction_runs b (V.VecIntCmpS op rd rn rm) is =
-    let few = three_vectors rd rn rm is.2 in
-    let row = asking_rows op (number_of rd) (number_of rn) (number_of rm) in
-    let fit = fits_vrr_b (comparison_row op).opcode (number_of rd) (number_of rn) (number_of rm) (comparison_row op).code 1 (few_digits (elements_listed row)) few.0 few.1 few.2 (elements_few row) (omega arith) in
-    two_vectors_run b (comparison_instruction op (number_of rd) (number_of rn) (number_of rm) 1) (comparison_operation op true) false (number_of rd) (number_of rn) (number_of rm) row fit (comparison_takes op true) (comparison_never op true) (λ r. refl) is.0 is.1
-vector_instruction_runs b (V.VecIntEltCmp op rn rm) is =
-    let few = two_vectors rn rm is.2 in
-    let row = element_rows op (number_of rn) (number_of rm) in
-    let fit = fits_vrr_a (element_comparison_row op).opcode (number_of rn) (number_of rm) (element_comparison_row op).code (few_digits (elements_listed row)) few.0 few.1 (elements_few row) in
-    one_vector_runs b (element_instruction op (number_of rn) (number_of rm)) (element_comparison op) (number_of rn) (number_of rm) row fit (element_takes op) (element_never op) (λ r. refl) (is.0, is.1)
-vector_instruction_runs b (V.VecMov rd rn) is =
-    let few = two_vectors rd rn is.2 in
-    let row = move_row (number_of rd) (number_of rn) in
-    let fit = fits_vrr_a opcodes.VLR (number_of rd) (number_of rn) 0 (few_digits (elements_listed row)) few.0 few.1 (omega arith) in
-    one_vector_runs b (vrr_a opcodes.VLR (number_of rd) (number_of rn) 0) O.Move (number_of rd) (number_of rn) row fit refl refl (λ r. refl) (is.0, is.1)
+vector_instruction_runs b (V.VecIntCmp op rd rn rm) is = vrr_b_runs b (comparison_row op).opcode (comparison_row op).code (number_of rd) (number_of rn) (number_of rm) 0 (comparison_operation op false) (comparison_rows op (number_of rd) (number_of rn) (number_of rm)) (three_vectors rd rn rm is.2) (omega arith) (comparison_takes op false) (comparison_never op false) (is.0, is.1)
+vector_instruction_runs b (V.VecIntCmpS op rd rn rm) is = vrr_b_runs b (comparison_row op).opcode (comparison_row op).code (number_of rd) (number_of rn) (number_of rm) 1 (comparison_operation op true) (asking_rows op (number_of rd) (number_of rn) (number_of rm)) (three_vectors rd rn rm is.2) (omega arith) (comparison_takes op true) (comparison_never op true) (is.0, is.1)
+vector_instruction_runs b (V.VecIntEltCmp op rn rm) is = vrr_a_runs b (element_comparison_row op).opcode (element_comparison_row op).code (number_of rn) (number_of rm) (element_comparison op) (element_rows op (number_of rn) (number_of rm)) (two_vectors rn rm is.2) (element_takes op) (element_never op) (is.0, is.1)
+vector_instruction_runs b (V.VecMov rd rn) is = vrr_a_runs b opcodes.VLR 0 (number_of rd) (number_of rn) O.Move (move_row (number_of rd) (number_of rn)) (two_vectors rd rn is.2) refl refl (is.0, is.1)
 vector_instruction_runs b (V.VecShiftRR op rd rn amount register) is =
     let few = and_parts (is_vector rd && is_vector rn) (is_general register) is.2 in
     let two = two_vectors rd rn few.0 in

@@ -9,7 +9,7 @@ use Rattle.s390x_address.specs.Appended.{with_parts}
 use Rattle.s390x_address.specs.Rows.{memory_instruction_of, in_state}
 use Rattle.s390x_address.proofs.Displacing.{row_found, plain_parts, plain_size}
 use Rattle.s390x_address.proofs.Planning.{resolved_flags, resolved_general, on_ok}
-use Rattle.s390x_address.proofs.memory.MemoryInst.emit_other.Goals as goal
+use Rattle.s390x_address.proofs.memory.MemoryInst.emit_standing.Goals as goal
 
 pub returns-in-Some-clause-answer : goal.returns-in-Some-clause-answer
 returns-in-Some-clause-answer c =
