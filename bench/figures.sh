@@ -14,19 +14,36 @@ work=$(mktemp -d)
 trap 'rm -rf "$work"' EXIT
 
 # What a command takes for each line of the job, beyond what it takes for an empty one.
-line() { echo $((($(executed "$program" "$@" < "$work/job") - $(executed "$program" "$@" < "$work/nothing")) / $(wc -l < "$work/job"))); }
+line() {
+    local all none
+    all=$(executed "$program" "$@" < "$work/job")
+    none=$(executed "$program" "$@" < "$work/nothing")
+    echo $(((all - none) / $(wc -l < "$work/job")))
+}
 
 # What one emission more takes for each instruction of the job.
-emission() { echo $((($(executed "$emitter" 2 < "$work/job") - $(executed "$emitter" 1 < "$work/job")) / $(instructions))); }
+emission() {
+    local once twice
+    once=$(executed "$emitter" 1 < "$work/job")
+    twice=$(executed "$emitter" 2 < "$work/job")
+    echo $(((twice - once) / $(instructions)))
+}
 
 kind() {
-    local name=$1 head=$2 unit=$3 code=$4 reading
+    local name=$1 head=$2 unit=$3 code=$4 reading image emission show operands gnu='' llvm=''
     case " ${chosen:-$name} " in *" $name "*) ;; *) return 0 ;; esac
     { printf '%b' "$head"; times "$unit"; echo end; } > "$work/job"
     executed "$program" image 4096 < "$work/job" > /dev/null
     reading=$(($(within find_job) / $(wc -l < "$work/job")))
-    printf '| %s | %d | %d | %d | %d | %d |' "$name" "$reading" "$(line image 4096)" "$(emission)" "$(line show)" "$(line operands)"
-    if [ -n "$code" ]; then printf ' %d | %d |\n' "$(gnu_as)" "$(llvm_mc)"; else echo '  |  |'; fi
+    image=$(line image 4096)
+    emission=$(emission)
+    show=$(line show)
+    operands=$(line operands)
+    if [ -n "$code" ]; then
+        gnu=$(gnu_as)
+        llvm=$(llvm_mc)
+    fi
+    echo "| $name | $reading | $image | $emission | $show | $operands | $gnu | $llvm |"
 }
 
 printf 'block\nend\n' > "$work/nothing"
@@ -62,7 +79,8 @@ memory() {
     local name=$1 command=$2 head=$3 unit=$4 tail=$5 long peak
     long=$(printf '%b.' "${unit//\{?\}/1234567}")
     { printf '%b' "$head"; count=$((16700000 / ${#long})) times "$unit"; printf '%b' "$tail"; } > "$work/job"
-    peak=$(/usr/bin/time -f %M "$program" "$command" 4096 < "$work/job" 2>&1 > /dev/null | tail -n 1)
+    /usr/bin/time -f %M -o "$work/peak" "$program" "$command" 4096 < "$work/job" > /dev/null 2> "$work/log" || failed "$program" $? "$work/log"
+    peak=$(tail -n 1 "$work/peak")
     awk -v name="$name" -v peak="$peak" -v size="$(stat -c %s "$work/job")" 'BEGIN { printf "| %s | %.1f |\n", name, peak * 1024 / size }'
 }
 

@@ -18,9 +18,20 @@ times() {
     }'
 }
 
+# A failure within $(..) ends a script that has set -e only with this, and only where it is all that a line assigns.
+shopt -s inherit_errexit
+
+# Tells that a program ends with a status other than 0, as one that isn't there does, and what was said of it beside valgrind's counts; ends with that status.
+failed() {
+    local program=$1 status=$2 log=$3
+    echo "$program ends with status $status: $(grep -v '^==' "$log" | head -n 1)" >&2
+    return "$status"
+}
+
 # Executed instructions of a command.
 executed() {
-    valgrind --tool=callgrind --callgrind-out-file="$work/counts" "$@" 2>&1 > "$work/out" | sed -n 's/.*Collected : //p'
+    valgrind --tool=callgrind --callgrind-out-file="$work/counts" "$@" > "$work/out" 2> "$work/log" || failed "$1" $? "$work/log"
+    sed -n 's/.*Collected : //p' "$work/log"
 }
 
 # How many of the instructions counted last were executed within a function, and what it called.

@@ -17,14 +17,18 @@ printf 'block\nend\n' > "$work/job"
 nothing=$(executed "$program" "${command[@]}" < "$work/job")
 
 kind() {
-    local name=$1 head=$2 unit=$3 code=$4 all lines reading
+    local name=$1 head=$2 unit=$3 code=$4 all lines reading gnu llvm
     case " ${chosen:-$name} " in *" $name "*) ;; *) return 0 ;; esac
     { printf '%b' "$head"; times "$unit"; echo end; } > "$work/job"
     lines=$(wc -l < "$work/job")
     all=$(executed "$program" "${command[@]}" < "$work/job")
     reading=$(within find_job)
     printf '%-12s %6d a line, reading %6d' "$name" $(((all - nothing) / lines)) $((${reading:-0} / lines))
-    [ -z "$code" ] || printf ', as %6d, llvm-mc %6d' "$(gnu_as)" "$(llvm_mc)"
+    if [ -n "$code" ]; then
+        gnu=$(gnu_as)
+        llvm=$(llvm_mc)
+        printf ', as %6d, llvm-mc %6d' "$gnu" "$llvm"
+    fi
     echo
 }
 

@@ -45,7 +45,7 @@ LAYOUTS = {"Straight": "", "Reversed": "Rev", "Bytes16": "Byte16Rev", "Bytes32":
 CONDITIONS = "o h nle l nhe lh ne e nlh he nl le nh no".split()
 CONDITIONAL = "crt cgrt clrt clgrt cit cgit clfit clgit locr locgr lochi locghi".split()
 # Strings in the sources that are no mnemonics: conditions, the letters of sizes and of one that is set, and the words of operands and labels.
-OTHERS = CONDITIONS + ["b", "f", "g", "h", "q", "j", "label", "s", "tag", "u"]
+OTHERS = CONDITIONS + ["b", "f", "g", "h", "q", "j", "label", "s", "tag", "u", "user"]
 
 
 class Expected:

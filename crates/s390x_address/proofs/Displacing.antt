@@ -12,16 +12,16 @@ use Rattle.s390x_inst.specs.declared.inst.Inst.{Inst}
 use Rattle.s390x_inst.specs.declared.inst.Inst.TheVariants.{Mov64SImm32, LoadAddr}
 use Rattle.s390x_format.specs.Formats.{length_of}
 use Rattle.s390x_typed_steps.specs.Causes.{Declared, first_emit_cause, unless, is_helped, memory_cause}
-use Rattle.s390x_typed_steps.specs.General.{is_general, low_displacement, low_12}
-use Rattle.s390x_typed_steps.specs.MachineInstruction.{MachineInstruction, bytes_of, rx, rxy, vrx}
-use Rattle.s390x_typed_steps.specs.Memory.{StorageForm, RxForm, VrxForm, type_of, storage_row, of_opcode}
+use Rattle.s390x_typed_steps.specs.General.{is_general, low_displacement, low_12, low_halfword}
+use Rattle.s390x_typed_steps.specs.MachineInstruction.{MachineInstruction, bytes_of, rx, rxy, si, siy, sil, vrx}
+use Rattle.s390x_typed_steps.specs.Memory.{StorageForm, RxForm, SiForm, SilForm, VrxForm, type_of, storage_row, of_opcode}
 use Rattle.s390x_typed_steps.specs.Operands.{Finalized, scratch, no_register, is_numbered, is_relative, is_far, fits_12, fits_20, fits_32, with_displacement, with_address_loaded, with_widened, finalized_operand, has_form}
 use Rattle.s390x_typed_steps.specs.Parts.{helpers_parts, relative_parts, access_parts, operand_parts, finalized_parts, parts_size}
 use Rattle.s390x_typed_steps.proofs.Causes.{first_none}
 use Rattle.s390x_address.specs.Lowerings.{IsPlain, IsBehind, IsIndexed}
 use Rattle.s390x_address.specs.Rows.{storage_form_of}
 use Rattle.s390x_address.specs.declared.rows.StorageRows.{StorageRows}
-use Rattle.s390x_address.specs.declared.rows.StorageRows.TheVariants.{OneRegister, Vector}
+use Rattle.s390x_address.specs.declared.rows.StorageRows.TheVariants.{OneRegister, Byte, Halfword, Vector}
 use Rattle.s390x_address.proofs.OnlyMemory.{length-bytes}
 use Rattle.s390x_address.proofs.Refusing.{wider_12, wider_20}
 
@@ -81,7 +81,51 @@ vector_plain register opcode mask base off flags accesses operands_valid reads_s
       λ D. only_registers D form base off flags accesses operands_valid reads_scratch refl near (wider_12 off fits) alone,
     )
 
+-- the same by the rows of an immediate
+short_alone : (form : StorageForm) (base : Reg) (off : ℤ) (flags : AccessFlags) (accesses operands_valid reads_scratch : Bool) (code : List ℕ) →
+    fits_12 off ≡ true → has_form (type_of form accesses) (RegOffset base off flags) ≡ true →
+    with_widened (type_of form accesses) (with_address_loaded (type_of form accesses) (record { helpers = []; operand = BXD12 base no_register (unsigned_abs off) flags })) ≡ record { helpers = []; operand = BXD12 base no_register (unsigned_abs off) flags } →
+    option_map bytes_of (storage_row form (BXD12 base no_register (unsigned_abs off) flags)) ≡ Some code →
+    IsPlain (record { form = form; operand = RegOffset base off flags; accesses = accesses; operands_valid = operands_valid; reads_scratch = reads_scratch }) code
+short_alone form base off flags accesses operands_valid reads_scratch code fits has stands same =
+    let mi = type_of form accesses in
+    let short : Finalized = record { helpers = []; operand = BXD12 base no_register (unsigned_abs off) flags } in
+    let long : Finalized = record { helpers = []; operand = BXD20 base no_register off flags } in
+    let far : Finalized = record { helpers = Mov64SImm32 scratch off ∷ []; operand = BXD12 base scratch 0 flags } in
+    let stays : Finalized = record { helpers = []; operand = RegOffset base off flags } in
+    let lowered : finalized_operand mi (RegOffset base off flags) ≡ short = ap (λ t. with_widened mi (with_address_loaded mi (cond t short (cond (fits_20 off) long (cond (fits_32 off) far stays))))) fits ∙ stands in
+    let near : is_far off ≡ false = ap (λ t. fits_32 off && not t && not (fits_20 off)) fits ∙ ap (λ t. t && not (fits_20 off)) (and_right (fits_32 off) false refl) in
+    let alone = ap (λ (f : Finalized). f.helpers) lowered in (
+      alone,
+      ap (λ (f : Finalized). is_relative f.operand) lowered,
+      ap (λ (f : Finalized). option_map bytes_of (storage_row form f.operand)) lowered ∙ same,
+      λ D. only_registers D form base off flags accesses operands_valid reads_scratch has near (wider_12 off fits) alone,
+    )
+
 -- ---- one of 20 bits
+
+-- by the row of 20 bits of an immediate of 8 bits, where the one of 12 bits doesn't hold it
+long_byte_plain : (imm si_opcode siy_opcode : ℕ) (base : Reg) (off : ℤ) (flags : AccessFlags) (accesses operands_valid reads_scratch : Bool) (code : List ℕ) →
+    fits_12 off ≡ false → fits_20 off ≡ true → code ≡ bytes_of (siy siy_opcode (number_of base) (low_displacement off) imm) →
+    IsPlain (record { form = SiForm imm si_opcode siy_opcode; operand = RegOffset base off flags; accesses = accesses; operands_valid = operands_valid; reads_scratch = reads_scratch }) code
+long_byte_plain imm si_opcode siy_opcode base off flags accesses operands_valid reads_scratch code unfit fits same =
+    let form = SiForm imm si_opcode siy_opcode in
+    let mi = type_of form accesses in
+    let short : Finalized = record { helpers = []; operand = BXD12 base no_register (unsigned_abs off) flags } in
+    let long : Finalized = record { helpers = []; operand = BXD20 base no_register off flags } in
+    let far : Finalized = record { helpers = Mov64SImm32 scratch off ∷ []; operand = BXD12 base scratch 0 flags } in
+    let stays : Finalized = record { helpers = []; operand = RegOffset base off flags } in
+    let others = cond (fits_32 off) far stays in
+    let lowered : finalized_operand mi (RegOffset base off flags) ≡ long =
+    ap (λ t. with_widened mi (with_address_loaded mi (cond t short (cond (fits_20 off) long others)))) unfit
+    ∙ ap (λ t. with_widened mi (with_address_loaded mi (cond t long others))) fits in
+    let near : is_far off ≡ false = ap (λ t. fits_32 off && not (fits_12 off) && not t) fits ∙ and_right (fits_32 off && not (fits_12 off)) false refl in
+    let alone = ap (λ (f : Finalized). f.helpers) lowered in (
+      alone,
+      ap (λ (f : Finalized). is_relative f.operand) lowered,
+      ap (λ (f : Finalized). option_map bytes_of (storage_row form f.operand)) lowered ∙ ap Some (sym same),
+      λ D. only_registers D form base off flags accesses operands_valid reads_scratch refl near (wider_20 off fits) alone,
+    )
 
 not_negative : (off : ℤ) → fits_12 off ≡ true → pos (unsigned_abs off) ≡ off
 not_negative (pos n) h = refl
@@ -150,6 +194,40 @@ vector_rows (Some code) rows register opcode mask disp base off flags accesses o
     let p = held (fits_12 off) disp (unsigned_abs off) fits in
     subst (λ form. IsPlain (record { form = form; operand = RegOffset base off flags; accesses = accesses; operands_valid = operands_valid; reads_scratch = reads_scratch }) code) (sym (ap storage_form_of is))
     (vector_plain (number_of register) opcode mask base off flags accesses operands_valid reads_scratch code p.0 (same ∙ ap (λ d. bytes_of (vrx opcode (number_of register) (number_of base) (number_of no_register) mask (low_12 d))) p.1))
+
+pub short_byte_rows : (found : Option (List ℕ)) (rows : StorageRows) (imm si_opcode siy_opcode disp : ℕ) (base : Reg) (off : ℤ) (flags : AccessFlags) (accesses operands_valid reads_scratch : Bool) →
+    rows ≡ Byte imm si_opcode siy_opcode → Some disp ≡ cond (fits_12 off) (Some (unsigned_abs off)) None →
+    IfSome found (λ code. code ≡ bytes_of (si si_opcode (number_of base) (low_12 disp) imm)) →
+    IfSome found (λ code. IsPlain (record { form = storage_form_of rows; operand = RegOffset base off flags; accesses = accesses; operands_valid = operands_valid; reads_scratch = reads_scratch }) code)
+short_byte_rows None rows imm si_opcode siy_opcode disp base off flags accesses operands_valid reads_scratch is fits same = tt
+short_byte_rows (Some code) rows imm si_opcode siy_opcode disp base off flags accesses operands_valid reads_scratch is fits same =
+    let p = held (fits_12 off) disp (unsigned_abs off) fits in
+    subst (λ form. IsPlain (record { form = form; operand = RegOffset base off flags; accesses = accesses; operands_valid = operands_valid; reads_scratch = reads_scratch }) code) (sym (ap storage_form_of is))
+    (short_alone (SiForm imm si_opcode siy_opcode) base off flags accesses operands_valid reads_scratch code p.0 refl refl (ap Some (sym (same ∙ ap (λ d. bytes_of (si si_opcode (number_of base) (low_12 d) imm)) p.1))))
+
+unheld : {D : Type 0} (t : Bool) (d : D) → None ≡ cond t (Some d) None → t ≡ false
+unheld true d h = absurd (cc)
+unheld false d h = refl
+
+pub long_byte_rows : (found : Option (List ℕ)) (rows : StorageRows) (imm si_opcode siy_opcode : ℕ) (disp : ℤ) (base : Reg) (off : ℤ) (flags : AccessFlags) (accesses operands_valid reads_scratch : Bool) →
+    rows ≡ Byte imm si_opcode siy_opcode → None ≡ cond (fits_12 off) (Some (unsigned_abs off)) None → Some disp ≡ cond (fits_20 off) (Some off) None →
+    IfSome found (λ code. code ≡ bytes_of (siy siy_opcode (number_of base) (low_displacement disp) imm)) →
+    IfSome found (λ code. IsPlain (record { form = storage_form_of rows; operand = RegOffset base off flags; accesses = accesses; operands_valid = operands_valid; reads_scratch = reads_scratch }) code)
+long_byte_rows None rows imm si_opcode siy_opcode disp base off flags accesses operands_valid reads_scratch is unfit fits same = tt
+long_byte_rows (Some code) rows imm si_opcode siy_opcode disp base off flags accesses operands_valid reads_scratch is unfit fits same =
+    let p = held (fits_20 off) disp off fits in
+    subst (λ form. IsPlain (record { form = form; operand = RegOffset base off flags; accesses = accesses; operands_valid = operands_valid; reads_scratch = reads_scratch }) code) (sym (ap storage_form_of is))
+    (long_byte_plain imm si_opcode siy_opcode base off flags accesses operands_valid reads_scratch code (unheld (fits_12 off) (unsigned_abs off) unfit) p.0 (same ∙ ap (λ z. bytes_of (siy siy_opcode (number_of base) (low_displacement z) imm)) p.1))
+
+pub halfword_rows : (found : Option (List ℕ)) (rows : StorageRows) (imm : ℤ) (opcode disp : ℕ) (base : Reg) (off : ℤ) (flags : AccessFlags) (accesses operands_valid reads_scratch : Bool) →
+    rows ≡ Halfword imm opcode → Some disp ≡ cond (fits_12 off) (Some (unsigned_abs off)) None →
+    IfSome found (λ code. code ≡ bytes_of (sil opcode (number_of base) (low_12 disp) (low_halfword imm))) →
+    IfSome found (λ code. IsPlain (record { form = storage_form_of rows; operand = RegOffset base off flags; accesses = accesses; operands_valid = operands_valid; reads_scratch = reads_scratch }) code)
+halfword_rows None rows imm opcode disp base off flags accesses operands_valid reads_scratch is fits same = tt
+halfword_rows (Some code) rows imm opcode disp base off flags accesses operands_valid reads_scratch is fits same =
+    let p = held (fits_12 off) disp (unsigned_abs off) fits in
+    subst (λ form. IsPlain (record { form = form; operand = RegOffset base off flags; accesses = accesses; operands_valid = operands_valid; reads_scratch = reads_scratch }) code) (sym (ap storage_form_of is))
+    (short_alone (SilForm (low_halfword imm) opcode) base off flags accesses operands_valid reads_scratch code p.0 refl refl (ap Some (sym (same ∙ ap (λ d. bytes_of (sil opcode (number_of base) (low_12 d) (low_halfword imm))) p.1))))
 
 pub long_found : (found : Option (List ℕ)) (rxy_opcode : Option ℕ) (opcode : ℕ) (register base : Reg) (disp off : ℤ) → rxy_opcode ≡ Some opcode → Some disp ≡ cond (fits_20 off) (Some off) None →
     IfSome found (λ code. code ≡ bytes_of (rxy opcode (number_of register) (number_of base) (number_of no_register) (low_displacement disp))) →

@@ -1,5 +1,6 @@
 pub mod Displacing
 pub mod Encoding
+pub mod SymbolAccess
 pub mod Loading
 pub mod OnlyMemory
 pub mod Planning
@@ -7,3 +8,4 @@ pub mod Lowered
 pub mod Putting
 pub mod Refusing
 pub mod Sizes
+pub mod Standing

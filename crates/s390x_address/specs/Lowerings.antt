@@ -1,15 +1,15 @@
 -- How the code's lowering of an operand stands for its helpers and the operand of the access.
-use Rattle.std.specs.Prelude.{◌≡◌, ℕ, ℤ, List, [], ◌∷◌, ◌++◌, length, Bool, true, false, not, ◌&&◌, nat_lt, Option, Some, None, option_map}
+use Rattle.std.specs.Prelude.{◌≡◌, ℕ, ℤ, pos, ◌+ℤ◌, List, [], ◌∷◌, ◌++◌, length, Bool, true, false, not, ◌&&◌, nat_lt, Option, Some, None, option_map}
 use Rattle.s390x_base.specs.AccessFlags.{AccessFlags}
 use Rattle.s390x_base.specs.declared.error.EmitError.{EmitError}
 use Rattle.s390x_base.specs.declared.error.EmitError.TheVariants.{BadRegister, ScratchConflict, OffsetOutOfRange}
 use Rattle.s390x_base.specs.declared.regs.Reg.{Reg}
 use Rattle.s390x_inst.specs.declared.args.MemArg.{MemArg}
-use Rattle.s390x_inst.specs.declared.args.MemArg.TheVariants.{BXD12, Label, Constant}
+use Rattle.s390x_inst.specs.declared.args.MemArg.TheVariants.{BXD12, Label, Constant, Symbol}
 use Rattle.s390x_inst.specs.declared.inst.Inst.{Inst}
 use Rattle.s390x_inst.specs.declared.inst.Inst.TheVariants.{Mov64SImm32, LoadAddr}
 use Rattle.s390x_typed_steps.specs.MachineInstruction.{bytes_of}
-use Rattle.s390x_typed_steps.specs.Operands.{Finalized, finalized_operand, with_long_displacement, has_form, needs_address, is_relative, scratch, loses_base, offset_fits, operand_general}
+use Rattle.s390x_typed_steps.specs.Operands.{Finalized, finalized_operand, with_long_displacement, has_form, needs_address, is_relative, scratch, loses_base, offset_fits, operand_general, fits_32}
 use Rattle.s390x_typed_steps.specs.Causes.{Declared, first_emit_cause, unless, is_helped, addend_fits, target_cause, memory_cause}
 use Rattle.s390x_typed_steps.specs.Memory.{StorageForm, MemoryInstruction, type_of, storage_row}
 use Rattle.s390x_address.specs.declared.lowering.Lowering.{Lowering}
@@ -76,3 +76,8 @@ abbrev pub IsIndexed : StorageForm → (accesses : Bool) → Reg → AccessFlags
 IsIndexed form accesses base flags code =
     (has_form (type_of form accesses) (BXD12 base scratch 0 flags) ≡ true) × (needs_address (type_of form accesses) (BXD12 base scratch 0 flags) ≡ false)
     × (is_relative (indexed_operand form accesses base flags) ≡ false) × (option_map bytes_of (storage_row form (indexed_operand form accesses base flags)) ≡ Some code)
+
+-- a symbol plus an offset which, with 2 added for the place of its field, fits the addend of a relocation
+abbrev pub is_linkable : MemArg → Bool
+is_linkable (Symbol name offset flags) = fits_32 (offset +ℤ pos 2)
+is_linkable m = false

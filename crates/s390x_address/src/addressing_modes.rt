@@ -24,6 +24,7 @@ fn lacks_index(mi: MemInstType, index: &Reg) -> bool
 }
 
 /// Whether the rows have no form for the operand, so that its address has to be loaded first.
+#[inline]
 pub fn needs_address(mi: MemInstType, mem: &MemArg) -> bool
     ensures { result ≡ needs_address mi mem.now }
 {

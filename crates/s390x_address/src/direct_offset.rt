@@ -4,8 +4,8 @@ ghost use Rattle.s390x_base.specs.Regs.{number_of};
 ghost use Rattle.s390x_base.specs.AccessFlags.{AccessFlags};
 ghost use Rattle.s390x_inst.specs.declared.args.MemArg.TheVariants.{RegOffset};
 ghost use Rattle.s390x_inst.specs.declared.inst.Inst.TheVariants.{Mov64SImm32};
-ghost use Rattle.s390x_typed_steps.specs.General.{low_displacement, low_12};
-ghost use Rattle.s390x_typed_steps.specs.MachineInstruction.{bytes_of, rx, rxy, vrx};
+ghost use Rattle.s390x_typed_steps.specs.General.{low_displacement, low_12, low_halfword};
+ghost use Rattle.s390x_typed_steps.specs.MachineInstruction.{bytes_of, rx, rxy, si, siy, sil, vrx};
 ghost use Rattle.s390x_typed_steps.specs.Memory.{RxForm, VrxForm, of_opcode};
 ghost use Rattle.s390x_typed_steps.specs.Operands.{no_register, scratch, fits_20, is_far};
 ghost use Rattle.s390x_address.specs.Lowerings.{IsPlain, IsBehind, IsIndexed};
@@ -13,9 +13,9 @@ ghost use Rattle.s390x_address.specs.Rows.{storage_form_of};
 
 use crate::addressing_modes::is_numbered;
 use crate::lowering::{immediate, long_displacement, short_displacement};
-use crate::rows::{StorageRows, masked_code};
+use crate::rows::{StorageRow, StorageRows, masked_code};
 use s390x_base::{Code, Reg, SImm20, UImm12, spilltmp_reg, zero_reg};
-use s390x_enc::{enc_rx, enc_rxy};
+use s390x_enc::{enc_rx, enc_rxy, enc_si, enc_siy};
 use s390x_typed_steps::{low_12, low_displacement};
 
 // The code of the row of format RX at a base and a displacement, where its registers may stand there.
@@ -129,7 +129,91 @@ fn vector_offset_code(rows: &StorageRows, base: Reg, off: i128) -> Option<Code>
     }
 }
 
-/// The code at a base and an offset of an instruction by one general or vector register, where a displacement of its rows holds the offset.
+// The code of the row of format SI at a base and a displacement, where its base may stand there.
+#[inline(always)]
+fn short_byte_code(opcode: u8, base: Reg, disp: UImm12, imm: u8) -> Option<Code>
+    ensures { IfSome result
+        (λ code. code ≡ bytes_of (si opcode (number_of base) (low_12 disp) imm)) }
+{
+    enc_si(u16::from(opcode), base, low_12(disp), imm).ok()
+}
+
+// The code of the row of format SIY at a base and a displacement, where its base may stand there.
+#[inline(always)]
+fn long_byte_code(opcode: u16, base: Reg, disp: SImm20, imm: u8) -> Option<Code>
+    ensures { IfSome result
+        (λ code. code ≡ bytes_of (siy opcode (number_of base) (low_displacement disp) imm)) }
+{
+    enc_siy(opcode, base, low_displacement(disp), imm).ok()
+}
+
+// The code at a base and an offset of an instruction by an immediate of 8 bits, where a displacement of its rows holds the offset.
+#[inline(always)]
+fn byte_offset_code(rows: &StorageRows, base: Reg, off: i128) -> Option<Code>
+    ensures { (accesses operands_valid reads_scratch : Bool) (flags : AccessFlags)
+        → IfSome result
+        (λ code. IsPlain
+        (record {
+          form = storage_form_of rows.now;
+          operand = RegOffset base off flags;
+          accesses = accesses;
+          operands_valid = operands_valid;
+          reads_scratch = reads_scratch;
+        }) code) }
+{
+    let StorageRows::Byte { imm, si, siy } = rows else {
+        return None;
+    };
+    match short_displacement(off) {
+        Some(disp) => short_byte_code(*si, base, disp, *imm),
+        None => match long_displacement(off) {
+            Some(disp) => long_byte_code(*siy, base, disp, *imm),
+            None => None,
+        },
+    }
+}
+
+// The code of the row of format SIL at a base and a displacement, where its base may stand there.
+#[inline(always)]
+fn halfword_code(opcode: u16, base: Reg, disp: UImm12, imm: i16) -> Option<Code>
+    ensures { IfSome result
+        (λ code. code
+        ≡ bytes_of (sil opcode (number_of base) (low_12 disp) (low_halfword imm))) }
+{
+    let row = StorageRow::Sil {
+        opcode,
+        b1: base,
+        disp,
+        imm,
+    };
+    row.code().ok()
+}
+
+// The code at a base and an offset of an instruction by an immediate of 16 bits, where the displacement of its row holds the offset.
+#[inline(always)]
+fn halfword_offset_code(rows: &StorageRows, base: Reg, off: i128) -> Option<Code>
+    ensures { (accesses operands_valid reads_scratch : Bool) (flags : AccessFlags)
+        → IfSome result
+        (λ code. IsPlain
+        (record {
+          form = storage_form_of rows.now;
+          operand = RegOffset base off flags;
+          accesses = accesses;
+          operands_valid = operands_valid;
+          reads_scratch = reads_scratch;
+        }) code) }
+{
+    let StorageRows::Halfword { imm, sil } = rows else {
+        return None;
+    };
+    match short_displacement(off) {
+        Some(disp) => halfword_code(*sil, base, disp, *imm),
+        None => None,
+    }
+}
+
+/// The code at a base and an offset of an instruction by one general or vector register or an immediate, where a displacement of its rows holds the
+/// offset.
 #[inline(always)]
 pub fn offset_code(rows: &StorageRows, base: Reg, off: i128) -> Option<Code>
     ensures { (accesses operands_valid reads_scratch : Bool) (flags : AccessFlags)
@@ -145,6 +229,8 @@ pub fn offset_code(rows: &StorageRows, base: Reg, off: i128) -> Option<Code>
 {
     match rows {
         StorageRows::Vector { .. } => vector_offset_code(rows, base, off),
+        StorageRows::Byte { .. } => byte_offset_code(rows, base, off),
+        StorageRows::Halfword { .. } => halfword_offset_code(rows, base, off),
         _ => register_code(rows, base, off),
     }
 }

@@ -10,23 +10,25 @@ ghost use Rattle.std.specs.Option.{option_map};
 ghost use Rattle.s390x_typed_steps.specs.Causes.{Declared, first_emit_cause, unless, declared_in, memory_cause, late_cause, target_cause, boundary};
 ghost use Rattle.s390x_inst.specs.Memory.{flags_of};
 ghost use Rattle.s390x_inst.specs.declared.args.MemArg.TheVariants.{RegOffset};
-ghost use Rattle.s390x_inst.specs.declared.inst.Inst.TheVariants.{Mov64SImm32};
+ghost use Rattle.s390x_inst.specs.declared.inst.Inst.TheVariants.{Mov64SImm32, LoadAddr};
 ghost use Rattle.s390x_typed_steps.specs.General.{is_general};
 ghost use Rattle.s390x_typed_steps.specs.MachineInstruction.{MachineInstruction, bytes_of, size_of};
 ghost use Rattle.s390x_typed_steps.specs.Memory.{type_of, storage_row, fault_code, address_form, accesses_relative, without_relative};
-ghost use Rattle.s390x_typed_steps.specs.Operands.{has_form, operand_general, resolved_operand, scratch};
+ghost use Rattle.s390x_typed_steps.specs.Operands.{has_form, needs_address, operand_general, resolved_operand, scratch};
 ghost use Rattle.s390x_typed_steps.specs.VectorInstruction.{is_vector};
 ghost use Rattle.s390x_typed_steps.specs.Parts.{access_parts, operand_parts, helpers_parts, finalized_parts, memory_parts, parts_size};
 ghost use Rattle.s390x_address.specs.Appended.{with_parts};
-ghost use Rattle.s390x_address.specs.Lowerings.{IsPlain, IsBehind, far_helper, address_helper, finalized_of, may_stand, address_stands, lowering_stands, lowered_cause};
+ghost use Rattle.s390x_address.specs.Lowerings.{IsPlain, IsBehind, far_helper, address_helper, finalized_of, may_stand, address_stands, lowering_stands, lowered_cause, is_linkable};
 ghost use Rattle.s390x_address.specs.Rows.{row_of, row_encodes, storage_form_of, relative_encodes, rows_encode, may_encode, memory_instruction_of, in_state};
 
 use crate::addressing_modes::{has_form, is_relative, needs_address};
 use crate::direct_offset::{FarAccess, far_access, offset_code};
+use crate::linkable::is_linkable;
 use crate::lowering::{Lowering, frame_offset, lower_operand};
 use crate::relative::{addend_fits, put_relative, relative_bytes, relative_size, target_cause};
 use crate::rows::{StorageRow, StorageRows};
-use s390x_base::{Code, EmitError, Reg, RegClass, TrapCode, spilltmp_reg, stack_reg};
+use crate::standing_operand::standing_code;
+use s390x_base::{Code, EmitError, MachMemFlags, Reg, RegClass, TrapCode, spilltmp_reg, stack_reg};
 use s390x_buffer::MachBuffer;
 use s390x_enc::enc_ril_a;
 use s390x_inst::{EmitState, MemArg};
@@ -97,9 +99,13 @@ fn put_trapping(sink: &mut MachBuffer, code: &Code, trap_code: TrapCode) -> Resu
     sink.put_code(code)
 }
 
-// The code of a row, with the trap of its faults.
+/// Appends the code of a row, with the trap of its faults. It answers want of memory, or the buffer's refusal.
 #[inline(always)]
-fn put_row(sink: &mut MachBuffer, code: &Code, trap_code: Option<TrapCode>) -> Result<(), EmitError>
+pub fn put_row(
+    sink: &mut MachBuffer,
+    code: &Code,
+    trap_code: Option<TrapCode>,
+) -> Result<(), EmitError>
     ensures answer { (m : MachineInstruction) → code.now ≡ bytes_of m
         → OnOk result (sink.new ≡ with_parts sink.old (access_parts (Some m) trap_code)) }
     ensures only_memory { put_cause sink.old (length code.now) ≡ None
@@ -135,9 +141,9 @@ fn put_offset(sink: &mut MachBuffer, off: i32) -> Result<(), EmitError>
     sink.put_code(&code)
 }
 
-// The load of an offset into `%r1`, and then the code of a row with the trap of its faults.
+/// Appends the load of an offset into `%r1`, and then the code of a row with the trap of its faults. It answers want of memory, or the buffer's refusal.
 #[inline(never)]
-fn put_far_row(
+pub fn put_far_row(
     sink: &mut MachBuffer,
     far: &FarAccess,
     trap_code: Option<TrapCode>,
@@ -154,6 +160,27 @@ fn put_far_row(
 {
     put_offset(sink, far.off)?;
     put_row(sink, &far.code, trap_code)
+}
+
+// The load of a symbol's address into `%r1`, and then the code of a row with the trap of its faults.
+fn put_behind_symbol(
+    sink: &mut MachBuffer,
+    symbol: &MemArg,
+    code: &Code,
+    trap_code: Option<TrapCode>,
+) -> Result<(), EmitError>
+    requires { is_linkable symbol.now ≡ true }
+    ensures answer { (m : MachineInstruction) → code.now ≡ bytes_of m
+        → OnOk result
+        (sink.new
+        ≡ with_parts sink.old
+        (helpers_parts (LoadAddr scratch symbol.now ∷ []) ++ access_parts (Some m) trap_code)) }
+    ensures only_memory { put_cause sink.old (6 + length code.now) ≡ None
+        → IfErr result (λ e. e ≡ NoMemory) }
+    ensures kept { Extends sink.old sink.new }
+{
+    put_relative(sink, &address_rows(), symbol, None)?;
+    put_row(sink, code, trap_code)
 }
 
 // The access, where there is a row for it.
@@ -352,6 +379,7 @@ impl MemoryInst {
 
     /// The instruction by its other rows, before which the operand's address is loaded: where it accesses an operand
     /// that is relative to it, and has a row for that. None elsewhere.
+    #[inline(always)]
     #[tactic(auto, using(crate::proofs::Loading::loaded_encodes))]
     pub fn with_loaded_address(&self) -> Option<MemoryInst>
         requires { may_encode self.now ≡ true }
@@ -390,11 +418,9 @@ impl MemoryInst {
             return None;
         }
         match &self.operand {
-            MemArg::RegOffset { flags, .. } => flags.trap_code(),
-            _ => {
-                let operand = self.operand;
-                operand.get_flags().trap_code()
-            }
+            MemArg::RegOffset { flags, .. } | MemArg::Symbol { flags, .. } => flags.trap_code(),
+            MemArg::BXD12 { flags, .. } | MemArg::BXD20 { flags, .. } => flags.trap_code(),
+            _ => MachMemFlags::trusted().trap_code(),
         }
     }
 
@@ -567,6 +593,97 @@ impl MemoryInst {
         }
     }
 
+    // Its code behind the load of its symbol's address into `%r1`, where it doesn't read that.
+    fn based_code(&self) -> Option<Code>
+        requires linkable { is_linkable self.now.operand ≡ true }
+        requires needs { needs_address (type_of (storage_form_of self.now.rows) self.now.accesses)
+            self.now.operand ≡ true }
+        ensures { IfSome result
+            (λ code. IsBehind (memory_instruction_of self.now)
+            (LoadAddr scratch self.now.operand ∷ []) code) }
+    {
+        if self.reads_scratch {
+            return None;
+        }
+        offset_code(&self.rows, spilltmp_reg(), 0)
+    }
+
+    // The load of its symbol's address and its access, where no cause refuses it.
+    fn emit_behind_symbol(&self, sink: &mut MachBuffer, state: &EmitState) -> Result<(), EmitError>
+        requires linkable { is_linkable self.now.operand ≡ true }
+        requires needs { needs_address (type_of (storage_form_of self.now.rows) self.now.accesses)
+            self.now.operand ≡ true }
+        requires encodes { may_encode self.now ≡ true }
+        requires valid { (self.now.operands_valid && operand_general self.now.operand) ≡ true }
+        ensures answer { OnOk result
+            ((memory_cause (declared_in sink.old)
+            (in_state state.now (memory_instruction_of self.now)) ≡ None)
+            × (sink.new
+            ≡ with_parts sink.old
+            (memory_parts (in_state state.now (memory_instruction_of self.now))))) }
+        ensures only_memory { put_cause sink.old
+            (parts_size (memory_parts (in_state state.now (memory_instruction_of self.now)))) ≡ None
+            → memory_cause (declared_in sink.old)
+            (in_state state.now (memory_instruction_of self.now)) ≡ None
+            → IfErr result (λ e. e ≡ NoMemory) }
+        ensures kept { Extends sink.old sink.new }
+    {
+        match self.based_code() {
+            Some(code) => put_behind_symbol(sink, &self.operand, &code, self.fault_code()),
+            None => self.emit_lowered(sink, state),
+        }
+    }
+
+    // An access of a symbol with valid registers: by the row that is relative to it, or behind the load of its address.
+    fn emit_symbol(&self, sink: &mut MachBuffer, state: &EmitState) -> Result<(), EmitError>
+        requires linkable { is_linkable self.now.operand ≡ true }
+        requires encodes { may_encode self.now ≡ true }
+        requires valid { (self.now.operands_valid && operand_general self.now.operand) ≡ true }
+        ensures answer { OnOk result
+            ((memory_cause (declared_in sink.old)
+            (in_state state.now (memory_instruction_of self.now)) ≡ None)
+            × (sink.new
+            ≡ with_parts sink.old
+            (memory_parts (in_state state.now (memory_instruction_of self.now))))) }
+        ensures only_memory { put_cause sink.old
+            (parts_size (memory_parts (in_state state.now (memory_instruction_of self.now)))) ≡ None
+            → memory_cause (declared_in sink.old)
+            (in_state state.now (memory_instruction_of self.now)) ≡ None
+            → IfErr result (λ e. e ≡ NoMemory) }
+        ensures kept { Extends sink.old sink.new }
+    {
+        if needs_address(self.forms(), &self.operand) {
+            self.emit_behind_symbol(sink, state)
+        } else {
+            put_relative(sink, &self.rows, &self.operand, self.fault_code())
+        }
+    }
+
+    // An instruction with valid registers whose operand isn't a register and an offset, or is one whose code wasn't found: a symbol is met most often.
+    #[inline(never)]
+    fn emit_other(&self, sink: &mut MachBuffer, state: &EmitState) -> Result<(), EmitError>
+        requires encodes { may_encode self.now ≡ true }
+        requires valid { (self.now.operands_valid && operand_general self.now.operand) ≡ true }
+        ensures answer { OnOk result
+            ((memory_cause (declared_in sink.old)
+            (in_state state.now (memory_instruction_of self.now)) ≡ None)
+            × (sink.new
+            ≡ with_parts sink.old
+            (memory_parts (in_state state.now (memory_instruction_of self.now))))) }
+        ensures only_memory { put_cause sink.old
+            (parts_size (memory_parts (in_state state.now (memory_instruction_of self.now)))) ≡ None
+            → memory_cause (declared_in sink.old)
+            (in_state state.now (memory_instruction_of self.now)) ≡ None
+            → IfErr result (λ e. e ≡ NoMemory) }
+        ensures kept { Extends sink.old sink.new }
+    {
+        if is_linkable(&self.operand) {
+            self.emit_symbol(sink, state)
+        } else {
+            self.emit_lowered(sink, state)
+        }
+    }
+
     // The register and the offset of its operand, where it is no more than that in this state.
     #[inline(always)]
     fn base_and_offset(&self, state: &EmitState) -> Option<(Reg, i128)>
@@ -576,6 +693,8 @@ impl MemoryInst {
     {
         match &self.operand {
             MemArg::RegOffset { reg, off, .. } => Some((*reg, i128::from(*off))),
+            MemArg::BXD12 { .. } | MemArg::BXD20 { .. } => None,
+            MemArg::Symbol { .. } | MemArg::Label { .. } | MemArg::Constant { .. } => None,
             _ => {
                 let operand = self.operand;
                 match frame_offset(&operand, state) {
@@ -586,7 +705,7 @@ impl MemoryInst {
         }
     }
 
-    // Its code, where it is behind no helper and a displacement holds its offset.
+    // Its code, where it is behind no helper and a displacement holds its offset, or its operand has one.
     #[inline(always)]
     fn plain_code(&self, state: &EmitState) -> Option<Code>
         ensures { IfSome result
@@ -594,7 +713,7 @@ impl MemoryInst {
     {
         match self.base_and_offset(state) {
             Some((base, off)) => offset_code(&self.rows, base, off),
-            None => None,
+            None => standing_code(&self.rows, &self.operand),
         }
     }
 
@@ -637,7 +756,7 @@ impl MemoryInst {
             // by a copy: what a call borrows is made whole in memory before the code is looked for
             None => {
                 let rest = *self;
-                rest.emit_lowered(sink, state)
+                rest.emit_other(sink, state)
             }
         }
     }

@@ -179,6 +179,7 @@ fn put_to_constant(
 }
 
 // A row with a register and the distance to a symbol plus an offset, which linking fills in. Its field stands two bytes behind its beginning.
+#[inline(always)]
 fn put_to_symbol(
     sink: &mut MachBuffer,
     opcode: u16,

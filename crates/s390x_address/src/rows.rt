@@ -354,6 +354,7 @@ fn float_rxy_row(opcode: u16, r1: Reg, b2: Reg, x2: Reg, disp: SImm20) -> Storag
 
 impl StorageRows {
     /// Which forms of an operand the rows take, in an instruction that accesses memory or loads an address.
+    #[inline]
     pub fn forms(&self, accesses: bool) -> MemInstType
         ensures { result ≡ type_of (storage_form_of self.now) accesses }
     {

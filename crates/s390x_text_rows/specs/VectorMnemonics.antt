@@ -5,7 +5,7 @@ use Rattle.s390x_format.specs.Stems.{stem_of}
 use Rattle.s390x_typed_steps.specs.VectorOpcodes.{binary_row, unary_row, shift_row, comparison_row, element_comparison_row}
 use Rattle.s390x_typed_steps.specs.declared.vector_opcode.VectorOpcode.{VectorOpcode}
 use Rattle.s390x_text_rows.specs.declared.vector_mnemonics.Letters.{Letters}
-use Rattle.s390x_text_rows.specs.declared.vector_mnemonics.Letters.TheVariants.{Nothing, B, H, F, G, Q, Hw}
+use Rattle.s390x_text_rows.specs.declared.vector_mnemonics.Letters.TheVariants.{Empty, B, H, F, G, Q, Hw}
 use Rattle.s390x_text_rows.specs.declared.vector_mnemonics.Mnemonic.{Mnemonic}
 use Rattle.s390x_typed_steps.specs.Memory.{layout_rows}
 use Rattle.s390x_inst.specs.Wholes.{by_direction}
@@ -20,7 +20,7 @@ use Rattle.s390x_inst.specs.declared.vec_ops.VecIntEltCmpOp.{VecIntEltCmpOp}
 
 -- what stands behind a stem
 abbrev pub letters_text : Letters → List ℕ
-letters_text Nothing = []
+letters_text Empty = []
 letters_text B = codes "b"
 letters_text H = codes "h"
 letters_text F = codes "f"

@@ -6,13 +6,12 @@ ghost use Rattle.s390x_text_rows.specs.Operands.{cond_text, label_text};
 ghost use Rattle.s390x_text_rows.specs.Control.{branch_text, labels_text, convention_text, args_text, rets_text, allocate_text, reloc_text, table_sum_text, table_text, control_text};
 
 use crate::error::TextError;
-use crate::operand::{Operand, cond_name};
+use crate::operand::{Operand, put_cond};
 use crate::piece::{put, put_integer, put_natural};
 use crate::register_names::put_reg;
 use crate::row::{fixed1, fixed2, spelled1, text_result};
-use s390x_base::{Cond, MachLabel, Reg, TrapCode, Writable};
+use s390x_base::{Cond, MachLabel, Reg, TrapCode, TrapKind, Writable};
 use s390x_inst::{ArgPair, Inst, RetPair, SymbolReloc};
-use s390x_job_fields::atoms::{put_name, put_trap};
 use std::alloc::AllocError;
 
 // A branch to a block under a condition.
@@ -20,8 +19,8 @@ fn put_branch(out: &mut String, cond: Cond, label: MachLabel) -> Result<(), Allo
     ensures { OnOk result
         (string_bytes out.new ≡ string_bytes out.old ++ branch_text cond label.0) }
 {
-    put(out, "jg")?;
-    spelled1(out, cond_name(cond), &label)
+    put_branch_name(out, cond)?;
+    put_label(out, &label)
 }
 
 fn put_two_branches(
@@ -47,8 +46,7 @@ fn put_jump(out: &mut String, cond: Cond, end: &str) -> Result<(), AllocError>
         (string_bytes out.new
         ≡ string_bytes out.old ++ (codes "jg" ++ (cond_text cond ++ end.now))) }
 {
-    put(out, "jg")?;
-    put(out, cond_name(cond))?;
+    put_branch_name(out, cond)?;
     put(out, end)
 }
 
@@ -58,10 +56,29 @@ fn put_branch_name(out: &mut String, cond: Cond) -> Result<(), AllocError>
         (string_bytes out.new ≡ string_bytes out.old ++ (codes "jg" ++ cond_text cond)) }
 {
     put(out, "jg")?;
-    put(out, cond_name(cond))
+    put_cond(out, cond)
+}
+
+// A trap's code, by a literal, which is copied without a call.
+#[inline(always)]
+fn put_trap(out: &mut String, code: TrapCode) -> Result<(), AllocError>
+    ensures { OnOk result (string_bytes out.new ≡ string_bytes out.old ++ trap_text code) }
+{
+    match code.kind() {
+        TrapKind::StackOverflow => put(out, "stk_ovf"),
+        TrapKind::IntegerOverflow => put(out, "int_ovf"),
+        TrapKind::HeapOutOfBounds => put(out, "heap_oob"),
+        TrapKind::IntegerDivisionByZero => put(out, "int_divz"),
+        TrapKind::BadConversionToInteger => put(out, "bad_toint"),
+        TrapKind::User(number) => {
+            put(out, "user")?;
+            put_natural(out, u64::from(number))
+        }
+    }
 }
 
 // The place in a branch that traps, and the trap's code.
+#[inline(always)]
 fn put_trap_place(out: &mut String, code: TrapCode) -> Result<(), AllocError>
     ensures { OnOk result
         (string_bytes out.new ≡ string_bytes out.old ++ (codes " .+2 # trap=" ++ trap_text code)) }
@@ -70,6 +87,7 @@ fn put_trap_place(out: &mut String, code: TrapCode) -> Result<(), AllocError>
     put_trap(out, code)
 }
 
+#[inline(always)]
 fn put_trap_if(out: &mut String, cond: Cond, code: TrapCode) -> Result<(), AllocError>
     ensures { OnOk result
         (string_bytes out.new
@@ -225,7 +243,7 @@ fn put_reloc(out: &mut String, reloc: &SymbolReloc) -> Result<(), AllocError>
 {
     match reloc {
         SymbolReloc::Absolute { name, offset } => {
-            put_name(out, *name)?;
+            name.put(out)?;
             put(out, " + ")?;
             put_integer(out, *offset)
         }

@@ -26,9 +26,9 @@ pub use arithmetic::{put_arithmetic, put_pair_instruction};
 pub use compare::put_compare;
 pub use control::put_control;
 pub use error::TextError;
-pub use memory::{put_load, put_storage_operator, put_store};
+pub use memory::{put_address, put_load, put_storage_operator, put_store};
 pub use moves::put_move;
-pub use operand::{Operand, cond_name};
+pub use operand::{Operand, cond_name, put_cond};
 pub use piece::{put, put_natural, put_small};
 pub use register_names::put_real;
 pub use regs::{

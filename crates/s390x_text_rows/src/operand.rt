@@ -366,3 +366,26 @@ pub fn cond_name(cond: Cond) -> &'static str
         _ => "no",
     }
 }
+
+/// Appends the name of a condition by a literal, which is copied without a call.
+#[inline(always)]
+pub fn put_cond(out: &mut String, cond: Cond) -> Result<(), AllocError>
+    ensures { OnOk result (string_bytes out.new ≡ string_bytes out.old ++ cond_text cond) }
+{
+    match cond.bits() {
+        1 => put(out, "o"),
+        2 => put(out, "h"),
+        3 => put(out, "nle"),
+        4 => put(out, "l"),
+        5 => put(out, "nhe"),
+        6 => put(out, "lh"),
+        7 => put(out, "ne"),
+        8 => put(out, "e"),
+        9 => put(out, "nlh"),
+        10 => put(out, "he"),
+        11 => put(out, "nl"),
+        12 => put(out, "le"),
+        13 => put(out, "nh"),
+        _ => put(out, "no"),
+    }
+}

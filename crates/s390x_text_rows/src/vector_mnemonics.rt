@@ -15,7 +15,7 @@ use std::alloc::AllocError;
 /// What stands behind a stem.
 #[derive(Clone, Copy)]
 pub enum Letters {
-    Nothing,
+    Empty,
     B,
     H,
     F,
@@ -37,7 +37,7 @@ pub fn put_letters(out: &mut String, letters: Letters) -> Result<(), AllocError>
     ensures { OnOk result (string_bytes out.new ≡ string_bytes out.old ++ letters_text letters) }
 {
     match letters {
-        Letters::Nothing => Ok(()),
+        Letters::Empty => Ok(()),
         Letters::B => put(out, "b"),
         Letters::H => put(out, "h"),
         Letters::F => put(out, "f"),
@@ -92,7 +92,7 @@ fn binary_letters(op: VecBinaryOp, code: u8) -> Letters
         | VecBinaryOp::AShRByByte128
         | VecBinaryOp::LShLByBit128
         | VecBinaryOp::LShRByBit128
-        | VecBinaryOp::AShRByBit128 => Letters::Nothing,
+        | VecBinaryOp::AShRByBit128 => Letters::Empty,
         _ => size_letter(code),
     }
 }
@@ -146,7 +146,7 @@ fn whole_letters(mask: u8) -> Letters
     ensures { letters_text result ≡ whole_letters mask }
 {
     if mask == 0 {
-        Letters::Nothing
+        Letters::Empty
     } else {
         size_letter(mask)
     }
