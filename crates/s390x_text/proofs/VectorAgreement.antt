@@ -265,12 +265,12 @@ named_access None c = refl
 named_access (Some name) c = address_row c
 
 -- a load or a store of the leftmost element
-left_agrees : (b h f g : List ℕ) (rd : Reg) (valid other : Bool) (form : StorageForm) (opcode : ℕ → ℕ) (size lane : ℕ) (m : MemArg) (x y z : Text) → has_row_text x.cause ≡ true → has_row_text y.cause ≡ true → has_row_text z.cause ≡ is_some (lane_name b h f g size lane) →
+left_agrees : (b h f g : List ℕ) (rd : Reg) (form : StorageForm) (opcode : ℕ → ℕ) (size lane : ℕ) (m : MemArg) (x y z : Text) → has_row_text x.cause ≡ true → has_row_text y.cause ≡ true → has_row_text z.cause ≡ is_some (lane_name b h f g size lane) →
     has_row_text (cond (is_float rd && nat_eq lane 0 && nat_eq size 32) x (cond (is_float rd && nat_eq lane 0 && nat_eq size 64) y z)).cause
-    ≡ (is_some (cond (is_left_lane size lane (number_of rd)) (access_vector valid form m) (access_lane other opcode (number_of rd) (element_code size) size lane m)) || false)
-left_agrees b h f g rd valid other form opcode size lane m x y z p q r =
+    ≡ (is_some (cond (is_left_lane size lane (number_of rd)) (access_vector (is_vector rd) form m) (access_lane (is_vector rd) opcode (number_of rd) (element_code size) size lane m)) || false)
+left_agrees b h f g rd form opcode size lane m x y z p q r =
     one_of_texts (is_float rd && nat_eq lane 0 && nat_eq size 32) (is_float rd && nat_eq lane 0 && nat_eq size 64) (has_lane size lane) x y z (float_word rd size lane) (float_doubleword rd size lane) p q (r ∙ name_agrees b h f g size lane)
-    ∙ sym (left_lane_some valid other form opcode (number_of rd) size lane m) ∙ sym (or-false _)
+    ∙ sym (left_lane_some (is_vector rd) (is_vector rd) form opcode (number_of rd) size lane m) ∙ sym (or-false _)
 
 -- ---- instructions
 
@@ -310,14 +310,19 @@ vector_rows e bs k (V.VecLoadLane size rd ri mem lane) = access_agrees _ _ _ (na
 vector_rows e bs k (V.VecLoadLaneRev size rd ri mem lane) = access_agrees _ _ _ (reversed_agrees _ _ _ size lane ∙ sym (lane_some (reuses_vector rd ri) load_reversed_opcode (number_of rd) (reversed_code size) size lane mem))
 vector_rows e bs k (V.VecLoadLaneRevUndef size rd mem lane) = access_agrees _ _ _ (reversed_agrees _ _ _ size lane ∙ sym (lane_some (is_vector rd) load_reversed_opcode (number_of rd) (reversed_code size) size lane mem))
 vector_rows e bs k (V.VecStoreLaneRev size rd mem lane) = access_agrees _ _ _ (reversed_agrees _ _ _ size lane ∙ sym (lane_some (is_vector rd) store_reversed_opcode (number_of rd) (reversed_code size) size lane mem))
-vector_rows e bs k (V.VecLoadLaneUndef size rd mem lane) =
-    left_agrees _ _ _ _ rd (is_vector rd) (is_vector rd) (load_left size (number_of rd)) load_lane_opcode size lane mem _ _ _ (address_row _) (address_row _) (named_access _ _)
-vector_rows e bs k (V.VecStoreLane size rd mem lane) =
-    left_agrees _ _ _ _ rd (is_vector rd) (is_vector rd) (store_left size (number_of rd)) store_lane_opcode size lane mem _ _ _ (address_row _) (address_row _) (named_access _ _)
+vector_rows e bs k (V.VecLoadLaneUndef size rd mem lane) = left_agrees _ _ _ _ rd (load_left size (number_of rd)) load_lane_opcode size lane mem _ _ _ (address_row _) (address_row _) (named_access _ _)
+vector_rows e bs k (V.VecStoreLane size rd mem lane) = left_agrees _ _ _ _ rd (store_left size (number_of rd)) store_lane_opcode size lane mem _ _ _ (address_row _) (address_row _) (named_access _ _)
 -- the others are loads and stores of a whole register, and one machine instruction at any values; the clause is a copy for each
 vector_rows e bs k v = whole_or_row e bs k v (as_whole v) refl
 
 -- ---- operands of the frame
+
+-- the leftmost element's rows are there at any operand
+left_stays : (rd : Reg) (form : StorageForm) (opcode : ℕ → ℕ) (size lane : ℕ) (m n : MemArg) →
+    (is_some (cond (is_left_lane size lane (number_of rd)) (access_vector (is_vector rd) form m) (access_lane (is_vector rd) opcode (number_of rd) (element_code size) size lane m)) || false)
+    ≡ (is_some (cond (is_left_lane size lane (number_of rd)) (access_vector (is_vector rd) form n) (access_lane (is_vector rd) opcode (number_of rd) (element_code size) size lane n)) || false)
+left_stays rd form opcode size lane m n =
+    ap (λ s. s || false) (left_lane_some (is_vector rd) (is_vector rd) form opcode (number_of rd) size lane m ∙ sym (left_lane_some (is_vector rd) (is_vector rd) form opcode (number_of rd) size lane n))
 
 pub operands_stay : (e : Emission) (blocks depth : ℕ) (v : VecInst) → has_rows blocks depth (Vector (resolved_vector e v)) ≡ has_rows blocks depth (Vector v)
 operands_stay e bs k (V.VecLoadReplicate size rd mem) = ap (λ s. s || false) (elements_some opcodes.VLREP rd (element_code size) (resolved_operand e mem) ∙ sym (elements_some opcodes.VLREP rd (element_code size) mem))
@@ -326,8 +331,6 @@ operands_stay e bs k (V.VecLoadLane size rd ri mem lane) = ap (λ s. s || false)
 operands_stay e bs k (V.VecLoadLaneRev size rd ri mem lane) = ap (λ s. s || false) (lane_some (reuses_vector rd ri) load_reversed_opcode (number_of rd) (reversed_code size) size lane (resolved_operand e mem) ∙ sym (lane_some (reuses_vector rd ri) load_reversed_opcode (number_of rd) (reversed_code size) size lane mem))
 operands_stay e bs k (V.VecLoadLaneRevUndef size rd mem lane) = ap (λ s. s || false) (lane_some (is_vector rd) load_reversed_opcode (number_of rd) (reversed_code size) size lane (resolved_operand e mem) ∙ sym (lane_some (is_vector rd) load_reversed_opcode (number_of rd) (reversed_code size) size lane mem))
 operands_stay e bs k (V.VecStoreLaneRev size rd mem lane) = ap (λ s. s || false) (lane_some (is_vector rd) store_reversed_opcode (number_of rd) (reversed_code size) size lane (resolved_operand e mem) ∙ sym (lane_some (is_vector rd) store_reversed_opcode (number_of rd) (reversed_code size) size lane mem))
-operands_stay e bs k (V.VecLoadLaneUndef size rd mem lane) =
-    ap (λ s. s || false) (left_lane_some (is_vector rd) (is_vector rd) (load_left size (number_of rd)) load_lane_opcode (number_of rd) size lane (resolved_operand e mem) ∙ sym (left_lane_some (is_vector rd) (is_vector rd) (load_left size (number_of rd)) load_lane_opcode (number_of rd) size lane mem))
-operands_stay e bs k (V.VecStoreLane size rd mem lane) =
-    ap (λ s. s || false) (left_lane_some (is_vector rd) (is_vector rd) (store_left size (number_of rd)) store_lane_opcode (number_of rd) size lane (resolved_operand e mem) ∙ sym (left_lane_some (is_vector rd) (is_vector rd) (store_left size (number_of rd)) store_lane_opcode (number_of rd) size lane mem))
+operands_stay e bs k (V.VecLoadLaneUndef size rd mem lane) = left_stays rd (load_left size (number_of rd)) load_lane_opcode size lane (resolved_operand e mem) mem
+operands_stay e bs k (V.VecStoreLane size rd mem lane) = left_stays rd (store_left size (number_of rd)) store_lane_opcode size lane (resolved_operand e mem) mem
 operands_stay e bs k v = refl
