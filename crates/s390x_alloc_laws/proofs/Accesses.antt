@@ -13,7 +13,6 @@ use Rattle.s390x_inst.specs.declared.inst.Inst.{Inst}
 use Rattle.s390x_operands.specs.declared.constraint.Reported.{Reported}
 use Rattle.s390x_operands.specs.Requests.{items_of, memory_requests, scratch_request, reported_use, reported_def, reported_reuse, range_requests}
 use Rattle.s390x_assign.specs.Assignments.{register_at, after, memory_at}
-use Rattle.s390x_rows.specs.declared.opcodes.TheConstants as opcodes
 use Rattle.s390x_typed_steps.proofs.Causes.{first_left, first_right, unless_true}
 use Rattle.s390x_typed_steps.specs.Causes.{first_emit_cause, unless, facility_cause, Declared, bound_cause, alignment_cause, boundary, late_cause, target_cause, loses_scratch, addend_fits, memory_cause, memory_cause_or, instruction_cause}
 use Rattle.s390x_typed_steps.specs.Resolved.{resolved_instruction}
@@ -22,7 +21,6 @@ use Rattle.s390x_typed_steps.specs.Memory.{MemoryInstruction, type_of, operate, 
 use Rattle.s390x_typed_steps.specs.General.{is_general, reuses}
 use Rattle.s390x_alloc_laws.specs.Allocatable.{IsVirtual, MemoryMayStand, IsNotBlamed, Place, refusal, own_refusal, lacks_row, IsFreeRange}
 use Rattle.std.proofs.lemmas.Bool.{lt-leb, and_right}
-use Rattle.s390x_inst.specs.declared.inst.Inst.TheVariants.{LoadMultiple64, StoreMultiple64}
 use Rattle.s390x_alloc_laws.proofs.Given.{clear, operator_clear, unless_clear, first_clear, facility_clear, Passes, and_passes, Gives, Next, used_given, defined_given, Reused, reused_given}
 use Rattle.s390x_alloc_laws.proofs.Given.{IsGiven, virtual_addresses}
 
@@ -191,22 +189,17 @@ access_before P mk o follow is m xs s s' may g h =
     let y : MemArg = (memory_at m s).0 in let y' : MemArg = (memory_at m s').0 in
     accessing P (mk y) (mk y') (o (resolved_operand P.state y)) (o (resolved_operand P.state y')) (is y) (is y') h (follow (resolved_operand P.state y) (resolved_operand P.state y') k.general k.keeps)
 
-range_spares : (first last : Reg) → IsFreeRange first last → holds_scratch first last ≡ false
+pub range_spares : (first last : Reg) → IsFreeRange first last → holds_scratch first last ≡ false
 range_spares (Real p) (Real q) (inl h) = ap (λ b. b && nat_le 1 q.number) (lt-leb p.number 1 h)
 range_spares (Real p) (Real q) (inr h) = and_right (nat_le p.number 1) (nat_le 1 q.number) (lt-leb 1 q.number h)
 range_spares (Real p) (Virtual n c) f = absurd f
 range_spares (Virtual n c) last f = absurd f
 
 -- the registers of a range stay
-pub load_range : (P : Place) (first last : Reg) (m : MemArg) (s s' : List Reg) → MemoryMayStand m → Gives s s' s s' (items_of (memory_requests m ++ range_requests first last)) →
-    refusal P (LoadMultiple64 first last (memory_at m s').0) ≡ None → IsNotBlamed (refusal P (LoadMultiple64 first last (memory_at m s).0))
-load_range P first last m s s' may g h =
-    access_before P (LoadMultiple64 first last) (multiple first last opcodes.LMG false) (λ x x' p k. record { valid = λ z. z; general = p; keeps_base = k; reads_none = refl }) (λ x. (refl, refl)) m (range_requests first last) s s' may g h
-
-pub store_range : (P : Place) (first last : Reg) (m : MemArg) (s s' : List Reg) → IsFreeRange first last → MemoryMayStand m → Gives s s' s s' (items_of (memory_requests m ++ range_requests first last)) →
-    refusal P (StoreMultiple64 first last (memory_at m s').0) ≡ None → IsNotBlamed (refusal P (StoreMultiple64 first last (memory_at m s).0))
-store_range P first last m s s' free may g h =
-    access_before P (StoreMultiple64 first last) (multiple first last opcodes.STMG (holds_scratch first last)) (λ x x' p k. record { valid = λ z. z; general = p; keeps_base = k; reads_none = range_spares first last free }) (λ x. (refl, refl)) m (range_requests first last) s s' may g h
+pub range_access : (P : Place) (mk : MemArg → Inst) (first last : Reg) (opcode : ℕ) (reads : Bool) → reads ≡ false → ((x : MemArg) → IsAccess P (mk x) (multiple first last opcode reads (resolved_operand P.state x))) → (m : MemArg) (s s' : List Reg) → MemoryMayStand m →
+    Gives s s' s s' (items_of (memory_requests m ++ range_requests first last)) → refusal P (mk (memory_at m s').0) ≡ None → IsNotBlamed (refusal P (mk (memory_at m s).0))
+range_access P mk first last opcode reads none is m s s' may g h =
+    access_before P mk (multiple first last opcode reads) (λ x x' p k. record { valid = λ z. z; general = p; keeps_base = k; reads_none = none }) is m (range_requests first last) s s' may g h
 
 operate_follows : (row : Bool) (rx rxy : Option ℕ) (d d' i i' : Reg) (m m' : MemArg) → Passes (reuses d' i') (reuses d i) → is_numbered 1 i ≡ false → Passes (operand_general m') (operand_general m) → loses_base m ≡ false → AllFollow (operate row rx rxy d i m) (operate row rx rxy d' i' m')
 operate_follows true rx rxy d d' i i' m m' v n p k = record { valid = v; general = p; keeps_base = k; reads_none = n }

@@ -1,5 +1,5 @@
 -- Of an instruction whose registers meet the constraints, none is a cause of refusal, where that is so for some registers.
-use Rattle.std.proofs.Common.{◌≡◌, ◌+◌, pos, false, ◌||◌, List, [], ◌∷◌, Some, None, refl, is_some}
+use Rattle.std.proofs.Common.{◌≡◌, ◌+◌, pos, true, false, ◌||◌, List, [], ◌∷◌, Option, Some, None, refl, ◌∙◌, is_some}
 use Rattle.s390x_base.specs.Regs.{number_of}
 use Rattle.s390x_base.specs.declared.regs.Reg.{Reg}
 use Rattle.s390x_base.specs.declared.regs.Reg.TheVariants.{Real}
@@ -7,7 +7,7 @@ use Rattle.s390x_inst.specs.declared.inst.Inst.{Inst}
 use Rattle.s390x_operands.specs.Requests.{items_of, scratch_request, reported_use, reported_def}
 use Rattle.s390x_rows.specs.declared.opcodes.TheConstants as opcodes
 use Rattle.s390x_typed_steps.specs.Memory.{SiForm, SilForm, address_form, layout_rows, load_memory, store_memory, store_immediate, compare, access_elements, reversed_code, load_lane_opcode, store_lane_opcode, load_reversed_opcode, store_reversed_opcode, load_left}
-use Rattle.s390x_typed_steps.specs.Memory.{store_left, vector_memory}
+use Rattle.s390x_typed_steps.specs.Memory.{holds_scratch, store_left, vector_memory}
 use Rattle.s390x_typed_steps.specs.General.{is_general, is_access, four_bits, low_byte, low_displacement, low_halfword, low_word, rotation}
 use Rattle.s390x_typed_steps.specs.VectorInstruction.{is_vector, vector_row, reuses_vector, element_code, move_left_row}
 use Rattle.s390x_alloc_laws.specs.Allocatable.{IsNotBlamed, Place, MayStand}
@@ -33,16 +33,16 @@ use Rattle.s390x_inst.specs.declared.whole.Direction.TheVariants.{Load, Store}
 use Rattle.s390x_inst.specs.declared.whole.WholeLayout.{WholeLayout}
 use Rattle.s390x_inst.specs.declared.whole.WholeLayout.TheVariants.{Straight}
 use Rattle.s390x_inst.specs.Wholes.{as_whole, whole_instruction}
-use Rattle.s390x_inst.proofs.Transfers.{Transfer, LoadOf, StoreOf, as_transfer, transfer_instruction, the_transfer}
+use Rattle.s390x_inst.proofs.Transfers.{Transfer, LoadOf, StoreOf, as_transfer, by_transfer}
 use Rattle.s390x_inst.proofs.Wholes.{the_whole}
 use Rattle.s390x_inst.specs.Portions.{first_portion}
 use Rattle.s390x_assign.specs.Assignments.{portion_at}
 use Rattle.s390x_alloc_laws.proofs.Given.{clear, Gives, used_given, defined_given, int_kept, float_kept}
 use Rattle.s390x_alloc_laws.proofs.Single.{general1_before, general1, general2, general3, reuse1, reuse2, general1_and, reuse1_and}
 use Rattle.s390x_alloc_laws.proofs.Pairs.{products, by_one, by_low, by_pair}
-use Rattle.s390x_alloc_laws.proofs.Accesses.{access1, access0, load_range, store_range, reuse_access, swap_access, change_access}
+use Rattle.s390x_alloc_laws.proofs.Accesses.{access1, access0, range_access, range_spares, reuse_access, swap_access, change_access}
 use Rattle.s390x_alloc_laws.proofs.Vectors.{mixed1, mixed2, mixed3, mixed4, reuse_vector1, reuse_vector2, reuse_vector3, reverse, elements_accessed, lane_accessed, left_accessed, vector_access, reuse_vector_access}
-use Rattle.s390x_alloc_laws.proofs.Control.{portion_refusal, unread, branch, table, label_address}
+use Rattle.s390x_alloc_laws.proofs.Control.{portion_refusal, unread, branch, table, named}
 
 -- a load: the last clause is a copy for each
 load_blames : (P : Place) (op : LoadOp) (rd : Reg) (mem : MemArg) (s s' : List Reg) → MayStand (load_instruction op rd mem) → Gives s s' s s' (items_of (leaf_requests (load_instruction op rd mem))) → portion_refusal P (portion_at (first_portion (load_instruction op rd mem)) s').0 ≡ None →
@@ -56,10 +56,13 @@ store_blames : (P : Place) (op : StoreOp) (rd : Reg) (mem : MemArg) (s s' : List
 store_blames P StoreOps.Store64 rd mem s s' m g h = access1 P reported_use used_given (store_instruction StoreOps.Store64) (λ rd mem. store_memory (record { op = StoreOps.Store64; rd = rd; mem = mem })) (λ q q' x x' v n p k. record { valid = v; general = p; keeps_base = k; reads_none = n }) (λ a x. (refl, refl)) rd mem s s' m.0 m.1 g h
 store_blames P op rd mem s s' m g h = access1 P reported_use used_given (store_instruction op) (λ rd mem. store_memory (record { op = op; rd = rd; mem = mem })) (λ q q' x x' v n p k. record { valid = v; general = p; keeps_base = k; reads_none = n }) (λ a x. (refl, refl)) rd mem s s' m.0 m.1 g h
 
-transfer_blames : (P : Place) (t : Transfer) (s s' : List Reg) → MayStand (transfer_instruction t) → Gives s s' s s' (items_of (leaf_requests (transfer_instruction t))) → portion_refusal P (portion_at (first_portion (transfer_instruction t)) s').0 ≡ None →
-    IsNotBlamed (portion_refusal P (portion_at (first_portion (transfer_instruction t)) s).0)
-transfer_blames P (LoadOf l) s s' m g h = load_blames P l.op l.rd l.mem s s' m g h
-transfer_blames P (StoreOf t) s s' m g h = store_blames P t.op t.rd t.mem s s' m g h
+-- a load or a store, or one whose refusal no register changes
+transfer_or_unread : (P : Place) (i : Inst) (o : Option Transfer) (s s' : List Reg) → by_transfer (λ l. true ≡ true) (λ t. true ≡ true) (portion_refusal P (portion_at (first_portion i) s).0 ≡ portion_refusal P (portion_at (first_portion i) s').0) o →
+    MayStand (by_transfer (λ l. load_instruction l.op l.rd l.mem) (λ t. store_instruction t.op t.rd t.mem) i o) → Gives s s' s s' (items_of (leaf_requests (by_transfer (λ l. load_instruction l.op l.rd l.mem) (λ t. store_instruction t.op t.rd t.mem) i o))) →
+    portion_refusal P (portion_at (first_portion (by_transfer (λ l. load_instruction l.op l.rd l.mem) (λ t. store_instruction t.op t.rd t.mem) i o)) s').0 ≡ None → IsNotBlamed (portion_refusal P (portion_at (first_portion (by_transfer (λ l. load_instruction l.op l.rd l.mem) (λ t. store_instruction t.op t.rd t.mem) i o)) s).0)
+transfer_or_unread P i None s s' same m g h = unread _ (same ∙ h)
+transfer_or_unread P i (Some (LoadOf l)) s s' same m g h = load_blames P l.op l.rd l.mem s s' m g h
+transfer_or_unread P i (Some (StoreOf t)) s s' same m g h = store_blames P t.op t.rd t.mem s s' m g h
 
 -- a load or a store of a whole vector register: the clauses without `Straight` are a copy for each other layout
 whole_blames : (P : Place) (direction : Direction) (layout : WholeLayout) (rd : Reg) (mem : MemArg) (s s' : List Reg) → MayStand (I.Vector (whole_instruction direction layout rd mem)) → Gives s s' s s' (items_of (leaf_requests (I.Vector (whole_instruction direction layout rd mem)))) → portion_refusal P (portion_at (first_portion (I.Vector (whole_instruction direction layout rd mem))) s').0 ≡ None →
@@ -69,7 +72,8 @@ whole_blames P Load layout rd mem s s' m g h = vector_access P reported_def defi
 whole_blames P Store Straight rd mem s s' m g h = vector_access P reported_use used_given (λ a x. I.Vector (whole_instruction Store Straight a x)) (λ a x. access_elements (layout_rows Straight).store_opcode a (Some (layout_rows Straight).mask) x) (λ a x. elements_accessed (layout_rows Straight).store_opcode a (Some (layout_rows Straight).mask) x) (λ a x. (refl, refl)) rd mem s s' m.1 g h
 whole_blames P Store layout rd mem s s' m g h = vector_access P reported_use used_given (λ a x. I.Vector (whole_instruction Store layout a x)) (λ a x. access_elements (layout_rows layout).store_opcode a (Some (layout_rows layout).mask) x) (λ a x. elements_accessed (layout_rows layout).store_opcode a (Some (layout_rows layout).mask) x) (λ a x. (refl, refl)) rd mem s s' m.1 g h
 
--- each instruction, by the shape of its registers; the last two clauses are a copy for each load and store of a vector register and of another one
+-- each instruction, by the shape of its registers; the last two clauses are a copy for each load and store of a vector register, and for each other one and what reads
+-- no register
 pub blames : (P : Place) (i : Inst) (s s' : List Reg) → MayStand i → Gives s s' s s' (items_of (leaf_requests i)) → portion_refusal P (portion_at (first_portion i) s').0 ≡ None → IsNotBlamed (portion_refusal P (portion_at (first_portion i) s).0)
 blames P (I.LoadIndexedAddr rd base index offset size) s s' m g h = general3 P reported_def defined_given (λ rd base index. I.LoadIndexedAddr rd base index offset size) (λ rd base index. indexed_row (indexed_opcode size) (number_of rd) (number_of base) (number_of index) (low_displacement offset)) (λ rd base index. refl) rd base index s s' g h
 blames P (I.LoadLogicalIndexedAddr rd base index offset size) s s' m g h = general3 P reported_def defined_given (λ rd base index. I.LoadLogicalIndexedAddr rd base index offset size) (λ rd base index. indexed_row (logical_indexed_opcode size) (number_of rd) (number_of base) (number_of index) (low_displacement offset)) (λ rd base index. refl) rd base index s s' g h
@@ -142,30 +146,19 @@ blames P (I.Vector (V.VecReplicateLane size rd rn lane)) s s' m g h = mixed2 P r
 blames P (I.AluRX op rd ri mem) s s' m g h = reuse_access P (I.AluRX op) (is_some (alu_rx op) || is_some (alu_rxy op)) (alu_rx op) (alu_rxy op) (λ d i x. (refl, refl)) rd ri mem s s' m.0 m.1.0 m.1.1.0 g h
 blames P (I.AtomicCas32 rd ri rn mem) s s' m g h = swap_access P I.AtomicCas32 (Some opcodes.CS) opcodes.CSY (λ d i n x. (refl, refl)) rd ri rn mem s s' m.0 m.1.0 m.1.1.0 m.1.1.1.0 g h
 blames P (I.AtomicCas64 rd ri rn mem) s s' m g h = swap_access P I.AtomicCas64 None opcodes.CSG (λ d i n x. (refl, refl)) rd ri rn mem s s' m.0 m.1.0 m.1.1.0 m.1.1.1.0 g h
-blames P (I.Jump dest) s s' m g h = unread _ h
-blames P (I.CondBr taken not_taken mask) s s' m g h = unread _ h
-blames P (I.CondBreak mask) s s' m g h = unread _ h
-blames P I.Nop0 s s' m g h = unread _ h
-blames P I.Nop2 s s' m g h = unread _ h
-blames P I.Fence s s' m g h = unread _ h
-blames P (I.Trap code) s s' m g h = unread _ h
-blames P (I.TrapIf mask code) s s' m g h = unread _ h
-blames P I.Debugtrap s s' m g h = unread _ h
-blames P I.SequencePoint s s' m g h = unread _ h
-blames P (I.DummyUse reg) s s' m g h = unread _ h
 blames P (I.CmpRX op rn mem) s s' m g h = access1 P reported_use used_given (I.CmpRX op) (λ rn mem. compare rn (cmp_rx op) (cmp_rxy op) (cmp_ril op) mem) (λ q q' x x' v n p k. record { valid = v; general = p; keeps_base = k; reads_none = n }) (λ a x. (refl, refl)) rn mem s s' m.0 m.1.0 g h
 blames P (I.StoreImm8 imm mem) s s' m g h = access0 P (I.StoreImm8 imm) (λ mem. store_immediate (SiForm (low_byte imm) opcodes.MVI opcodes.MVIY) mem) (λ x x' p k. record { valid = λ z. z; general = p; keeps_base = k; reads_none = refl }) (λ x. (refl, refl)) mem s s' m.0 g h
 blames P (I.StoreImm16 imm mem) s s' m g h = access0 P (I.StoreImm16 imm) (λ mem. store_immediate (SilForm (low_halfword imm) opcodes.MVHHI) mem) (λ x x' p k. record { valid = λ z. z; general = p; keeps_base = k; reads_none = refl }) (λ x. (refl, refl)) mem s s' m.0 g h
 blames P (I.StoreImm32SExt16 imm mem) s s' m g h = access0 P (I.StoreImm32SExt16 imm) (λ mem. store_immediate (SilForm (low_halfword imm) opcodes.MVHI) mem) (λ x x' p k. record { valid = λ z. z; general = p; keeps_base = k; reads_none = refl }) (λ x. (refl, refl)) mem s s' m.0 g h
 blames P (I.StoreImm64SExt16 imm mem) s s' m g h = access0 P (I.StoreImm64SExt16 imm) (λ mem. store_immediate (SilForm (low_halfword imm) opcodes.MVGHI) mem) (λ x x' p k. record { valid = λ z. z; general = p; keeps_base = k; reads_none = refl }) (λ x. (refl, refl)) mem s s' m.0 g h
 blames P (I.LoadAddr rd mem) s s' m g h = access1 P reported_def defined_given I.LoadAddr (λ rd mem. Some (record { form = address_form rd; operand = mem; accesses = false; operands_valid = is_general rd; reads_scratch = false })) (λ q q' x x' v n p k. record { valid = v; general = p; keeps_base = k; reads_none = refl }) (λ a x. (refl, refl)) rd mem s s' m.0 m.1.0 g h
-blames P (I.LoadMultiple64 rt rt2 mem) s s' m g h = load_range P rt rt2 mem s s' m.1 g h
-blames P (I.StoreMultiple64 rt rt2 mem) s s' m g h = store_range P rt rt2 mem s s' m.0 m.1 g h
+blames P (I.LoadMultiple64 rt rt2 mem) s s' m g h = range_access P (I.LoadMultiple64 rt rt2) rt rt2 opcodes.LMG false refl (λ x. (refl, refl)) mem s s' m.1 g h
+blames P (I.StoreMultiple64 rt rt2 mem) s s' m g h = range_access P (I.StoreMultiple64 rt rt2) rt rt2 opcodes.STMG (holds_scratch rt rt2) (range_spares rt rt2 m.0) (λ x. (refl, refl)) mem s s' m.1 g h
 blames P (I.AtomicRmw op rd rn mem) s s' m g h = change_access P (I.AtomicRmw op) (atomic_rsy op) (λ d n x. (refl, refl)) rd rn mem s s' m.1.0 m.1.1.0 g h
 blames P (I.IndirectBr rn targets) s s' m g h = branch P rn targets.items s s' m g h
 blames P (I.JTSequence ridx other mask targets) s s' m g h = table P ridx other mask targets.items s s' m g h
 blames P (I.LoadSymbolReloc rd reloc) s s' m g h = general1_before P reported_def defined_given (λ d. I.LoadSymbolReloc d reloc) (λ d. two_row (Some opcodes.LGR) (number_of d) 0) (λ d. refl) rd (scratch_request ∷ []) s s' g h
-blames P (I.LabelAddress dst label) s s' m g h = label_address P dst label s s' g h
+blames P (I.LabelAddress dst label) s s' m g h = named P.declared.blocks dst label s s' g h
 blames P (I.Args args) s s' m g h = clear
 blames P (I.Rets rets) s s' m g h = clear
 blames P (I.Vector (V.VecInsertLane size rd ri rn lane base)) s s' m g h = reuse_vector3 P (λ d i n b. I.Vector (V.VecInsertLane size d i n lane b)) (λ d i n b. vector_row (V.VecInsertLane size d i n lane b)) (λ d i n b. refl) rd ri rn base s s' m.0 m.1 g h
@@ -190,4 +183,4 @@ blames P (I.ReturnCall info) s s' m g h = absurd m
 blames P (I.Ret link) s s' m g h = absurd m
 blames P (I.AllocateArgs size) s s' m g h = absurd m
 blames P (I.Vector v) s s' m g h = let w : WholeAccess = the_whole (as_whole v) refl in whole_blames P w.direction w.layout w.rd w.mem s s' m g h
-blames P i s s' m g h = transfer_blames P (the_transfer (as_transfer i) refl) s s' m g h
+blames P i s s' m g h = transfer_or_unread P i (as_transfer i) s s' refl m g h

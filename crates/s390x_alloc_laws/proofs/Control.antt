@@ -20,7 +20,7 @@ use Rattle.s390x_typed_steps.specs.General.{is_general, is_nonzero, is_scratch}
 use Rattle.s390x_alloc_laws.specs.Allocatable.{IsVirtual, IsOrdinary, IsNotBlamed, Place, refusal}
 use Rattle.s390x_base.specs.declared.ir.MachLabel.{MachLabel}
 use Rattle.s390x_inst.specs.Portions.{Portion, plain, indirect_branch, jump_table, arguments, results, first_portion}
-use Rattle.s390x_inst.specs.declared.inst.Inst.TheVariants.{Loop', LabelAddress}
+use Rattle.s390x_inst.specs.declared.inst.Inst.TheVariants.{Loop'}
 use Rattle.s390x_alloc_laws.proofs.Given.{clear, unless_clear, first_clear, and_left, Passes, Gives, Next, used_given, defined_given}
 
 -- ---- instructions that keep a vector, as portions
@@ -106,8 +106,11 @@ table P ridx other mask targets s s' v g h =
     let real : is_general x ≡ true = n.given.passes (and_left (is_general x') (is_nonzero x') valid') in
     registers_first (is_general x && is_nonzero x) (is_general x' && is_nonzero x') (later_cause blocks x other targets) (later_cause blocks x' other targets) (later_clear blocks x other targets (ordinary_unscratched x o real)) h (addresses x x' o n.given.passes)
 
--- a register and the label of a place
-pub label_address : (P : Place) (d : Reg) (label : MachLabel) (s s' : List Reg) → Gives s s' s s' (items_of (reported_def d ∷ [])) → refusal P (LabelAddress (register_at d s') label) ≡ None → IsNotBlamed (refusal P (LabelAddress (register_at d s) label))
-label_address P d label s s' g h =
+-- the cause of a register, and behind it that of a label
+abbrev pub named_cause : (blocks : ℕ) → Reg → MachLabel → Option EmitError
+named_cause blocks q label = first_emit_cause (unless (is_general q) BadRegister) (target_label_cause blocks label)
+
+pub named : (blocks : ℕ) (d : Reg) (label : MachLabel) (s s' : List Reg) → Gives s s' s s' (items_of (reported_def d ∷ [])) → named_cause blocks (register_at d s') label ≡ None → IsNotBlamed (named_cause blocks (register_at d s) label)
+named blocks d label s s' g h =
     let n : Next d s s' s s' [] = defined_given d [] s s' s s' g in
-    registers_first (is_general (register_at d s)) (is_general (register_at d s')) (target_label_cause P.declared.blocks label) (target_label_cause P.declared.blocks label) (target_clear P.declared.blocks label) h n.given.passes
+    registers_first (is_general (register_at d s)) (is_general (register_at d s')) (target_label_cause blocks label) (target_label_cause blocks label) (target_clear blocks label) h n.given.passes

@@ -1,5 +1,5 @@
 -- Instructions on registers, by what they do.
-use Rattle.std.proofs.Common.{◌≡◌, ℕ, ◌%◌, ◌^◌, nat_lt, Bool, true, false, ◌&&◌, List, [], ◌∷◌, Option, Some, None, refl, ap, subst, ◌∙◌, arith, inl, inr}
+use Rattle.std.proofs.Common.{◌≡◌, ℕ, ◌%◌, ◌^◌, nat_lt, Bool, true, false, ◌&&◌, List, [], ◌∷◌, Option, Some, None, refl, sym, ap, subst, ◌∙◌, arith, inl, inr}
 use Rattle.s390x_base.specs.Regs.{number_of}
 use Rattle.s390x_base.specs.declared.error.EmitError.TheVariants.{BadRegister}
 use Rattle.s390x_base.specs.declared.ir.MachLabel.{MachLabel}
@@ -9,7 +9,8 @@ use Rattle.s390x_base.specs.Registers.{general, vector}
 use Rattle.s390x_base.specs.declared.trap.TrapKind.{TrapKind}
 use Rattle.s390x_inst.specs.declared.args.MemArg.{MemArg}
 use Rattle.s390x_inst.specs.declared.calls.SymbolReloc.{SymbolReloc}
-use Rattle.s390x_inst.specs.declared.inst.Inst.TheVariants.{LoadSymbolReloc, LabelAddress}
+use Rattle.s390x_inst.specs.declared.inst.Inst.{Inst}
+use Rattle.s390x_inst.specs.declared.inst.Inst.TheVariants.{LoadSymbolReloc}
 use Rattle.s390x_inst.specs.declared.vec_ops.VecIntEltCmpOp.{VecIntEltCmpOp}
 use Rattle.s390x_inst.specs.declared.vec_ops.VecIntEltCmpOp.TheVariants.{SCmp128, UCmp128}
 use Rattle.s390x_lanes.specs.Lanes.{from_lanes, lane}
@@ -21,7 +22,7 @@ use Rattle.s390x_operands.specs.Requests.{items_of, scratch_request, reported_de
 use Rattle.s390x_assign.specs.Assignments.{register_at, after}
 use Rattle.s390x_rows.specs.declared.opcodes.TheConstants as opcodes
 use Rattle.s390x_typed_steps.proofs.Causes.{first_left, unless_true}
-use Rattle.s390x_typed_steps.specs.Causes.{unless, target_label_cause}
+use Rattle.s390x_typed_steps.specs.Causes.{first_emit_cause, unless, target_label_cause}
 use Rattle.s390x_typed_steps.specs.General.{is_general, reuses}
 use Rattle.s390x_typed_steps.specs.Memory.{MemoryInstruction, operate, load_and_operate}
 use Rattle.s390x_typed_steps.specs.Operands.{operand_general}
@@ -37,7 +38,7 @@ use Rattle.s390x_operations.specs.declared.operator.Operator.TheVariants.{Move}
 use Rattle.s390x_operations.specs.declared.size.Size.{Size}
 use Rattle.s390x_operations.specs.declared.stop.StopKind.{StopKind}
 use Rattle.s390x_machine.proofs.Reversing.{put_same}
-use Rattle.s390x_machine.specs.Layout.{Layout, block_address}
+use Rattle.s390x_machine.specs.Layout.{Layout}
 use Rattle.s390x_machine.specs.Operands.{value_in}
 use Rattle.s390x_machine.specs.Computations.{Second, with_rule, operand_of, on_doublewords, computes_immediate, havocs, moves_where, moves_immediate_where, signed_halfword}
 use Rattle.s390x_machine.specs.Semantics.{all_bits}
@@ -128,10 +129,11 @@ relocation_kept P L rd reloc s m g h =
     let rest = defined_passed rd (scratch_request ∷ []) s s g in
     (performs_keeps L changed true (computes_immediate Kept (on_doublewords Move) (number_of x) (number_of x) (linked_value L reloc)) no_code (λ r. first_listed general_def rd (scratch_request ∷ []) s m g valid) (λ q a. scratch_listed [] (after rd s) q (rest.0 q a)), nothing L changed)
 
-pub label_kept : (P : Place) (L : Layout) (dst : Reg) (label : MachLabel) (s : List Reg) → IsVirtual dst → MeetsEach s (items_of (reported_def dst ∷ [])) s → refusal P (LabelAddress (register_at dst s) label) ≡ None → InstKeeps L (outputs (items_of (reported_def dst ∷ [])) s) (LabelAddress (register_at dst s) label)
-label_kept P L dst label s m g h =
+-- an output alone, behind whose cause stands that of a label
+pub named_kept : (P : Place) (L : Layout) (mk : Reg → Inst) (label : MachLabel) → ((x : Reg) → (refusal P (mk x) ≡ first_emit_cause (unless (is_general x) BadRegister) (target_label_cause P.declared.blocks label)) × ((changed : List Reg) → Covers changed (Real (general (number_of x)) ∷ []) → InstKeeps L changed (mk x))) →
+    (dst : Reg) (s : List Reg) → IsVirtual dst → MeetsEach s (items_of (reported_def dst ∷ [])) s → refusal P (mk (register_at dst s)) ≡ None → InstKeeps L (outputs (items_of (reported_def dst ∷ [])) s) (mk (register_at dst s))
+named_kept P L mk label keeps dst s m g h =
     let x : Reg = register_at dst s in
     let real = unless (is_general x) BadRegister in
-    let place = target_label_cause P.declared.blocks label in
-    let valid : is_general x ≡ true = unless_true (is_general x) BadRegister (first_left real place h) in
-    does L (outputs (items_of (reported_def dst ∷ [])) s) (computes_immediate Kept (on_doublewords Move) (number_of x) (number_of x) (block_address L label.0)) no_code (λ r. first_listed general_def dst [] s m g valid)
+    let valid : is_general x ≡ true = unless_true (is_general x) BadRegister (first_left real (target_label_cause P.declared.blocks label) (sym (keeps x).0 ∙ h)) in
+    (keeps x).1 (outputs (items_of (reported_def dst ∷ [])) s) (first_listed general_def dst [] s m g valid)

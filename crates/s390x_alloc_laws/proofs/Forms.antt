@@ -2,7 +2,7 @@
 use Rattle.std.proofs.Common.{◌≡◌, pos, false, ◌||◌, List, [], ◌∷◌, Some, None, refl, is_some, ◌&&◌, ◌++◌}
 use Rattle.s390x_base.specs.Regs.{number_of}
 use Rattle.s390x_base.specs.declared.regs.Reg.{Reg}
-use Rattle.s390x_base.specs.declared.regs.Reg.TheVariants.{Real, Virtual}
+use Rattle.s390x_base.specs.declared.regs.Reg.TheVariants.{Real}
 use Rattle.s390x_inst.specs.declared.load.LoadOp.{LoadOp}
 use Rattle.s390x_inst.specs.declared.load.LoadOp.TheVariants as LoadOps
 use Rattle.s390x_inst.specs.Loads.{load_instruction}
@@ -47,7 +47,7 @@ use Rattle.s390x_machine.specs.Computations.{computes, compares, alu_computation
 use Rattle.s390x_machine.specs.Computations.{compares_on_immediate, computes_immediate, compares_immediate, doubleword, part_mask, on_selected, part_operator, at_part, at_half, half_mask, inserts_half, extension, shifts, rotates_into}
 use Rattle.s390x_machine.specs.Computations.{rotates_to_test, multiplies_signed, multiplies_logical, divides_signed, divides_logical, compares_and_traps, compares_immediate_and_traps, finds_leftmost, idles, havocs, copies_access, moves_where, moves_immediate_where}
 use Rattle.s390x_machine.specs.Storage.{operand_step}
-use Rattle.s390x_machine.specs.Layout.{Layout}
+use Rattle.s390x_machine.specs.Layout.{Layout, block_address}
 use Rattle.s390x_machine.specs.VectorOperations.{binary_operation, unary_operation, shift_operator, shifted_elements, comparison_operation}
 use Rattle.s390x_operands.specs.Meets.{MeetsEach}
 use Rattle.s390x_typed_steps.specs.Operands.{resolved_operand, operand_general}
@@ -61,7 +61,7 @@ use Rattle.s390x_typed_steps.specs.VectorComposite.{reversing_rows}
 use Rattle.s390x_machine.specs.VectorSteps.{computes_two_vectors, computes_one_vector, computes_three_vectors, generates_vector, shifts_vector, joins_registers, elements_of, inserts_immediate_alone, inserts_lane, inserts_lane_alone, extracts_lane, moves_left, reverses_elements}
 use Rattle.s390x_machine.specs.StepKinds.{no_code, division_code, comparison_code}
 use Rattle.s390x_alloc_laws.proofs.Stores.{accessed, load_kept, store_kept, load_kept2, swap_kept, load_range_kept, pair_listed}
-use Rattle.s390x_alloc_laws.proofs.Doing.{does, moves_written, moves_immediate_written, extracts_written, inserts_written, inserts_alone_written, comparing_keeps, operate_valid, change_valid, vector_valid, relocation_kept, label_kept}
+use Rattle.s390x_alloc_laws.proofs.Doing.{does, moves_written, moves_immediate_written, extracts_written, inserts_written, inserts_alone_written, comparing_keeps, operate_valid, change_valid, vector_valid, relocation_kept, named_kept}
 use Rattle.s390x_alloc_laws.proofs.Portions.{portion_kind, portion_loaded_kind}
 use Rattle.s390x_typed_steps.specs.VectorOpcodes.{is_division}
 use Rattle.s390x_operations.specs.declared.operator.Operator.TheVariants.{Move}
@@ -283,16 +283,14 @@ kept P L (I.StoreImm64SExt16 imm mem) s m g h = accessed L _ (operand_step (I.St
 kept P L (I.LoadAddr rd mem) s m g h =
     load_kept P L general_def I.LoadAddr (λ rd mem. Some (record { form = address_form rd; operand = mem; accesses = false; operands_valid = is_general rd; reads_scratch = false }))
     (λ a m v. and_left (is_general a) (operand_general m) v) (λ a x. (refl, refl)) (λ a x changed f free. accessed L changed (operand_step (I.LoadAddr a (resolved_operand P.state x))) (λ address r. f) free) rd mem s m.0 g h
-kept P L (I.LoadMultiple64 (Real p) (Real q) mem) s m g h = load_range_kept P L (Real p) (Real q) mem s (λ changed f free. accessed L changed (operand_step (I.LoadMultiple64 (Real p) (Real q) (resolved_operand P.state (memory_at mem s).0))) (λ address r. f) free) (refl, refl) g h
-kept P L (I.LoadMultiple64 (Real p) (Virtual n c) mem) s m g h = absurd m.0
-kept P L (I.LoadMultiple64 (Virtual n c) last mem) s m g h = absurd m.0
+kept P L (I.LoadMultiple64 rt rt2 mem) s m g h = load_range_kept P L (I.LoadMultiple64 rt rt2 (memory_at mem s).0) rt rt2 mem s m.0 (λ changed f free. accessed L changed (operand_step (I.LoadMultiple64 rt rt2 (resolved_operand P.state (memory_at mem s).0))) (λ address r. f) free) (refl, refl) g h
 kept P L (I.StoreMultiple64 rt rt2 mem) s m g h = accessed L _ (operand_step (I.StoreMultiple64 rt rt2 (resolved_operand P.state (memory_at mem s).0))) (λ address r q a. tt) (memory_scratch mem (range_requests rt rt2) s s g)
 kept P L (I.AtomicRmw op rd rn mem) s m g h =
     load_kept2 P L general_def (I.AtomicRmw op) (λ d n x. load_and_operate (atomic_rsy op) d n x) (λ d n x v. change_valid (atomic_rsy op) d n x v) (λ d n x. (refl, refl)) (λ d n x changed f free. accessed L changed (operand_step (I.AtomicRmw op d n (resolved_operand P.state x))) (λ address r. f) free) rd rn mem s m.0 g h
 kept P L (I.IndirectBr rn targets) s m g h = (branch_keeps L _ (number_of (register_at rn s)) targets.items, nothing L _)
 kept P L (I.JTSequence ridx other mask targets) s m g h = (table_keeps L _ (number_of (register_at ridx s)) mask other.0 targets.items (behind_one ridx (scratch_request ∷ []) s g scratch_target (λ k. scratch_listed [] (after ridx s))), nothing L _)
 kept P L (I.LoadSymbolReloc rd reloc) s m g h = relocation_kept P L rd reloc s m.0 g h
-kept P L (I.LabelAddress dst label) s m g h = label_kept P L dst label s m.0 g h
+kept P L (I.LabelAddress dst label) s m g h = named_kept P L (λ x. I.LabelAddress x label) label (λ x. (refl, λ changed f. does L changed (computes_immediate Kept (on_doublewords Move) (number_of x) (number_of x) (block_address L label.0)) no_code (λ r. f))) dst s m.0 g h
 kept P L (I.Args args) s m g h = (silence L _, nothing L _)
 kept P L (I.Rets rets) s m g h = (silence L _, nothing L _)
 kept P L (I.Vector (V.VecInsertLane size rd ri rn lane base)) s m g h =

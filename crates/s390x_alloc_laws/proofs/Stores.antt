@@ -9,7 +9,6 @@ use Rattle.s390x_base.specs.declared.regs.Reg.TheVariants.{Real, Virtual}
 use Rattle.s390x_base.specs.declared.regs.WritableRegPair.{WritableRegPair}
 use Rattle.s390x_inst.specs.declared.args.MemArg.{MemArg}
 use Rattle.s390x_inst.specs.declared.inst.Inst.{Inst}
-use Rattle.s390x_inst.specs.declared.inst.Inst.TheVariants.{LoadMultiple64}
 use Rattle.s390x_operands.specs.Meets.{MeetsEach}
 use Rattle.s390x_operands.specs.Requests.{items_of, memory_requests, range_requests, reported_use, reported_reuse, fixed_def}
 use Rattle.s390x_operands.specs.declared.constraint.Reported.{Reported}
@@ -22,10 +21,10 @@ use Rattle.s390x_typed_steps.specs.Operands.{resolved_operand}
 use Rattle.s390x_machine.specs.Layout.{Layout}
 use Rattle.s390x_machine.specs.Storage.{OperandStep, loaded_step}
 use Rattle.s390x_machine.specs.StepKinds.{Unsupported, performed_by, kind_or}
-use Rattle.s390x_alloc_laws.specs.Allocatable.{IsVirtual, Place, refusal}
+use Rattle.s390x_alloc_laws.specs.Allocatable.{IsFreeRange, IsVirtual, Place, refusal}
 use Rattle.s390x_alloc_laws.proofs.Given.{and_left, and_right}
 use Rattle.s390x_alloc_laws.proofs.Accesses.{AreValid, IsAccess, placed_in, access_valid}
-use Rattle.s390x_alloc_laws.specs.Outputs.{IsApart, outputs, generals}
+use Rattle.s390x_alloc_laws.specs.Outputs.{IsApart, outputs, generals, range_of}
 use Rattle.s390x_alloc_laws.proofs.Effects.{Covers, multiple_targets, pair_targets}
 use Rattle.s390x_alloc_laws.proofs.StepKinds.{WritesOnly, nothing, access_keeps}
 use Rattle.s390x_alloc_laws.proofs.Shapes.{Output, general_reuse, BothKeep, InstKeeps, reused_passed, used_passed, scratch_target, memory_scratch, memory_listed, first_listed, general_target}
@@ -108,14 +107,10 @@ range_written first (suc n) le q a =
 range_fits : (first last : ℕ) → first ≤ last → last < 16 → first + (last + 1 - first) ≤ 16
 range_fits first last le lt = omega arith
 
--- the registers of a range are listed
-abbrev pub range_listed : Reg → Reg → List Reg
-range_listed first last = generals (number_of first) (number_of last + 1 - number_of first)
-
-range_valid : (P : Place) (first last : Reg) (m : MemArg) → IsAccess P (LoadMultiple64 first last m) (multiple first last opcodes.LMG false (resolved_operand P.state m)) → refusal P (LoadMultiple64 first last m) ≡ None → number_of first + (number_of last + 1 - number_of first) ≤ 16
-range_valid P first last m is h =
-    let valid = access_valid P (LoadMultiple64 first last m) (multiple first last opcodes.LMG false (resolved_operand P.state m)) is h in
-    let range : (is_general first && is_general last && nat_le (number_of first) (number_of last)) ≡ true = and_left (is_general first && is_general last && nat_le (number_of first) (number_of last)) (operand_general (resolved_operand P.state m)) valid in
+range_valid : (P : Place) (i : Inst) (first last : Reg) (m : MemArg) → IsAccess P i (multiple first last opcodes.LMG false m) → refusal P i ≡ None → number_of first + (number_of last + 1 - number_of first) ≤ 16
+range_valid P i first last m is h =
+    let valid = access_valid P i (multiple first last opcodes.LMG false m) is h in
+    let range : (is_general first && is_general last && nat_le (number_of first) (number_of last)) ≡ true = and_left (is_general first && is_general last && nat_le (number_of first) (number_of last)) (operand_general m) valid in
     let ends : (is_general first && is_general last) ≡ true = and_left (is_general first && is_general last) (nat_le (number_of first) (number_of last)) range in
     range_fits (number_of first) (number_of last) (leb-true (number_of first) (number_of last) (and_right (is_general first && is_general last) (nat_le (number_of first) (number_of last)) range)) (below_sixteen last (and_right (is_general first) (is_general last) ends))
   where
@@ -123,13 +118,16 @@ range_valid P first last m is h =
     below_sixteen (Real p) g = ltb-true p.number 16 (and_right (is_int p.class) (nat_lt p.number 16) g)
     below_sixteen (Virtual n c) g = absurd (cc)
 
-pub load_range_kept : (P : Place) (L : Layout) (first last : Reg) (m : MemArg) (s : List Reg) → KeepsAccess L (multiple_targets (number_of first) (number_of last + 1 - number_of first)) (placed_in P (LoadMultiple64 first last (memory_at m s).0)) →
-    IsAccess P (LoadMultiple64 first last (memory_at m s).0) (multiple first last opcodes.LMG false (resolved_operand P.state (memory_at m s).0)) → MeetsEach s (items_of (memory_requests m ++ range_requests first last)) s → refusal P (LoadMultiple64 first last (memory_at m s).0) ≡ None →
-    InstKeeps L (range_listed first last ++ outputs (items_of (memory_requests m ++ range_requests first last)) s) (placed_in P (LoadMultiple64 first last (memory_at m s).0))
-load_range_kept P L first last m s keeps is meet h =
-    let own : List Reg = range_listed first last in
-    let others : List Reg = outputs (items_of (memory_requests m ++ range_requests first last)) s in
-    keeps (own ++ others) (λ q a. range_written (number_of first) (number_of last + 1 - number_of first) (range_valid P first last (memory_at m s).0 is h) q (apart_left own others q a)) (λ q a. memory_scratch m (range_requests first last) s s meet q (apart_right own others q a))
+pub load_range_kept : (P : Place) (L : Layout) (i : Inst) (first last : Reg) (m : MemArg) (s : List Reg) → IsFreeRange first last → KeepsAccess L (multiple_targets (number_of first) (number_of last + 1 - number_of first)) (placed_in P i) →
+    IsAccess P i (multiple first last opcodes.LMG false (resolved_operand P.state (memory_at m s).0)) → MeetsEach s (items_of (memory_requests m ++ range_requests first last)) s → refusal P i ≡ None →
+    InstKeeps L (range_of first last ++ outputs (items_of (memory_requests m ++ range_requests first last)) s) (placed_in P i)
+load_range_kept P L i (Real p) (Real q) m s free keeps is meet h =
+    let own : List Reg = range_of (Real p) (Real q) in
+    let rest = range_requests (Real p) (Real q) in
+    keeps (own ++ outputs (items_of (memory_requests m ++ rest)) s) (λ x a. range_written p.number (q.number + 1 - p.number) (range_valid P i (Real p) (Real q) (resolved_operand P.state (memory_at m s).0) is h) x (apart_left own (outputs (items_of (memory_requests m ++ rest)) s) x a))
+    (λ x a. memory_scratch m rest s s meet x (apart_right own (outputs (items_of (memory_requests m ++ rest)) s) x a))
+load_range_kept P L i (Real p) (Virtual n c) m s free keeps is meet h = absurd free
+load_range_kept P L i (Virtual n c) last m s free keeps is meet h = absurd free
 
 -- ---- pairs
 

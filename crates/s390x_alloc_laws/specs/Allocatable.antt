@@ -21,7 +21,7 @@ use Rattle.s390x_inst.specs.Wholes.{as_whole, by_whole}
 use Rattle.s390x_inst.specs.declared.vec_inst.VecInst.{VecInst}
 use Rattle.s390x_inst.specs.declared.vec_inst.VecInst.TheVariants as V
 use Rattle.s390x_described.specs.Instructions.{described_part, description_of}
-use Rattle.s390x_described.specs.Roles.{Role, WrittenPair, LowRead, ReadPair, InMemory, Described, register}
+use Rattle.s390x_described.specs.Roles.{Role, Written, Tied, Read, WrittenPair, LowRead, ReadPair, InMemory, Described}
 use Rattle.s390x_operands.specs.Meets.{Meets}
 use Rattle.s390x_operands.specs.Operands.{operands}
 use Rattle.s390x_operands.specs.declared.constraint.Reported.{Reported}
@@ -73,11 +73,13 @@ IsFreeRange first last = ⊥
 
 -- of what stands in a role
 abbrev pub RoleMayStand : Role → Type 0
+RoleMayStand (Written r) = IsVirtual r
+RoleMayStand (Tied r) = IsVirtual r
+RoleMayStand (Read r) = IsVirtual r
 RoleMayStand (WrittenPair d) = IsNotScratch d.hi × IsNotScratch d.lo
 RoleMayStand (LowRead r) = IsNotScratch r
 RoleMayStand (ReadPair d) = IsNotScratch d.hi × IsNotScratch d.lo
 RoleMayStand (InMemory mem) = MemoryMayStand mem
-RoleMayStand r = IsVirtual (register r)
 
 abbrev pub RolesMayStand : List Role → Type 0
 RolesMayStand [] = ⊤

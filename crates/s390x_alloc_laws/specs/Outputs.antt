@@ -41,9 +41,14 @@ abbrev pub generals : (first count : ℕ) → List Reg
 generals first zero = []
 generals first (suc n) = Real (general (first + n)) ∷ generals first n
 
+-- the general registers from a real one to another
+abbrev pub range_of : (first last : Reg) → List Reg
+range_of (Real p) (Real q) = generals p.number (q.number + 1 - p.number)
+range_of first last = []
+
 -- the registers that a `LoadMultiple64` loads
 abbrev pub loaded_range : Inst → List Reg
-loaded_range (LoadMultiple64 (Real p) (Real q) mem) = generals p.number (q.number + 1 - p.number)
+loaded_range (LoadMultiple64 rt rt2 mem) = range_of rt rt2
 loaded_range i = []
 
 -- the registers that an instruction may change that gets these registers
