@@ -18,23 +18,23 @@ use Rattle.s390x_typed_steps.specs.VectorInstruction.{element_code, is_lane, is_
 use Rattle.s390x_address.specs.Rows.{in_state}
 
 pub vector_single : (e : Emission) (v : VecInst) → single_with (vector_operands_valid (resolved_vector e v)) (vector_row (resolved_vector e v)) ≡ single_with (vector_operands_valid v) (vector_row v)
-vector_single e (V.VecMov rd rn) = refl
+vector_single e (V.VecSelect rd rn rm ra) = refl
 vector_single e v = refl
 
 pub vector_stops : (e : Emission) (v : VecInst) → vector_stop (resolved_vector e v) ≡ vector_stop v
-vector_stops e (V.VecMov rd rn) = refl
+vector_stops e (V.VecSelect rd rn rm ra) = refl
 vector_stops e v = refl
 
 pub vector_facilities : (e : Emission) (v : VecInst) → vec_facility (resolved_vector e v) ≡ vec_facility v
-vector_facilities e (V.VecMov rd rn) = refl
+vector_facilities e (V.VecSelect rd rn rm ra) = refl
 vector_facilities e v = refl
 
 pub composite_causes : (e : Emission) (v : VecInst) → composite_cause (resolved_vector e v) ≡ composite_cause v
-composite_causes e (V.VecMov rd rn) = refl
+composite_causes e (V.VecSelect rd rn rm ra) = refl
 composite_causes e v = refl
 
 pub composites : (e : Emission) (v : VecInst) → composite_rows (resolved_vector e v) ≡ composite_rows v
-composites e (V.VecMov rd rn) = refl
+composites e (V.VecSelect rd rn rm ra) = refl
 composites e v = refl
 
 -- ---- an operand

@@ -8,7 +8,6 @@ use Rattle.s390x_format.specs.Formats.{length_of}
 use Rattle.s390x_inst.specs.Emission.{Emission}
 use Rattle.s390x_inst.specs.declared.inst.Inst.{Inst}
 use Rattle.s390x_inst.specs.declared.inst.Inst.TheVariants as I
-use Rattle.s390x_inst.specs.declared.ops.ALUOp.TheVariants.{Add64}
 use Rattle.s390x_inst.specs.declared.args.MemArg.TheVariants.{RegOffset, BXD12, BXD20}
 use Rattle.s390x_inst.specs.Memory.{trusted}
 use Rattle.s390x_inst.specs.declared.state.IsaFlags.{IsaFlags}
@@ -21,7 +20,7 @@ use Rattle.s390x_typed_steps.specs.Relocs.{parts_relocs}
 use Rattle.s390x_typed_steps.specs.Stack.{nominal_after}
 use Rattle.s390x_typed_steps.specs.Steps.{Plain, step_of}
 use Rattle.s390x_typed_steps.specs.Tree.{Tree, leaf, prepend, Whole}
-use Rattle.s390x_generator.specs.Generator.{above_stack, ending, label, register, work}
+use Rattle.s390x_generator.specs.Generator.{above_stack, added, ending, label, register, sum, work}
 
 -- an instruction outside loops that isn't refused, leaves the stack, draws no label, and is no more than two machine instructions without relocations
 pub record IsFine (D : Declared) (i : Inst) : Type 0 where
@@ -99,11 +98,11 @@ store_is_fine D d h = record {
   relocs = λ p. in_each_form (λ parts. parts_relocs p parts ≡ []) store_form d refl refl refl refl;
 }
 
-sum_is_fine : (D : Declared) → IsFine D (I.AluRRR Add64 (register 2) (register 3) (register 4))
+sum_is_fine : (D : Declared) → IsFine D (sum (register 2) (register 3) (register 4))
 unfolding length_of
 sum_is_fine D = record { alone = λ e t. refl; cause = λ flags. refl; fresh = refl; nominal = refl; plain = refl; size = refl; relocs = λ p. refl }
 
-added_is_fine : (D : Declared) → IsFine D (I.AluRR Add64 (register 2) (register 2) (register 4))
+added_is_fine : (D : Declared) → IsFine D (added (register 2) (register 2) (register 4))
 unfolding length_of
 added_is_fine D = record { alone = λ e t. refl; cause = λ flags. refl; fresh = refl; nominal = refl; plain = refl; size = refl; relocs = λ p. refl }
 

@@ -31,11 +31,19 @@ register n = Real (general n)
 abbrev pub above_stack : ℕ → MemArg
 above_stack offset = RegOffset (register 15) (pos offset) trusted
 
+-- a register becomes the sum of two
+abbrev pub sum : (rd rn rm : Reg) → Inst
+sum rd rn rm = I.AluRRR Add64 rd rn rm
+
+-- a register becomes its sum with another one
+abbrev pub added : (rd ri rm : Reg) → Inst
+added rd ri rm = I.AluRR Add64 rd ri rm
+
 -- the first instruction of a block, by a choice out of four: a sum, a load near the stack pointer, or a store far from it
 abbrev pub work : (choice offset : ℕ) → Inst
 work choice offset =
-    cond (nat_eq choice 0) (I.AluRRR Add64 (register 2) (register 3) (register 4))
-    (cond (nat_eq choice 1) (I.AluRR Add64 (register 2) (register 2) (register 4))
+    cond (nat_eq choice 0) (sum (register 2) (register 3) (register 4))
+    (cond (nat_eq choice 1) (added (register 2) (register 2) (register 4))
     (cond (nat_eq choice 2) (I.Load64 (register 2) (above_stack offset)) (I.Store64 (register 4) (above_stack (offset + 524288)))))
 
 -- the label of a block

@@ -1,8 +1,8 @@
 //! The generated function.
 ghost use Rattle.std.specs.Prelude.{◌≡◌, ◌+◌, ◌*◌, ◌<◌, ◌%◌, ◌/◌, IfOk};
-ghost use Rattle.s390x_generator.specs.Generator.{IsGenerated, above_stack, ending, generated_block, insts_of, next_number, work};
+ghost use Rattle.s390x_generator.specs.Generator.{IsGenerated, above_stack, added, ending, generated_block, insts_of, next_number, sum, work};
 
-use s390x_base::{Cond, MachLabel, MachMemFlags, gpr, stack_reg, writable_gpr};
+use s390x_base::{Cond, MachLabel, MachMemFlags, Reg, Writable, gpr, stack_reg, writable_gpr};
 use s390x_inst::{ALUOp, AllocatedFunction, Block, Inst, MemArg};
 use std::alloc::{AllocError, Global};
 
@@ -55,18 +55,8 @@ fn work(choice: u32, offset: u32) -> Inst
     ensures { result ≡ work choice offset }
 {
     match choice {
-        0 => Inst::AluRRR {
-            alu_op: ALUOp::Add64,
-            rd: writable_gpr(2),
-            rn: gpr(3),
-            rm: gpr(4),
-        },
-        1 => Inst::AluRR {
-            alu_op: ALUOp::Add64,
-            rd: writable_gpr(2),
-            ri: gpr(2),
-            rm: gpr(4),
-        },
+        0 => sum(writable_gpr(2), gpr(3), gpr(4)),
+        1 => added(writable_gpr(2), gpr(2), gpr(4)),
         2 => Inst::Load64 {
             rd: writable_gpr(2),
             mem: above_stack(u64::from(offset)),
@@ -76,6 +66,22 @@ fn work(choice: u32, offset: u32) -> Inst
             mem: above_stack(u64::from(offset) + 524288),
         },
     }
+}
+
+// A register becomes the sum of two.
+fn sum(rd: Writable<Reg>, rn: Reg, rm: Reg) -> Inst
+    ensures { result ≡ sum rd rn rm }
+{
+    let alu_op = ALUOp::Add64;
+    Inst::AluRRR { alu_op, rd, rn, rm }
+}
+
+// A register becomes its sum with another one; `ri` is `rd`.
+fn added(rd: Writable<Reg>, ri: Reg, rm: Reg) -> Inst
+    ensures { result ≡ added rd ri rm }
+{
+    let alu_op = ALUOp::Add64;
+    Inst::AluRR { alu_op, rd, ri, rm }
 }
 
 // The operand so many bytes above the stack pointer.

