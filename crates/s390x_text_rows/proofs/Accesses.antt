@@ -1,6 +1,5 @@
--- Loads and stores at a near offset.
+-- Loads and stores, whose operand is read where it stands.
 use Rattle.std.proofs.Common.{◌≡◌, ℕ, List, [], ◌∷◌, Bool, Some, None, Result, refl, subst, ◌∙◌}
-use Rattle.s390x_format.specs.Stems.{stem_of}
 use Rattle.s390x_base.specs.declared.regs.Reg.{Reg}
 use Rattle.s390x_inst.specs.Emission.{Emission}
 use Rattle.s390x_inst.specs.Loads.{as_load, by_load}
@@ -12,33 +11,14 @@ use Rattle.s390x_inst.specs.declared.store.Store.{Store}
 use Rattle.s390x_job_fields.specs.Atoms.{reg_text}
 use Rattle.s390x_typed_steps.specs.Memory.{load_rows, store_rows}
 use Rattle.s390x_typed_steps.specs.declared.access_rows.RegisterRows.{RegisterRows}
-use Rattle.s390x_text_rows.specs.Storage.{rx_of, access_where, near_offset, offset_text, load_mnemonics, load_operand, load_text, store_mnemonics, store_operand, immediate_store_text, store_text}
-use Rattle.s390x_text_rows.specs.Texts.{Prints, PrintsWhere, fixed_text, instruction_text}
+use Rattle.s390x_text_rows.specs.Storage.{rx_of, access_where, load_mnemonics, load_operand, load_text, store_mnemonics, store_operand, immediate_store_text, store_text}
+use Rattle.s390x_text_rows.specs.Texts.{Prints, PrintsWhere}
 use Rattle.s390x_text_rows.specs.declared.error.TextError.{TextError}
-use Rattle.s390x_text_rows.specs.declared.near_offset.NearOffset.{NearOffset}
-use Rattle.s390x_text_rows.proofs.Near.{near_prints}
-
--- by the rows of an instruction with a register before its operand
-row_prints : {T : Type 0} (result : Result T TextError) (old new : List ℕ) (has : Bool) (e : Emission) (reg : List ℕ) (rows : RegisterRows) (n : NearOffset) (m : MemArg) → Some n ≡ near_offset rows.rx rows.rxy m
-    → Prints result old new (fixed_text (instruction_text (stem_of n.opcode) (reg ∷ offset_text n.at.off n.at.base ∷ []))) → Prints result old new (access_where has (rx_of rows) e (reg ∷ []) m [])
-row_prints result old new has e reg rows n m found p = near_prints result old new has (rx_of rows) e m n rows.rx rows.rxy stem_of (stem_of n.opcode) (reg ∷ []) [] refl refl found refl p
 
 at_rows : (P : RegisterRows → Reg → Type 0) {r s : RegisterRows} {x y : Reg} → r ≡ s → x ≡ y → P r x → P s y
 at_rows P {r} {s} {x} {y} h k p = subst (λ z. P s z) k (subst (λ t. P t x) h p)
 
-pub load_prints : {T : Type 0} (result : Result T TextError) (old new : List ℕ) (has : Bool) (e : Emission) (i : Inst) (l : Load) (reg : Reg) (rows : RegisterRows) (n : NearOffset) → Some l ≡ as_load i → reg ≡ l.rd → rows ≡ load_rows l.op → Some n ≡ near_offset rows.rx rows.rxy l.mem
-    → Prints result old new (fixed_text (instruction_text (stem_of n.opcode) (reg_text reg ∷ offset_text n.at.off n.at.base ∷ []))) → PrintsWhere (Some result) old new (load_text has e i)
-load_prints result old new has e i l reg rows n is same row found p =
-    subst (λ o. PrintsWhere (Some result) old new (by_load (λ x. Some (access_where has (load_mnemonics x.op) e (reg_text x.rd ∷ []) x.mem [])) None o)) is
-    (at_rows (λ r x. Prints result old new (access_where has (rx_of r) e (reg_text x ∷ []) l.mem [])) row same (row_prints result old new has e (reg_text reg) rows n l.mem found p))
-
-pub store_prints : {T : Type 0} (result : Result T TextError) (old new : List ℕ) (has : Bool) (e : Emission) (i : Inst) (s : Store) (rows : RegisterRows) (n : NearOffset) → Some s ≡ as_store i → rows ≡ store_rows s.op → Some n ≡ near_offset rows.rx rows.rxy s.mem
-    → Prints result old new (fixed_text (instruction_text (stem_of n.opcode) (reg_text s.rd ∷ offset_text n.at.off n.at.base ∷ []))) → PrintsWhere (Some result) old new (store_text has e i)
-store_prints result old new has e i s rows n is row found p =
-    subst (λ o. PrintsWhere (Some result) old new (by_store (λ x. Some (access_where has (store_mnemonics x.op) e (reg_text x.rd ∷ []) x.mem [])) (immediate_store_text has e i) o)) is
-    (subst (λ r. Prints result old new (access_where has (rx_of r) e (reg_text s.rd ∷ []) s.mem [])) row (row_prints result old new has e (reg_text s.rd) rows n s.mem found p))
-
--- an operand that is no near offset, where it stands
+-- the operand, where it stands
 load_has : (i : Inst) (l : Load) → Some l ≡ as_load i → load_operand i ≡ Some l.mem
 load_has i l is = subst (λ o. by_load (λ x. Some x.mem) None o ≡ Some l.mem) is refl
 
@@ -48,16 +28,16 @@ store_has i s is = subst (λ o. by_store (λ x. Some x.mem) None o ≡ Some s.me
 one_of : {A : Type 0} (a b : A) → Some a ≡ Some b → a ≡ b
 one_of a b h = (cc)
 
-pub other_load_prints : {T : Type 0} (result : Result T TextError) (old new : List ℕ) (has : Bool) (e : Emission) (i : Inst) (l : Load) (reg : Reg) (rows : RegisterRows) (m : MemArg) → Some l ≡ as_load i → reg ≡ l.rd → rows ≡ load_rows l.op → Some m ≡ load_operand i
+pub load_prints : {T : Type 0} (result : Result T TextError) (old new : List ℕ) (has : Bool) (e : Emission) (i : Inst) (l : Load) (reg : Reg) (rows : RegisterRows) (m : MemArg) → Some l ≡ as_load i → reg ≡ l.rd → rows ≡ load_rows l.op → Some m ≡ load_operand i
     → Prints result old new (access_where has (rx_of rows) e (reg_text reg ∷ []) m []) → PrintsWhere (Some result) old new (load_text has e i)
-other_load_prints result old new has e i l reg rows m is same row there p =
+load_prints result old new has e i l reg rows m is same row there p =
     subst (λ o. PrintsWhere (Some result) old new (by_load (λ x. Some (access_where has (load_mnemonics x.op) e (reg_text x.rd ∷ []) x.mem [])) None o)) is
     (at_rows (λ r x. Prints result old new (access_where has (rx_of r) e (reg_text x ∷ []) l.mem [])) row same
     (subst (λ o. Prints result old new (access_where has (rx_of rows) e (reg_text reg ∷ []) o [])) (one_of m l.mem (there ∙ load_has i l is)) p))
 
-pub other_store_prints : {T : Type 0} (result : Result T TextError) (old new : List ℕ) (has : Bool) (e : Emission) (i : Inst) (s : Store) (rows : RegisterRows) (m : MemArg) → Some s ≡ as_store i → rows ≡ store_rows s.op → Some m ≡ store_operand i
+pub store_prints : {T : Type 0} (result : Result T TextError) (old new : List ℕ) (has : Bool) (e : Emission) (i : Inst) (s : Store) (rows : RegisterRows) (m : MemArg) → Some s ≡ as_store i → rows ≡ store_rows s.op → Some m ≡ store_operand i
     → Prints result old new (access_where has (rx_of rows) e (reg_text s.rd ∷ []) m []) → PrintsWhere (Some result) old new (store_text has e i)
-other_store_prints result old new has e i s rows m is row there p =
+store_prints result old new has e i s rows m is row there p =
     subst (λ o. PrintsWhere (Some result) old new (by_store (λ x. Some (access_where has (store_mnemonics x.op) e (reg_text x.rd ∷ []) x.mem [])) (immediate_store_text has e i) o)) is
     (subst (λ r. Prints result old new (access_where has (rx_of r) e (reg_text s.rd ∷ []) s.mem [])) row
     (subst (λ o. Prints result old new (access_where has (rx_of rows) e (reg_text s.rd ∷ []) o [])) (one_of m s.mem (there ∙ store_has i s is)) p))

@@ -13,10 +13,12 @@ use Rattle.s390x_inst.specs.declared.args.MemArg.TheVariants.{BXD12, BXD20, Labe
 use Rattle.s390x_inst.specs.declared.inst.Inst.TheVariants.{Mov64SImm32, LoadAddr}
 use Rattle.s390x_typed_steps.specs.Causes.{first_emit_cause, unless, operand_cause}
 use Rattle.s390x_typed_steps.specs.Operands.{Finalized, scratch, no_register, needs_address, is_numbered, is_far, fits_12, fits_20, fits_32, with_address_loaded, with_widened, finalized_operand, resolved_operand}
+use Rattle.s390x_typed_steps.specs.declared.access_rows.RegisterRows.{RegisterRows}
 use Rattle.s390x_typed_steps.specs.declared.mem_inst_type.MemInstType.{MemInstType}
+use Rattle.s390x_format.specs.Stems.{stem_of}
 use Rattle.s390x_address.proofs.Refusing.{wider_12, wider_20}
 use Rattle.s390x_text_rows.specs.Operands.{bracketed_register}
-use Rattle.s390x_text_rows.specs.Storage.{Rows, type_of_rows, or_nothing, name_at, memory_text, offset_text, address_cause, access_cause, finalized_text, access_where, at_offset, near_row, near_offset, is_taken}
+use Rattle.s390x_text_rows.specs.Storage.{Rows, type_of_rows, or_nothing, name_at, memory_text, offset_text, rx_of, address_cause, access_cause, finalized_text, access_where, at_offset, near_row, near_offset, is_taken}
 use Rattle.s390x_text_rows.specs.Texts.{Text, Prints, fixed_text, instruction_text}
 use Rattle.s390x_text_rows.specs.declared.error.TextError.{TextError}
 use Rattle.s390x_text_rows.specs.declared.error.TextError.TheVariants.{NoRow}
@@ -158,7 +160,7 @@ near_text has r e m operand before after p =
 
 -- ---- near offsets
 
-mapped : {A B : Type 0} (P : B → Type 0) (f : A → B) (o : Option A) (b : B) → Some b ≡ option_map f o → ((a : A) → o ≡ Some a → P (f a)) → P b
+pub mapped : {A B : Type 0} (P : B → Type 0) (f : A → B) (o : Option A) (b : B) → Some b ≡ option_map f o → ((a : A) → o ≡ Some a → P (f a)) → P b
 mapped P f None b h k = absurd (cc)
 mapped P f (Some a) b h k = let e : f a ≡ b = (cc) in subst P e (k a refl)
 
@@ -240,3 +242,16 @@ pub taken_prints : {T : Type 0} (result : Result T TextError) (old new : List �
 taken_prints result old new has r e m mi shown before after forms taken q p =
     subst (λ t. Prints result old new t)
     (ap (λ x. fixed_text (instruction_text x (before ++ (memory_text m ∷ after)))) q ∙ sym (near_text has r e m m before after (taken_in (type_of_rows has r) e m (ap (λ t. is_taken t m) (sym forms) ∙ taken)))) p
+
+-- ---- rows of a register
+
+relative_name : (rows : RegisterRows) (mi : MemInstType) (m : MemArg) (o : ℕ) → rows.ril ≡ Some o → is_taken mi m ≡ true → stem_of o ≡ name_at (rx_of rows) m
+relative_name rows mi (Label target) o h k = sym (ap (λ x. or_nothing (option_map stem_of x)) h)
+relative_name rows mi (Constant c) o h k = sym (ap (λ x. or_nothing (option_map stem_of x)) h)
+relative_name rows mi (Symbol name offset flags) o h k = sym (ap (λ x. or_nothing (option_map stem_of x)) h)
+relative_name rows mi m o h k = absurd (cc)
+
+pub relative_prints : {T : Type 0} (result : Result T TextError) (old new : List ℕ) (has : Bool) (rows : RegisterRows) (e : Emission) (m : MemArg) (o : ℕ) (before : List (List ℕ)) → rows.ril ≡ Some o → is_taken (type_of_rows has (rx_of rows)) m ≡ true
+    → Prints result old new (fixed_text (instruction_text (stem_of o) (before ++ (memory_text m ∷ [])))) → Prints result old new (access_where has (rx_of rows) e before m [])
+relative_prints result old new has rows e m o before row taken p =
+    taken_prints result old new has (rx_of rows) e m (type_of_rows has (rx_of rows)) (stem_of o) before [] refl taken (relative_name rows (type_of_rows has (rx_of rows)) m o row taken) p

@@ -15,12 +15,15 @@ use Rattle.s390x_typed_steps.specs.Causes.{first_emit_cause, unless, operand_cau
 use Rattle.s390x_typed_steps.specs.Operands.{Finalized, scratch, no_register, needs_address, is_numbered, is_far, fits_12, fits_20, fits_32, with_address_loaded, with_widened, finalized_operand, resolved_operand}
 use Rattle.s390x_typed_steps.specs.declared.mem_inst_type.MemInstType.{MemInstType}
 use Rattle.s390x_format.specs.Stems.{stem_of}
-use Rattle.s390x_text_rows.specs.Storage.{Rows, type_of_rows, rows_of, name_at, memory_text, helper_text, helpers_text, address_cause, access_cause, finalized_text, access_where, helper_of, has_displacement, at_zero, zero_row, zero_text, helped_at, operand_at, helped_operand, Opens}
+use Rattle.s390x_text_rows.specs.Storage.{Rows, type_of_rows, rows_of, name_at, memory_text, helper_text, helpers_text, address_cause, access_cause, finalized_text, access_where, helper_of, has_displacement, at_zero, zero_row, zero_text, far_offset, at_offset, rx_of, helped_at, operand_at, helped_operand, Opens}
 use Rattle.s390x_text_rows.specs.Texts.{Text, Prints, fixed_text, instruction_text}
 use Rattle.s390x_text_rows.specs.declared.error.TextError.{TextError}
 use Rattle.s390x_text_rows.specs.declared.error.TextError.TheVariants.{NoRow}
+use Rattle.s390x_typed_steps.specs.declared.access_rows.RegisterRows.{RegisterRows}
+use Rattle.s390x_text_rows.specs.declared.near_offset.NearOffset.{NearOffset}
 use Rattle.s390x_text_rows.specs.declared.one_helper.AtZero.{AtZero}
 use Rattle.s390x_text_rows.specs.declared.storage.Rows.{Rows as DeclaredRows}
+use Rattle.s390x_text_rows.proofs.Near.{mapped}
 
 -- rows with these forms have a displacement, and take an operand behind these helpers in this form
 abbrev Behind : MemInstType → MemArg → Finalized → Type 0
@@ -110,11 +113,6 @@ helped_in mi e (Symbol name offset flags) at h =
     (λ t. with_form mi (Symbol name offset flags) (needs_address mi (Symbol name offset flags)) t refl refl)
 helped_in mi e m at h = absurd (cc)
 
--- the operand behind its one helper
-operand_in : (P : MemArg → Type 0) (f : AtZero → MemArg) (o : Option AtZero) (operand : MemArg) → Some operand ≡ option_map f o → ((at : AtZero) → o ≡ Some at → P (f at)) → P operand
-operand_in P f None operand h k = absurd (cc)
-operand_in P f (Some at) operand h k = let e : f at ≡ operand = (cc) in subst P e (k at refl)
-
 with_displacements : (a b c : Bool) → (a || b) ≡ true → (a || b || c) ≡ true
 with_displacements true b c h = refl
 with_displacements false true c h = refl
@@ -124,7 +122,7 @@ with_displacements false false c h = absurd (cc)
 pub helped_opens : (has : Bool) (r : Rows) (e : Emission) (m operand : MemArg) (mi : MemInstType) (old new : List ℕ) → mi ≡ type_of_rows has r → Some operand ≡ helped_operand mi m
     → new ≡ old ++ (helper_text (helper_of m) ++ codes " ; ") → Opens (Ok operand) old new has r (resolved_operand e m)
 helped_opens has r e m operand mi old new forms found appended =
-    let p : IsHelped (type_of_rows has r) e m operand = subst (λ t. IsHelped t e m operand) forms (operand_in (λ o. IsHelped mi e m o) (operand_at mi m) (helped_at mi m) operand found (helped_in mi e m)) in (
+    let p : IsHelped (type_of_rows has r) e m operand = subst (λ t. IsHelped t e m operand) forms (mapped (λ o. IsHelped mi e m o) (operand_at mi m) (helped_at mi m) operand found (helped_in mi e m)) in (
       ap (λ t. cond t (address_cause (operand_cause (type_of_rows has r) (resolved_operand e m))) (Some NoRow)) (with_displacements (is_some r.short) (is_some r.long) (is_some r.relative) p.0) ∙ ap address_cause p.1,
       sym (ap (λ (f : Finalized). f.operand) p.2),
       appended ∙ ap (λ t. old ++ t) (sym (append-nil (helper_text (helper_of m) ++ codes " ; "))) ∙ sym (ap (λ (f : Finalized). old ++ helpers_text f.helpers) p.2),
@@ -169,3 +167,39 @@ pub helped_prints : {T : Type 0} (result : Result T TextError) (old new : List �
     → Prints result old new (fixed_text ((helper_text (helper_of m) ++ codes " ; ") ++ instruction_text (stem_of o) (before ++ (zero_text at.base at.index ∷ []))))
     → Prints result old new (access_where has (rows_of rows) e before m [])
 helped_prints result old new has rows e m o at before row found p = subst (λ t. Prints result old new t) (sym (helped_access has rows e m o at before row found)) p
+
+-- ---- rows of a register
+
+abbrev declared_rows : RegisterRows → DeclaredRows
+declared_rows r = record { short = r.rx; long = r.rxy; relative = r.ril; index = true; accesses = true }
+
+displaced : (short long : Option ℕ) (o : ℕ) → zero_row short long ≡ Some o → (is_some (option_map stem_of short) || is_some (option_map stem_of long)) ≡ true
+displaced (Some a) long o h = refl
+displaced None (Some b) o h = refl
+displaced None None o h = absurd (cc)
+
+chosen : (P : NearOffset → Type 0) (t : Bool) (o : Option NearOffset) (n : NearOffset) → Some n ≡ cond t o None → (t ≡ true → Some n ≡ o → P n) → P n
+chosen P true o n h k = k refl h
+chosen P false o n h k = absurd (cc)
+
+-- what prints the load of an offset and the row prints the access
+pub far_prints : {T : Type 0} (result : Result T TextError) (old new : List ℕ) (has : Bool) (rows : RegisterRows) (e : Emission) (m : MemArg) (n : NearOffset) (before : List (List ℕ)) → Some n ≡ far_offset rows.rx rows.rxy m
+    → Prints result old new (fixed_text ((helper_text (Mov64SImm32 scratch n.at.off) ++ codes " ; ") ++ instruction_text (stem_of n.opcode) (before ++ (zero_text n.at.base scratch ∷ []))))
+    → Prints result old new (access_where has (rx_of rows) e before m [])
+far_prints result old new has rows e (RegOffset base off flags) n before found p =
+    let P : NearOffset → Type 0 =
+    λ x. Prints result old new (fixed_text ((helper_text (Mov64SImm32 scratch x.at.off) ++ codes " ; ") ++ instruction_text (stem_of x.opcode) (before ++ (zero_text x.at.base scratch ∷ [])))) → Prints result old new (access_where has (rx_of rows) e before (RegOffset base off flags) []) in
+    chosen P (is_far off && not (is_numbered 1 base)) (option_map (at_offset base off) (zero_row rows.rx rows.rxy)) n found
+    (λ t there. let parts = and_parts (is_far off) (not (is_numbered 1 base)) t in
+    mapped P (at_offset base off) (zero_row rows.rx rows.rxy) n there
+    (λ o row q. helped_prints result old new has (declared_rows rows) e (RegOffset base off flags) o (offset_at base) before row
+    (ap (λ d. cond (d && true && not (is_numbered 1 base) && is_far off) (Some (offset_at base)) None) (displaced rows.rx rows.rxy o row)
+    ∙ ap (λ n. cond (true && true && n && is_far off) (Some (offset_at base)) None) parts.1
+    ∙ ap (λ f. cond (true && true && true && f) (Some (offset_at base)) None) parts.0) q)) p
+far_prints result old new has rows e m n before found p = absurd (cc)
+
+-- what prints the load of an address and the row prints the access
+pub addressed_prints : {T : Type 0} (result : Result T TextError) (old new : List ℕ) (has : Bool) (rows : RegisterRows) (e : Emission) (m : MemArg) (o : ℕ) (before : List (List ℕ)) → zero_row rows.rx rows.rxy ≡ Some o → helped_at (type_of_rows has (rx_of rows)) m ≡ Some address_at
+    → Prints result old new (fixed_text ((helper_text (helper_of m) ++ codes " ; ") ++ instruction_text (stem_of o) (before ++ (zero_text scratch no_register ∷ []))))
+    → Prints result old new (access_where has (rx_of rows) e before m [])
+addressed_prints result old new has rows e m o before row found p = helped_prints result old new has (declared_rows rows) e m o address_at before row found p

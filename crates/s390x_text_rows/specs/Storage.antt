@@ -176,6 +176,11 @@ at_zero mi base index flags = with_long_displacement mi (BXD12 base index 0 flag
 abbrev pub zero_row : (short long : Option ℕ) → Option ℕ
 zero_row short long = cond (is_some short) short long
 
+-- the access behind the load of an offset that no displacement holds, by the row that has a displacement of zero; none at any other operand
+abbrev pub far_offset : (short long : Option ℕ) → MemArg → Option NearOffset
+far_offset short long (RegOffset base off flags) = cond (is_far off && not (is_numbered 1 base)) (option_map (at_offset base off) (zero_row short long)) None
+far_offset short long m = None
+
 -- a base and an index at the displacement zero: `0(X,B)`
 abbrev pub zero_text : (base index : Reg) → List ℕ
 zero_text base index = decimal 0 ++ sum_text base index

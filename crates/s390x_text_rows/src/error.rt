@@ -23,6 +23,7 @@ pub enum TextError {
 impl From<AllocError> for TextError {
     ghost from_gives = { λ _ e. e ≡ NoMemory };
 
+    #[cold]
     fn from(_e: AllocError) -> TextError {
         TextError::NoMemory
     }

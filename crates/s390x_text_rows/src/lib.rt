@@ -12,6 +12,7 @@ mod near_offset;
 mod one_helper;
 mod operand;
 mod piece;
+mod register_access;
 mod register_names;
 mod regs;
 mod row;

@@ -9,11 +9,9 @@ ghost use Rattle.s390x_text_rows.specs.Storage.{rx, address_rows, access_where, 
 
 use crate::arithmetic::reused_operand;
 use crate::error::TextError;
-use crate::near_offset::{near_access, put_near};
 use crate::operand::Reused;
-use crate::storage::{
-    Place, address_rows, other_rx_access, rows_access, rs_access_then, rs_access3, rx_access,
-};
+use crate::register_access::put_access;
+use crate::storage::{Place, address_rows, rows_access, rs_access_then, rs_access3, rx_access};
 use s390x_base::{Reg, Writable};
 use s390x_inst::{ALUOp, CmpOp, EmitState, Inst, MemArg, inst_table};
 use s390x_rows::opcodes;
@@ -54,9 +52,8 @@ fn store_operand(inst: &Inst) -> Option<&MemArg>
     inst_table!(of_store, inst)
 }
 
-// Appends the text of a load at an operand that is no near offset; None for another instruction. It isn't copied out of its instruction.
-#[inline(never)]
-fn put_any_load(
+/// Appends the text of a load, on a machine that has rows relative to the instruction or lacks them; None for another instruction.
+pub fn put_load(
     alloc: Global,
     out: &mut String,
     has_relative: bool,
@@ -76,29 +73,9 @@ fn put_any_load(
                     mem,
                 };
                 let rd = load.rd.to_reg();
-                Some(other_rx_access(out, place, rows_of_load(load.op), &rd))
+                Some(put_access(out, place, rows_of_load(load.op), &rd))
             }
             None => None,
-        },
-        None => None,
-    }
-}
-
-/// Appends the text of a load, on a machine that has rows relative to the instruction or lacks them; None for another instruction.
-pub fn put_load(
-    alloc: Global,
-    out: &mut String,
-    has_relative: bool,
-    state: &EmitState,
-    inst: &Inst,
-) -> Option<Result<(), TextError>>
-    ensures { PrintsWhere result (string_bytes out.old) (string_bytes out.new)
-        (load_text has_relative state.now inst.now) }
-{
-    match inst.as_load() {
-        Some(load) => match near_access(rows_of_load(load.op), &load.mem) {
-            Some(near) => Some(put_near(out, load.rd.to_reg(), near)),
-            None => put_any_load(alloc, out, has_relative, state, inst),
         },
         None => None,
     }
@@ -126,9 +103,8 @@ fn put_immediate_store(
     }
 }
 
-// Appends the text of a store of a register at an operand that is no near offset; of another instruction, as a store of an immediate.
-#[inline(never)]
-fn put_any_store(
+/// Appends the text of a store, likewise; None for another instruction.
+pub fn put_store(
     alloc: Global,
     out: &mut String,
     has_relative: bool,
@@ -147,30 +123,9 @@ fn put_any_store(
                     state,
                     mem,
                 };
-                let rd = store.rd;
-                Some(other_rx_access(out, place, rows_of_store(store.op), &rd))
+                Some(put_access(out, place, rows_of_store(store.op), &store.rd))
             }
             None => None,
-        },
-        None => put_immediate_store(alloc, out, has_relative, state, inst),
-    }
-}
-
-/// Appends the text of a store, likewise; None for another instruction.
-pub fn put_store(
-    alloc: Global,
-    out: &mut String,
-    has_relative: bool,
-    state: &EmitState,
-    inst: &Inst,
-) -> Option<Result<(), TextError>>
-    ensures { PrintsWhere result (string_bytes out.old) (string_bytes out.new)
-        (store_text has_relative state.now inst.now) }
-{
-    match inst.as_store() {
-        Some(store) => match near_access(rows_of_store(store.op), &store.mem) {
-            Some(near) => Some(put_near(out, store.rd, near)),
-            None => put_any_store(alloc, out, has_relative, state, inst),
         },
         None => put_immediate_store(alloc, out, has_relative, state, inst),
     }

@@ -1,19 +1,15 @@
 //! Operands of an access that are an offset which a displacement of its rows holds: they are printed as they stand.
-ghost use Rattle.std.specs.Prelude.{◌≡◌, ◌∷◌, [], string_bytes};
+ghost use Rattle.std.specs.Prelude.{◌≡◌, ◌++◌, codes, string_bytes};
 ghost use Rattle.std.specs.Option.{option_map};
-ghost use Rattle.s390x_format.specs.Stems.{stem_of};
-ghost use Rattle.s390x_job_fields.specs.Atoms.{reg_text};
-ghost use Rattle.s390x_text_rows.specs.Texts.{Prints, fixed_text, instruction_text};
+ghost use Rattle.s390x_text_rows.specs.Texts.{Prints, fixed_text};
 ghost use Rattle.s390x_text_rows.specs.Storage.{at_offset, near_offset, near_row, offset_text};
 
 use crate::error::TextError;
 use crate::operand::{Operand, put_bracketed};
-use crate::piece::put_integer;
-use crate::row::{spelled2, text_result};
+use crate::piece::{put, put_integer};
+use crate::row::text_result;
 use s390x_base::Reg;
-use s390x_format::stem;
 use s390x_inst::MemArg;
-use s390x_typed_steps::RegisterRows;
 use std::alloc::AllocError;
 
 /// A base behind an offset.
@@ -29,6 +25,18 @@ impl Operand for BaseOffset {
     fn put(&self, out: &mut String) -> Result<(), AllocError> {
         put_integer(out, self.off)?;
         put_bracketed(out, &self.base)
+    }
+}
+
+/// Appends a comma and a base behind an offset.
+#[inline(always)]
+pub fn put_place(out: &mut String, at: &BaseOffset) -> Result<(), TextError>
+    ensures { Prints result (string_bytes out.old) (string_bytes out.new)
+        (fixed_text (codes ", " ++ offset_text at.now.off at.now.base)) }
+{
+    match put(out, ", ") {
+        Ok(()) => text_result(at.put(out)),
+        Err(error) => Err(TextError::from(error)),
     }
 }
 
@@ -54,9 +62,9 @@ fn near_row(short: Option<u16>, long: Option<u16>, off: i64) -> Option<u16>
     }
 }
 
-// The access at an offset by the row with an opcode, where there is one.
+/// The access at an offset by the row with an opcode, where there is one.
 #[inline(always)]
-fn at_offset(base: Reg, off: i64, opcode: Option<u16>) -> Option<NearOffset>
+pub fn at_offset(base: Reg, off: i64, opcode: Option<u16>) -> Option<NearOffset>
     ensures { result ≡ option_map (at_offset base off) opcode }
 {
     match opcode {
@@ -87,23 +95,4 @@ pub fn long_opcode(opcode: Option<u8>) -> Option<u16>
         Some(opcode) => Some(u16::from(opcode)),
         None => None,
     }
-}
-
-/// That access by rows of formats RX and RXY.
-#[inline(always)]
-pub fn near_access(rows: RegisterRows, mem: &MemArg) -> Option<NearOffset>
-    ensures { result ≡ near_offset rows.rx rows.rxy mem.now }
-{
-    near_offset(long_opcode(rows.rx), rows.rxy, mem)
-}
-
-/// Appends the text of that access, with a register before the operand.
-#[inline(always)]
-pub fn put_near(out: &mut String, r: Reg, near: NearOffset) -> Result<(), TextError>
-    ensures { Prints result (string_bytes out.old) (string_bytes out.new)
-        (fixed_text
-        (instruction_text (stem_of near.opcode)
-        (reg_text r ∷ offset_text near.at.off near.at.base ∷ []))) }
-{
-    text_result(spelled2(out, stem(near.opcode), &r, &near.at))
 }

@@ -29,8 +29,9 @@ impl Operand for AtZero {
     }
 }
 
-// Whether an immediate holds an offset, and no displacement does.
-fn is_far(off: i64) -> bool
+/// Whether an immediate holds an offset, and no displacement does.
+#[inline(always)]
+pub fn is_far(off: i64) -> bool
     ensures { result ≡ is_far off }
 {
     (-2147483648 <= off && off <= 2147483647)
@@ -38,8 +39,9 @@ fn is_far(off: i64) -> bool
         && !(-524288 <= off && off <= 524287)
 }
 
-// Whether the rows have a displacement.
-fn has_displacement(mi: MemInstType) -> bool
+/// Whether the rows have a displacement.
+#[inline(always)]
+pub fn has_displacement(mi: MemInstType) -> bool
     ensures { result ≡ has_displacement mi }
 {
     mi.have_d12 || mi.have_d20

@@ -5,7 +5,7 @@ ghost use Rattle.s390x_job_fields.specs.Atoms.{reg_text, real_text};
 ghost use Rattle.s390x_text_rows.specs.Operands.{reused_text, rotated_text, halves_text, pair_text, reused_pair_text, reused_low_text, is_zero, bracketed_register, amount_text, access_register_text, float_text, cond_text, label_text, name_text, indexed_text};
 
 use crate::piece::{put, put_integer, put_natural};
-use crate::register_names::{put_real, put_reg, put_virtual};
+use crate::register_names::{put_real, put_real_behind, put_reg, put_virtual};
 use s390x_base::{
     Cond, ExternalName, MachLabel, PReg, Reg, RegClass, RegPair, SImm20, UImm16Shifted,
     UImm32Shifted, Writable, zero_reg,
@@ -266,8 +266,7 @@ fn put_bracketed_real(out: &mut String, real: PReg) -> Result<(), AllocError>
     if is_zero(&Reg::Real(real)) {
         return Ok(());
     }
-    put(out, "(")?;
-    put_real(out, real)?;
+    put_real_behind(out, "(", "(%r", real)?;
     put(out, ")")
 }
 

@@ -61,18 +61,42 @@ fn put_medium(out: &mut String, n: u16) -> Result<(), AllocError>
     put_two_digits(out, (n % 100) as u8)
 }
 
-/// Appends a number in decimal, by four digits at a time.
-pub fn put_natural(out: &mut String, n: u64) -> Result<(), AllocError>
+// Appends a number of at most four digits.
+#[inline(always)]
+fn put_short(out: &mut String, n: u16) -> Result<(), AllocError>
+    requires { n < 10000 }
     ensures { OnOk result (string_bytes out.new ≡ string_bytes out.old ++ decimal n) }
 {
     if n < 100 {
         return put_small(out, n as u8);
     }
+    put_medium(out, n)
+}
+
+/// Appends a number in decimal, by four digits at a time; those of eight digits without a call.
+pub fn put_natural(out: &mut String, n: u64) -> Result<(), AllocError>
+    ensures { OnOk result (string_bytes out.new ≡ string_bytes out.old ++ decimal n) }
+{
     if n < 10000 {
-        return put_medium(out, n as u16);
+        return put_short(out, n as u16);
+    }
+    if n < 100000000 {
+        put_short(out, (n / 10000) as u16)?;
+        return put_four_digits(out, (n % 10000) as u16);
     }
     put_natural(out, n / 10000)?;
     put_four_digits(out, (n % 10000) as u16)
+}
+
+/// Appends a number in decimal, a digit without a call.
+#[inline(always)]
+pub fn put_number(out: &mut String, n: u64) -> Result<(), AllocError>
+    ensures { OnOk result (string_bytes out.new ≡ string_bytes out.old ++ decimal n) }
+{
+    if n < 10 {
+        return put_small(out, n as u8);
+    }
+    put_natural(out, n)
 }
 
 /// Appends a number in decimal, with its sign where it is negative.
@@ -83,5 +107,5 @@ pub fn put_integer(out: &mut String, z: i64) -> Result<(), AllocError>
     if z < 0 {
         put(out, "-")?;
     }
-    put_natural(out, z.unsigned_abs())
+    put_number(out, z.unsigned_abs())
 }

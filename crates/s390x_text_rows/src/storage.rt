@@ -135,8 +135,9 @@ impl Rows {
         self.short.is_some() || self.long.is_some() || self.relative.is_some()
     }
 
-    // The forms of an operand that the rows have, on a machine that has accesses relative to the instruction or lacks them.
-    fn inst_type(&self, has_relative: bool) -> MemInstType
+    /// The forms of an operand that the rows have, on a machine that has accesses relative to the instruction or lacks them.
+    #[inline(always)]
+    pub fn inst_type(&self, has_relative: bool) -> MemInstType
         ensures { result ≡ type_of_rows has_relative (rows_of self.now) }
     {
         MemInstType {
@@ -165,8 +166,9 @@ impl Rows {
     }
 }
 
-// The opcode of the row that has a displacement of zero.
-fn zero_row(short: Option<u16>, long: Option<u16>) -> Option<u16>
+/// The opcode of the row that has a displacement of zero.
+#[inline(always)]
+pub fn zero_row(short: Option<u16>, long: Option<u16>) -> Option<u16>
     ensures { result ≡ zero_row short long }
 {
     if short.is_some() { short } else { long }
@@ -213,8 +215,9 @@ fn put_helper_of(out: &mut String, mem: &MemArg) -> Result<(), AllocError>
     }
 }
 
-// The helper of an operand that has one, and a semicolon behind it.
-fn put_one_helper(out: &mut String, mem: &MemArg) -> Result<(), AllocError>
+/// Appends the helper of an operand that has one, and a semicolon behind it.
+#[inline(never)]
+pub fn put_one_helper(out: &mut String, mem: &MemArg) -> Result<(), AllocError>
     ensures { OnOk result
         (string_bytes out.new
         ≡ string_bytes out.old ++ (helper_text (helper_of mem.now) ++ codes " ; ")) }
@@ -322,8 +325,9 @@ fn helped_access<A: Operand>(
     }
 }
 
-// Whether the rows take an operand relative to the instruction.
-fn is_taken(mi: MemInstType, mem: &MemArg) -> bool
+/// Whether the rows take an operand relative to the instruction.
+#[inline(always)]
+pub fn is_taken(mi: MemInstType, mem: &MemArg) -> bool
     ensures { result ≡ is_taken mi mem.now }
 {
     match mem {
@@ -369,8 +373,9 @@ pub fn rows_access<A: Operand>(
     }
 }
 
-// Rows of formats RX, RXY and RIL-B.
-fn register_rows(rows: RegisterRows) -> Rows
+/// Rows of formats RX, RXY and RIL-B.
+#[inline(always)]
+pub fn register_rows(rows: RegisterRows) -> Rows
     ensures { rows_of result ≡ rx_of rows }
 {
     Rows {
@@ -455,9 +460,9 @@ fn put_lettered<A: Operand>(
     }
 }
 
-// Appends the text of an access by a row of format VRX whose mnemonic has two parts, at an operand that is no near offset.
-#[inline(never)]
-fn other_lettered<A: Operand>(
+/// Appends the text of an access by a row of format VRX whose mnemonic has two parts, at an operand that is no near offset, as few are.
+#[cold]
+pub fn other_lettered<A: Operand>(
     out: &mut String,
     place: Place,
     mnemonic: Mnemonic,
@@ -478,9 +483,9 @@ fn other_lettered<A: Operand>(
     Ok(put_lettered(out, mnemonic, a, &operand)?)
 }
 
-/// Appends the text of an access by a row of format VRX whose mnemonic has two parts, with one operand before that in memory.
+// Appends the text of an access by a row of format VRX whose mnemonic has two parts, with one operand before that in memory.
 #[inline(always)]
-pub fn access_lettered<A: Operand>(
+fn access_lettered<A: Operand>(
     out: &mut String,
     place: Place,
     mnemonic: Mnemonic,

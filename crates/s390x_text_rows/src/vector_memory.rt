@@ -1,17 +1,20 @@
 //! The texts of loads and stores of vector and float registers.
-ghost use Rattle.std.specs.Prelude.{◌≡◌, ◌∷◌, [], None, Some, string_bytes};
+ghost use Rattle.std.specs.Prelude.{◌≡◌, ◌++◌, ◌∷◌, [], OnOk, None, Some, string_bytes};
 ghost use Rattle.std.specs.Option.{option_map};
 ghost use Rattle.s390x_format.specs.Stems.{stem_of};
 ghost use Rattle.s390x_inst.specs.declared.whole.WholeLayout.TheVariants.{Straight};
 ghost use Rattle.s390x_text_rows.specs.VectorMnemonics.{mnemonic_text, whole_name};
-ghost use Rattle.s390x_text_rows.specs.Storage.{rx, access};
-ghost use Rattle.s390x_text_rows.specs.Texts.{Prints, PrintsWhere};
+ghost use Rattle.s390x_job_fields.specs.Atoms.{reg_text};
+ghost use Rattle.s390x_text_rows.specs.Storage.{rx, access, offset_text};
+ghost use Rattle.s390x_text_rows.specs.Texts.{Prints, PrintsWhere, fixed_text, instruction_text};
 ghost use Rattle.s390x_text_rows.specs.Vector.{replicated_name, reversed_replicated_name, load_lane_text, store_lane_text, vec_whole_text, vec_part_text, vector_text};
 
 use crate::error::TextError;
-use crate::operand::{Float, Operand};
+use crate::near_offset::{BaseOffset, near_offset, put_place};
+use crate::operand::Float;
+use crate::register_names::put_vector_behind;
 use crate::regs::is_float;
-use crate::storage::{Place, access_lettered, lettered_access, rx_access, vrx_access};
+use crate::storage::{Place, lettered_access, other_lettered, rx_access, vrx_access};
 use crate::vector::{
     lane_row, put_vec_binary, put_vec_lane, put_vec_move, put_vec_operator, reversed_row,
 };
@@ -20,7 +23,7 @@ use s390x_base::Reg;
 use s390x_inst::{Direction, EmitState, MemArg, VecInst, WholeLayout};
 use s390x_rows::opcodes;
 use s390x_typed_steps::RegisterRows;
-use std::alloc::Global;
+use std::alloc::{AllocError, Global};
 
 // The stem with the letter of a lane's width in bits: 8, 16, 32 or 64; None for another width.
 fn replicated_name(opcode: u16, size: u32) -> Option<Mnemonic>
@@ -127,27 +130,66 @@ fn put_store_lane(
     vrx_access(out, place, row, &rd, &lane)
 }
 
-// Appends the text of a load or a store of a whole register as it stands in memory.
+// The mnemonic of a load or a store of a whole register as it stands in memory, and a register behind a space.
+#[inline(always)]
+fn put_straight_name(out: &mut String, direction: Direction, r: &Reg) -> Result<(), AllocError>
+    ensures { OnOk result
+        (string_bytes out.new
+        ≡ string_bytes out.old
+        ++ instruction_text (whole_name direction Straight) (reg_text r.now ∷ [])) }
+{
+    match direction {
+        Direction::Load => put_vector_behind(out, "vl ", "vl %v", r),
+        Direction::Store => put_vector_behind(out, "vst ", "vst %v", r),
+    }
+}
+
+// Such a load or a store at an offset that its displacement holds.
+#[inline(always)]
+fn put_near_straight(
+    out: &mut String,
+    direction: Direction,
+    r: &Reg,
+    at: BaseOffset,
+) -> Result<(), TextError>
+    ensures { Prints result (string_bytes out.old) (string_bytes out.new)
+        (fixed_text
+        (instruction_text (whole_name direction Straight)
+        (reg_text r.now ∷ offset_text at.off at.base ∷ []))) }
+{
+    match put_straight_name(out, direction, r) {
+        Ok(()) => put_place(out, &at),
+        Err(error) => Err(TextError::from(error)),
+    }
+}
+
+// Appends the text of such a load or store.
 #[inline(never)]
-fn put_straight<A: Operand>(
+fn put_straight(
     alloc: Global,
     out: &mut String,
     state: &EmitState,
     direction: Direction,
-    rd: &A,
+    rd: Reg,
     mem: &MemArg,
 ) -> Result<(), TextError>
     ensures { Prints result (string_bytes out.old) (string_bytes out.new)
         (access (rx (Some (whole_name direction Straight)) None None) state.now
-        (A.shown rd.now ∷ []) mem.now []) }
+        (reg_text rd ∷ []) mem.now []) }
 {
-    let place = Place {
-        alloc,
-        has_relative: true,
-        state,
-        mem,
-    };
-    access_lettered(out, place, whole_name(direction, WholeLayout::Straight), rd)
+    let name = whole_name(direction, WholeLayout::Straight);
+    match near_offset(Some(name.opcode), None, mem) {
+        Some(near) => put_near_straight(out, direction, &rd, near.at),
+        None => {
+            let place = Place {
+                alloc,
+                has_relative: true,
+                state,
+                mem,
+            };
+            other_lettered(out, place, name, &rd)
+        }
+    }
 }
 
 /// Appends the text of a load or a store of a whole register; None for another instruction.
@@ -240,8 +282,22 @@ pub fn put_vector(
         (vector_text state.now inst.now) }
 {
     match inst {
-        VecInst::VecLoad { rd, mem } => put_straight(alloc, out, state, Direction::Load, rd, mem),
-        VecInst::VecStore { rd, mem } => put_straight(alloc, out, state, Direction::Store, rd, mem),
+        VecInst::VecLoad { rd, mem } => put_straight(
+            alloc,
+            out,
+            state,
+            Direction::Load,
+            rd.to_reg(),
+            mem,
+        ),
+        VecInst::VecStore { rd, mem } => put_straight(
+            alloc,
+            out,
+            state,
+            Direction::Store,
+            *rd,
+            mem,
+        ),
         VecInst::VecRRR { op, rd, rn, rm } => put_vec_binary(out, *op, rd, rn, rm),
         _ => put_any(alloc, out, state, inst),
     }
