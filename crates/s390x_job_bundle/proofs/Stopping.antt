@@ -64,6 +64,12 @@ pub record At (bytes : List ℕ) (fs : List NamedJob) (rest : List ℕ) : Type 0
   pub text : bytes ≡ text_of_lines (function_words fs) ++ rest
   pub are : AreFunctions fs
 
+-- and these are the functions that a sink has taken, of which this says what it has
+pub record Taking {S : Type 0} (HasTaken : S → List NamedJob → Type 0) (bytes : List ℕ) (sink : S) (rest : List ℕ) : Type 0 where
+  pub functions : List NamedJob
+  pub at : At bytes functions rest
+  pub taken : HasTaken sink functions
+
 pub at_pieces : (bytes : List ℕ) (fs : List NamedJob) (rest : List ℕ) → At bytes fs rest → pieces bytes ≡ function_words fs ++ pieces rest
 at_pieces bytes fs rest a = ap pieces a.text ∙ pieces_joined (function_words fs) rest (words_free fs a.are)
 

@@ -1,10 +1,11 @@
 -- What the reader answers.
-use Rattle.std.specs.Prelude.{◌≡◌, ℕ, ◌<◌, List}
+use Rattle.std.specs.Prelude.{◌≡◌, ℕ, ◌<◌, List, Option, Some, None}
 use Rattle.s390x_base.specs.declared.ir.ExternalName.{ExternalName}
 use Rattle.s390x_job.specs.Completions.{IsFirstWrong, IsStuck, IsText, pieces}
 use Rattle.s390x_job_bundle.specs.Text.{AreFunctionsOf, close_line, head_line}
 use Rattle.s390x_job_bundle.specs.Completions.{IsBundleText, IsFirstWrongOfBundle, bundle_completion}
 use Rattle.s390x_job_bundle.specs.declared.head.Head.{Head}
+use Rattle.s390x_job_bundle.specs.declared.named_job.NamedJob.{NamedJob}
 use Rattle.s390x_job_bundle.specs.declared.head.Head.TheVariants.{Function, Close, Other}
 use Rattle.s390x_job_bundle.specs.declared.find.ParseOutcome.{ParseOutcome}
 use Rattle.s390x_job_bundle.specs.declared.find.ParseOutcome.TheVariants.{Whole, Stuck}
@@ -29,6 +30,17 @@ IsStuckAt bytes k = IsStuck IsBundleText bundle_completion bytes k
 abbrev pub IsParseOutcome : List ℕ → ParseOutcome → Type 0
 IsParseOutcome bytes (Whole functions) = AreFunctionsOf bytes functions.items
 IsParseOutcome bytes (Stuck k) = IsStuckAt bytes k
+
+-- a sink, of which this says what it has taken, has taken the functions whose text the bytes are
+pub record HasTakenText {S : Type 0} (HasTaken : S → List NamedJob → Type 0) (bytes : List ℕ) (sink : S) : Type 0 where
+  pub functions : List NamedJob
+  pub are : AreFunctionsOf bytes functions
+  pub taken : HasTaken sink functions
+
+-- it has taken them, or none of these texts goes past a number of lines
+abbrev pub AreTaken : {S : Type 0} → (S → List NamedJob → Type 0) → List ℕ → S → Option ℕ → Type 0
+AreTaken HasTaken bytes sink None = HasTakenText HasTaken bytes sink
+AreTaken HasTaken bytes sink (Some k) = IsStuckAt bytes k
 
 -- `Syntax` exactly where the bytes are the text of no functions, with the line by completions
 abbrev pub HasNoFunctions : List ℕ → BundleTextError → Type 0

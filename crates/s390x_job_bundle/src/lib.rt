@@ -8,10 +8,12 @@ mod find;
 mod head;
 mod named_job;
 mod reader;
+mod sink;
 
 pub use completeness::{complete, has_line, put_line_ending};
 pub use cut::{count_lines, job_size, read_job};
 pub use error::BundleTextError;
-pub use find::find_functions;
+pub use find::{find_functions, take_functions};
 pub use named_job::NamedJob;
-pub use reader::read_bundle;
+pub use reader::{read_bundle, read_functions};
+pub use sink::FunctionSink;
