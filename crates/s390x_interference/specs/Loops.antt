@@ -11,7 +11,8 @@ use Rattle.s390x_operations.specs.declared.stop.ConditionCode.TheVariants.{Code0
 
 -- ---- which instructions
 
--- it goes elsewhere or ends the run, or has members of its own
+-- It goes elsewhere or ends the run, or has members of its own. One that is forgotten here is refused by `work` of `proofs/RegisterWork`: what it does is no
+-- register work
 abbrev pub is_control : Inst → Bool
 is_control (I.Jump dest) = true
 is_control (I.CondBr taken not_taken mask) = true
